@@ -1,0 +1,5 @@
+pub mod Bodies
+pub mod Values
+pub mod Raised
+pub mod Tellings
+pub mod Formats

@@ -1,0 +1,135 @@
+// The cell: two slots, of which the one with the greater value counts.
+ghost use Rattle.std.specs.Prelude.{◌≡◌, ◌⊎◌, ◌↔◌, ◌<◌, ◌+◌, ◌-◌, ◌^◌, ℕ, IsTrue, IsFalse, IsOk, IfOk, IfSome, IsNone, IsErrOf, Some, None, true, false};
+ghost use Rattle.sector_disk.specs.Disk.{Image, Counts, AllSettled};
+ghost use Rattle.sector_disk.specs.Run.{Run, Each};
+ghost use Rattle.slot_gate.specs.Slot.{slot_at, InSlot};
+ghost use Rattle.safe_cell.specs.Cell.{cell_at, AllHave};
+ghost use Rattle.safe_cell.specs.Mounted.{CellState, IsCellAt, IsRead, Stands, AllStand, raised};
+
+use crate::body::body_for;
+use crate::fault::CellFault;
+use sector_disk::SectorDisk;
+use slot_gate::store;
+use std::marker::Model;
+
+/// A mounted cell. It knows the value and which slots are sealed, so a raise reads nothing; the
+/// disk is lent to each call.
+#[derive(Drop)]
+pub struct SafeCell {
+    present: u64,
+    spare: u64,
+    spare_sealed: bool,
+    value: u64,
+    broken: bool,
+}
+
+impl Model for SafeCell {
+    ghost use Rattle.std.specs.Prelude.{◌<◌, ◌+◌, ◌^◌};
+    ghost use Rattle.safe_cell.specs.Mounted.{CellState};
+
+    ghost Value = { CellState };
+
+    ghost view = { λ a. record {
+      present = a.present;
+      spare = a.spare;
+      spare_sealed = a.spare_sealed;
+      value = a.value;
+      broken = a.broken;
+    } };
+
+    ghost invariant = { λ a. (a.present + 1 < 2 ^ 64) × (a.spare + 1 < 2 ^ 64) };
+}
+
+impl SafeCell {
+    // The cell at a sector, by the values of its sealed slots: the first one counts where both are
+    // equal.
+    pub(crate) fn of_values(at: u64, first: Option<u64>, second: Option<u64>) -> Option<SafeCell>
+        requires { at + 3 < 2 ^ 64 }
+        ensures none { IsNone result ↔ ((first ≡ None) × (second ≡ None)) }
+        ensures place { IfSome result (λ cell. IsCellAt at cell × IsFalse cell.broken) }
+        ensures stands { (c : Image)
+            → IsRead (slot_at c at) first → IsRead (slot_at c (at + 2)) second
+            → IfSome result (λ cell. Stands cell c) }
+    {
+        let (present, spare, spare_sealed, value) = match (first, second) {
+            (None, None) => return None,
+            (Some(first), None) => (at, at + 2, false, first),
+            (None, Some(second)) => (at + 2, at, false, second),
+            (Some(first), Some(second)) if first < second => (at + 2, at, true, second),
+            (Some(first), Some(_)) => (at, at + 2, true, first),
+        };
+        Some(SafeCell {
+            present,
+            spare,
+            spare_sealed,
+            value,
+            broken: false,
+        })
+    }
+
+    pub fn value(&self) -> u64
+        ensures { result ≡ self.now.value }
+    {
+        self.value
+    }
+
+    /// Adds one to the value and gives it. Works in the slot that doesn't count: four device calls
+    /// where that is unsealed, else six. Refused in the order `Broken`, `Exhausted`, `Device`, the
+    /// first two with no device call.
+    pub fn raise<D: SectorDisk>(&mut self, disk: &mut D) -> Result<u64, CellFault>
+        requires { self.old.spare + 1 < (D.state disk.old).sectors }
+
+        ensures ok { IfOk result (λ v. (v ≡ self.old.value + 1) × (self.new ≡ raised self.old)) }
+        ensures broken { IsErrOf result CellFault.Broken ↔ IsTrue self.old.broken }
+        ensures exhausted { IsErrOf result CellFault.Exhausted
+            ↔ (IsFalse self.old.broken × (self.old.value ≡ 2 ^ 64 - 1)) }
+        ensures refused { (IsErrOf result CellFault.Broken ⊎ IsErrOf result CellFault.Exhausted)
+            → (disk.new ≡ disk.old) × (self.new ≡ self.old) }
+        ensures device { IsErrOf result CellFault.Device
+            → self.new ≡ record self.old { broken = true } }
+        ensures formatted { IsErrOf result CellFault.NotFormatted → ⊥ }
+        ensures damaged { (at : ℕ) → IsErrOf result (CellFault.Damaged at) → ⊥ }
+        ensures counts { Counts (D.state disk.old) (D.state disk.new)
+            (IsErrOf result CellFault.Device) (IsErrOf result CellFault.Device → ⊥) }
+
+        // No sector outside the spare slot changes in any image.
+        ensures run { IsTrue (D.state disk.old).honest
+            → Run (InSlot self.old.spare) (D.state disk.old) (D.state disk.new) }
+
+        // Each image since the start has the value from before or the next one.
+        ensures images { (at : ℕ) → IsTrue (D.state disk.old).honest
+            → IsCellAt at self.old → AllStand self.old (D.state disk.old)
+            → Each (D.state disk.old) (D.state disk.new) (λ c. (cell_at c at ≡ Some self.old.value)
+            ⊎ (cell_at c at ≡ Some (self.old.value + 1))) }
+
+        // After `Ok` there is the next one alone, and nothing is unsynced.
+        ensures value { (at : ℕ) → IsTrue (D.state disk.old).honest
+            → IsCellAt at self.old → AllStand self.old (D.state disk.old) → IsOk result
+            → AllHave at (self.old.value + 1) (D.state disk.new) }
+        ensures after { (at : ℕ) → IsTrue (D.state disk.old).honest
+            → IsCellAt at self.old → AllStand self.old (D.state disk.old) → IsOk result
+            → AllStand self.new (D.state disk.new) }
+        ensures settled { IsTrue (D.state disk.old).honest → IsOk result
+            → AllSettled (D.state disk.new) }
+    {
+        if self.broken {
+            return Err(CellFault::Broken);
+        }
+        if self.value == u64::MAX {
+            return Err(CellFault::Exhausted);
+        }
+        let next = self.value + 1;
+        if store(disk, self.spare, self.spare_sealed, &body_for(next)).is_err() {
+            self.broken = true;
+            return Err(CellFault::Device);
+        }
+        *self = SafeCell {
+            present: self.spare,
+            spare: self.present,
+            spare_sealed: true,
+            value: next,
+            broken: false,
+        };
+        Ok(next)
+    }
+}

@@ -1,0 +1,70 @@
+// A cell made on its disk.
+ghost use Rattle.std.specs.Prelude.{◌≡◌, ◌⊎◌, ◌<◌, ◌+◌, ◌^◌, IsTrue, IsOk, IsErrOf, None};
+ghost use Rattle.sector_disk.specs.Disk.{Counts, AllSettled};
+ghost use Rattle.sector_disk.specs.Run.{Run, Each};
+ghost use Rattle.slot_gate.specs.Slot.{slot_at};
+ghost use Rattle.safe_cell.specs.Cell.{InCell, AllHave};
+ghost use Rattle.safe_cell.specs.Mounted.{AllStand};
+ghost use Rattle.safe_cell.specs.Formatted.{formatted, IsGate, IsNotTorn};
+
+use crate::body::body_for;
+use crate::fault::CellFault;
+use sector_disk::{DiskFault, SectorDisk};
+use slot_gate::{store, unseal};
+
+/// Makes a cell with this value in the four sectors from this one on, in eight device calls:
+/// unseals both slots, fills slot A and seals it. `Device` is the only fault; whatever cell was
+/// there before may then be lost.
+pub fn format<D: SectorDisk>(disk: &mut D, at: u64, value: u64) -> Result<(), CellFault>
+    requires on_disk { at + 3 < (D.state disk.old).sectors }
+    requires fits { at + 3 < 2 ^ 64 }
+
+    ensures device_alone { IsOk result ⊎ IsErrOf result CellFault.Device }
+    ensures counts { Counts (D.state disk.old) (D.state disk.new)
+        (IsErrOf result CellFault.Device) (IsErrOf result CellFault.Device → ⊥) }
+    ensures run { IsTrue (D.state disk.old).honest
+        → Run (InCell at) (D.state disk.old) (D.state disk.new) }
+
+    // Where both bodies were synced, no image since the start has a slot that is sealed over a torn
+    // one.
+    ensures images { IsTrue (D.state disk.old).honest
+        → (D.state disk.old).settled at → (D.state disk.old).settled (at + 2)
+        → Each (D.state disk.old) (D.state disk.new)
+        (IsNotTorn at value (D.state disk.old).contents) }
+
+    // After `Ok` each image has the value and no other sealed slot, and nothing is unsynced.
+    ensures value { IsTrue (D.state disk.old).honest → IsOk result
+        → AllHave at value (D.state disk.new) }
+    ensures formatted { IsTrue (D.state disk.old).honest → IsOk result
+        → AllStand (formatted at value) (D.state disk.new) }
+    ensures settled { IsTrue (D.state disk.old).honest → IsOk result
+        → AllSettled (D.state disk.new) }
+{
+    if erase(disk, at).is_err() {
+        return Err(CellFault::Device);
+    }
+    if store(disk, at, false, &body_for(value)).is_err() {
+        return Err(CellFault::Device);
+    }
+    Ok(())
+}
+
+// Unseals both slots.
+fn erase<D: SectorDisk>(disk: &mut D, at: u64) -> Result<(), DiskFault>
+    requires on_disk { at + 3 < (D.state disk.old).sectors }
+    requires fits { at + 3 < 2 ^ 64 }
+    ensures counts { Counts (D.state disk.old) (D.state disk.new)
+        (IsErrOf result DiskFault.Device) (IsOk result) }
+    ensures in_range { IsErrOf result DiskFault.OutOfRange → ⊥ }
+    ensures run { IsTrue (D.state disk.old).honest
+        → Run (IsGate at) (D.state disk.old) (D.state disk.new) }
+    ensures first { IsTrue (D.state disk.old).honest → IsOk result
+        → slot_at (D.state disk.new).contents at ≡ None }
+    ensures second { IsTrue (D.state disk.old).honest → IsOk result
+        → slot_at (D.state disk.new).contents (at + 2) ≡ None }
+    ensures settled { IsTrue (D.state disk.old).honest → IsOk result
+        → AllSettled (D.state disk.new) }
+{
+    unseal(disk, at)?;
+    unseal(disk, at + 2)
+}

@@ -1,0 +1,16 @@
+//! A number on a disk that only grows: a raise that is cut at any moment leaves it as it was before
+//! or one greater.
+#![tactic(auto)]
+
+mod body;
+mod cell;
+mod fault;
+mod formatting;
+mod mounting;
+#[cfg(test)]
+mod tests;
+
+pub use cell::SafeCell;
+pub use fault::CellFault;
+pub use formatting::format;
+pub use mounting::mount;

@@ -1,0 +1,77 @@
+// A cell read from its disk.
+ghost use Rattle.std.specs.Prelude.{◌≡◌, ◌⊎◌, ◌<◌, ◌+◌, ◌^◌, ℕ, IsTrue, IsFalse, IsOk, IfOk, IsErrOf};
+ghost use Rattle.sector_disk.specs.Disk.{Counts, nothing};
+ghost use Rattle.sector_disk.specs.Run.{Run};
+ghost use Rattle.slot_gate.specs.Slot.{slot_at};
+ghost use Rattle.safe_cell.specs.Cell.{IsDamaged, InCell};
+ghost use Rattle.safe_cell.specs.Mounted.{IsCellAt, IsRead, Stands, AllStand};
+ghost use Rattle.safe_cell.specs.Told.{Tells};
+
+use crate::body::value_in;
+use crate::cell::SafeCell;
+use crate::fault::CellFault;
+use sector_disk::SectorDisk;
+use slot_gate::look;
+
+/// Reads the cell whose four sectors begin at this one: slot A, then slot B, of each the gate and
+/// then, where it is sealed, the body; a body that is none of a cell is told at once. The caller
+/// sees to it, by a sync, that nothing in these sectors is unsynced: else a later crash may leave
+/// another value than the one that was read.
+pub fn mount<D: SectorDisk>(disk: &mut D, at: u64) -> Result<SafeCell, CellFault>
+    requires on_disk { at + 3 < (D.state disk.old).sectors }
+    requires fits { at + 3 < 2 ^ 64 }
+
+    ensures place { IfOk result (λ cell. IsCellAt at cell × IsFalse cell.broken) }
+    ensures mounted { IsTrue (D.state disk.old).honest
+        → IfOk result (λ cell. Stands cell (D.state disk.old).contents) }
+
+    // Device aside, it tells what the disk as it reads stands for.
+    ensures tells { IsTrue (D.state disk.old).honest → (IsErrOf result CellFault.Device → ⊥)
+        → Tells at (D.state disk.old).contents result }
+
+    // Where nothing in its sectors is unsynced, each image has what the cell knows.
+    ensures stands { IsTrue (D.state disk.old).honest
+        → ((k : ℕ) → InCell at k → (D.state disk.old).settled k)
+        → IfOk result (λ cell. AllStand cell (D.state disk.new)) }
+
+    ensures broken { IsErrOf result CellFault.Broken → ⊥ }
+    ensures exhausted { IsErrOf result CellFault.Exhausted → ⊥ }
+    ensures damaged { (k : ℕ) → IsErrOf result (CellFault.Damaged k) → (k ≡ at) ⊎ (k ≡ at + 2) }
+    ensures counts { Counts (D.state disk.old) (D.state disk.new)
+        (IsErrOf result CellFault.Device) (IsErrOf result CellFault.Device → ⊥) }
+    ensures run { IsTrue (D.state disk.old).honest
+        → Run nothing (D.state disk.old) (D.state disk.new) }
+    ensures settled { IsTrue (D.state disk.old).honest
+        → (k : ℕ) → (D.state disk.old).settled k → (D.state disk.new).settled k }
+{
+    let first = read_slot(disk, at)?;
+    let second = read_slot(disk, at + 2)?;
+    SafeCell::of_values(at, first, second).ok_or(CellFault::NotFormatted)
+}
+
+// The value of a slot, if it is sealed.
+fn read_slot<D: SectorDisk>(disk: &mut D, slot: u64) -> Result<Option<u64>, CellFault>
+    requires on_disk { slot + 1 < (D.state disk.old).sectors }
+    requires fits { slot + 1 < 2 ^ 64 }
+    ensures read { IsTrue (D.state disk.old).honest
+        → IfOk result (λ value. IsRead (slot_at (D.state disk.old).contents slot) value) }
+    ensures damaged { IsTrue (D.state disk.old).honest → IsErrOf result (CellFault.Damaged slot)
+        → IsDamaged (slot_at (D.state disk.old).contents slot) }
+    ensures no_other { IsErrOf result CellFault.Device
+        ⊎ IsErrOf result (CellFault.Damaged slot) ⊎ IsOk result }
+    ensures counts { Counts (D.state disk.old) (D.state disk.new)
+        (IsErrOf result CellFault.Device) (IsErrOf result CellFault.Device → ⊥) }
+    ensures run { IsTrue (D.state disk.old).honest
+        → Run nothing (D.state disk.old) (D.state disk.new) }
+    ensures settled { IsTrue (D.state disk.old).honest
+        → (k : ℕ) → (D.state disk.old).settled k → (D.state disk.new).settled k }
+{
+    match look(disk, slot) {
+        Err(_) => Err(CellFault::Device),
+        Ok(None) => Ok(None),
+        Ok(Some(body)) => match value_in(&body) {
+            None => Err(CellFault::Damaged(slot)),
+            Some(value) => Ok(Some(value)),
+        },
+    }
+}

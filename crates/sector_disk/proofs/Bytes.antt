@@ -1,0 +1,56 @@
+-- A sector without its last zeros, and back.
+use Rattle.std.proofs.Common.{◌≡◌, ◌<◌, ◌+◌, ◌-◌, ◌≤◌, ⊎_elim, ℕ, suc, List, ◌∷◌, ◌++◌, length, get_or, take, drop, replicate, min, sym, ◌∙◌, ap, arith, take-append-drop}
+use Rattle.std.proofs.lemmas.List.{take_all, drop_all, drop_more, drop-replicate, length-take}
+use Rattle.std.proofs.lemmas.Bool.{cases_lt}
+use Rattle.sector_disk.specs.Undo.{whole}
+use Rattle.sector_disk.specs.Crash.{filled}
+
+pub trim_step : (s : List ℕ) (n : ℕ) → 0 < n → n ≤ 512 → length s ≡ 512 → get_or s (n - 1) 0 ≡ 0 → drop n s ≡ replicate (512 - n) 0 → drop (n - 1) s ≡ replicate (512 - (n - 1)) 0
+trim_step s n some most long last rest =
+    let next : n - 1 + 1 ≡ n = omega (arith, some) in
+    let count : suc (512 - n) ≡ 512 - (n - 1) = omega (arith, some, most) in
+    drop_more s (n - 1) 0 (omega (arith, some, most, long))
+    ∙ ap (λ x. x ∷ drop (n - 1 + 1) s) last
+    ∙ ap (λ k. 0 ∷ drop k s) next
+    ∙ ap (λ (l : List ℕ). 0 ∷ l) rest
+    ∙ ap (λ k. replicate k 0) count
+
+pub trim_done : (s : List ℕ) (n : ℕ) → n ≤ 512 → length s ≡ 512 → drop n s ≡ replicate (512 - n) 0 → whole (take n s) ≡ s
+trim_done s n most long rest =
+    let size : length (take n s) ≡ n = length-take n s ∙ omega (arith, most, long) in
+    ap (λ (l : List ℕ). l ++ replicate (512 - length (take n s)) 0) (take_all 512 (take n s) (omega (arith, size, most)))
+    ∙ ap (λ k. take n s ++ replicate (512 - k) 0) size
+    ∙ ap (λ (l : List ℕ). take n s ++ l) (sym rest)
+    ∙ take-append-drop n s
+
+pub expanded : (bytes : List ℕ) (n : ℕ) → n ≡ min (length bytes) 512 → take n bytes ++ drop n (replicate 512 0) ≡ whole bytes
+expanded bytes n is =
+    let front : take n bytes ≡ take 512 bytes =
+    ⊎_elim
+    (λ big. let e : n ≡ 512 = omega (arith, is, big) in ap (λ k. take k bytes) e)
+    (λ small. take_all n bytes (omega (arith, is, small)) ∙ sym (take_all 512 bytes small))
+    (cases_lt 512 (length bytes)) in
+    let count : 512 - n ≡ 512 - length bytes = omega (arith, is) in
+    ap (λ (l : List ℕ). l ++ drop n (replicate 512 0)) front
+    ∙ ap (λ (l : List ℕ). take 512 bytes ++ l) (drop-replicate n 512 0 ∙ ap (λ k. replicate k 0) count)
+
+-- the least of a length and 512 takes as much as 512 does
+pub taken : (bytes : List ℕ) (n : ℕ) → n ≡ min (length bytes) 512 → take n bytes ≡ take 512 bytes
+taken bytes n is =
+    ⊎_elim
+    (λ big. let e : n ≡ 512 = omega (arith, is, big) in ap (λ k. take k bytes) e)
+    (λ small. take_all n bytes (omega (arith, is, small)) ∙ sym (take_all 512 bytes small))
+    (cases_lt 512 (length bytes))
+
+pub dropped : (bytes : List ℕ) (n : ℕ) → n ≡ min (length bytes) 512 → drop n bytes ≡ drop 512 bytes
+dropped bytes n is =
+    ⊎_elim
+    (λ big. let e : n ≡ 512 = omega (arith, is, big) in ap (λ k. drop k bytes) e)
+    (λ small. drop_all n bytes (omega (arith, is, small)) ∙ sym (drop_all 512 bytes small))
+    (cases_lt 512 (length bytes))
+
+pub torn : (fill sector : List ℕ) (n : ℕ) → n ≡ min (length fill) 512 → take n fill ++ drop n sector ≡ filled fill sector
+torn fill sector n is =
+    let size : length (take n fill) ≡ n = length-take n fill ∙ omega (arith, is) in
+    ap (λ k. take n fill ++ drop k sector) (sym size)
+    ∙ ap (λ (l : List ℕ). l ++ drop (length l) sector) (taken fill n is)

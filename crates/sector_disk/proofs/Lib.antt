@@ -1,0 +1,5 @@
+pub mod Runs
+pub mod Bytes
+pub mod Notes
+pub mod Calls
+pub mod Crashed

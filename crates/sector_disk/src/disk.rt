@@ -1,0 +1,49 @@
+// A disk of sectors as the code above it sees it.
+ghost use Rattle.std.specs.Prelude.{◌≡◌, ◌≤◌, ◌↔◌, IsTrue, IsOk, IsErrOf};
+ghost use Rattle.sector_disk.specs.Disk.{DiskState, Counts, Laws, Touches, AllSettled, nothing, sector_at};
+ghost use Rattle.sector_disk.specs.declared.fault.DiskFault.TheVariants.{Device, OutOfRange};
+
+use crate::fault::DiskFault;
+use crate::sector::Sector;
+
+/// A disk: sectors that are read and written one at a time, and a sync.
+///
+/// An honest disk keeps to the model of `docs/DISK.md`. Of a disk that isn't honest, as one over a
+/// real file, a contract knows no more than when each fault comes.
+pub trait SectorDisk {
+    ghost state: { Self → DiskState };
+
+    /// How many sectors the disk has. No call changes it.
+    fn sectors(&self) -> u64
+        ensures { result ≡ (state self.now).sectors };
+
+    /// How many calls have failed; it stays at its greatest value once it gets there.
+    fn failures(&self) -> u64
+        ensures { result ≡ (state self.now).failures };
+
+    /// Reads a sector. After an `Err` nothing is known of `into`.
+    fn read(&mut self, at: u64, into: &mut Sector) -> Result<(), DiskFault>
+        ensures counts { Counts (state self.old) (state self.new) (IsErrOf result Device) (IsOk result) }
+        ensures refused { IsErrOf result OutOfRange ↔ ((state self.old).sectors ≤ at) }
+        ensures unchanged { IsErrOf result OutOfRange → self.new ≡ self.old }
+        ensures touches { IsTrue (state self.old).honest → Touches nothing (state self.old) (state self.new) }
+        ensures gives { IsTrue (state self.old).honest → IsOk result → into.new ≡ sector_at (state self.old).contents at };
+
+    /// Writes a sector. Until a sync, a crash may leave any bytes there, also where the write failed.
+    fn write(&mut self, at: u64, from: &Sector) -> Result<(), DiskFault>
+        ensures counts { Counts (state self.old) (state self.new) (IsErrOf result Device) (IsOk result) }
+        ensures refused { IsErrOf result OutOfRange ↔ ((state self.old).sectors ≤ at) }
+        ensures unchanged { IsErrOf result OutOfRange → self.new ≡ self.old }
+        ensures touches { IsTrue (state self.old).honest → Touches (λ k. k ≡ at) (state self.old) (state self.new) }
+        ensures gives { IsTrue (state self.old).honest → IsOk result → sector_at (state self.new).contents at ≡ from.now };
+
+    /// After it, a crash leaves what reads give.
+    fn sync(&mut self) -> Result<(), DiskFault>
+        ensures counts { Counts (state self.old) (state self.new) (IsErrOf result Device) (IsOk result) }
+        ensures refused { IsErrOf result OutOfRange ↔ ⊥ }
+        ensures touches { IsTrue (state self.old).honest → Touches nothing (state self.old) (state self.new) }
+        ensures settles { IsTrue (state self.old).honest → IsOk result → AllSettled (state self.new) };
+
+    /// An honest disk keeps these.
+    ghost laws: { (disk : Self) → IsTrue (state disk).honest → Laws (state disk) };
+}

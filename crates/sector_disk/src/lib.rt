@@ -1,0 +1,16 @@
+//! Disks of sectors of 512 bytes, what a crash may leave of one, and a disk in memory that fails
+//! and crashes where it is told to.
+#![tactic(auto)]
+
+mod disk;
+mod fault;
+mod memory;
+mod overwritten;
+mod sector;
+#[cfg(test)]
+mod tests;
+
+pub use disk::SectorDisk;
+pub use fault::DiskFault;
+pub use memory::MemDisk;
+pub use sector::Sector;

@@ -1,0 +1,340 @@
+// A disk in memory that fails and crashes where it is told to.
+ghost use Rattle.std.specs.Prelude.{◌≡◌, ◌<◌, ◌≤◌, ◌⊎◌, ◌↔◌, ◌∷◌, [], ◌++◌, length, set, replicate, IsOk, IsTrue, IsFalse, IsErrOf, IfOk, OnErr, Vec, is_ok, false, true, Some, Option, ℕ};
+ghost use Rattle.sector_disk.specs.Disk.{Counts, Touches, AllSettled, IsImage, nothing, sector_at};
+ghost use Rattle.sector_disk.specs.Memory.{Memory, state_of, passes, spent, risen, blank, all_synced, is_unsynced};
+ghost use Rattle.sector_disk.specs.Crash.{IsCrashed, torn_at};
+ghost use Rattle.sector_disk.specs.Moments.{laws};
+ghost use Rattle.sector_disk.specs.Undo.{AddsNote, IsNoted, EndsTime, EndsNothing, undone};
+ghost use Rattle.sector_disk.specs.declared.fault.DiskFault.TheVariants.{Device, OutOfRange};
+
+use crate::disk::SectorDisk;
+use crate::fault::DiskFault;
+use crate::overwritten::{Overwritten, clear_noted, note, note_unsynced, undo};
+use crate::sector::{Sector, fill_from};
+use std::alloc::{AllocError, Global};
+use std::marker::Model;
+use std::mem;
+
+/// A disk in memory. It is always honest.
+///
+/// It keeps what its calls changed since it was made or last crashed, so that a proof knows of each
+/// moment since then what a crash might have left. A call that finds no memory for that fails as
+/// `Device`.
+#[derive(Drop)]
+pub struct MemDisk {
+    alloc: Global,
+    sectors: Vec<Sector>,
+    // Which sectors a write took since the last sync, done or failed.
+    unsynced: Vec<bool>,
+    // What the writes since the last sync took the place of.
+    notes: Vec<Overwritten>,
+    // Whether a write since the last sync failed: then not every unsynced sector has a note.
+    torn: bool,
+    // The notes of the times from one sync to the next that are over.
+    spans: Vec<Vec<Overwritten>>,
+    failures: u64,
+    // How many calls still pass, where it is armed.
+    left: Option<u64>,
+}
+
+impl Model for MemDisk {
+    ghost use Rattle.sector_disk.specs.Memory.{Memory};
+
+    ghost Value = { Memory };
+
+    ghost use Rattle.sector_disk.specs.Inside.{memory_of, HasNotes};
+
+    ghost view = { memory_of };
+
+    ghost invariant = { HasNotes };
+}
+
+impl MemDisk {
+    /// A disk of zeros, on which nothing is unsynced.
+    pub fn new(alloc: Global, sectors: u64) -> Result<MemDisk, AllocError>
+        ensures { IfOk result (λ disk. disk ≡ blank sectors) }
+    {
+        let count = sectors as usize;
+        let contents = vec![in alloc; [0; 512]; count]?;
+        let unsynced = vec![in alloc; false; count]?;
+        Ok(MemDisk {
+            alloc,
+            sectors: contents,
+            unsynced,
+            notes: Vec::new(alloc),
+            torn: false,
+            spans: Vec::new(alloc),
+            failures: 0,
+            left: None,
+        })
+    }
+
+    /// Lets so many more calls of `read`, `write` and `sync` pass, and fails all later ones, until
+    /// it is armed anew or crashes. A call that is out of range isn't counted.
+    pub fn arm(&mut self, calls: u64)
+        ensures { self.new ≡ record self.old { left = Some calls } }
+    {
+        self.left = Some(calls);
+    }
+
+    /// Stops the disk here and starts it again. The unsynced sectors, in rising order, take the
+    /// bytes of `fill`, 512 each; where it ends, what the last sync left stays. Bytes too many
+    /// aren't used. It takes no memory.
+    pub fn crash(&mut self, fill: &[u8])
+        ensures image { IsCrashed self.old fill.now self.new.contents }
+        ensures left { IsImage (state_of self.old) self.new.contents }
+        // Nothing is unsynced, no earlier moment is known, and it isn't armed.
+        ensures anew { self.new ≡ all_synced self.new.contents self.old.failures }
+    {
+        undo(&mut self.sectors, &mut self.notes);
+        tear(&mut self.sectors, &self.unsynced, fill);
+        self.unsynced.fill(false);
+        self.spans.clear();
+        self.torn = false;
+        self.left = None;
+    }
+}
+
+impl SectorDisk for MemDisk {
+    ghost state = { state_of };
+
+    ghost laws = { λ disk honest. laws disk };
+
+    fn sectors(&self) -> u64 {
+        self.sectors.len() as u64
+    }
+
+    fn failures(&self) -> u64 {
+        self.failures
+    }
+
+    fn read(&mut self, at: u64, into: &mut Sector) -> Result<(), DiskFault>
+        ensures counts { Counts (state_of self.old) (state_of self.new) (IsErrOf result Device) (IsOk result) }
+        ensures refused { IsErrOf result OutOfRange ↔ (length self.old.contents ≤ at) }
+        ensures unchanged { IsErrOf result OutOfRange → self.new ≡ self.old }
+        ensures touches { IsTrue true → Touches nothing (state_of self.old) (state_of self.new) }
+        ensures gives { IsTrue true → IsOk result → into.new ≡ sector_at self.old.contents at }
+
+        // Where it is armed, exactly the calls that are left pass.
+        ensures armed { at < length self.old.contents → (IsErrOf result Device ↔ IsFalse (passes self.old.left)) }
+        ensures ok { IsOk result → self.new ≡ record self.old { left = spent self.old.left } }
+        ensures failed { IsErrOf result Device
+            → self.new ≡ record self.old { failures = risen self.old.failures; left = spent self.old.left } }
+    {
+        if at >= self.sectors.len() as u64 {
+            return Err(DiskFault::OutOfRange);
+        }
+        if !spend(&mut self.left) {
+            return failed(&mut self.failures);
+        }
+        *into = self.sectors[at as usize];
+        Ok(())
+    }
+
+    fn write(&mut self, at: u64, from: &Sector) -> Result<(), DiskFault>
+        ensures counts { Counts (state_of self.old) (state_of self.new) (IsErrOf result Device) (IsOk result) }
+        ensures refused { IsErrOf result OutOfRange ↔ (length self.old.contents ≤ at) }
+        ensures unchanged { IsErrOf result OutOfRange → self.new ≡ self.old }
+        ensures touches { IsTrue true → Touches (λ k. k ≡ at) (state_of self.old) (state_of self.new) }
+        ensures gives { IsTrue true → IsOk result → sector_at self.new.contents at ≡ from.now }
+
+        // Where it is armed, no call passes but those that are left.
+        ensures armed { IsOk result → IsTrue (passes self.old.left) }
+        ensures ok { IsOk result → self.new ≡ record self.old {
+          contents = set self.old.contents at from.now;
+          unsynced = set self.old.unsynced at true;
+          left = spent self.old.left;
+        } }
+
+        // A write that fails leaves what reads give, and the sector is unsynced.
+        ensures failed { IsErrOf result Device → self.new ≡ record self.old {
+          unsynced = set self.old.unsynced at true;
+          failures = risen self.old.failures;
+          left = spent self.old.left;
+        } }
+    {
+        if self.sectors.len() as u64 <= at {
+            return Err(DiskFault::OutOfRange);
+        }
+        let at = at as usize;
+        self.unsynced[at] = true;
+        if !may_write(
+            &mut self.left,
+            self.alloc,
+            &self.sectors,
+            &mut self.notes,
+            at,
+        ) {
+            self.torn = true;
+            return failed(&mut self.failures);
+        }
+        self.sectors[at] = *from;
+        Ok(())
+    }
+
+    fn sync(&mut self) -> Result<(), DiskFault>
+        ensures counts { Counts (state_of self.old) (state_of self.new) (IsErrOf result Device) (IsOk result) }
+        ensures refused { IsErrOf result OutOfRange ↔ ⊥ }
+        ensures touches { IsTrue true → Touches nothing (state_of self.old) (state_of self.new) }
+        ensures settles { IsTrue true → IsOk result → AllSettled (state_of self.new) }
+
+        // Where it is armed, no call passes but those that are left.
+        ensures armed { IsOk result → IsTrue (passes self.old.left) }
+        ensures ok { IsOk result → self.new ≡ record self.old {
+          synced = self.old.contents;
+          unsynced = replicate (length self.old.unsynced) false;
+          spans = self.new.spans;
+          left = spent self.old.left;
+        } }
+
+        // A sync that fails settles nothing.
+        ensures failed { IsErrOf result Device
+            → self.new ≡ record self.old { failures = risen self.old.failures; left = spent self.old.left } }
+    {
+        let passes = spend(&mut self.left);
+        if !passes {
+            return failed(&mut self.failures);
+        }
+        if end_time(
+            self.alloc,
+            &self.sectors,
+            &mut self.unsynced,
+            &mut self.notes,
+            &mut self.torn,
+            &mut self.spans,
+        )
+        .is_err()
+        {
+            return failed(&mut self.failures);
+        }
+        Ok(())
+    }
+}
+
+// One call more: whether it passes.
+fn spend(left: &mut Option<u64>) -> bool
+    ensures passes { result ≡ passes left.old }
+    ensures spent { left.new ≡ spent left.old }
+{
+    match left {
+        None => true,
+        Some(calls) => {
+            let more = *calls > 0;
+            *calls = calls.saturating_sub(1);
+            more
+        }
+    }
+}
+
+// Counts a call that failed.
+fn failed(failures: &mut u64) -> Result<(), DiskFault>
+    ensures counted { failures.new ≡ risen failures.old }
+    ensures device { result ≡ Err Device }
+{
+    *failures = failures.saturating_add(1);
+    Err(DiskFault::Device)
+}
+
+// Whether a write goes through: the call passes, and there is memory for a note of the sector.
+fn may_write(
+    left: &mut Option<u64>,
+    alloc: Global,
+    sectors: &[Sector],
+    notes: &mut Vec<Overwritten>,
+    at: usize,
+) -> bool
+    requires { at < length sectors.now }
+    ensures spent { left.new ≡ spent left.old }
+    ensures passes { IsTrue result → IsTrue (passes left.old) }
+    ensures noted { IsTrue result → AddsNote sectors.now at notes.old.items notes.new.items }
+    ensures refused { IsFalse result → notes.new.items ≡ notes.old.items }
+{
+    if !spend(left) {
+        return false;
+    }
+    note(alloc, sectors, notes, at).is_ok()
+}
+
+// Ends the time since the last sync, if there is memory for it.
+fn end_time(
+    alloc: Global,
+    sectors: &[Sector],
+    unsynced: &mut [bool],
+    notes: &mut Vec<Overwritten>,
+    torn: &mut bool,
+    spans: &mut Vec<Vec<Overwritten>>,
+) -> Result<(), AllocError>
+    requires { IsNoted sectors.now unsynced.old notes.old.items torn.old }
+    ensures noted { IsNoted sectors.now unsynced.new notes.new.items torn.new }
+    ensures settled { IsOk result → unsynced.new ≡ replicate (length unsynced.old) false }
+    ensures begun { IsOk result → notes.new.items ≡ [] }
+    ensures ended { IsOk result → EndsTime sectors.now unsynced.old notes.old.items spans.old.items spans.new.items
+        ⊎ EndsNothing unsynced.old spans.old.items spans.new.items }
+    ensures unsynced { OnErr result (unsynced.new ≡ unsynced.old) }
+    ensures spans { OnErr result (spans.new.items ≡ spans.old.items) }
+    ensures back { OnErr result (undone notes.new.items sectors.now ≡ undone notes.old.items sectors.now) }
+{
+    note_torn(alloc, sectors, unsynced, notes, torn)?;
+    if notes.is_empty() {
+        return Ok(());
+    }
+    file(alloc, notes, spans)?;
+    clear_noted(unsynced, &spans[spans.len() - 1]);
+    Ok(())
+}
+
+// Sees to it that each unsynced sector has a note.
+fn note_torn(
+    alloc: Global,
+    sectors: &[Sector],
+    unsynced: &[bool],
+    notes: &mut Vec<Overwritten>,
+    torn: &mut bool,
+) -> Result<(), AllocError>
+    requires { IsNoted sectors.now unsynced.now notes.old.items torn.old }
+    ensures noted { IsNoted sectors.now unsynced.now notes.new.items torn.new }
+    ensures back { undone notes.new.items sectors.now ≡ undone notes.old.items sectors.now }
+    ensures untorn { IsOk result → IsFalse torn.new }
+{
+    if !*torn {
+        return Ok(());
+    }
+    note_unsynced(alloc, sectors, unsynced, notes)?;
+    *torn = false;
+    Ok(())
+}
+
+// Puts the notes with those of earlier times.
+fn file(
+    alloc: Global,
+    notes: &mut Vec<Overwritten>,
+    spans: &mut Vec<Vec<Overwritten>>,
+) -> Result<(), AllocError>
+    ensures filed { IsOk result → spans.new.items ≡ spans.old.items ++ notes.old ∷ [] }
+    ensures begun { IsOk result → notes.new.items ≡ [] }
+    ensures notes { OnErr result (notes.new.items ≡ notes.old.items) }
+    ensures spans { OnErr result (spans.new.items ≡ spans.old.items) }
+{
+    match spans.push(mem::replace(notes, Vec::new(alloc))) {
+        Ok(()) => Ok(()),
+        Err(failed) => {
+            *notes = failed.value;
+            Err(AllocError)
+        }
+    }
+}
+
+// Writes a fill over the unsynced sectors, in rising order.
+fn tear(sectors: &mut [Sector], unsynced: &[bool], fill: &[u8])
+    requires { length unsynced.now ≡ length sectors.old }
+    ensures { (at : ℕ) → at < length sectors.old
+        → sector_at sectors.new at ≡ torn_at unsynced.now fill.now at (sector_at sectors.old at) }
+{
+    let mut rest = fill;
+    for at in 0..sectors.len() {
+        if !unsynced[at] {
+            continue;
+        }
+        rest = fill_from(&mut sectors[at], rest);
+    }
+}

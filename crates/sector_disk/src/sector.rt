@@ -1,0 +1,35 @@
+// A sector, and its bytes without the zeros at its end.
+ghost use Rattle.std.specs.Prelude.{◌≡◌, drop};
+ghost use Rattle.sector_disk.specs.Crash.{filled};
+ghost use Rattle.sector_disk.specs.Undo.{whole};
+
+/// What a disk reads and writes at once.
+pub type Sector = [u8; 512];
+
+pub fn trimmed(sector: &Sector) -> &[u8]
+    ensures { whole result.now ≡ sector.now }
+{
+    let mut len = 512usize;
+    while len > 0 && sector[len - 1] == 0 {
+        len -= 1;
+    }
+    &sector[..len]
+}
+
+pub fn restore(sector: &mut Sector, trimmed: &[u8])
+    ensures { sector.new ≡ whole trimmed.now }
+{
+    let len = trimmed.len().min(512);
+    *sector = [0; 512];
+    sector[..len].copy_from_slice(&trimmed[..len]);
+}
+
+// Writes the next bytes of a fill over the start of a sector, and answers those after them.
+pub fn fill_from<'a>(sector: &mut Sector, fill: &'a [u8]) -> &'a [u8]
+    ensures torn { sector.new ≡ filled fill.now sector.old }
+    ensures rest { result.now ≡ drop 512 fill.now }
+{
+    let len = fill.len().min(512);
+    sector[..len].copy_from_slice(&fill[..len]);
+    &fill[len..]
+}

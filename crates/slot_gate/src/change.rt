@@ -1,0 +1,62 @@
+// A body put into a slot, in an order in which no crash leaves a torn one.
+ghost use Rattle.std.specs.Prelude.{◌≡◌, ◌<◌, ◌+◌, ◌^◌, IsTrue, IsOk, IsErrOf, Some, None};
+ghost use Rattle.sector_disk.specs.Disk.{Image, IsImage, Counts, AllSettled};
+ghost use Rattle.sector_disk.specs.Run.{Run, Each};
+ghost use Rattle.slot_gate.specs.Slot.{slot_at, InSlot};
+ghost use Rattle.slot_gate.specs.Stored.{Knows, IsStored, IsCleared, Follows};
+
+use crate::slot::{fill, seal, unseal};
+use sector_disk::{DiskFault, Sector, SectorDisk};
+
+/// Puts a body into a slot: unseals it where the caller knows it to be sealed, fills it, and seals
+/// it. Six device calls over a sealed slot, four over an unsealed one, and no read: the caller says
+/// which it is.
+pub fn store<D: SectorDisk>(
+    disk: &mut D,
+    slot: u64,
+    sealed: bool,
+    body: &Sector,
+) -> Result<(), DiskFault>
+    requires on_disk { slot + 1 < (D.state disk.old).sectors }
+    requires fits { slot + 1 < 2 ^ 64 }
+
+    ensures counts { Counts (D.state disk.old) (D.state disk.new)
+        (IsErrOf result DiskFault.Device) (IsOk result) }
+    ensures in_range { IsErrOf result DiskFault.OutOfRange → ⊥ }
+    ensures run { IsTrue (D.state disk.old).honest
+        → Run (InSlot slot) (D.state disk.old) (D.state disk.new) }
+
+    // In each image since the start the slot is as it was, unsealed, or sealed over the whole new
+    // body.
+    ensures images { IsTrue (D.state disk.old).honest → Knows (D.state disk.old) slot sealed
+        → Each (D.state disk.old) (D.state disk.new)
+        (Follows (InSlot slot) (D.state disk.old) slot (IsStored body.now)) }
+
+    ensures sealed { IsTrue (D.state disk.old).honest → IsOk result
+        → slot_at (D.state disk.new).contents slot ≡ Some body.now }
+    ensures settled { IsTrue (D.state disk.old).honest → IsOk result
+        → AllSettled (D.state disk.new) }
+{
+    clear(disk, slot, sealed)?;
+    fill(disk, slot, body)?;
+    seal(disk, slot)
+}
+
+// Unseals the slot unless it is known to be unsealed: a torn write to an unsealed gate could seal
+// any body.
+fn clear<D: SectorDisk>(disk: &mut D, slot: u64, sealed: bool) -> Result<(), DiskFault>
+    requires on_disk { slot + 1 < (D.state disk.old).sectors }
+    requires fits { slot + 1 < 2 ^ 64 }
+    ensures counts { Counts (D.state disk.old) (D.state disk.new)
+        (IsErrOf result DiskFault.Device) (IsOk result) }
+    ensures in_range { IsErrOf result DiskFault.OutOfRange → ⊥ }
+    ensures run { IsTrue (D.state disk.old).honest
+        → Run (λ k. k ≡ slot + 1) (D.state disk.old) (D.state disk.new) }
+    ensures images { IsTrue (D.state disk.old).honest → Knows (D.state disk.old) slot sealed
+        → Each (D.state disk.old) (D.state disk.new)
+        (Follows (λ k. k ≡ slot + 1) (D.state disk.old) slot IsCleared) }
+    ensures cleared { IsTrue (D.state disk.old).honest → Knows (D.state disk.old) slot sealed
+        → IsOk result → (d : Image) → IsImage (D.state disk.new) d → slot_at d slot ≡ None }
+{
+    if sealed { unseal(disk, slot) } else { Ok(()) }
+}

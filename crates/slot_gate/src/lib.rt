@@ -1,0 +1,14 @@
+//! Slots of a disk: a body sector, and behind it a gate sector that says whether the slot is
+//! sealed.
+//!
+//! A body that is torn by a crash is never taken for one that was stored: the gate is opened before
+//! the body is written, and sealed by a write of its own once the body is synced.
+#![tactic(auto)]
+
+mod change;
+mod slot;
+#[cfg(test)]
+mod tests;
+
+pub use change::store;
+pub use slot::{fill, look, seal, unseal};

@@ -1,0 +1,136 @@
+// One slot, by the number of its body sector: its gate is the sector behind it.
+ghost use Rattle.std.specs.Prelude.{◌≡◌, ◌<◌, ◌+◌, ◌⊎◌, ◌^◌, ℕ, IsTrue, IsOk, IsErrOf, IfOk, Some, None};
+ghost use Rattle.sector_disk.specs.Disk.{Image, IsImage, Counts, AllSettled, nothing, sector_at};
+ghost use Rattle.sector_disk.specs.Run.{Run, Each};
+ghost use Rattle.slot_gate.specs.Slot.{slot_at, sealed_gate, unsealed_gate};
+
+use sector_disk::{DiskFault, Sector, SectorDisk};
+
+const SEALED: u8 = 0xa5;
+
+/// Opens the gate of a slot, in two device calls. Meant for a slot that is sealed: over a gate that
+/// is unsealed already, a torn write could seal whatever bytes the body holds.
+pub fn unseal<D: SectorDisk>(disk: &mut D, slot: u64) -> Result<(), DiskFault>
+    requires on_disk { slot + 1 < (D.state disk.old).sectors }
+    requires fits { slot + 1 < 2 ^ 64 }
+
+    ensures counts { Counts (D.state disk.old) (D.state disk.new)
+        (IsErrOf result DiskFault.Device) (IsOk result) }
+    ensures in_range { IsErrOf result DiskFault.OutOfRange → ⊥ }
+    ensures run { IsTrue (D.state disk.old).honest
+        → Run (λ k. k ≡ slot + 1) (D.state disk.old) (D.state disk.new) }
+
+    // Over a synced body: until the sync it is unsealed or still sealed over that body.
+    ensures images { IsTrue (D.state disk.old).honest → (D.state disk.old).settled slot
+        → Each (D.state disk.old) (D.state disk.new) (λ c. (slot_at c slot ≡ None)
+        ⊎ (slot_at c slot ≡ Some (sector_at (D.state disk.old).contents slot))) }
+
+    ensures written { IsTrue (D.state disk.old).honest → IsOk result
+        → sector_at (D.state disk.new).contents (slot + 1) ≡ unsealed_gate }
+    ensures unsealed { IsTrue (D.state disk.old).honest → IsOk result
+        → slot_at (D.state disk.new).contents slot ≡ None }
+    ensures settled { IsTrue (D.state disk.old).honest → IsOk result
+        → AllSettled (D.state disk.new) }
+{
+    settle(disk, slot + 1, &[0; 512])
+}
+
+/// Writes the body of a slot that is unsealed, in two device calls.
+pub fn fill<D: SectorDisk>(disk: &mut D, slot: u64, body: &Sector) -> Result<(), DiskFault>
+    requires on_disk { slot + 1 < (D.state disk.old).sectors }
+    requires fits { slot + 1 < 2 ^ 64 }
+
+    ensures counts { Counts (D.state disk.old) (D.state disk.new)
+        (IsErrOf result DiskFault.Device) (IsOk result) }
+    ensures in_range { IsErrOf result DiskFault.OutOfRange → ⊥ }
+    ensures run { IsTrue (D.state disk.old).honest
+        → Run (λ k. k ≡ slot) (D.state disk.old) (D.state disk.new) }
+
+    // An unsealed slot stays unsealed.
+    ensures images { IsTrue (D.state disk.old).honest
+        → ((d : Image) → IsImage (D.state disk.old) d → slot_at d slot ≡ None)
+        → Each (D.state disk.old) (D.state disk.new) (λ c. slot_at c slot ≡ None) }
+
+    ensures written { IsTrue (D.state disk.old).honest → IsOk result
+        → sector_at (D.state disk.new).contents slot ≡ body.now }
+    ensures settled { IsTrue (D.state disk.old).honest → IsOk result
+        → AllSettled (D.state disk.new) }
+{
+    settle(disk, slot, body)
+}
+
+/// Seals a slot over the body that was filled in, in two device calls.
+pub fn seal<D: SectorDisk>(disk: &mut D, slot: u64) -> Result<(), DiskFault>
+    requires on_disk { slot + 1 < (D.state disk.old).sectors }
+    requires fits { slot + 1 < 2 ^ 64 }
+
+    ensures counts { Counts (D.state disk.old) (D.state disk.new)
+        (IsErrOf result DiskFault.Device) (IsOk result) }
+    ensures in_range { IsErrOf result DiskFault.OutOfRange → ⊥ }
+    ensures run { IsTrue (D.state disk.old).honest
+        → Run (λ k. k ≡ slot + 1) (D.state disk.old) (D.state disk.new) }
+
+    // Over a synced body: until the sync it is unsealed or sealed over that body.
+    ensures images { IsTrue (D.state disk.old).honest → (D.state disk.old).settled slot
+        → Each (D.state disk.old) (D.state disk.new) (λ c. (slot_at c slot ≡ None)
+        ⊎ (slot_at c slot ≡ Some (sector_at (D.state disk.old).contents slot))) }
+
+    ensures written { IsTrue (D.state disk.old).honest → IsOk result
+        → sector_at (D.state disk.new).contents (slot + 1) ≡ sealed_gate }
+    ensures sealed { IsTrue (D.state disk.old).honest → IsOk result
+        → slot_at (D.state disk.new).contents slot
+        ≡ Some (sector_at (D.state disk.old).contents slot) }
+    ensures settled { IsTrue (D.state disk.old).honest → IsOk result
+        → AllSettled (D.state disk.new) }
+{
+    settle(disk, slot + 1, &sealed_gate_bytes())
+}
+
+/// The body of a slot that reads as sealed. Reads the gate, and the body only where it is sealed.
+pub fn look<D: SectorDisk>(disk: &mut D, slot: u64) -> Result<Option<Sector>, DiskFault>
+    requires on_disk { slot + 1 < (D.state disk.old).sectors }
+    requires fits { slot + 1 < 2 ^ 64 }
+
+    ensures counts { Counts (D.state disk.old) (D.state disk.new)
+        (IsErrOf result DiskFault.Device) (IsOk result) }
+    ensures in_range { IsErrOf result DiskFault.OutOfRange → ⊥ }
+    ensures found { IsTrue (D.state disk.old).honest
+        → IfOk result (λ found. found ≡ slot_at (D.state disk.old).contents slot) }
+    ensures run { IsTrue (D.state disk.old).honest
+        → Run nothing (D.state disk.old) (D.state disk.new) }
+    ensures settled { IsTrue (D.state disk.old).honest
+        → (k : ℕ) → (D.state disk.old).settled k → (D.state disk.new).settled k }
+{
+    let mut sector = [0; 512];
+    disk.read(slot + 1, &mut sector)?;
+    if sector[0] != SEALED {
+        return Ok(None);
+    }
+    disk.read(slot, &mut sector)?;
+    Ok(Some(sector))
+}
+
+// Writes a sector and makes sure of it.
+fn settle<D: SectorDisk>(disk: &mut D, at: u64, sector: &Sector) -> Result<(), DiskFault>
+    requires { at < (D.state disk.old).sectors }
+    ensures counts { Counts (D.state disk.old) (D.state disk.new)
+        (IsErrOf result DiskFault.Device) (IsOk result) }
+    ensures in_range { IsErrOf result DiskFault.OutOfRange → ⊥ }
+    ensures run { IsTrue (D.state disk.old).honest
+        → Run (λ k. k ≡ at) (D.state disk.old) (D.state disk.new) }
+    ensures written { IsTrue (D.state disk.old).honest → IsOk result
+        → sector_at (D.state disk.new).contents at ≡ sector.now }
+    ensures settled { IsTrue (D.state disk.old).honest → IsOk result
+        → AllSettled (D.state disk.new) }
+{
+    disk.write(at, sector)?;
+    disk.sync()
+}
+
+fn sealed_gate_bytes() -> Sector
+    ensures { result ≡ sealed_gate }
+{
+    let mut gate = [0; 512];
+    gate[0] = SEALED;
+    gate
+}
