@@ -1,0 +1,3 @@
+pub mod Words
+pub mod IdLaws
+pub mod ShareLaws

@@ -1,0 +1,20 @@
+//! The nodes of a cluster, the groups that they form, and the task that a group shares.
+//!
+//! A group is named by its number, its members are a set of nodes, and each queue of jobs belongs
+//! to one of them. The names follow Garcia-Molina, "Elections in a distributed computing system"
+//! (1982).
+#![tactic(auto)]
+
+mod group;
+mod members;
+mod node;
+mod shares;
+mod task;
+#[cfg(test)]
+mod tests;
+
+pub use group::GroupNo;
+pub use members::{Iter, Members};
+pub use node::{NODES, NodeId};
+pub use shares::{even_shares, one_owner};
+pub use task::{Task, owner, share};

@@ -1,0 +1,15 @@
+-- What the disk answers when it has taken a command.
+use Rattle.std.specs.Prelude.{ℕ, ◌+◌, Option, Some, None}
+use Rattle.job_model.specs.Command.{Command, Raise, Put, Done}
+use Rattle.job_model.specs.Durable.{Durable}
+
+-- the new count, the id of the new job, or the id of the job that is done
+abbrev pub answer_of : Durable → Command → ℕ
+answer_of d Raise = d.counter + 1
+answer_of d (Put queue payload) = d.next
+answer_of d (Done id) = id
+
+-- the answer to the command that an event wants; where it wants none, it isn't looked at
+abbrev pub answer_to : Durable → Option Command → ℕ
+answer_to d None = 0
+answer_to d (Some c) = answer_of d c

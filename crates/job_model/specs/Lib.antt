@@ -1,0 +1,8 @@
+pub mod Padded
+pub mod Command
+pub mod Durable
+pub mod Fold
+pub mod Order
+pub mod Answer
+pub mod Table
+pub mod Records

@@ -1,0 +1,21 @@
+//! Jobs, the commands that make them pending and done, and the table of those that are pending.
+//!
+//! What a node keeps where failures don't erase it is the fold of its commands: `specs/` has that
+//! definition, and [`JobTable::apply`] is one step of it.
+#![tactic(auto)]
+
+mod command;
+mod job;
+mod payload;
+mod queue;
+mod record;
+mod table;
+#[cfg(test)]
+mod tests;
+
+pub use command::Command;
+pub use job::Job;
+pub use payload::{PAYLOAD_CAPACITY, Payload};
+pub use queue::{QUEUES, Queue};
+pub use record::Record;
+pub use table::JobTable;

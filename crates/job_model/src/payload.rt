@@ -1,0 +1,109 @@
+ghost use Rattle.std.specs.Prelude.{◌≡◌, ◌<◌, ◌≤◌, ◌↔◌, IsNone, IfSome, IsTrue, [], length};
+ghost use Rattle.job_model.specs.Padded.{padded};
+ghost use Rattle.job_model.specs.declared.payload.TheConstants.{PAYLOAD_CAPACITY};
+
+use std::marker::Model;
+
+/// How many bytes a payload has at most.
+pub const PAYLOAD_CAPACITY: usize = 400;
+
+/// The bytes of a job, which nothing here looks into.
+///
+/// They are kept in place, with zeros behind them, so a job is copied without taking memory.
+#[derive(Clone, Copy, Debug)]
+pub struct Payload {
+    bytes: [u8; PAYLOAD_CAPACITY],
+    len: usize,
+}
+
+impl Model for Payload {
+    ghost use Rattle.std.specs.Prelude.{ℕ, List, take, length};
+    ghost use Rattle.job_model.specs.Padded.{padded, IsPadded, padded-take, length-front};
+    ghost use Rattle.job_model.specs.declared.payload.TheConstants.{PAYLOAD_CAPACITY};
+
+    ghost Value = { List ℕ };
+
+    ghost view = { λ a. take a.len a.bytes };
+
+    ghost invariant = { λ a. IsPadded PAYLOAD_CAPACITY a.len a.bytes };
+
+    ghost inverse = { λ xs. record { bytes = padded PAYLOAD_CAPACITY xs; len = length xs } };
+
+    ghost inverse_ok = { λ a h. λ i. record { bytes = padded-take PAYLOAD_CAPACITY a.len a.bytes h i; len = length-front PAYLOAD_CAPACITY a.len a.bytes h i } };
+}
+
+impl Payload {
+    /// A payload of these bytes, which input may have made too many.
+    #[inline]
+    pub fn new(bytes: &[u8]) -> Option<Payload>
+        ensures value { IfSome result (λ payload. payload ≡ bytes.now) }
+        ensures none { IsNone result ↔ (PAYLOAD_CAPACITY < length bytes.now) }
+    {
+        if bytes.len() > PAYLOAD_CAPACITY {
+            return None;
+        }
+        Some(Payload {
+            bytes: padded(bytes),
+            len: bytes.len(),
+        })
+    }
+
+    /// How many bytes it has.
+    #[inline]
+    pub fn len(&self) -> usize
+        ensures value { result ≡ length self.now }
+        ensures fits { length self.now ≤ PAYLOAD_CAPACITY }
+    {
+        self.len
+    }
+
+    /// Whether it has no bytes, which a job may have.
+    #[inline]
+    pub fn is_empty(&self) -> bool
+        ensures { IsTrue result ↔ (self.now ≡ []) }
+    {
+        self.as_slice().is_empty()
+    }
+
+    /// Its bytes, without the zeros that are kept behind them.
+    #[inline]
+    pub fn as_slice(&self) -> &[u8]
+        ensures value { result.now ≡ self.now }
+        ensures fits { length self.now ≤ PAYLOAD_CAPACITY }
+    {
+        &self.bytes[..self.len]
+    }
+}
+
+// These bytes, and zeros behind them.
+#[inline]
+fn padded(bytes: &[u8]) -> [u8; PAYLOAD_CAPACITY]
+    requires { length bytes.now ≤ PAYLOAD_CAPACITY }
+    ensures { result ≡ padded PAYLOAD_CAPACITY bytes.now }
+{
+    let mut cells = [0; PAYLOAD_CAPACITY];
+    cells[..bytes.len()].copy_from_slice(bytes);
+    cells
+}
+
+impl PartialEq for Payload {
+    ghost use Rattle.std.specs.Prelude.{nat_eq};
+    ghost use Rattle.std.specs.Cmp.Lexicographic.{pointwise};
+    ghost use Rattle.std.specs.Cmp.{partial_equiv_from_equiv};
+    ghost use Rattle.std.proofs.lemmas.Cmp.{nat_list_eq_equiv};
+
+    ghost eq = { pointwise nat_eq };
+
+    ghost laws = { partial_equiv_from_equiv nat_list_eq_equiv };
+
+    #[inline]
+    fn eq(&self, other: &Payload) -> bool {
+        self.as_slice() == other.as_slice()
+    }
+}
+
+impl Eq for Payload {
+    ghost use Rattle.std.proofs.lemmas.Cmp.{nat_list_eq_equiv};
+
+    ghost laws = { nat_list_eq_equiv };
+}

@@ -1,0 +1,146 @@
+ghost use Rattle.std.specs.Prelude.{◌≡◌, ◌<◌, ◌≤◌, ◌+◌, ◌^◌, ◌++◌, ◌∷◌, take, drop, get_or, length, List, ℕ, Some, None};
+ghost use Rattle.std.specs.Int.{to_be_bytes, w64, w16};
+ghost use Rattle.job_model.specs.Records.{record_of, bytes_of, job_of, number_of, id_in, length_in, is_blank, job_bytes, number_bytes};
+
+use crate::job::Job;
+use crate::payload::{PAYLOAD_CAPACITY, Payload};
+use crate::queue::Queue;
+use sector_disk::Sector;
+
+#[cfg(test)]
+mod tests;
+
+const PUT: u8 = 1;
+
+const DONE: u8 = 2;
+
+const BASE: u8 = 3;
+
+const KEEP: u8 = 4;
+
+/// What one slot of a journal says of the jobs.
+#[derive(Clone, Copy, Debug, PartialEq, Eq)]
+pub enum Record {
+    /// A job became pending. It took the next id.
+    Put(Job),
+    /// The job of this id is done.
+    Done(u64),
+    /// A journal begins whose next id is this one.
+    Base(u64),
+    /// A job was pending when the journal began.
+    Keep(Job),
+}
+
+impl Record {
+    /// The sector of a record: its kind in one byte, numbers with the greatest byte first, and zeros to the end.
+    #[tactic(auto, unfolding(crate::specs::Records::record_of))]
+    pub fn to_sector(&self) -> Sector
+        ensures bytes { result ≡ bytes_of self.now }
+        ensures read_back { record_of result ≡ Some self.now }
+    {
+        match self {
+            Record::Put(job) => job_sector(PUT, job),
+            Record::Done(id) => number_sector(DONE, *id),
+            Record::Base(next) => number_sector(BASE, *next),
+            Record::Keep(job) => job_sector(KEEP, job),
+        }
+    }
+
+    /// The record of a sector, if it is one.
+    #[tactic(auto, unfolding(crate::specs::Records::record_of))]
+    pub fn from_sector(sector: &Sector) -> Option<Record>
+        ensures { result ≡ record_of sector.now }
+    {
+        match sector[0] {
+            PUT => job_in(sector).map(Record::Put),
+            DONE => number_in(sector).map(Record::Done),
+            BASE => number_in(sector).map(Record::Base),
+            KEEP => job_in(sector).map(Record::Keep),
+            _ => None,
+        }
+    }
+}
+
+fn number_sector(kind: u8, number: u64) -> Sector
+    ensures bytes { result ≡ number_bytes kind number }
+    ensures kind { get_or result 0 0 ≡ kind }
+    ensures number { number_of result ≡ Some number }
+    ensures fits { number < 2 ^ 64 }
+{
+    let mut sector = [0; 512];
+    sector[0] = kind;
+    place(&mut sector, 1, &number.to_be_bytes());
+    sector
+}
+
+fn job_sector(kind: u8, job: &Job) -> Sector
+    ensures bytes { result ≡ job_bytes kind job.now }
+    ensures kind { get_or result 0 0 ≡ kind }
+    ensures job { job_of result ≡ Some job.now }
+{
+    let bytes = job.payload.as_slice();
+    let mut sector = number_sector(kind, job.id);
+    sector[9] = job.queue.number();
+    place(&mut sector, 10, &(bytes.len() as u16).to_be_bytes());
+    place(&mut sector, 12, bytes);
+    sector
+}
+
+// Writes these bytes into a sector.
+fn place(sector: &mut Sector, at: usize, bytes: &[u8])
+    requires { at + length bytes.now ≤ 512 }
+    ensures { sector.new ≡ take at sector.old ++ bytes.now ++ drop (at + length bytes.now) sector.old }
+{
+    sector[at..at + bytes.len()].copy_from_slice(bytes);
+}
+
+// The number behind the kind, if nothing else follows.
+#[tactic(auto, unfolding(crate::specs::Records::number_of))]
+fn number_in(sector: &Sector) -> Option<u64>
+    ensures { result ≡ number_of sector.now }
+{
+    if is_blank(sector, 9) {
+        Some(id_in(sector))
+    } else {
+        None
+    }
+}
+
+// The job behind the kind, if nothing else follows.
+fn job_in(sector: &Sector) -> Option<Job>
+    ensures { result ≡ job_of sector.now }
+{
+    let queue = Queue::new(sector[9])?;
+    let len = length_in(sector);
+    if len > PAYLOAD_CAPACITY || !is_blank(sector, 12 + len) {
+        return None;
+    }
+    let payload = Payload::new(&sector[12..12 + len])?;
+    Some(Job {
+        id: id_in(sector),
+        queue,
+        payload,
+    })
+}
+
+fn id_in(sector: &Sector) -> u64
+    ensures { result ≡ id_in sector.now }
+{
+    u64::from_be_bytes([
+        sector[1], sector[2], sector[3], sector[4], sector[5], sector[6], sector[7], sector[8],
+    ])
+}
+
+fn length_in(sector: &Sector) -> usize
+    ensures { result ≡ length_in sector.now }
+{
+    u16::from_be_bytes([sector[10], sector[11]]) as usize
+}
+
+// Whether all bytes from there on are zero.
+fn is_blank(sector: &Sector, from: usize) -> bool
+    requires { from ≤ 512 }
+    ensures { result ≡ is_blank (drop from sector.now) }
+{
+    sector[from..].iter().filter(|byte| **byte != 0).count() == 0
+}
