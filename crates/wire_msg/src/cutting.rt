@@ -1,0 +1,116 @@
+//! Frames at the front of some bytes.
+
+ghost use Rattle.std.specs.Prelude.{◌≡◌, ◌<◌, ◌≤◌, [], ◌∷◌, ◌++◌, ℕ, List, length, take, drop, Some, None, Err, IfOk, OnOk, OnErr, MatchOption};
+ghost use Rattle.wire_msg.specs.declared.fault.WireFault.TheVariants.{Malformed, NoMemory};
+ghost use Rattle.wire_msg.specs.Envelope.{Envelope};
+ghost use Rattle.wire_msg.specs.Spelling.{Spells};
+ghost use Rattle.wire_msg.specs.Framing.{frame_len, IsPartial, IsAt};
+ghost use Rattle.wire_msg.specs.Contents.{Feeds};
+
+use crate::body::Body;
+use crate::fault::WireFault;
+use crate::message::Message;
+use crate::reading::read;
+use std::alloc::AllocError;
+
+/// Reads on behind the unfinished frame `rest`, and leaves the next one there. What was added before memory ran out is taken back.
+pub(crate) fn read_on(
+    rest: &mut Vec<u8>,
+    piece: &[u8],
+    out: &mut Vec<Message>,
+) -> Result<(), WireFault>
+    ensures ok { OnOk result (Feeds (Some rest.old.items) piece.now out.old.items out.new.items (Some rest.new.items)) }
+    ensures malformed { result ≡ Err Malformed → Feeds (Some rest.old.items) piece.now out.old.items out.new.items None }
+    ensures no_memory { result ≡ Err NoMemory → (rest.new.items ≡ rest.old.items) × (out.new.items ≡ out.old.items) }
+{
+    let had = rest.len();
+    let given = out.len();
+    let read = if had == 0 {
+        read_piece(rest, piece, out)
+    } else {
+        read_joined(rest, piece, out)
+    };
+    if let Err(WireFault::NoMemory) = read {
+        rest.truncate(had);
+        out.truncate(given);
+    }
+    read
+}
+
+/// Where nothing is unfinished, frames are cut straight from the piece.
+fn read_piece(rest: &mut Vec<u8>, piece: &[u8], out: &mut Vec<Message>) -> Result<(), WireFault>
+    requires { rest.old.items ≡ [] }
+    ensures ok { OnOk result (Feeds (Some rest.old.items) piece.now out.old.items out.new.items (Some rest.new.items)) }
+    ensures malformed { result ≡ Err Malformed → Feeds (Some rest.old.items) piece.now out.old.items out.new.items None }
+    ensures no_memory { result ≡ Err NoMemory → take (length out.old.items) out.new.items ≡ out.old.items }
+{
+    let taken = take_frames(piece, out)?;
+    rest.extend_from_slice(&piece[taken..])?;
+    Ok(())
+}
+
+/// Behind an unfinished frame, the piece is joined to it first.
+fn read_joined(rest: &mut Vec<u8>, piece: &[u8], out: &mut Vec<Message>) -> Result<(), WireFault>
+    ensures ok { OnOk result (Feeds (Some rest.old.items) piece.now out.old.items out.new.items (Some rest.new.items)) }
+    ensures malformed { result ≡ Err Malformed → Feeds (Some rest.old.items) piece.now out.old.items out.new.items None }
+    ensures no_memory { result ≡ Err NoMemory → (take (length rest.old.items) rest.new.items ≡ rest.old.items) × (take (length out.old.items) out.new.items ≡ out.old.items) }
+{
+    rest.extend_from_slice(piece)?;
+    let taken = take_frames(rest, out)?;
+    remove_front(rest, taken);
+    Ok(())
+}
+
+fn remove_front(bytes: &mut Vec<u8>, count: usize)
+    requires { count ≤ length bytes.old.items }
+    ensures { bytes.new.items ≡ drop count bytes.old.items }
+{
+    if count > 0 {
+        let left = bytes.len() - count;
+        bytes.copy_within(count.., 0);
+        bytes.truncate(left);
+    }
+}
+
+/// Adds the messages of the whole frames at the front, and answers how many bytes those have.
+fn take_frames(bytes: &[u8], out: &mut Vec<Message>) -> Result<usize, WireFault>
+    ensures ok { IfOk result (λ taken. (taken ≤ length bytes.now) × (messages : List Envelope) × (out.new.items ≡ out.old.items ++ messages) × IsAt bytes.now messages (Some (drop taken bytes.now))) }
+    ensures malformed { result ≡ Err Malformed → (messages : List Envelope) × (out.new.items ≡ out.old.items ++ messages) × IsAt bytes.now messages None }
+    ensures no_memory { result ≡ Err NoMemory → take (length out.old.items) out.new.items ≡ out.old.items }
+{
+    let mut left = bytes;
+    while let Some(len) = whole_frame(left) {
+        let (frame, after) = left.split_at(len);
+        take_frame(frame, out)?;
+        left = after;
+    }
+    Ok(bytes.len() - left.len())
+}
+
+/// The length of the frame at the front, if it is whole.
+#[inline]
+fn whole_frame(bytes: &[u8]) -> Option<usize>
+    ensures { MatchOption result (IsPartial bytes.now) (λ len. (len ≡ frame_len bytes.now) × (len ≤ length bytes.now)) }
+{
+    if bytes.len() < 6 {
+        return None;
+    }
+    let len = 6 + usize::from(u16::from_be_bytes([bytes[4], bytes[5]]));
+    if len <= bytes.len() { Some(len) } else { None }
+}
+
+/// Adds the message of a frame.
+#[inline]
+fn take_frame(frame: &[u8], out: &mut Vec<Message>) -> Result<(), WireFault>
+    ensures ok { OnOk result ((m : Envelope) × Spells m frame.now × (out.new.items ≡ out.old.items ++ m ∷ [])) }
+    ensures malformed { result ≡ Err Malformed → (m : Envelope) → Spells m frame.now → ⊥ }
+    ensures err { OnErr result (out.new.items ≡ out.old.items) }
+{
+    let mut body = Body::AreYouCoordinator;
+    let Some((sender, receiver)) = read(frame, &mut body) else {
+        return Err(WireFault::Malformed);
+    };
+    out.reserve(1)?;
+    out.push_reserved(Message::between(sender, receiver, body));
+    Ok(())
+}

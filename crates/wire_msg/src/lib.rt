@@ -1,0 +1,23 @@
+//! Messages between nodes, and their bytes: each message has one spelling (docs/MESSAGES.md), and a stream of them
+//! may be cut into pieces anywhere.
+#![tactic(auto)]
+
+mod body;
+mod cutting;
+mod fault;
+mod laws;
+mod message;
+mod reading;
+mod stream;
+mod writing;
+
+pub use body::Body;
+pub use fault::WireFault;
+pub use laws::{any_cutting, message_of_spelling, one_reading, one_spelling};
+pub use message::Message;
+pub use reading::decode;
+pub use stream::Stream;
+pub use writing::encode;
+
+#[cfg(test)]
+mod tests;

@@ -1,0 +1,73 @@
+ghost use Rattle.std.specs.Prelude.{◌≡◌, ◌≢◌};
+ghost use Rattle.wire_msg.specs.Envelope.{envelope};
+
+use crate::body::Body;
+use group_task::NodeId;
+use std::marker::Model;
+
+/// A message from one node to another. It takes over 400 bytes, since the longest payload has room in it.
+#[derive(Clone, Copy, Debug, PartialEq, Eq)]
+pub struct Message {
+    sender: NodeId,
+    receiver: NodeId,
+    body: Body,
+}
+
+impl Model for Message {
+    ghost use Rattle.std.specs.Prelude.{◌≢◌};
+    ghost use Rattle.wire_msg.specs.Envelope.{Envelope};
+
+    ghost Value = { Envelope };
+
+    ghost view = { λ a. record { sender = a.sender; receiver = a.receiver; body = a.body } };
+
+    ghost invariant = { λ a. a.sender ≢ a.receiver };
+
+    ghost inverse = { λ m. record { sender = m.sender; receiver = m.receiver; body = m.body } };
+}
+
+impl Message {
+    /// The message, unless sender and receiver are the same node.
+    pub fn new(sender: NodeId, receiver: NodeId, body: Body) -> Option<Message>
+        ensures { result ≡ envelope sender receiver body }
+    {
+        if sender == receiver {
+            return None;
+        }
+        Some(Message::between(sender, receiver, body))
+    }
+
+    /// The node that sent it; it is not the receiver.
+    pub fn sender(&self) -> NodeId
+        ensures value { result ≡ self.now.sender }
+        ensures differ { self.now.sender ≢ self.now.receiver }
+    {
+        self.sender
+    }
+
+    /// The node that it is for.
+    pub fn receiver(&self) -> NodeId
+        ensures value { result ≡ self.now.receiver }
+    {
+        self.receiver
+    }
+
+    /// What it says.
+    pub fn body(&self) -> &Body
+        ensures { result.now ≡ self.now.body }
+    {
+        &self.body
+    }
+
+    /// The message between two nodes that are known to differ.
+    pub fn between(sender: NodeId, receiver: NodeId, body: Body) -> Message
+        requires { sender ≢ receiver }
+        ensures { result ≡ record { sender = sender; receiver = receiver; body = body } }
+    {
+        Message {
+            sender,
+            receiver,
+            body,
+        }
+    }
+}

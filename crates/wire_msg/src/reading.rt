@@ -1,0 +1,204 @@
+ghost use Rattle.std.specs.Prelude.{◌≡◌, ◌<◌, ℕ, List, length, take, drop, ◌≢◌, Some, IfSome, IfOk, IfErr, Ok, Err, option_map};
+ghost use Rattle.std.specs.Int.{w16, w64};
+ghost use Rattle.job_model.specs.declared.queue.TheConstants.{QUEUES};
+ghost use Rattle.group_task.specs.declared.node.TheConstants.{NODES};
+ghost use Rattle.wire_msg.specs.Envelope.{Envelope};
+ghost use Rattle.wire_msg.specs.Spelling.{Spells};
+ghost use Rattle.wire_msg.specs.Reading.{seen, byte_at, number_at, below_at, truth_at, group_at, members_at, task_at, payload_at, work_at, here_at, body_at, whole_at};
+
+use crate::body::Body;
+use crate::fault::WireFault;
+use crate::message::Message;
+use group_task::{GroupNo, Members, NodeId, Task, share};
+use job_model::{Payload, Queue};
+
+/// What is left to read. After a `None` it isn't read any further.
+#[derive(Drop)]
+struct Reader<'a> {
+    rest: &'a [u8],
+}
+
+impl Reader<'_> {
+    fn byte(&mut self) -> Option<u8>
+        ensures { seen result self.new.rest.now ≡ byte_at self.old.rest.now }
+    {
+        let (first, rest) = self.rest.split_first()?;
+        self.rest = rest;
+        Some(*first)
+    }
+
+    fn u16(&mut self) -> Option<u16>
+        ensures { seen result self.new.rest.now ≡ number_at w16 self.old.rest.now }
+    {
+        if self.rest.len() < 2 {
+            return None;
+        }
+        let (front, rest) = self.rest.split_at(2);
+        self.rest = rest;
+        Some(u16::from_be_bytes([front[0], front[1]]))
+    }
+
+    fn u64(&mut self) -> Option<u64>
+        ensures { seen result self.new.rest.now ≡ number_at w64 self.old.rest.now }
+    {
+        if self.rest.len() < 8 {
+            return None;
+        }
+        let (front, rest) = self.rest.split_at(8);
+        self.rest = rest;
+        Some(u64::from_be_bytes([
+            front[0], front[1], front[2], front[3], front[4], front[5], front[6], front[7],
+        ]))
+    }
+
+    #[tactic(auto, unfolding(crate::specs::Reading::below_at))]
+    fn node(&mut self) -> Option<NodeId>
+        ensures { seen result self.new.rest.now ≡ below_at NODES self.old.rest.now }
+    {
+        let number = self.byte()?;
+        NodeId::new(number)
+    }
+
+    #[tactic(auto, unfolding(crate::specs::Reading::below_at))]
+    fn queue(&mut self) -> Option<Queue>
+        ensures { seen result self.new.rest.now ≡ below_at QUEUES self.old.rest.now }
+    {
+        let number = self.byte()?;
+        Queue::new(number)
+    }
+
+    #[tactic(auto, unfolding(crate::specs::Reading::truth_at))]
+    fn truth(&mut self) -> Option<bool>
+        ensures { seen result self.new.rest.now ≡ truth_at self.old.rest.now }
+    {
+        match self.byte()? {
+            0 => Some(false),
+            1 => Some(true),
+            _ => None,
+        }
+    }
+
+    #[tactic(auto, unfolding(crate::specs::Reading::group_at))]
+    fn group(&mut self) -> Option<GroupNo>
+        ensures { seen result self.new.rest.now ≡ group_at self.old.rest.now }
+    {
+        let creator = self.node()?;
+        let count = self.u64()?;
+        GroupNo::new(creator, count)
+    }
+
+    fn members(&mut self, count: u8) -> Option<Members>
+        ensures { seen result self.new.rest.now ≡ members_at count 0 self.old.rest.now }
+    {
+        let mut members = Members::new();
+        let mut low = 0;
+        for _ in 0..count {
+            let id = self.node()?;
+            if id.number() < low {
+                return None;
+            }
+            members.insert(id);
+            low = id.number() + 1;
+        }
+        Some(members)
+    }
+
+    #[tactic(auto, unfolding(crate::specs::Reading::task_at))]
+    fn task(&mut self) -> Option<Task>
+        ensures { seen result self.new.rest.now ≡ task_at self.old.rest.now }
+    {
+        let group = self.group()?;
+        let count = self.byte()?;
+        let members = self.members(count)?;
+        if members.contains(group.creator()) {
+            Some(share(group, members))
+        } else {
+            None
+        }
+    }
+
+    #[tactic(auto, unfolding(crate::specs::Reading::payload_at))]
+    fn payload(&mut self) -> Option<Payload>
+        ensures { seen result self.new.rest.now ≡ payload_at self.old.rest.now }
+    {
+        let len = usize::from(self.u16()?);
+        if self.rest.len() < len {
+            return None;
+        }
+        let (bytes, rest) = self.rest.split_at(len);
+        self.rest = rest;
+        Payload::new(bytes)
+    }
+
+    /// Reads the body into the place where it will stay, since it has room for the longest payload.
+    #[tactic(auto, unfolding(crate::specs::Reading::body_at, crate::specs::Reading::here_at, crate::specs::Reading::work_at))]
+    fn body(&mut self, kind: u8, body: &mut Body) -> Option<()>
+        ensures { option_map (λ _. (body.new, self.new.rest.now)) result ≡ body_at kind self.old.rest.now }
+    {
+        *body = match kind {
+            1 => Body::AreYouCoordinator,
+            2 => Body::Coordinator(self.truth()?),
+            3 => Body::AreYouThere(self.group()?),
+            4 => {
+                let group = self.group()?;
+                Body::Here(group, self.truth()?)
+            }
+            5 => Body::Invitation(self.group()?),
+            6 => Body::Accept(self.group()?),
+            7 => Body::Ready(self.task()?),
+            8 => Body::ReadyAck(self.group()?),
+            9 => {
+                let group = self.group()?;
+                let id = self.u64()?;
+                let queue = self.queue()?;
+                let payload = self.payload()?;
+                Body::Work {
+                    group,
+                    id,
+                    queue,
+                    payload,
+                }
+            }
+            10 => Body::Done(self.u64()?),
+            _ => return None,
+        };
+        Some(())
+    }
+}
+
+/// Reads all of the bytes: the sender, the receiver, and the body into its place.
+#[tactic(auto, unfolding(crate::specs::Reading::whole_at))]
+pub(crate) fn read(bytes: &[u8], body: &mut Body) -> Option<(NodeId, NodeId)>
+    ensures value { option_map (λ ends. record { sender = ends.0; receiver = ends.1; body = body.new }) result ≡ whole_at bytes.now }
+    ensures differ { IfSome result (λ ends. ends.0 ≢ ends.1) }
+{
+    let mut reader = Reader { rest: bytes };
+    let version = reader.byte()?;
+    let kind = reader.byte()?;
+    let sender = reader.node()?;
+    let receiver = reader.node()?;
+    let len = reader.u16()?;
+    if version != 1 || reader.rest.len() != usize::from(len) {
+        return None;
+    }
+    reader.body(kind, body)?;
+    if !reader.rest.is_empty() || sender == receiver {
+        return None;
+    }
+    Some((sender, receiver))
+}
+
+/// The message that the bytes spell, all of them: `Malformed` where they are no spelling, also where more bytes follow one.
+pub fn decode(bytes: &[u8]) -> Result<Message, WireFault>
+    // What is read is spelled so.
+    ensures found { IfOk result (λ m. Spells m bytes.now) }
+    // What is spelled so is read.
+    ensures only { (m : Envelope) → Spells m bytes.now → result ≡ Ok m }
+    ensures fault { IfErr result (λ e. e ≡ WireFault.Malformed) }
+{
+    let mut body = Body::AreYouCoordinator;
+    let Some((sender, receiver)) = read(bytes, &mut body) else {
+        return Err(WireFault::Malformed);
+    };
+    Ok(Message::between(sender, receiver, body))
+}

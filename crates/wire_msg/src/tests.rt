@@ -1,0 +1,204 @@
+use super::*;
+use group_task::{GroupNo, Members, NodeId, share};
+use job_model::{Payload, Queue};
+use std::alloc::Global;
+use std::process::Abort;
+use std::test::Fail;
+
+const KINDS: usize = 11;
+
+/// One message of each kind, and both answers of a coordinator, in the order of the kinds.
+fn message(place: usize) -> Option<Message> {
+    let [zero, one, two] = [NodeId::new(0)?, NodeId::new(1)?, NodeId::new(2)?];
+    let group = GroupNo::new(zero, 2)?;
+    match place {
+        0 => Message::new(two, zero, Body::AreYouCoordinator),
+        1 => Message::new(zero, two, Body::Coordinator(true)),
+        2 => Message::new(zero, two, Body::Coordinator(false)),
+        3 => Message::new(two, zero, Body::AreYouThere(group)),
+        4 => Message::new(zero, two, Body::Here(group, false)),
+        5 => Message::new(zero, one, Body::Invitation(group)),
+        6 => Message::new(one, zero, Body::Accept(group)),
+        7 => Message::new(zero, one, ready(group, one)?),
+        8 => Message::new(one, zero, Body::ReadyAck(group)),
+        9 => Message::new(zero, one, work(group)?),
+        _ => Message::new(one, zero, Body::Done(0)),
+    }
+}
+
+fn ready(group: GroupNo, other: NodeId) -> Option<Body> {
+    let mut members = Members::new();
+    members.insert(other);
+    members.insert(group.creator());
+    if !members.contains(group.creator()) {
+        return None;
+    }
+    Some(Body::Ready(share(group, members)))
+}
+
+fn work(group: GroupNo) -> Option<Body> {
+    Some(Body::Work {
+        group,
+        id: 0,
+        queue: Queue::new(1)?,
+        payload: Payload::new(b"hi")?,
+    })
+}
+
+/// The spelling of each of these messages.
+fn spelling(place: usize) -> &'static [u8] {
+    match place {
+        0 => b"\x01\x01\x02\x00\x00\x00".as_slice(),
+        1 => b"\x01\x02\x00\x02\x00\x01\x01".as_slice(),
+        2 => b"\x01\x02\x00\x02\x00\x01\x00".as_slice(),
+        3 => b"\x01\x03\x02\x00\x00\x09\x00\x00\x00\x00\x00\x00\x00\x00\x02".as_slice(),
+        4 => b"\x01\x04\x00\x02\x00\x0a\x00\x00\x00\x00\x00\x00\x00\x00\x02\x00".as_slice(),
+        5 => b"\x01\x05\x00\x01\x00\x09\x00\x00\x00\x00\x00\x00\x00\x00\x02".as_slice(),
+        6 => b"\x01\x06\x01\x00\x00\x09\x00\x00\x00\x00\x00\x00\x00\x00\x02".as_slice(),
+        7 => b"\x01\x07\x00\x01\x00\x0c\x00\x00\x00\x00\x00\x00\x00\x00\x02\x02\x00\x01".as_slice(),
+        8 => b"\x01\x08\x01\x00\x00\x09\x00\x00\x00\x00\x00\x00\x00\x00\x02".as_slice(),
+        9 =>
+            b"\x01\x09\x00\x01\x00\x16\x00\x00\x00\x00\x00\x00\x00\x00\x02\x00\x00\x00\x00\x00\x00\x00\x00\x01\x00\x02\x68\x69".as_slice(),
+        _ => b"\x01\x0a\x01\x00\x00\x08\x00\x00\x00\x00\x00\x00\x00\x00".as_slice(),
+    }
+}
+
+/// What is no message, and why.
+fn non_message(place: usize) -> (&'static [u8], &'static str) {
+    match place {
+        0 => (
+            b"\x01\x01\x00\x00\x00\x00".as_slice(),
+            "the sender is the receiver",
+        ),
+        1 => (b"\x01\x01\x40\x00\x00\x00".as_slice(), "sender 64"),
+        2 => (b"\x01\x02\x00\x02\x00\x01\x02".as_slice(), "truth 2"),
+        3 => (
+            b"\x01\x06\x00\x01\x00\x09\x00\x00\x00\x00\x00\x00\x00\x00\x00".as_slice(),
+            "count 0",
+        ),
+        _ => (
+            b"\x01\x01\x02\x00\x00\x00\x00".as_slice(),
+            "a byte behind the body",
+        ),
+    }
+}
+
+#[test]
+fn vectors(rt: HostRuntime) -> Result<(), Fail> {
+    for place in 0..KINDS {
+        let message = message(place).ok_or("a message")?;
+        let bytes = encode(rt.alloc(), &message)?;
+        assert_eq!(rt; bytes.as_slice(), spelling(place), "{place} is written");
+        assert!(rt; decode(spelling(place)) == Ok(message), "{place} is read");
+    }
+    Ok(())
+}
+
+#[test]
+fn non_messages(rt: HostRuntime) {
+    for place in 0..5usize {
+        let (bytes, why) = non_message(place);
+        assert!(rt; decode(bytes) == Err(WireFault::Malformed), "{why}");
+    }
+}
+
+/// All of the spellings, one behind the other.
+fn all_spellings(alloc: Global) -> Result<Vec<u8>, Fail> {
+    let mut bytes = Vec::new(alloc);
+    for place in 0..KINDS {
+        bytes.extend_from_slice(spelling(place))?;
+    }
+    Ok(bytes)
+}
+
+fn expect_all(rt: &impl Abort, out: &[Message]) -> Result<(), Fail> {
+    assert_eq!(rt; out.len(), KINDS);
+    for (place, given) in out.iter().enumerate() {
+        assert!(rt; Some(*given) == message(place), "{place}");
+    }
+    Ok(())
+}
+
+#[test]
+fn cut_at_each_place(rt: HostRuntime) -> Result<(), Fail> {
+    let bytes = all_spellings(rt.alloc())?;
+    for cut in 0..=bytes.len() {
+        let mut stream = Stream::new(rt.alloc());
+        let mut out = Vec::new(rt.alloc());
+        let (front, back) = bytes.split_at(cut);
+        stream.feed(front, &mut out)?;
+        stream.feed(back, &mut out)?;
+        expect_all(&rt, &out)?;
+        assert_eq!(rt; stream.rest(), 0);
+    }
+    Ok(())
+}
+
+#[test]
+fn byte_by_byte(rt: HostRuntime) -> Result<(), Fail> {
+    let bytes = all_spellings(rt.alloc())?;
+    let mut stream = Stream::new(rt.alloc());
+    let mut out = Vec::new(rt.alloc());
+    for byte in bytes.iter() {
+        stream.feed(&[*byte], &mut out)?;
+    }
+    expect_all(&rt, &out)?;
+    assert_eq!(rt; stream.rest(), 0);
+    Ok(())
+}
+
+#[test]
+fn rest_and_malformed(rt: HostRuntime) -> Result<(), Fail> {
+    let mut stream = Stream::new(rt.alloc());
+    let mut out = Vec::new(rt.alloc());
+    stream.feed(spelling(7), &mut out)?;
+    stream.feed(b"\x01\x01\x02", &mut out)?;
+    assert_eq!(rt; out.len(), 1);
+    assert_eq!(rt; stream.rest(), 3);
+    assert!(rt;
+        stream.feed(b"\x02\x00\x00\x01\x01\x02\x00\x00\x00", &mut out) == Err(WireFault::Malformed)
+    );
+    assert_eq!(rt; out.len(), 1);
+    assert_eq!(rt; stream.rest(), 0);
+    assert!(rt; stream.feed(spelling(0), &mut out) == Err(WireFault::Malformed));
+    assert_eq!(rt; out.len(), 1);
+    Ok(())
+}
+
+#[test]
+fn malformed_behind_good_frames(rt: HostRuntime) -> Result<(), Fail> {
+    let mut bytes = all_spellings(rt.alloc())?;
+    bytes.extend_from_slice(
+        b"\x01\x07\x00\x01\x00\x0c\x00\x00\x00\x00\x00\x00\x00\x00\x02\x02\x01\x00",
+    )?;
+    let mut stream = Stream::new(rt.alloc());
+    let mut out = Vec::new(rt.alloc());
+    assert!(rt; stream.feed(&bytes, &mut out) == Err(WireFault::Malformed));
+    expect_all(&rt, &out)?;
+    assert_eq!(rt; stream.rest(), 0);
+    Ok(())
+}
+
+#[test]
+fn frame_is_judged_once_it_is_whole(rt: HostRuntime) -> Result<(), Fail> {
+    let mut stream = Stream::new(rt.alloc());
+    let mut out = Vec::new(rt.alloc());
+    stream.feed(b"\xff\xff\xff\xff\x00\x02\x00", &mut out)?;
+    assert_eq!(rt; stream.rest(), 7);
+    assert!(rt; stream.feed(b"\x00", &mut out) == Err(WireFault::Malformed));
+    assert_eq!(rt; stream.rest(), 0);
+    Ok(())
+}
+
+#[test]
+fn ends_and_faults(rt: HostRuntime) -> Result<(), Fail> {
+    let message = message(0).ok_or("a message")?;
+    assert_eq!(rt; message.sender().number(), 2);
+    assert_eq!(rt; message.receiver().number(), 0);
+    assert!(rt; *message.body() == Body::AreYouCoordinator);
+    let again = Message::new(message.sender(), message.sender(), Body::AreYouCoordinator);
+    assert!(rt; again.is_none());
+    let text = format!(in rt.alloc(); "{}, {}", WireFault::Malformed, WireFault::NoMemory)?;
+    assert_eq!(rt; text.as_str(), "malformed, no memory");
+    Ok(())
+}

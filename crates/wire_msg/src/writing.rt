@@ -1,0 +1,149 @@
+ghost use Rattle.std.specs.Prelude.{◌≡◌, ◌++◌, length, OnOk, IfOk, IfErr};
+ghost use Rattle.wire_msg.specs.Spelling.{group as group_bytes, task as task_bytes, work as work_bytes, kind_of, content, AreBytes, IsGroup, IsTask, IsWork, IsBody, Spells};
+
+use crate::body::Body;
+use crate::fault::WireFault;
+use crate::message::Message;
+use group_task::{GroupNo, Task};
+use job_model::{Payload, Queue};
+use std::alloc::{AllocError, Global};
+
+fn kind_of(body: &Body) -> u8
+    ensures { result ≡ kind_of body.now }
+{
+    match body {
+        Body::AreYouCoordinator => 1,
+        Body::Coordinator(_) => 2,
+        Body::AreYouThere(_) => 3,
+        Body::Here(_, _) => 4,
+        Body::Invitation(_) => 5,
+        Body::Accept(_) => 6,
+        Body::Ready(_) => 7,
+        Body::ReadyAck(_) => 8,
+        Body::Work { .. } => 9,
+        Body::Done(_) => 10,
+    }
+}
+
+/// How many bytes `put_body` adds.
+fn len_of(body: &Body) -> u16
+    ensures { result ≡ length (content body.now) }
+{
+    match body {
+        Body::AreYouCoordinator => 0,
+        Body::Coordinator(_) => 1,
+        Body::AreYouThere(_) => 9,
+        Body::Here(_, _) => 10,
+        Body::Invitation(_) => 9,
+        Body::Accept(_) => 9,
+        Body::Ready(task) => 10 + task.members().len() as u16,
+        Body::ReadyAck(_) => 9,
+        Body::Work { payload, .. } => 20 + payload.len() as u16,
+        Body::Done(_) => 8,
+    }
+}
+
+fn put_bytes(out: &mut Vec<u8>, bytes: &[u8]) -> Result<(), AllocError>
+    ensures added { OnOk result (out.new.items ≡ out.old.items ++ bytes.now) }
+    ensures are_bytes { AreBytes bytes.now }
+{
+    out.extend_from_slice(bytes)?;
+    Ok(())
+}
+
+fn put_group(out: &mut Vec<u8>, group: GroupNo) -> Result<(), AllocError>
+    ensures bytes { OnOk result (out.new.items ≡ out.old.items ++ group_bytes group) }
+    ensures fits { OnOk result (IsGroup group) }
+{
+    let creator = group.creator().number();
+    let count = group.count().to_be_bytes();
+    out.push(creator)?;
+    out.extend_from_slice(&count)
+}
+
+fn put_task(out: &mut Vec<u8>, task: &Task) -> Result<(), AllocError>
+    ensures bytes { OnOk result (out.new.items ≡ out.old.items ++ task_bytes task.now) }
+    ensures fits { OnOk result (IsTask task.now) }
+{
+    put_group(out, task.group())?;
+    let members = task.members();
+    out.push(members.len() as u8)?;
+    for id in members.iter() {
+        out.push(id.number())?;
+    }
+    Ok(())
+}
+
+fn put_work(
+    out: &mut Vec<u8>,
+    group: GroupNo,
+    id: u64,
+    queue: Queue,
+    payload: &Payload,
+) -> Result<(), AllocError>
+    ensures bytes { OnOk result (out.new.items ≡ out.old.items ++ work_bytes group id queue payload.now) }
+    ensures fits { OnOk result (IsWork group id queue payload.now) }
+{
+    let id_bytes = id.to_be_bytes();
+    let len_bytes = (payload.len() as u16).to_be_bytes();
+    put_group(out, group)?;
+    put_bytes(out, &id_bytes)?;
+    out.push(queue.number())?;
+    put_bytes(out, &len_bytes)?;
+    put_bytes(out, payload.as_slice())?;
+    Ok(())
+}
+
+fn put_body(out: &mut Vec<u8>, body: &Body) -> Result<(), AllocError>
+    ensures bytes { OnOk result (out.new.items ≡ out.old.items ++ content body.now) }
+    ensures fits { OnOk result (IsBody body.now) }
+{
+    match body {
+        Body::AreYouCoordinator => Ok(()),
+        Body::Coordinator(answer) => Ok(out.push(u8::from(*answer))?),
+        Body::AreYouThere(group) => put_group(out, *group),
+        Body::Here(group, answer) => {
+            put_group(out, *group)?;
+            Ok(out.push(u8::from(*answer))?)
+        }
+        Body::Invitation(group) => put_group(out, *group),
+        Body::Accept(group) => put_group(out, *group),
+        Body::Ready(task) => put_task(out, task),
+        Body::ReadyAck(group) => put_group(out, *group),
+        Body::Work {
+            group,
+            id,
+            queue,
+            payload,
+        } => put_work(out, *group, *id, *queue, payload),
+        Body::Done(id) => {
+            let id = *id;
+            out.extend_from_slice(&id.to_be_bytes())
+        }
+    }
+}
+
+fn spell(alloc: Global, message: &Message) -> Result<Vec<u8>, AllocError>
+    ensures { IfOk result (λ bytes. Spells message.now bytes.items) }
+{
+    let sender = message.sender().number();
+    let receiver = message.receiver().number();
+    let body = message.body();
+    let len = len_of(body);
+    let mut out = Vec::with_capacity(alloc, 6 + usize::from(len))?;
+    out.push(1)?;
+    out.push(kind_of(body))?;
+    out.push(sender)?;
+    out.push(receiver)?;
+    out.extend_from_slice(&len.to_be_bytes())?;
+    put_body(&mut out, body)?;
+    Ok(out)
+}
+
+/// The spelling of the message, at most 426 bytes. The only fault is `NoMemory`.
+pub fn encode(alloc: Global, message: &Message) -> Result<Vec<u8>, WireFault>
+    ensures ok { IfOk result (λ bytes. Spells message.now bytes.items) }
+    ensures fault { IfErr result (λ e. e ≡ WireFault.NoMemory) }
+{
+    Ok(spell(alloc, message)?)
+}
