@@ -1,0 +1,5 @@
+pub mod Dispatch
+pub mod Sets
+pub mod Quiets
+pub mod Letters
+pub mod Greatest

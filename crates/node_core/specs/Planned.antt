@@ -1,0 +1,128 @@
+-- What a plan will make of the state of a node.
+use Rattle.std.specs.Prelude.{ℕ, ◌≡◌, ◌==◌, ◌≤◌, List, [], ◌∷◌, ◌++◌, length, if◌then◌else◌, Option, Some, None, vec_capacity, vec_len}
+use Rattle.group_task.specs.Others.{AreOthers}
+use Rattle.job_model.specs.Command.{Command, Raise, Put, Done}
+use Rattle.wire_msg.specs.Envelope.{Envelope}
+use Rattle.wire_msg.specs.declared.body.Body.TheVariants.{Invitation, Work}
+use Rattle.node_core.specs.declared.durable.Durable.{Durable}
+use Rattle.node_core.specs.declared.durable.Durable.TheVariants as durable
+use Rattle.node_core.specs.declared.in_hand.InHand.{InHand}
+use Rattle.node_core.specs.declared.plan.Standing.{Standing}
+use Rattle.node_core.specs.declared.plan.HandChange.{HandChange}
+use Rattle.node_core.specs.declared.plan.HandChange.TheVariants.{Keep, Clear, Lose, Gain}
+use Rattle.node_core.specs.declared.plan.Act.{Act}
+use Rattle.node_core.specs.declared.plan.Act.TheVariants.{Settle, Invite, Recover, Place}
+use Rattle.node_core.specs.declared.plan.Plan.{Plan}
+use Rattle.node_core.specs.declared.phase.Phase.TheVariants.{Election}
+use Rattle.node_core.specs.declared.vector.Vector.{Vector}
+use Rattle.node_core.specs.State.{State}
+use Rattle.node_core.specs.Effect.{Effect, quietly}
+use Rattle.node_core.specs.Words.{letter, to_each, own_group, regrouped, without_held}
+use Rattle.node_core.specs.Timers.{recovery}
+use Rattle.node_core.specs.Consistent.{IsConsistent}
+
+-- the state with this standing and this work in hand
+abbrev pub with_standing : Standing → List InHand → State
+with_standing standing hand = record {
+  phase = standing.phase;
+  coordinator = standing.coordinator;
+  group = standing.group;
+  up = standing.up;
+  task = standing.task;
+  found = standing.found;
+  unready = standing.unready;
+  checking = standing.checking;
+  probing = standing.probing;
+  hand = hand;
+}
+
+-- what a vector has beside the work in hand
+abbrev pub standing_of : Vector → Standing
+standing_of v = record {
+  phase = v.phase;
+  coordinator = v.coordinator;
+  group = v.group;
+  up = v.up;
+  task = v.task;
+  found = v.found;
+  unready = v.unready;
+  checking = v.checking;
+  probing = v.probing;
+}
+
+abbrev pub hand_after : HandChange → List InHand → List InHand
+hand_after Keep hand = hand
+hand_after Clear hand = []
+hand_after (Lose origin id) hand = without_held hand origin id
+hand_after (Gain jobs) hand = hand ++ jobs.items
+
+-- what carrying out the plan makes of the state, where answer is the new count or the new id
+abbrev pub carried : ℕ → Act → ℕ → State → Effect → Effect
+carried self (Settle standing change job) answer s ready = record ready { state = with_standing standing (hand_after change s.hand) }
+carried self (Invite receivers) answer s ready = record {
+  state = record (regrouped self answer s) { phase = Election };
+  sent = to_each self receivers (Invitation (own_group self answer));
+}
+carried self Recover answer s ready = recovery self answer s
+carried self (Place to queue payload) answer s ready =
+    if to == self
+    then quietly (record s { hand = s.hand ++ (record { origin = self; id = answer; queue = queue; payload = payload }) ∷ [] })
+    else record {
+      state = s;
+      sent = letter self to (Work s.group answer queue payload) ∷ [];
+    }
+
+abbrev pub planned_effect : ℕ → Plan → ℕ → State → Effect
+planned_effect self plan answer s = carried self plan.act answer s (record { state = s; sent = plan.messages.items })
+
+-- the command that a plan with this act wants
+abbrev pub act_wants : Act → Option Command
+act_wants (Settle standing change None) = None
+act_wants (Settle standing change (Some id)) = Some (Done id)
+act_wants (Invite receivers) = Some Raise
+act_wants Recover = Some Raise
+act_wants (Place to queue payload) = Some (Put queue payload)
+
+-- the command that a plan wants
+abbrev pub plan_wants : Plan → Option Command
+plan_wants plan = act_wants plan.act
+
+-- the command that a value of `Durable` names
+abbrev pub wanted_by : Durable → Option Command
+wanted_by durable.None = None
+wanted_by durable.Raise = Some Raise
+wanted_by (durable.Put queue payload) = Some (Put queue payload)
+wanted_by (durable.Done id) = Some (Done id)
+
+-- how many messages carrying out the plan sends
+abbrev pub act_sends : ℕ → Act → List Envelope → ℕ
+act_sends self (Settle standing change job) messages = length messages
+act_sends self (Invite receivers) messages = length receivers
+act_sends self Recover messages = 0
+act_sends self (Place to queue payload) messages = if to == self then 0 else 1
+
+abbrev pub plan_sends : ℕ → Plan → ℕ
+plan_sends self plan = act_sends self plan.act plan.messages.items
+
+-- by how many jobs the hand may grow
+abbrev pub gain_of : Act → ℕ
+gain_of (Settle standing Keep job) = 0
+gain_of (Settle standing Clear job) = 0
+gain_of (Settle standing (Lose origin id) job) = 0
+gain_of (Settle standing (Gain jobs) job) = vec_len jobs
+gain_of (Invite receivers) = 0
+gain_of Recover = 0
+gain_of (Place to queue payload) = 1
+
+-- the plan can be carried out without growth, and leaves a consistent state
+abbrev pub CanAct : ℕ → ℕ → State → Act → List Envelope → ℕ → Type 0
+CanAct nodes self s (Settle standing change job) sent room = IsConsistent nodes self (with_standing standing (hand_after change s.hand))
+CanAct nodes self s (Invite receivers) sent room = (sent ≡ []) × (length receivers ≤ room) × AreOthers nodes self receivers
+CanAct nodes self s Recover sent room = sent ≡ []
+CanAct nodes self s (Place to queue payload) sent room = (sent ≡ []) × (1 ≤ room)
+
+-- the plan makes this effect, for every answer, and wants this command
+pub record IsPlanOf (nodes self : ℕ) (s : State) (plan : Plan) (wants : Option Command) (effect : ℕ → Effect) : Type 0 where
+  pub effect_is : (answer : ℕ) → planned_effect self plan answer s ≡ effect answer
+  pub wants_is : plan_wants plan ≡ wants
+  pub fits : CanAct nodes self s plan.act plan.messages.items (vec_capacity plan.messages)

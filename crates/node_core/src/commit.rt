@@ -1,0 +1,98 @@
+ghost use Rattle.std.specs.Prelude.{◌≡◌, ◌≢◌, ◌≤◌, ◌<◌, ◌+◌, length, Some, None, [], ◌∷◌, ◌++◌};
+ghost use Rattle.node_core.specs.State.{state_of};
+ghost use Rattle.node_core.specs.Words.{own_group, regrouped, letter};
+ghost use Rattle.node_core.specs.Timers.{recovery};
+ghost use Rattle.node_core.specs.Planned.{gain_of, with_standing, hand_after};
+
+use crate::in_hand::InHand;
+use crate::phase::Phase;
+use crate::plan::{Act, HandChange, Standing};
+use crate::vector::Vector;
+use group_task::{GroupNo, Members, NodeId, share};
+use job_model::{Payload, Queue};
+use wire_msg::{Body, Message};
+
+/// Takes a new standing, and changes the work in hand within its room.
+pub fn settle(vector: &mut Vector, standing: Standing, change: HandChange)
+    requires { length vector.old.hand.jobs + gain_of (Act.Settle standing change None) ≤ vector.old.hand.room }
+    ensures { state_of vector.new ≡ with_standing standing (hand_after change vector.old.hand.jobs) }
+{
+    match change {
+        HandChange::Keep => {}
+        HandChange::Clear => vector.hand.clear(),
+        HandChange::Lose(origin, id) => vector.hand.remove(origin, id),
+        HandChange::Gain(jobs) => vector.hand.append(jobs),
+    }
+    vector.phase = standing.phase;
+    vector.coordinator = standing.coordinator;
+    vector.group = standing.group;
+    vector.up = standing.up;
+    vector.task = standing.task;
+    vector.found = standing.found;
+    vector.unready = standing.unready;
+    vector.checking = standing.checking;
+    vector.probing = standing.probing;
+}
+
+/// Stops work, and starts this group.
+pub fn regroup(vector: &mut Vector, id: NodeId, group: GroupNo)
+    requires { group ≡ own_group id group.count }
+    ensures { state_of vector.new ≡ regrouped id group.count (state_of vector.old) }
+{
+    vector.hand.clear();
+    vector.found = Members::new();
+    vector.unready = Members::new();
+    vector.task = None;
+    vector.checking = false;
+    vector.probing = false;
+    vector.coordinator = id;
+    vector.group = group;
+    vector.up = Members::new();
+}
+
+/// Starts this group, alone in it.
+#[tactic(auto, using(group_task::proofs::IdLaws::none_others, group_task::proofs::IdLaws::with_has_same), unfolding(crate::specs::Timers::recovery))]
+pub fn recover(vector: &mut Vector, id: NodeId, group: GroupNo)
+    requires own { group ≡ own_group id group.count }
+    ensures { record { state = state_of vector.new; sent = [] } ≡ recovery id group.count (state_of vector.old) }
+{
+    regroup(vector, id, group);
+    vector.task = Some(share(group, Members::new().with(id)));
+    vector.phase = Phase::Normal;
+}
+
+/// Takes a new job in hand, or answers the message that sends it to its owner.
+pub fn place(
+    vector: &mut Vector,
+    id: NodeId,
+    to: NodeId,
+    job: u64,
+    queue: Queue,
+    payload: Payload,
+) -> Option<Message>
+    requires { to ≡ id → length vector.old.hand.jobs < vector.old.hand.room }
+    ensures own { to ≡ id → (state_of vector.new ≡ record (state_of vector.old) {
+      hand = vector.old.hand.jobs ++ (record { origin = id; id = job; queue = queue; payload = payload }) ∷ [];
+    })
+        × (result ≡ None) }
+    ensures other { to ≢ id → (state_of vector.new ≡ state_of vector.old)
+        × (result ≡ Some (letter id to (Body.Work vector.old.group job queue payload))) }
+{
+    if to.is(id) {
+        vector.hand.push(InHand {
+            origin: id,
+            id: job,
+            queue,
+            payload,
+        });
+        None
+    } else {
+        let order = Body::Work {
+            group: vector.group,
+            id: job,
+            queue,
+            payload,
+        };
+        Some(Message::between(id, to, order))
+    }
+}

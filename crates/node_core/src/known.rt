@@ -1,0 +1,42 @@
+ghost use Rattle.std.specs.Prelude.{◌≡◌, nat_lt};
+ghost use Rattle.std.specs.List.{list_all};
+ghost use Rattle.node_core.specs.Refusals.{is_known, ids_in};
+
+use group_task::{Members, NodeId};
+use wire_msg::{Body, Message};
+
+/// Whether a message is for this node, and names nodes of the cluster alone.
+pub fn is_known(nodes: u8, id: NodeId, message: &Message) -> bool
+    ensures { result ≡ is_known nodes id message.now }
+{
+    message.receiver().is(id)
+        && message.sender().number() < nodes
+        && names_known(nodes, message.body())
+}
+
+fn names_known(nodes: u8, body: &Body) -> bool
+    ensures { result ≡ list_all (λ id. nat_lt id nodes) (ids_in body.now) }
+{
+    match body {
+        Body::AreYouThere(group)
+        | Body::Here(group, _)
+        | Body::Invitation(group)
+        | Body::Accept(group)
+        | Body::ReadyAck(group) => group.creator().number() < nodes,
+        Body::Work { group, .. } => group.creator().number() < nodes,
+        Body::Ready(task) => task.group().creator().number() < nodes
+            && all_known(nodes, task.members()),
+        Body::AreYouCoordinator | Body::Coordinator(_) | Body::Done(_) => true,
+    }
+}
+
+fn all_known(nodes: u8, members: Members) -> bool
+    ensures { result ≡ list_all (λ id. nat_lt id nodes) members }
+{
+    for place in 0..members.len() {
+        if members.get(place).number() >= nodes {
+            return false;
+        }
+    }
+    true
+}

@@ -1,0 +1,377 @@
+ghost use Rattle.std.specs.Prelude.{◌≡◌, ◌≢◌, ◌<◌, ◌&&◌, not, false, None, IfOk, IsTrue};
+ghost use Rattle.group_task.specs.Ids.{has};
+ghost use Rattle.group_task.specs.Others.{AreOthers};
+ghost use Rattle.job_model.specs.Fold.{is_pending};
+ghost use Rattle.node_core.specs.State.{state_of, is_down};
+ghost use Rattle.node_core.specs.Effect.{nothing};
+ghost use Rattle.node_core.specs.Messages.{asked_coordinator, answered_coordinator, invited, takes_invitation, passed_on, accepted};
+ghost use Rattle.node_core.specs.Messages.{told_ready, is_told, acknowledged, asked_there, answered_there, was_probed, got_work};
+ghost use Rattle.node_core.specs.Wants.{raise_if, done_if};
+ghost use Rattle.node_core.specs.Planned.{IsPlanOf, plan_sends};
+ghost use Rattle.node_core.specs.Within.{AreWithin};
+ghost use Rattle.node_core.specs.Consistent.{IsConsistent};
+
+use crate::guards::{awaits_ready, leads};
+use crate::in_hand::InHand;
+use crate::operator::recovery;
+use crate::others::{with_other, without_other};
+use crate::phase::Phase;
+use crate::plan::{
+    Act, HandChange, Plan, Standing, nothing, quietly, reply, standing_of, write_to_each,
+};
+use crate::vector::Vector;
+use group_task::{GroupNo, Members, NodeId, Task, owner};
+use job_model::JobTable;
+use std::alloc::{AllocError, Global};
+use wire_msg::{Body, Message};
+
+/// AreYouCoordinator: every node that is up answers.
+#[tactic(auto, unfolding(crate::specs::Messages::asked_coordinator))]
+pub fn asked_coordinator(
+    alloc: Global,
+    nodes: u8,
+    id: NodeId,
+    from: NodeId,
+    vector: &Vector,
+) -> Result<Plan, AllocError>
+    requires other { id ≢ from }
+    requires known { from < nodes }
+    requires consistent { IsConsistent nodes id (state_of vector.now) }
+    ensures row { IfOk result (λ plan. IsPlanOf nodes id (state_of vector.now) plan None
+        (λ _. asked_coordinator id from (state_of vector.now))) }
+    ensures few { IfOk result (λ plan. plan_sends id plan < nodes) }
+{
+    if matches!(vector.phase, Phase::Down) {
+        return Ok(nothing(alloc, vector));
+    }
+    let answer = Body::Coordinator(leads(id, vector));
+    reply(
+        alloc,
+        standing_of(vector),
+        Message::between(id, from, answer),
+    )
+}
+
+/// Coordinator: a coordinator that checks notes the others.
+#[tactic(auto, unfolding(crate::specs::Messages::answered_coordinator))]
+pub fn answered_coordinator(
+    alloc: Global,
+    nodes: u8,
+    id: NodeId,
+    from: NodeId,
+    agreed: bool,
+    vector: &Vector,
+) -> Plan
+    requires other { id ≢ from }
+    requires known { from < nodes }
+    requires consistent { IsConsistent nodes id (state_of vector.now) }
+    ensures row { IsPlanOf nodes id (state_of vector.now) result None
+        (λ _. answered_coordinator id from agreed (state_of vector.now)) }
+    ensures none { plan_sends id result ≡ 0 }
+{
+    if agreed && leads(id, vector) && vector.checking {
+        let standing = Standing {
+            found: with_other(nodes, id, vector.found, from),
+            ..standing_of(vector)
+        };
+        return quietly(alloc, standing);
+    }
+    nothing(alloc, vector)
+}
+
+/// Invitation: a Normal node stops its work and joins, and a coordinator passes the invitation on to its members.
+#[tactic(auto, using(crate::proofs::Sets::other_sets), unfolding(crate::specs::Messages::invited))]
+pub fn invited(
+    alloc: Global,
+    nodes: u8,
+    id: NodeId,
+    group: GroupNo,
+    vector: &Vector,
+) -> Result<Plan, AllocError>
+    requires known { group.creator < nodes }
+    requires consistent { IsConsistent nodes id (state_of vector.now) }
+    ensures row { IfOk result (λ plan. IsPlanOf nodes id (state_of vector.now) plan None
+        (λ _. invited id group (state_of vector.now))) }
+    ensures few { IfOk result (λ plan. plan_sends id plan < nodes) }
+{
+    if !takes_invitation(id, group, vector) {
+        return Ok(nothing(alloc, vector));
+    }
+    let creator = group.creator();
+    let members = passed_on(nodes, id, group, vector);
+    let with_creator = with_other(nodes, id, members, creator);
+    let mut messages = Vec::with_capacity(alloc, with_creator.len())?;
+    write_to_each(&mut messages, id, members, &Body::Invitation(group));
+    messages.push_reserved(Message::between(id, creator, Body::Accept(group)));
+    let standing = Standing {
+        phase: Phase::Reorganization,
+        coordinator: creator,
+        group,
+        up: Members::new(),
+        task: None,
+        found: Members::new(),
+        unready: Members::new(),
+        checking: false,
+        probing: false,
+    };
+    Ok(Plan {
+        act: Act::Settle(standing, HandChange::Clear, None),
+        messages,
+    })
+}
+
+/// Whether the node joins the group: it is another node's, and not the present one.
+fn takes_invitation(id: NodeId, group: GroupNo, vector: &Vector) -> bool
+    ensures value { result ≡ takes_invitation id group (state_of vector.now) }
+    ensures other { IsTrue result → group.creator ≢ id }
+{
+    matches!(vector.phase, Phase::Normal) && !group.creator().is(id) && !group.is(vector.group)
+}
+
+/// The members to which a coordinator passes an invitation on: the creator knows of its own group.
+#[tactic(auto, using(crate::proofs::Sets::other_sets, group_task::proofs::IdLaws::without_has_same))]
+fn passed_on(nodes: u8, id: NodeId, group: GroupNo, vector: &Vector) -> Members
+    requires consistent { IsConsistent nodes id (state_of vector.now) }
+    requires other { group.creator ≢ id }
+    ensures value { result ≡ passed_on id group (state_of vector.now) }
+    ensures others { AreOthers nodes id result }
+    ensures absent { has result group.creator ≡ false }
+{
+    if vector.coordinator.is(id) {
+        without_other(nodes, id, vector.up, group.creator())
+    } else {
+        Members::new()
+    }
+}
+
+/// Accept: the coordinator of a new group notes who joined.
+#[tactic(auto, unfolding(crate::specs::Messages::accepted))]
+pub fn accepted(
+    alloc: Global,
+    nodes: u8,
+    id: NodeId,
+    from: NodeId,
+    group: GroupNo,
+    vector: &Vector,
+) -> Plan
+    requires other { id ≢ from }
+    requires known { from < nodes }
+    requires consistent { IsConsistent nodes id (state_of vector.now) }
+    ensures row { IsPlanOf nodes id (state_of vector.now) result None (λ _. accepted id from group (state_of vector.now)) }
+    ensures none { plan_sends id result ≡ 0 }
+{
+    if matches!(vector.phase, Phase::Election)
+        && vector.coordinator.is(id)
+        && group.is(vector.group)
+    {
+        let standing = Standing {
+            up: with_other(nodes, id, vector.up, from),
+            ..standing_of(vector)
+        };
+        return quietly(alloc, standing);
+    }
+    nothing(alloc, vector)
+}
+
+/// Ready: a member takes the task from its coordinator, and says so each time that it is told.
+#[tactic(auto, unfolding(crate::specs::Messages::told_ready))]
+pub fn told_ready(
+    alloc: Global,
+    nodes: u8,
+    id: NodeId,
+    from: NodeId,
+    task: Task,
+    vector: &Vector,
+) -> Result<Plan, AllocError>
+    requires other { id ≢ from }
+    requires known { from < nodes }
+    requires members { AreWithin nodes task.members }
+    requires consistent { IsConsistent nodes id (state_of vector.now) }
+    ensures row { IfOk result (λ plan. IsPlanOf nodes id (state_of vector.now) plan None
+        (λ _. told_ready id from task (state_of vector.now))) }
+    ensures few { IfOk result (λ plan. plan_sends id plan < nodes) }
+{
+    let told = is_told(id, from, task, vector);
+    if told && matches!(vector.phase, Phase::Reorganization) {
+        let standing = Standing {
+            task: Some(task),
+            phase: Phase::Normal,
+            ..standing_of(vector)
+        };
+        return reply(
+            alloc,
+            standing,
+            Message::between(id, from, Body::ReadyAck(vector.group)),
+        );
+    }
+    if told && matches!(vector.phase, Phase::Normal) {
+        return reply(
+            alloc,
+            standing_of(vector),
+            Message::between(id, from, Body::ReadyAck(vector.group)),
+        );
+    }
+    Ok(nothing(alloc, vector))
+}
+
+/// Whether the task is that of the node's group, told by its coordinator, and makes it a member.
+fn is_told(id: NodeId, from: NodeId, task: Task, vector: &Vector) -> bool
+    ensures { result ≡ is_told id from task (state_of vector.now) }
+{
+    vector.coordinator.is(from)
+        && !from.is(id)
+        && task.group().is(vector.group)
+        && task.members().contains(id)
+}
+
+/// ReadyAck: the coordinator is Normal once all members are ready.
+#[tactic(auto, unfolding(crate::specs::Messages::acknowledged))]
+pub fn acknowledged(
+    alloc: Global,
+    nodes: u8,
+    id: NodeId,
+    from: NodeId,
+    group: GroupNo,
+    vector: &Vector,
+) -> Plan
+    requires { IsConsistent nodes id (state_of vector.now) }
+    ensures row { IsPlanOf nodes id (state_of vector.now) result None
+        (λ _. acknowledged id from group (state_of vector.now)) }
+    ensures none { plan_sends id result ≡ 0 }
+{
+    if !(awaits_ready(id, vector) && group.is(vector.group)) {
+        return nothing(alloc, vector);
+    }
+    let unready = without_other(nodes, id, vector.unready, from);
+    let phase = if unready.is_empty() {
+        Phase::Normal
+    } else {
+        Phase::Reorganization
+    };
+    quietly(
+        alloc,
+        Standing {
+            unready,
+            phase,
+            ..standing_of(vector)
+        },
+    )
+}
+
+/// AreYouThere: a node that is up says whether it coordinates that group, with the asking node among its members.
+#[tactic(auto, unfolding(crate::specs::Messages::asked_there))]
+pub fn asked_there(
+    alloc: Global,
+    nodes: u8,
+    id: NodeId,
+    from: NodeId,
+    group: GroupNo,
+    vector: &Vector,
+) -> Result<Plan, AllocError>
+    requires other { id ≢ from }
+    requires known { from < nodes }
+    requires consistent { IsConsistent nodes id (state_of vector.now) }
+    ensures row { IfOk result (λ plan. IsPlanOf nodes id (state_of vector.now) plan None
+        (λ _. asked_there id from group (state_of vector.now))) }
+    ensures few { IfOk result (λ plan. plan_sends id plan < nodes) }
+{
+    if matches!(vector.phase, Phase::Down) {
+        return Ok(nothing(alloc, vector));
+    }
+    let here = group.is(vector.group) && vector.coordinator.is(id) && vector.up.contains(from);
+    reply(
+        alloc,
+        standing_of(vector),
+        Message::between(id, from, Body::Here(group, here)),
+    )
+}
+
+/// Here: a member whose coordinator is there waits on, and one whose coordinator is not recovers.
+#[tactic(auto, unfolding(crate::specs::Messages::answered_there))]
+pub fn answered_there(
+    alloc: Global,
+    nodes: u8,
+    id: NodeId,
+    from: NodeId,
+    group: GroupNo,
+    agreed: bool,
+    vector: &Vector,
+) -> Plan
+    requires { IsConsistent nodes id (state_of vector.now) }
+    ensures row { IsPlanOf nodes id (state_of vector.now) result
+        (raise_if (was_probed from group (state_of vector.now) && not agreed))
+        (λ answer. answered_there id from group agreed answer (state_of vector.now)) }
+    ensures none { plan_sends id result ≡ 0 }
+{
+    if !(vector.probing && vector.coordinator.is(from) && group.is(vector.group)) {
+        return nothing(alloc, vector);
+    }
+    if agreed {
+        let standing = Standing {
+            probing: false,
+            ..standing_of(vector)
+        };
+        return quietly(alloc, standing);
+    }
+    recovery(alloc, nodes, id, vector)
+}
+
+/// Work: a member takes a job of its group in hand, if the job's queue is its own.
+#[tactic(auto, using(crate::proofs::Sets::more_from, crate::proofs::Sets::one_from), unfolding(crate::specs::Messages::got_work))]
+pub fn got_work(
+    alloc: Global,
+    nodes: u8,
+    id: NodeId,
+    group: GroupNo,
+    job: InHand,
+    vector: &Vector,
+) -> Result<Plan, AllocError>
+    requires known { job.origin < nodes }
+    requires consistent { IsConsistent nodes id (state_of vector.now) }
+    ensures row { IfOk result (λ plan. IsPlanOf nodes id (state_of vector.now) plan None
+        (λ _. got_work id job.origin group job.id job.queue job.payload (state_of vector.now))) }
+    ensures none { IfOk result (λ plan. plan_sends id plan ≡ 0) }
+{
+    if !matches!(vector.phase, Phase::Normal) || !group.is(vector.group) {
+        return Ok(nothing(alloc, vector));
+    }
+    let Some(task) = vector.task else {
+        return Ok(nothing(alloc, vector));
+    };
+    if !task.members().contains(job.origin)
+        || !owner(&task, job.queue).is(id)
+        || vector.hand.contains(job.origin, job.id)
+    {
+        return Ok(nothing(alloc, vector));
+    }
+    let mut gains = Vec::new(alloc);
+    gains.push(job)?;
+    Ok(Plan {
+        act: Act::Settle(standing_of(vector), HandChange::Gain(gains), None),
+        messages: Vec::new(alloc),
+    })
+}
+
+/// Done: the node that keeps a job marks it as done. The vector stays.
+pub fn told_done(
+    alloc: Global,
+    nodes: u8,
+    id: NodeId,
+    job: u64,
+    vector: &Vector,
+    table: &JobTable,
+) -> Plan
+    requires { IsConsistent nodes id (state_of vector.now) }
+    ensures row { IsPlanOf nodes id (state_of vector.now) result
+        (done_if (not (is_down vector.now.phase) && is_pending table.now.pending job) job)
+        (λ _. nothing (state_of vector.now)) }
+    ensures none { plan_sends id result ≡ 0 }
+{
+    if !matches!(vector.phase, Phase::Down) && table.contains(job) {
+        return Plan {
+            act: Act::Settle(standing_of(vector), HandChange::Keep, Some(job)),
+            messages: Vec::new(alloc),
+        };
+    }
+    nothing(alloc, vector)
+}

@@ -1,0 +1,204 @@
+ghost use Rattle.std.specs.Prelude.{◌≡◌, ◌≢◌, ◌≤◌, ◌<◌, ◌↔◌, List, length, IfOk, IfErr, IfSome, IsNone, OnErr, Some, None, []};
+ghost use Rattle.job_model.specs.Command.{Raise};
+ghost use Rattle.job_model.specs.declared.job.Job.{Job};
+ghost use Rattle.group_task.specs.declared.node.TheConstants.{NODES};
+ghost use Rattle.node_core.specs.declared.event.Event.{Event};
+ghost use Rattle.node_core.specs.State.{state_of};
+ghost use Rattle.node_core.specs.Effects.{effect_of};
+ghost use Rattle.node_core.specs.Refusals.{refusal_of};
+ghost use Rattle.node_core.specs.Planned.{plan_wants};
+ghost use Rattle.node_core.specs.Start.{alone, down};
+ghost use Rattle.node_core.specs.Most.{most_of};
+ghost use Rattle.node_core.specs.Wait.{IsGreatest, IsMergeWait};
+ghost use Rattle.node_core.specs.Core.{IsPlanFor, CanCarry};
+
+use crate::commit::{place, recover, regroup, settle};
+use crate::event::Event;
+use crate::events::plan_event;
+use crate::fault::CoreFault;
+use crate::phase::Phase;
+use crate::plan::{Act, Plan, write_to_each};
+use crate::vector::Vector;
+use group_task::{GroupNo, Members, NodeId};
+use job_model::JobTable;
+use std::alloc::Global;
+use std::marker::Model;
+use wire_msg::{Body, Message};
+
+/// The state machine of one node.
+///
+/// An event is one atomic step, in this order:
+///
+/// 1. [`plan_step`](NodeCore::plan_step) refuses the event, or answers a plan, for which it took all memory.
+/// 2. The caller carries out the command that [`Plan::wants`], on its disk.
+/// 3. [`commit_step`](NodeCore::commit_step) takes the plan and the command's answer, makes the change, and hands out the
+///    messages. It is to come before any other call that may change this node.
+///
+/// A caller whose disk fails drops the plan and goes on with a node that is [`down`](NodeCore::down).
+#[derive(Drop)]
+pub struct NodeCore {
+    alloc: Global,
+    id: NodeId,
+    nodes: u8,
+    vector: Vector,
+}
+
+impl Model for NodeCore {
+    ghost use Rattle.std.specs.Prelude.{◌≤◌, ◌<◌};
+    ghost use Rattle.node_core.specs.Most.{most_of};
+    ghost use Rattle.node_core.specs.Wait.{IsGreatest, IsMergeWait};
+    ghost use Rattle.node_core.specs.Core.{Core};
+
+    ghost Value = { Core };
+
+    ghost use Rattle.node_core.specs.State.{state_of};
+    ghost use Rattle.node_core.specs.Consistent.{IsConsistent};
+    ghost use Rattle.group_task.specs.declared.node.TheConstants.{NODES};
+
+    ghost view = { λ a. record { id = a.id; nodes = a.nodes; state = state_of a.vector; room = a.vector.hand.room } };
+
+    ghost invariant = { λ a. (1 ≤ a.nodes) × (a.nodes ≤ NODES) × (a.id < a.nodes) × IsConsistent a.nodes a.id (state_of a.vector) };
+}
+
+#[tactic(auto, using(crate::proofs::Sets::other_sets))]
+impl NodeCore {
+    /// A node that is Normal in its own group of this count.
+    #[tactic(auto, using(crate::proofs::Sets::other_sets), unfolding(crate::specs::Timers::recovery))]
+    pub fn new(alloc: Global, id: NodeId, nodes: u8, count: u64) -> NodeCore
+        requires within { id < nodes }
+        requires nodes { nodes ≤ NODES }
+        requires count { 1 ≤ count }
+        ensures id { result.id ≡ id }
+        ensures nodes { result.nodes ≡ nodes }
+        ensures state { result.state ≡ alone id count }
+    {
+        let group = GroupNo::numbered(id, count);
+        let mut vector = Vector::down(alloc, id);
+        recover(&mut vector, id, group);
+        NodeCore {
+            alloc,
+            id,
+            nodes,
+            vector,
+        }
+    }
+
+    /// A node that is Down, as after a crash. It comes up by the event Recover.
+    pub fn down(alloc: Global, id: NodeId, nodes: u8) -> NodeCore
+        requires within { id < nodes }
+        requires nodes { nodes ≤ NODES }
+        ensures id { result.id ≡ id }
+        ensures nodes { result.nodes ≡ nodes }
+        ensures state { result.state ≡ down id }
+    {
+        NodeCore {
+            alloc,
+            id,
+            nodes,
+            vector: Vector::down(alloc, id),
+        }
+    }
+
+    /// The node's own identifier.
+    pub fn id(&self) -> NodeId
+        ensures { result ≡ self.now.id }
+    {
+        self.id
+    }
+
+    /// What the node knows.
+    pub fn vector(&self) -> &Vector
+        ensures { state_of result.now ≡ self.now.state }
+    {
+        &self.vector
+    }
+
+    /// How many messages a step may send at most: to each other node, or for each pending job. A caller that makes room for
+    /// so many before a step needs no more.
+    pub fn most(&self, table: &JobTable) -> usize
+        ensures { result ≡ most_of self.now.nodes table.now.pending }
+    {
+        usize::from(self.nodes - 1).max(table.pending().len())
+    }
+
+    /// How long a coordinator that found others waits before it merges, in units that the driver chooses: the lower its
+    /// number, the longer, so that it is rare for two to invite each other. None where it found none.
+    pub fn merge_wait(&self) -> Option<u64>
+        ensures none { IsNone result ↔ (self.now.state.found ≡ []) }
+        ensures wait { IfSome result (IsMergeWait self.now.id self.now.state.found) }
+    {
+        let found = self.vector.found;
+        if found.is_empty() {
+            return None;
+        }
+        let greatest = greatest_of(found).number();
+        Some(u64::from(greatest.saturating_sub(self.id.number())))
+    }
+
+    /// What an event will make of this node, over the table of the jobs that it keeps, with all memory that this takes.
+    /// Nothing but room changes. NoMemory comes after all other refusals; the same call may be made again.
+    pub fn plan_step(&mut self, event: Event, table: &JobTable) -> Result<Plan, CoreFault>
+        ensures kept { self.new ≡ record self.old { room = self.new.room } }
+        ensures plan { IfOk result (IsPlanFor self.new table.now.pending event) }
+        ensures done { IfOk result (λ _. refusal_of self.old.nodes self.old.id event self.old.state ≡ None) }
+        ensures refused { IfSome (refusal_of self.old.nodes self.old.id event self.old.state)
+            (λ fault. result ≡ Err fault) }
+        ensures memory { IfErr result (λ fault. fault ≢ CoreFault.NoMemory
+            → refusal_of self.old.nodes self.old.id event self.old.state ≡ Some fault) }
+        ensures unchanged { OnErr result (self.new ≡ self.old) }
+    {
+        let plan = plan_event(self.alloc, self.nodes, self.id, &self.vector, event, table)?;
+        self.vector.hand.reserve(plan.gain())?;
+        Ok(plan)
+    }
+
+    /// Carries out the plan that was made last, and answers the messages to be sent, in their order. The answer is that of
+    /// the command: the new count of a Raise, the new id of a Put, else any number.
+    #[tactic(auto, using(crate::proofs::Sets::other_sets, crate::proofs::Sets::more_from, crate::proofs::Sets::one_from), unfolding(crate::specs::Timers::recovery))]
+    pub fn commit_step(&mut self, plan: Plan, answer: u64) -> Vec<Message>
+        requires last { CanCarry self.old plan }
+        requires count { plan_wants plan ≡ Some Raise → 1 ≤ answer }
+        ensures step { (pending : List Job) (event : Event) → IsPlanFor self.old pending event plan
+            → effect_of self.old.nodes self.old.id pending event answer self.old.state
+            ≡ record { state = self.new.state; sent = result.items } }
+        ensures few { (pending : List Job) (event : Event) → IsPlanFor self.old pending event plan
+            → length result.items ≤ most_of self.old.nodes pending }
+        ensures kept { self.new ≡ record self.old { state = self.new.state; room = self.new.room } }
+    {
+        let Plan { act, mut messages } = plan;
+        match act {
+            Act::Settle(standing, change, _) => settle(&mut self.vector, standing, change),
+            Act::Invite(receivers) => {
+                let group = GroupNo::numbered(self.id, answer);
+                regroup(&mut self.vector, self.id, group);
+                self.vector.phase = Phase::Election;
+                write_to_each(&mut messages, self.id, receivers, &Body::Invitation(group));
+            }
+            Act::Recover => {
+                let group = GroupNo::numbered(self.id, answer);
+                recover(&mut self.vector, self.id, group);
+            }
+            Act::Place(to, queue, payload) => {
+                if let Some(message) = place(
+                    &mut self.vector,
+                    self.id,
+                    to,
+                    answer,
+                    queue,
+                    payload,
+                ) {
+                    messages.push_reserved(message);
+                }
+            }
+        }
+        messages
+    }
+}
+
+/// The node of the greatest number in the set.
+fn greatest_of(ids: Members) -> NodeId
+    requires { ids ≢ [] }
+    ensures { IsGreatest ids result }
+{
+    ids.get(ids.len() - 1)
+}
