@@ -1,0 +1,126 @@
+//! The program `invite`: its command line. The commands themselves are the console's, over standard input and output.
+#![tactic(auto)]
+
+ghost use Rattle.std.specs.Prelude.{◌<◌, ◌≤◌};
+
+use clap::{Arg, ArgMatches, Command};
+use group_task::{NODES, NodeId};
+use std::alloc::{AllocError, Global};
+use std::io;
+use std::process::ExitCode;
+
+/// The exit status of a command line that can't be read.
+const UNREADABLE: u8 = 2;
+
+/// What the command line asks for.
+#[derive(Drop)]
+enum Task {
+    Answer(Place),
+    Show,
+}
+
+/// One node of a cluster.
+#[derive(Clone, Copy)]
+struct Place {
+    id: NodeId,
+    nodes: u8,
+    ghost within: { id < nodes },
+    ghost limit: { nodes ≤ 64 },
+}
+
+fn main(rt: HostRuntime) -> ExitCode {
+    match run(&rt) {
+        Ok(status) => ExitCode::from(status),
+        Err(_) => ExitCode::FAILURE,
+    }
+}
+
+/// Runs the command, and answers its exit status. The command line is judged before any input is read.
+fn run(rt: &HostRuntime) -> io::Result<u8> {
+    let alloc = rt.alloc();
+    let words: Vec<String> = std::env::args(rt)?.collect(alloc)?;
+    let Some(task) = task_of(rt, words.as_slice())? else {
+        return Ok(UNREADABLE);
+    };
+    let mut input = rt.stdin();
+    let mut output = rt.stdout();
+    let ending = match task {
+        Task::Answer(place) => {
+            invite_console::answer(alloc, place.id, place.nodes, &mut input, &mut output)
+        }
+        Task::Show => invite_console::show(alloc, &mut input, &mut output),
+    };
+    Ok(ending.status())
+}
+
+/// Reads the command line. Where it can't be read, prints what is wrong with it and how it is written.
+fn task_of<'a>(rt: &HostRuntime, words: &'a [String]) -> io::Result<Option<Task>> {
+    let alloc = rt.alloc();
+    match command(alloc)?.try_get_matches_from(words) {
+        Ok(matches) => {
+            if let Some(task) = task_in(&matches) {
+                return Ok(Some(task));
+            }
+            rt.print(
+                "error: SELF and NODES are decimal numbers, NODES from 1 to 64, and SELF is below NODES\n\n",
+            )?;
+        }
+        Err(error) => {
+            if error.use_stderr() {
+                rt.println(error)?;
+            }
+        }
+    }
+    let help = command(alloc)?.render_help()?;
+    rt.print(help)?;
+    Ok(None)
+}
+
+/// What the matches ask for, unless a number is out of its range.
+fn task_in(matches: &ArgMatches<'_>) -> Option<Task> {
+    let (name, inner) = matches.subcommand()?;
+    match name {
+        "answer" => {
+            let id = NodeId::new(number(inner.get_str("SELF")?)?)?;
+            let nodes = number(inner.get_str("NODES")?)?;
+            if nodes > NODES || id.number() >= nodes {
+                return None;
+            }
+            Some(Task::Answer(Place { id, nodes }))
+        }
+        "show" => Some(Task::Show),
+        _ => None,
+    }
+}
+
+/// The number that a word is, in decimal with no sign and no leading zeros.
+fn number(word: &str) -> Option<u8> {
+    let is_plain = word == "0" || !(word.starts_with('0') || word.starts_with('+'));
+    if is_plain {
+        word.parse::<u8>().ok()
+    } else {
+        None
+    }
+}
+
+/// Every command with its arguments.
+fn command<'a>(alloc: Global) -> Result<Command<'a>, AllocError> {
+    let id = Arg::new(alloc, "SELF")
+        .required(true)
+        .help("The number of this node");
+    let nodes = Arg::new(alloc, "NODES")
+        .required(true)
+        .help("How many nodes the cluster has");
+    let answer = Command::new(alloc, "answer")
+        .about("Reads messages in hex lines, and prints what one node answers")
+        .arg(id)?
+        .arg(nodes)?;
+    let show = Command::new(alloc, "show").about(
+        "Reads messages in hex lines, and prints them as text",
+    );
+    Command::new(alloc, "invite")
+        .subcommand_required(true)
+        .disable_help_subcommand(true)
+        .subcommand(answer)?
+        .subcommand(show)
+}

@@ -1,0 +1,6 @@
+-- What was read of an input.
+use Rattle.std.specs.Prelude.{◌≡◌, ℕ, List, Option, IfSome}
+
+-- the bytes are all that a reader had left, where the reader tells that
+abbrev pub HoldsAll : Option (List ℕ) → List ℕ → Type 0
+HoldsAll remaining bytes = IfSome remaining (λ known. known ≡ bytes)

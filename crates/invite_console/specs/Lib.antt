@@ -1,0 +1,6 @@
+pub mod Ends
+pub mod Input
+pub mod Lines
+pub mod Answer
+pub mod Session
+pub mod Show

@@ -1,0 +1,77 @@
+-- The text of the command `show`.
+use Rattle.std.specs.Prelude.{ℕ, List, [], ◌∷◌, ◌++◌, codes, decimal, length, Bool, true, false, Option, Some, None, if◌then◌else◌, ◌==◌}
+use Rattle.std.specs.List.{flat_map}
+use Rattle.hex.specs.Hex.{encode_lower}
+use Rattle.group_task.specs.Group.{Group}
+use Rattle.group_task.specs.Assignment.{Assignment}
+use Rattle.wire_msg.specs.Envelope.{Envelope}
+use Rattle.wire_msg.specs.declared.body.Body.{Body}
+use Rattle.wire_msg.specs.declared.body.Body.TheVariants.{AreYouCoordinator, Coordinator, AreYouThere, Here, Invitation, Accept, Ready, ReadyAck, Work, Done}
+use Rattle.wire_msg.specs.Contents.{messages_in, unfinished_in}
+use Rattle.invite_console.specs.Ends.{Outcome, line, refused, before}
+use Rattle.invite_console.specs.Lines.{over_hex_lines}
+
+abbrev pub truth_text : Bool → List ℕ
+truth_text true = codes "yes"
+truth_text false = codes "no"
+
+abbrev pub group_text : Group → List ℕ
+group_text g = decimal g.creator ++ codes ":" ++ decimal g.count
+
+-- numbers, each behind a comma
+abbrev pub more_ids_text : List ℕ → List ℕ
+more_ids_text [] = []
+more_ids_text (id ∷ ids) = codes "," ++ decimal id ++ more_ids_text ids
+
+-- numbers joined by commas; a dash stands for none
+abbrev pub ids_text : List ℕ → List ℕ
+ids_text [] = codes "-"
+ids_text (id ∷ ids) = decimal id ++ more_ids_text ids
+
+-- bytes as a word; a dash stands for none
+abbrev pub bytes_text : List ℕ → List ℕ
+bytes_text [] = codes "-"
+bytes_text (b ∷ bytes) = encode_lower (b ∷ bytes)
+
+abbrev pub task_text : Assignment → List ℕ
+task_text task = codes "Ready " ++ group_text task.group ++ codes " members " ++ ids_text task.members
+
+abbrev pub work_text : Group → ℕ → ℕ → List ℕ → List ℕ
+work_text g id queue payload =
+    codes "Work " ++ group_text g ++ codes " " ++ decimal id ++ codes " " ++ decimal queue ++ codes " " ++ bytes_text payload
+
+-- what a message says: its name, and then its fields
+abbrev pub body_text : Body → List ℕ
+body_text AreYouCoordinator = codes "AreYouCoordinator"
+body_text (Coordinator answer) = codes "Coordinator " ++ truth_text answer
+body_text (AreYouThere g) = codes "AreYouThere " ++ group_text g
+body_text (Here g answer) = codes "Here " ++ group_text g ++ codes " " ++ truth_text answer
+body_text (Invitation g) = codes "Invitation " ++ group_text g
+body_text (Accept g) = codes "Accept " ++ group_text g
+body_text (Ready task) = task_text task
+body_text (ReadyAck g) = codes "ReadyAck " ++ group_text g
+body_text (Work g id queue payload) = work_text g id queue payload
+body_text (Done id) = codes "Done " ++ decimal id
+
+abbrev pub message_text : Envelope → List ℕ
+message_text m = decimal m.sender ++ codes ">" ++ decimal m.receiver ++ codes " " ++ body_text m.body
+
+-- messages, a line of text for each
+abbrev pub shown : List Envelope → List ℕ
+shown messages = flat_map (λ m. line (message_text m)) messages
+
+-- how many bytes an unfinished frame has, where it has any
+abbrev pub rest_text : ℕ → List ℕ
+rest_text rest = if rest == 0 then [] else line (codes "rest " ++ decimal rest)
+
+-- what is printed behind the last message
+abbrev pub end_of_show : Option (List ℕ) → Outcome
+end_of_show None = refused (codes "malformed")
+end_of_show (Some rest) = record { text = rest_text (length rest); good = true }
+
+abbrev pub shown_of : List ℕ → Outcome
+shown_of bytes = before (shown (messages_in bytes)) (end_of_show (unfinished_in bytes))
+
+-- what `show` prints for an input
+abbrev pub show_text : List ℕ → Outcome
+show_text input = over_hex_lines shown_of input

@@ -1,0 +1,82 @@
+ghost use Rattle.std.specs.Prelude.{◌≡◌, ◌<◌, ◌≤◌, ℕ, List, [], IfOk, None};
+ghost use Rattle.group_task.specs.declared.node.TheConstants.{NODES};
+ghost use Rattle.wire_msg.specs.Envelope.{Envelope};
+ghost use Rattle.node_core.specs.declared.event.Event.TheVariants.{Deliver};
+ghost use Rattle.node_core.specs.Start.{alone};
+ghost use Rattle.node_core.specs.Wants.{wants_of};
+ghost use Rattle.invite_console.specs.Ends.{outcome_of, Prints};
+ghost use Rattle.invite_console.specs.Answer.{answer_text, answers_to, first_count, state_after};
+
+use crate::batches::{PIECE, next_batch};
+use crate::ends::{Ending, Printout, Trouble};
+use crate::input::read_input;
+use crate::lines::{LineFault, bad_line, hex_lines};
+use crate::printing::print;
+use crate::session::Session;
+use group_task::NodeId;
+use std::alloc::{AllocError, Global};
+use std::io::{Read, Write};
+use wire_msg::Stream;
+
+/// Reads a stream of messages in hex lines, and prints what node `id` of `nodes` answers to them, a line of hex for each message.
+/// The node is Normal in its own group of count 1, has no disk and no jobs, and no timer of its own fires.
+pub fn answer<R: Read, W: Write>(
+    alloc: Global,
+    id: NodeId,
+    nodes: u8,
+    input: &mut R,
+    output: &mut W,
+) -> Ending
+    requires within { id < nodes }
+    requires limit { nodes ≤ NODES }
+    ensures { Prints (answer_text id nodes) (R.remaining input.old) (W.contents output.old) (W.contents output.new) result }
+{
+    let outcome = match read_input(alloc, input) {
+        Ok(bytes) => answer_to(alloc, id, nodes, &bytes).map_err(Trouble::from),
+        Err(trouble) => Err(trouble),
+    };
+    print(output, outcome)
+}
+
+/// What `answer` prints for an input.
+fn answer_to(alloc: Global, id: NodeId, nodes: u8, input: &[u8]) -> Result<Printout, AllocError>
+    requires within { id < nodes }
+    requires limit { nodes ≤ NODES }
+    ensures { IfOk result (λ printout. outcome_of printout ≡ answer_text id nodes input.now) }
+{
+    match hex_lines(alloc, input) {
+        Ok(bytes) => answers_to(alloc, id, nodes, &bytes),
+        Err(LineFault::BadLine(number)) => bad_line(alloc, number),
+        Err(LineFault::NoMemory) => Err(AllocError),
+    }
+}
+
+/// The answers to the messages of a stream.
+fn answers_to(alloc: Global, id: NodeId, nodes: u8, bytes: &[u8]) -> Result<Printout, AllocError>
+    requires within { id < nodes }
+    requires limit { nodes ≤ NODES }
+    ensures { IfOk result (λ printout. outcome_of printout ≡ answers_to id nodes bytes.now) }
+{
+    let mut session = Session::new(alloc, id, nodes)?;
+    let mut stream = Stream::new(alloc);
+    let mut messages = Vec::new(alloc);
+    let mut fed = 0;
+    while fed < bytes.len() {
+        let end = bytes.len().min(fed + PIECE);
+        let is_whole = next_batch(&mut stream, &bytes[fed..end], &mut messages)?;
+        if !session.take_all(&messages)? {
+            return Ok(session.ended(false));
+        }
+        if !is_whole {
+            session.print("malformed\n")?;
+            return Ok(session.ended(false));
+        }
+        fed = end;
+    }
+    Ok(session.ended(true))
+}
+
+/// No message needs the disk, whatever messages the node took before: so no new group starts here, and no job is made or done.
+pub fn needs_no_disk()
+    ensures { (id nodes : ℕ) (before : List Envelope) (m : Envelope) → wants_of id [] (Deliver m) (state_after nodes id before (alone id first_count)) ≡ None }
+{}

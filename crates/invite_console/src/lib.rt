@@ -1,0 +1,26 @@
+//! The commands of the program `invite`, each a function over a reader and a writer.
+//!
+//! A command reads its whole input first, then works out what to print, and then prints it in one go: what is written is a
+//! stated function of what was read, and an input that can't be read, or for which memory runs out, prints nothing else.
+//! A further command is one file with two functions, as [`answer`] and [`show`] are, and one file of `specs/` with its text.
+#![tactic(auto)]
+
+mod answers;
+mod batches;
+mod ends;
+mod input;
+mod lines;
+mod printing;
+mod reads;
+mod session;
+mod showing;
+mod words;
+
+pub use answers::{answer, needs_no_disk};
+pub use ends::{Ending, Trouble};
+pub use input::{MAX_READS, read_input, read_within};
+pub use reads::Reads;
+pub use showing::show;
+
+#[cfg(test)]
+mod tests;

@@ -1,0 +1,91 @@
+ghost use Rattle.std.specs.Prelude.{◌≡◌, ◌++◌, IfOk, IfErr, OnOk, MatchOption, Some, Ok, false, true, option_map, [], ◌∷◌, codes, decimal};
+ghost use Rattle.invite_console.specs.Ends.{outcome_of, refused};
+ghost use Rattle.invite_console.specs.Lines.{bytes_of, line_bytes, lines_of, CutsLine, hex_lines_of, IsFaultAt, IsLineFault};
+
+use crate::ends::Printout;
+use crate::words::{push_number, push_text};
+use memchr::memchr;
+use std::alloc::{AllocError, Global};
+
+/// Why lines were not read.
+#[derive(Clone, Copy, Debug, PartialEq, Eq)]
+pub(crate) enum LineFault {
+    /// The line of this number can't be read. All lines count, from 1 on.
+    BadLine(u64),
+    /// Memory ran out.
+    NoMemory,
+}
+
+impl From<AllocError> for LineFault {
+    ghost use Rattle.invite_console.specs.declared.lines.LineFault.TheVariants.{NoMemory};
+
+    ghost from_gives = { λ _ fault. fault ≡ NoMemory };
+
+    fn from(_error: AllocError) -> LineFault {
+        LineFault::NoMemory
+    }
+}
+
+/// Adds the bytes that a word spells: hex digits of either case, or a dash for no bytes. False says that it can't be read.
+pub(crate) fn push_bytes(bytes: &mut Vec<u8>, word: &[u8]) -> Result<bool, AllocError>
+    ensures { IfOk result (λ good. MatchOption (bytes_of word.now) (good ≡ false)
+        (λ more. (good ≡ true) × (bytes.new.items ≡ bytes.old.items ++ more))) }
+{
+    match word {
+        [] => return Ok(false),
+        [b'-'] => return Ok(true),
+        _ => {}
+    }
+    let start = bytes.len();
+    bytes.resize(start + word.len() / 2, 0)?;
+    Ok(hex::decode_to_slice(word, &mut bytes[start..]).is_ok())
+}
+
+/// Adds the bytes of the line of this number, which is passed over where it is empty.
+fn push_line(bytes: &mut Vec<u8>, number: u64, line: &[u8]) -> Result<(), LineFault>
+    ensures ok { OnOk result (option_map (λ more. bytes.old.items ++ more) (line_bytes line.now) ≡ Some bytes.new.items) }
+    ensures err { IfErr result (IsFaultAt number (line_bytes line.now)) }
+{
+    if line.is_empty() || push_bytes(bytes, line)? {
+        Ok(())
+    } else {
+        Err(LineFault::BadLine(number))
+    }
+}
+
+/// The first line and what stands behind its line feed, if there is one.
+fn cut_line(text: &[u8]) -> Option<(&[u8], &[u8])>
+    ensures { MatchOption result (lines_of text.now ≡ text.now ∷ []) (λ cut. CutsLine text.now cut.0.now cut.1.now) }
+{
+    let end = memchr(b'\n', text)?;
+    Some((&text[..end], &text[end + 1..]))
+}
+
+/// The bytes that hex lines spell together. Empty lines are passed over, and the last line may lack its line feed.
+#[tactic(auto, using(crate::proofs::Joins::joined_line, crate::proofs::Joins::joined_last, crate::proofs::Joins::joined_fault, crate::proofs::Joins::joined_nothing))]
+pub(crate) fn hex_lines(alloc: Global, input: &[u8]) -> Result<Vec<u8>, LineFault>
+    ensures ok { IfOk result (λ bytes. hex_lines_of input.now ≡ Ok bytes.items) }
+    ensures err { IfErr result (IsLineFault (hex_lines_of input.now)) }
+{
+    let mut bytes = Vec::with_capacity(alloc, input.len() / 2)?;
+    let mut number = 1u64;
+    let mut left = input;
+    while let Some((line, behind)) = cut_line(left) {
+        push_line(&mut bytes, number, line)?;
+        left = behind;
+        number += 1;
+    }
+    push_line(&mut bytes, number, left)?;
+    Ok(bytes)
+}
+
+/// What a command prints where the line of this number can't be read.
+pub(crate) fn bad_line(alloc: Global, number: u64) -> Result<Printout, AllocError>
+    ensures { IfOk result (λ printout. outcome_of printout ≡ refused (codes "bad line " ++ decimal number)) }
+{
+    let mut text = Vec::new(alloc);
+    push_text(&mut text, "bad line ")?;
+    push_number(&mut text, number)?;
+    push_text(&mut text, "\n")?;
+    Ok(Printout { text, good: false })
+}

@@ -1,0 +1,163 @@
+ghost use Rattle.std.specs.Prelude.{◌≡◌, ◌++◌, IfOk, OnOk, codes};
+ghost use Rattle.invite_console.specs.Ends.{line, outcome_of, Prints};
+ghost use Rattle.invite_console.specs.Show.{body_text, group_text, message_text, rest_text, shown, shown_of, show_text, task_text, truth_text, work_text};
+
+use crate::batches::{PIECE, next_batch};
+use crate::ends::{Ending, Printout, Trouble};
+use crate::input::read_input;
+use crate::lines::{LineFault, bad_line, hex_lines};
+use crate::printing::print;
+use crate::words::{push_bytes_text, push_group, push_ids, push_number, push_text, push_truth};
+use group_task::{GroupNo, Task};
+use job_model::{Payload, Queue};
+use std::alloc::{AllocError, Global};
+use std::io::{Read, Write};
+use wire_msg::{Body, Message, Stream};
+
+/// Reads a stream of messages in hex lines, and prints them, a line of text for each. Bytes of an unfinished frame are counted
+/// behind the last.
+pub fn show<R: Read, W: Write>(alloc: Global, input: &mut R, output: &mut W) -> Ending
+    ensures { Prints show_text (R.remaining input.old) (W.contents output.old) (W.contents output.new) result }
+{
+    let outcome = match read_input(alloc, input) {
+        Ok(bytes) => show_to(alloc, &bytes).map_err(Trouble::from),
+        Err(trouble) => Err(trouble),
+    };
+    print(output, outcome)
+}
+
+/// What `show` prints for an input.
+fn show_to(alloc: Global, input: &[u8]) -> Result<Printout, AllocError>
+    ensures { IfOk result (λ printout. outcome_of printout ≡ show_text input.now) }
+{
+    match hex_lines(alloc, input) {
+        Ok(bytes) => show_stream(alloc, &bytes),
+        Err(LineFault::BadLine(number)) => bad_line(alloc, number),
+        Err(LineFault::NoMemory) => Err(AllocError),
+    }
+}
+
+/// The messages of a stream as text.
+fn show_stream(alloc: Global, bytes: &[u8]) -> Result<Printout, AllocError>
+    ensures { IfOk result (λ printout. outcome_of printout ≡ shown_of bytes.now) }
+{
+    let mut text = Vec::new(alloc);
+    let mut stream = Stream::new(alloc);
+    let mut messages = Vec::new(alloc);
+    let mut fed = 0;
+    while fed < bytes.len() {
+        let end = bytes.len().min(fed + PIECE);
+        let is_whole = next_batch(&mut stream, &bytes[fed..end], &mut messages)?;
+        push_shown(&mut text, &messages)?;
+        if !is_whole {
+            push_text(&mut text, "malformed\n")?;
+            return Ok(Printout { text, good: false });
+        }
+        fed = end;
+    }
+    push_rest(&mut text, stream.rest())?;
+    Ok(Printout { text, good: true })
+}
+
+/// Adds a line on so many bytes of an unfinished frame, if there are any.
+fn push_rest(text: &mut Vec<u8>, rest: u64) -> Result<(), AllocError>
+    ensures { OnOk result (text.new.items ≡ text.old.items ++ rest_text rest) }
+{
+    if rest == 0 {
+        return Ok(());
+    }
+    push_text(text, "rest ")?;
+    push_number(text, rest)?;
+    push_text(text, "\n")
+}
+
+/// Adds messages, a line of text for each.
+fn push_shown(text: &mut Vec<u8>, messages: &[Message]) -> Result<(), AllocError>
+    ensures { OnOk result (text.new.items ≡ text.old.items ++ shown messages.now) }
+{
+    for message in messages {
+        push_message(text, message)?;
+    }
+    Ok(())
+}
+
+fn push_message(text: &mut Vec<u8>, message: &Message) -> Result<(), AllocError>
+    ensures { OnOk result (text.new.items ≡ text.old.items ++ line (message_text message.now)) }
+{
+    push_number(text, u64::from(message.sender().number()))?;
+    push_text(text, ">")?;
+    push_number(text, u64::from(message.receiver().number()))?;
+    push_text(text, " ")?;
+    push_body(text, message.body())?;
+    push_text(text, "\n")
+}
+
+fn push_body(text: &mut Vec<u8>, body: &Body) -> Result<(), AllocError>
+    ensures { OnOk result (text.new.items ≡ text.old.items ++ body_text body.now) }
+{
+    match body {
+        Body::AreYouCoordinator => push_text(text, "AreYouCoordinator"),
+        Body::Coordinator(answer) => push_named_truth(text, *answer),
+        Body::AreYouThere(group) => push_named(text, "AreYouThere ", *group),
+        Body::Here(group, answer) => {
+            push_named(text, "Here ", *group)?;
+            push_text(text, " ")?;
+            push_truth(text, *answer)
+        }
+        Body::Invitation(group) => push_named(text, "Invitation ", *group),
+        Body::Accept(group) => push_named(text, "Accept ", *group),
+        Body::Ready(task) => push_task(text, task),
+        Body::ReadyAck(group) => push_named(text, "ReadyAck ", *group),
+        Body::Work {
+            group,
+            id,
+            queue,
+            payload,
+        } => push_work(text, *group, *id, *queue, payload),
+        Body::Done(id) => {
+            push_text(text, "Done ")?;
+            push_number(text, *id)
+        }
+    }
+}
+
+fn push_named_truth(text: &mut Vec<u8>, answer: bool) -> Result<(), AllocError>
+    ensures { OnOk result (text.new.items ≡ text.old.items ++ (codes "Coordinator " ++ truth_text answer)) }
+{
+    push_text(text, "Coordinator ")?;
+    push_truth(text, answer)
+}
+
+/// Adds a message's name, and the group that it is about.
+fn push_named(text: &mut Vec<u8>, name: &str, group: GroupNo) -> Result<(), AllocError>
+    ensures { OnOk result (text.new.items ≡ text.old.items ++ (name.now ++ group_text group)) }
+{
+    push_text(text, name)?;
+    push_group(text, group)
+}
+
+fn push_task(text: &mut Vec<u8>, task: &Task) -> Result<(), AllocError>
+    ensures { OnOk result (text.new.items ≡ text.old.items ++ task_text task.now) }
+{
+    push_named(text, "Ready ", task.group())?;
+    push_text(text, " members ")?;
+    push_ids(text, task.members())
+}
+
+fn push_work(
+    text: &mut Vec<u8>,
+    group: GroupNo,
+    id: u64,
+    queue: Queue,
+    payload: &Payload,
+) -> Result<(), AllocError>
+    ensures { OnOk result (text.new.items ≡ text.old.items ++ work_text group id queue payload.now) }
+{
+    push_named(text, "Work ", group)?;
+    push_text(text, " ")?;
+    push_number(text, id)?;
+    push_text(text, " ")?;
+    push_number(text, u64::from(queue.number()))?;
+    push_text(text, " ")?;
+    push_bytes_text(text, payload.as_slice())
+}
