@@ -1,0 +1,63 @@
+-- What an image stands for as a journal of jobs.
+use Rattle.std.specs.Prelude.{◌≡◌, ◌<◌, ◌≤◌, ℕ, ◌+◌, ◌*◌, Bool, true, false, List, Option, Some, None, is_some, is_none, ◌&&◌, if◌then◌else◌, IsTrue}
+use Rattle.sector_disk.specs.Disk.{Image, DiskState, IsImage}
+use Rattle.slot_gate.specs.Slot.{slot_at}
+use Rattle.safe_cell.specs.Body.{body_value}
+use Rattle.safe_cell.specs.Cell.{cell_at}
+use Rattle.job_journal.specs.Jobs.{Jobs}
+use Rattle.job_journal.specs.Readings.{Reading, Found, Reads, Damage, replayed, fresh}
+use Rattle.job_journal.specs.Areas.{slots_from, sealed_prefix, IsPrefix, area_of}
+
+-- the journal of the area that begins at this sector
+abbrev pub found_from : ℕ → Image → ℕ → Found
+found_from slots image first = replayed slots first (Reads fresh) (sealed_prefix (slots_from image first slots))
+
+-- whether a sealed slot has a body that is none of a cell
+abbrev pub is_damaged : Option (List ℕ) → Bool
+is_damaged None = false
+is_damaged (Some body) = is_none (body_value body)
+
+-- the body sector of the first slot of a cell that is damaged
+abbrev pub damage_of : ℕ → Option (List ℕ) → Option (List ℕ) → Option ℕ
+damage_of at first second = if is_damaged first then Some at else (if is_damaged second then Some (at + 2) else None)
+
+abbrev pub cell_damage : Image → ℕ → Option ℕ
+cell_damage image at = damage_of at (slot_at image at) (slot_at image (at + 2))
+
+-- by the damage of the area cell and the first sector of the present area
+abbrev pub found_by : ℕ → Image → Option ℕ → Option ℕ → Found
+found_by slots image (Some sector) area = Damage sector
+found_by slots image None None = Damage 5
+found_by slots image None (Some first) = found_from slots image first
+
+-- the journal of an image: where the area cell names no area that is sector 5, the gate of its first slot
+abbrev pub found_in : ℕ → Image → Found
+found_in slots image = found_by slots image (cell_damage image 4) (area_of slots (cell_at image 4))
+
+abbrev pub jobs_by : Found → Option Jobs
+jobs_by (Reads reading) = Some reading.jobs
+jobs_by (Damage sector) = None
+
+-- the jobs that an image stands for
+abbrev pub jobs_in : ℕ → Image → Option Jobs
+jobs_in slots image = jobs_by (found_in slots image)
+
+abbrev pub IsSoundArea : ℕ → Image → Option ℕ → Type 0
+IsSoundArea slots image None = Unit {0}
+IsSoundArea slots image (Some first) = IsPrefix (slots_from image first slots)
+
+-- no gate of the present area past the journal's end is sealed; an image with no present area is sound
+abbrev pub IsSoundImage : ℕ → Image → Type 0
+IsSoundImage slots image = IsSoundArea slots image (area_of slots (cell_at image 4))
+
+-- in no image is a gate of the present area past the journal's end sealed; a disk that isn't honest is sound
+abbrev pub IsSound : ℕ → DiskState → Type 0
+IsSound slots disk = IsTrue disk.honest → (image : Image) → IsImage disk image → IsSoundImage slots image
+
+-- the sectors of the area cell and of both areas
+abbrev pub InJournal : ℕ → ℕ → Type 0
+InJournal slots at = (4 ≤ at) × (at < 8 + 4 * slots)
+
+-- the sectors of so many slots from the first area on
+abbrev pub InAreas : ℕ → ℕ → Type 0
+InAreas slots at = (8 ≤ at) × (at < 8 + 2 * slots)

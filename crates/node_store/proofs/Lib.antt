@@ -1,0 +1,3 @@
+pub mod Parts
+pub mod Clauses
+pub mod Formats

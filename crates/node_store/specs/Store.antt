@@ -1,0 +1,97 @@
+-- What a disk with a counter and a journal stands for, and what a mounted store knows of it.
+use Rattle.std.specs.Prelude.{◌≡◌, ◌⊎◌, ◌<◌, ◌≤◌, ℕ, ◌+◌, ◌-◌, ◌*◌, ◌/◌, ◌^◌, ◌==◌, min, Bool, true, false, IsTrue, IsFalse, Option, Some, None, if◌then◌else◌, Result, IsOk, IsErrOf, Err}
+use Rattle.sector_disk.specs.Disk.{Image, DiskState, IsImage}
+use Rattle.safe_cell.specs.Cell.{cell_at}
+use Rattle.safe_cell.specs.Mounted.{CellState, IsCellAt, AllStand}
+use Rattle.job_model.specs.Answer.{answer_of}
+use Rattle.job_model.specs.Command.{Command}
+use Rattle.job_model.specs.Durable.{Durable}
+use Rattle.job_model.specs.Fold.{after_command}
+use Rattle.job_model.specs.declared.command.Command.{Command as Change}
+use Rattle.job_journal.specs.declared.fault.JournalFault.{JournalFault}
+use Rattle.job_journal.specs.declared.fault.JournalFault.TheVariants as JournalFault
+use Rattle.job_journal.specs.Jobs.{Jobs, jobs_of, kept}
+use Rattle.job_journal.specs.Journal.{jobs_in}
+use Rattle.job_journal.specs.Mounted.{JournalState, AllHold}
+use Rattle.job_journal.specs.Appending.{refusal}
+use Rattle.node_store.specs.declared.fault.StoreFault.{StoreFault}
+use Rattle.node_store.specs.declared.fault.StoreFault.TheVariants as StoreFault
+
+-- how many slots an area of a disk has
+abbrev pub slots_for : ℕ → ℕ
+slots_for sectors = min 4096 ((sectors - 8) / 4)
+
+abbrev pub durable_by : Option ℕ → Option Jobs → Option Durable
+durable_by None jobs = None
+durable_by (Some counter) None = None
+durable_by (Some counter) (Some jobs) = Some (kept counter jobs)
+
+-- the counter and the jobs that an image stands for
+abbrev pub stands_for : ℕ → Image → Option Durable
+stands_for slots image = durable_by (cell_at image 0) (jobs_in slots image)
+
+-- each image that a crash now may leave stands for this state
+abbrev pub AllStandFor : ℕ → Durable → DiskState → Type 0
+AllStandFor slots state disk = (image : Image) → IsImage disk image → stands_for slots image ≡ Some state
+
+-- What a program that has mounted a store knows of it.
+pub record StoreState (Disk : Type 0) : Type 0 where
+  pub disk : Disk
+  pub counter : CellState
+  pub journal : JournalState
+  pub broken : Bool
+
+-- the state that a mounted store has
+abbrev pub durable_of : {Disk : Type 0} → StoreState Disk → Durable
+durable_of store = kept store.counter.value (jobs_of store.journal.table)
+
+-- what is true of every mounted store
+pub record IsStore (disk : DiskState) (counter : CellState) (journal : JournalState) (broken : Bool) : Type 0 where
+  pub cell : IsCellAt 0 counter
+  pub on_disk : 8 + 4 * journal.slots ≤ disk.sectors
+  pub slots : journal.slots ≡ slots_for disk.sectors
+  -- until the device fails
+  pub whole : IsFalse broken → (IsFalse counter.broken) × (IsFalse journal.broken)
+  pub counters : IsTrue disk.honest → IsFalse broken → AllStand counter disk
+  pub journals : IsTrue disk.honest → IsFalse broken → AllHold journal disk
+
+-- an image stands for the state from before a command, or for the one after it
+abbrev pub BeforeOrAfter : {Disk : Type 0} → StoreState Disk → Command → Image → Type 0
+BeforeOrAfter store command image =
+    (stands_for store.journal.slots image ≡ Some (durable_of store)) ⊎ (stands_for store.journal.slots image ≡ Some (after_command (durable_of store) command))
+
+-- a fault of the journal as one of the store
+abbrev pub fault_of : JournalFault → StoreFault
+fault_of JournalFault.Device = StoreFault.Device
+fault_of JournalFault.Broken = StoreFault.Broken
+fault_of JournalFault.Exhausted = StoreFault.Exhausted
+fault_of (JournalFault.Damaged sector) = StoreFault.Damaged sector
+fault_of JournalFault.Full = StoreFault.Full
+fault_of JournalFault.NoSuchJob = StoreFault.NoSuchJob
+fault_of JournalFault.NoMemory = StoreFault.NoMemory
+
+abbrev pub refused_by : Option JournalFault → Option StoreFault
+refused_by None = None
+refused_by (Some fault) = Some (fault_of fault)
+
+-- why a change of the jobs is refused before the device is called
+abbrev pub append_refusal : {Disk : Type 0} → StoreState Disk → Change → Option StoreFault
+append_refusal store command = refused_by (refusal (record store.journal { broken = store.broken }) command)
+
+-- why a raise is
+abbrev pub raise_refusal : {Disk : Type 0} → StoreState Disk → Option StoreFault
+raise_refusal store = if store.broken then Some StoreFault.Broken else (if store.counter.value == 2 ^ 64 - 1 then Some StoreFault.Exhausted else None)
+
+-- a call answers its refusal, or else what it does or `Device`
+abbrev pub Answers : {A : Type 0} → Option StoreFault → Result A StoreFault → Type 0
+Answers (Some fault) result = result ≡ Err fault
+Answers None result = IsOk result ⊎ IsErrOf result StoreFault.Device
+
+-- what a change has done once it answers
+abbrev pub Changed : {Disk : Type 0} → StoreState Disk → StoreState Disk → Command → ℕ → Type 0
+Changed old new command answer =
+    (answer ≡ answer_of (durable_of old) command) × (durable_of new ≡ after_command (durable_of old) command) × IsFalse new.broken
+
+-- the sectors of a store
+abbrev pub InStore : ℕ → ℕ → Type 0
+InStore slots at = at < 8 + 4 * slots
