@@ -1,0 +1,15 @@
+pub mod Tests
+pub mod Among
+pub mod Anything
+pub mod Moves
+pub mod Rows
+pub mod Entries
+pub mod Counts
+pub mod Lives
+pub mod OneBooks
+pub mod Growing
+pub mod Downs
+pub mod Kepts
+pub mod Owners
+pub mod Jobs
+pub mod Pending
