@@ -1,9 +1,9 @@
 -- What an append leaves of the journal.
-use Rattle.std.proofs.Common.{◌≡◌, ◌≢◌, ◌+◌, ◌*◌, ◌%◌, ◌<◌, ◌≤◌, ◌⊎◌, inl, inr, ⊎_elim, ℕ, zero, suc, List, [], ◌∷◌, ◌++◌, length, Bool, true, false, not, ◌==◌, ◌&&◌, nat_lt, nat_le, Option, Some, None, is_some, sym, ◌∙◌, ap, subst, refl, arith, if◌then◌else◌, IsTrue}
+use Rattle.std.proofs.Common.{◌≡◌, ◌≢◌, ◌+◌, ◌*◌, ◌<◌, ◌≤◌, ◌⊎◌, inl, inr, ⊎_elim, ℕ, List, [], ◌∷◌, ◌++◌, length, Bool, true, false, not, ◌==◌, ◌&&◌, nat_le, Option, Some, None, is_some, sym, ◌∙◌, ap, subst, refl, arith, if◌then◌else◌}
 use Rattle.std.proofs.lemmas.Bool.Decides.{nat_tests}
 use Rattle.std.proofs.lemmas.List.{length-append}
 use Rattle.std.proofs.lemmas.List.Sums.{length-filter, count_by-le-length}
-use Rattle.sector_disk.specs.Disk.{Image, DiskState, IsImage, SameBut, AllSettled, sector_at}
+use Rattle.sector_disk.specs.Disk.{Image, DiskState, IsImage, SameBut, AllSettled}
 use Rattle.sector_disk.specs.Run.{Run, Each}
 use Rattle.sector_disk.proofs.Runs.{run_widen}
 use Rattle.slot_gate.specs.Slot.{slot_at, InSlot}
@@ -16,11 +16,11 @@ use Rattle.job_model.specs.declared.command.Command.TheVariants.{Put, Done}
 use Rattle.job_model.specs.Fold.{without_job, is_pending}
 use Rattle.job_journal.specs.Jobs.{Jobs, jobs_of, jobs_after, is_unknown, is_out_of_ids}
 use Rattle.job_model.specs.Records.{record_of}
-use Rattle.job_journal.specs.Readings.{Reading, Found, Reads, fresh, fitting, taken, found_at, then_slot, replayed}
+use Rattle.job_journal.specs.Readings.{Reading, Reads, fresh, fitting, taken, found_at, then_slot, replayed}
 use Rattle.job_journal.specs.declared.place.Place.{Place}
 use Rattle.job_journal.specs.declared.place.Place.TheVariants.{Running}
 use Rattle.job_journal.specs.Areas.{slots_from, sealed_prefix, IsPrefix}
-use Rattle.job_journal.specs.Journal.{jobs_in, IsSound, IsSoundImage, InJournal}
+use Rattle.job_journal.specs.Journal.{IsSoundImage, InJournal}
 use Rattle.job_journal.specs.Mounted.{JournalState, Holds, AllHold, IsJournal, first_sector, next_slot}
 use Rattle.job_journal.specs.Appending.{BeforeOrAfter, appended, is_full, refusal, record_for}
 use Rattle.job_journal.specs.declared.fault.JournalFault.{JournalFault}

@@ -1,6 +1,5 @@
 -- Commands of the table, and jobs that are kept, in the words of a journal.
-use Rattle.std.proofs.Common.{◌≡◌, ◌<◌, ◌≤◌, ◌+◌, ◌&&◌, ℕ, List, [], ◌∷◌, ◌++◌, length, Bool, Option, Some, None, if◌then◌else◌, true, false, not, nat_lt, nat_le, IsTrue, IsFalse, sym, ◌∙◌, ap, refl, arith, ◌↔◌}
-use Rattle.std.specs.List.{list_all}
+use Rattle.std.proofs.Common.{◌≡◌, ◌<◌, ◌+◌, ◌&&◌, ℕ, List, [], ◌∷◌, ◌++◌, length, Bool, Some, None, if◌then◌else◌, true, false, not, nat_lt, IsTrue, IsFalse, sym, ◌∙◌, ap, refl, arith, ◌↔◌}
 use Rattle.std.proofs.lemmas.Bool.Decides.{nat_tests}
 use Rattle.job_model.specs.declared.job.Job.{Job}
 use Rattle.job_model.specs.declared.command.Command.{Command}

@@ -1,5 +1,5 @@
 -- Unsealing the areas slot by slot, and what is found in areas that are unsealed.
-use Rattle.std.proofs.Common.{◌≡◌, ◌+◌, ◌*◌, ◌<◌, ◌≤◌, ◌⊎◌, inl, inr, ⊎_elim, ℕ, zero, suc, List, [], ◌∷◌, false, Option, Some, None, sym, ◌∙◌, ap, subst, refl, arith, IsTrue}
+use Rattle.std.proofs.Common.{◌≡◌, ◌+◌, ◌*◌, ◌<◌, ◌≤◌, ◌⊎◌, inl, inr, ⊎_elim, ℕ, zero, suc, ◌∷◌, Some, None, sym, ◌∙◌, ap, subst, refl, arith, IsTrue}
 use Rattle.sector_disk.specs.Disk.{Image, DiskState, IsImage, Laws, Counts, AllSettled}
 use Rattle.sector_disk.specs.Run.{Run}
 use Rattle.sector_disk.proofs.Runs.{same_image, run_of_two, run_widen}
@@ -9,7 +9,7 @@ use Rattle.safe_cell.specs.Cell.{InCell}
 use Rattle.safe_cell.specs.Mounted.{AllStand}
 use Rattle.safe_cell.specs.Formatted.{formatted}
 use Rattle.job_journal.specs.Jobs.{no_jobs}
-use Rattle.job_journal.specs.Areas.{slots_from, sealed_prefix, AllUnsealed, IsPrefix}
+use Rattle.job_journal.specs.Areas.{slots_from, AllUnsealed}
 use Rattle.job_journal.specs.Journal.{jobs_by, jobs_in, IsSoundArea, IsSoundImage, InJournal, InAreas}
 use Rattle.job_journal.specs.Readings.{Reads, fresh, replayed}
 use Rattle.job_journal.proofs.Frames.{area_is, found_is}

@@ -1,10 +1,9 @@
 -- What an append does, and when it is refused.
-use Rattle.std.specs.Prelude.{◌≡◌, ◌⊎◌, ℕ, ◌+◌, ◌==◌, nat_lt, Bool, true, false, length, Option, Some, None, if◌then◌else◌, Result, IsOk, IsErrOf, Ok, Err}
+use Rattle.std.specs.Prelude.{◌≡◌, ◌⊎◌, ℕ, ◌+◌, ◌==◌, nat_lt, Bool, false, length, Option, Some, None, if◌then◌else◌, Result, IsOk, IsErrOf, Err}
 use Rattle.sector_disk.specs.Disk.{Image}
 use Rattle.job_model.specs.declared.command.Command.{Command}
 use Rattle.job_model.specs.declared.command.Command.TheVariants.{Put, Done}
 use Rattle.job_model.specs.declared.record.Record.{Record}
-use Rattle.job_model.specs.declared.record.Record.TheVariants as Record
 use Rattle.job_journal.specs.Jobs.{Jobs, jobs_of, with_jobs, jobs_after, is_unknown, is_out_of_ids}
 use Rattle.job_journal.specs.Journal.{jobs_in}
 use Rattle.job_journal.specs.Mounted.{JournalState}

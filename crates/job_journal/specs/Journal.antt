@@ -1,11 +1,11 @@
 -- What an image stands for as a journal of jobs.
-use Rattle.std.specs.Prelude.{◌≡◌, ◌<◌, ◌≤◌, ℕ, ◌+◌, ◌*◌, Bool, true, false, List, Option, Some, None, is_some, is_none, ◌&&◌, if◌then◌else◌, IsTrue}
+use Rattle.std.specs.Prelude.{◌<◌, ◌≤◌, ℕ, ◌+◌, ◌*◌, Bool, false, List, Option, Some, None, is_none, if◌then◌else◌, IsTrue}
 use Rattle.sector_disk.specs.Disk.{Image, DiskState, IsImage}
 use Rattle.slot_gate.specs.Slot.{slot_at}
 use Rattle.safe_cell.specs.Body.{body_value}
 use Rattle.safe_cell.specs.Cell.{cell_at}
 use Rattle.job_journal.specs.Jobs.{Jobs}
-use Rattle.job_journal.specs.Readings.{Reading, Found, Reads, Damage, replayed, fresh}
+use Rattle.job_journal.specs.Readings.{Found, Reads, Damage, replayed, fresh}
 use Rattle.job_journal.specs.Areas.{slots_from, sealed_prefix, IsPrefix, area_of}
 
 -- the journal of the area that begins at this sector

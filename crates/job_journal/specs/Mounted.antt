@@ -1,8 +1,8 @@
 -- What a program that has mounted a journal knows of it.
-use Rattle.std.specs.Prelude.{◌≡◌, ◌⊎◌, ◌<◌, ◌≤◌, ℕ, ◌+◌, ◌*◌, Bool, true, false, IsFalse, length, Result, IsOkAnd, IsErrOf}
+use Rattle.std.specs.Prelude.{◌≡◌, ◌<◌, ◌≤◌, ℕ, ◌+◌, ◌*◌, Bool, length}
 use Rattle.sector_disk.specs.Disk.{Image, DiskState, IsImage}
 use Rattle.safe_cell.specs.Mounted.{CellState, Stands, IsCellAt}
-use Rattle.job_journal.specs.Jobs.{Jobs, jobs_of}
+use Rattle.job_journal.specs.Jobs.{jobs_of}
 use Rattle.job_model.specs.Table.{Table}
 use Rattle.job_journal.specs.Areas.{slots_from, sealed_prefix, first_of}
 use Rattle.job_journal.specs.Journal.{found_from}

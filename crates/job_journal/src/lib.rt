@@ -9,6 +9,8 @@ mod mounting;
 mod place;
 mod reading;
 mod replay;
+#[cfg(test)]
+mod tests;
 
 pub use fault::JournalFault;
 pub use formatting::format;

@@ -1,2 +1,3 @@
 pub mod OrderLaws
 pub mod RecordBytes
+pub mod RecordSectors

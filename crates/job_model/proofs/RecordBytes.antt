@@ -1,20 +1,15 @@
 -- The bytes of a record stand for it.
-use Rattle.std.proofs.Common.{◌≡◌, ◌<◌, ◌≤◌, ◌+◌, ◌-◌, ◌^◌, ◌⊎◌, inl, inr, ⊎_elim, ℕ, zero, suc, List, ◌∷◌, ◌++◌, take, drop, length, replicate, get_or, Bool, true, false, not, ◌==◌, ◌&&◌, nat_lt, nat_le, count_by, Some, None, sym, ◌∙◌, ap, refl, arith, if◌then◌else◌}
+use Rattle.std.proofs.Common.{◌≡◌, ◌<◌, ◌≤◌, ◌+◌, ◌-◌, ◌^◌, ◌⊎◌, inl, inr, ⊎_elim, ℕ, List, ◌∷◌, ◌++◌, take, drop, length, replicate, get_or, Bool, true, false, ◌&&◌, nat_lt, nat_le, Some, None, sym, ◌∙◌, ap, refl, arith, if◌then◌else◌}
 use Rattle.std.specs.Int.{to_be_bytes, w64, w16}
 use Rattle.std.proofs.lemmas.Bool.Decides.{nat_tests}
 use Rattle.std.proofs.lemmas.Nat.{from_be_bytes-to_be_bytes_8, from_be_bytes-to_be_bytes_2}
 use Rattle.std.proofs.lemmas.List.{drop_at, take_at, drop-replicate, length-take, length-drop}
+use Rattle.sector_disk.specs.Blank.{is_blank}
+use Rattle.sector_disk.proofs.Blanks.{blank}
 use Rattle.job_model.specs.declared.job.Job.{Job}
 use Rattle.job_model.specs.declared.payload.TheConstants.{PAYLOAD_CAPACITY}
 use Rattle.job_model.specs.declared.queue.TheConstants.{QUEUES}
-use Rattle.job_model.specs.Records.{is_blank, id_in, length_in, number_of, job_of, number_bytes, job_bytes}
-
-no_other : (n : ℕ) → count_by (λ byte. not (byte == 0)) (replicate n 0) ≡ 0
-no_other zero = refl
-no_other (suc n) = no_other n
-
-blank : (n : ℕ) → is_blank (replicate n 0) ≡ true
-blank n = ap (λ k. k == 0) (no_other n)
+use Rattle.job_model.specs.Records.{id_in, length_in, number_of, job_of, number_bytes, job_bytes}
 
 pub number_of-number_bytes : (kind number : ℕ) → number < 2 ^ 64 → number_of (number_bytes kind number) ≡ Some number
 unfolding number_of

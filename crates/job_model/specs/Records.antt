@@ -1,15 +1,12 @@
 -- The records of a journal, each the bytes of one sector.
-use Rattle.std.specs.Prelude.{ℕ, ◌+◌, ◌==◌, ◌&&◌, nat_lt, nat_le, Bool, not, count_by, List, ◌∷◌, ◌++◌, take, drop, length, replicate, get_or, Option, Some, None, if◌then◌else◌}
+use Rattle.std.specs.Prelude.{ℕ, ◌+◌, ◌<◌, ◌==◌, ◌&&◌, nat_lt, nat_le, List, ◌∷◌, ◌++◌, take, drop, length, replicate, get_or, Option, Some, None, if◌then◌else◌}
 use Rattle.std.specs.Int.{from_be_bytes, to_be_bytes, w64, w16}
+use Rattle.sector_disk.specs.Blank.{is_blank}
 use Rattle.job_model.specs.declared.job.Job.{Job}
 use Rattle.job_model.specs.declared.payload.TheConstants.{PAYLOAD_CAPACITY}
 use Rattle.job_model.specs.declared.queue.TheConstants.{QUEUES}
 use Rattle.job_model.specs.declared.record.Record.{Record}
 use Rattle.job_model.specs.declared.record.Record.TheVariants.{Put, Done, Base, Keep}
-
--- all of them are zero
-abbrev pub is_blank : List ℕ → Bool
-is_blank bytes = count_by (λ byte. not (byte == 0)) bytes == 0
 
 -- the number in the eight bytes behind the kind
 abbrev pub id_in : List ℕ → ℕ
@@ -69,3 +66,7 @@ bytes_of (Put job) = job_bytes 1 job
 bytes_of (Done id) = number_bytes 2 id
 bytes_of (Base next) = number_bytes 3 next
 bytes_of (Keep job) = job_bytes 4 job
+
+-- each number is a byte
+abbrev pub AllBytes : List ℕ → Type 0
+AllBytes sector = (at : ℕ) → get_or sector at 0 < 256

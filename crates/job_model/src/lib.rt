@@ -17,5 +17,5 @@ pub use command::Command;
 pub use job::Job;
 pub use payload::{PAYLOAD_CAPACITY, Payload};
 pub use queue::{QUEUES, Queue};
-pub use record::Record;
+pub use record::{Record, one_sector};
 pub use table::JobTable;

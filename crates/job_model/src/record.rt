@@ -1,11 +1,11 @@
 ghost use Rattle.std.specs.Prelude.{◌≡◌, ◌<◌, ◌≤◌, ◌+◌, ◌^◌, ◌++◌, ◌∷◌, take, drop, get_or, length, List, ℕ, Some, None};
 ghost use Rattle.std.specs.Int.{to_be_bytes, w64, w16};
-ghost use Rattle.job_model.specs.Records.{record_of, bytes_of, job_of, number_of, id_in, length_in, is_blank, job_bytes, number_bytes};
+ghost use Rattle.job_model.specs.Records.{record_of, bytes_of, job_of, number_of, id_in, length_in, job_bytes, number_bytes, AllBytes};
 
 use crate::job::Job;
 use crate::payload::{PAYLOAD_CAPACITY, Payload};
 use crate::queue::Queue;
-use sector_disk::Sector;
+use sector_disk::{Sector, is_blank};
 
 #[cfg(test)]
 mod tests;
@@ -60,6 +60,13 @@ impl Record {
         }
     }
 }
+
+/// A sector that reads as a record is the one that [`Record::to_sector`] writes for it: of each record there is one
+/// sector.
+pub fn one_sector()
+    ensures { (sector : List ℕ) (found : Record) → length sector ≡ 512 → AllBytes sector
+        → record_of sector ≡ Some found → sector ≡ bytes_of found }
+{}
 
 fn number_sector(kind: u8, number: u64) -> Sector
     ensures bytes { result ≡ number_bytes kind number }
@@ -135,12 +142,4 @@ fn length_in(sector: &Sector) -> usize
     ensures { result ≡ length_in sector.now }
 {
     u16::from_be_bytes([sector[10], sector[11]]) as usize
-}
-
-// Whether all bytes from there on are zero.
-fn is_blank(sector: &Sector, from: usize) -> bool
-    requires { from ≤ 512 }
-    ensures { result ≡ is_blank (drop from sector.now) }
-{
-    sector[from..].iter().filter(|byte| **byte != 0).count() == 0
 }

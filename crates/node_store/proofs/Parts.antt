@@ -1,6 +1,6 @@
 -- The counter and the journal don't touch each other's sectors.
-use Rattle.std.proofs.Common.{◌≡◌, ◌+◌, ◌*◌, ◌<◌, ◌≤◌, ◌⊎◌, inl, inr, ⊎_elim, ℕ, Option, Some, None, sym, ◌∙◌, ap, subst, refl, arith, Bool, IsTrue, IsFalse}
-use Rattle.sector_disk.specs.Disk.{Image, DiskState, IsImage, SameBut, Laws}
+use Rattle.std.proofs.Common.{◌≡◌, ◌+◌, ◌*◌, ◌<◌, ◌≤◌, ◌⊎◌, inl, inr, ⊎_elim, ℕ, Some, sym, ◌∙◌, ap, subst, refl, arith, Bool, IsTrue, IsFalse}
+use Rattle.sector_disk.specs.Disk.{Image, DiskState, SameBut, Laws}
 use Rattle.sector_disk.specs.Run.{Run, Each}
 use Rattle.sector_disk.proofs.Runs.{run_widen}
 use Rattle.slot_gate.specs.Slot.{InSlot}

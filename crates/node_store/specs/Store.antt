@@ -1,5 +1,5 @@
 -- What a disk with a counter and a journal stands for, and what a mounted store knows of it.
-use Rattle.std.specs.Prelude.{◌≡◌, ◌⊎◌, ◌<◌, ◌≤◌, ℕ, ◌+◌, ◌-◌, ◌*◌, ◌/◌, ◌^◌, ◌==◌, min, Bool, true, false, IsTrue, IsFalse, Option, Some, None, if◌then◌else◌, Result, IsOk, IsErrOf, Err}
+use Rattle.std.specs.Prelude.{◌≡◌, ◌⊎◌, ◌<◌, ◌≤◌, ℕ, ◌+◌, ◌-◌, ◌*◌, ◌/◌, ◌^◌, ◌==◌, min, Bool, IsTrue, IsFalse, Option, Some, None, if◌then◌else◌, Result, IsOk, IsErrOf, Err}
 use Rattle.sector_disk.specs.Disk.{Image, DiskState, IsImage}
 use Rattle.safe_cell.specs.Cell.{cell_at}
 use Rattle.safe_cell.specs.Mounted.{CellState, IsCellAt, AllStand}
@@ -9,13 +9,11 @@ use Rattle.job_model.specs.Durable.{Durable}
 use Rattle.job_model.specs.Fold.{after_command}
 use Rattle.job_model.specs.declared.command.Command.{Command as Change}
 use Rattle.job_journal.specs.declared.fault.JournalFault.{JournalFault}
-use Rattle.job_journal.specs.declared.fault.JournalFault.TheVariants as JournalFault
 use Rattle.job_journal.specs.Jobs.{Jobs, jobs_of, kept}
 use Rattle.job_journal.specs.Journal.{jobs_in}
 use Rattle.job_journal.specs.Mounted.{JournalState, AllHold}
 use Rattle.job_journal.specs.Appending.{refusal}
 use Rattle.node_store.specs.declared.fault.StoreFault.{StoreFault}
-use Rattle.node_store.specs.declared.fault.StoreFault.TheVariants as StoreFault
 
 -- how many slots an area of a disk has
 abbrev pub slots_for : ℕ → ℕ

@@ -21,10 +21,10 @@ use std::marker::Model;
 /// again.
 #[derive(Drop)]
 pub struct NodeStore<D: SectorDisk> {
-    disk: D,
-    counter: SafeCell,
-    journal: JobJournal,
-    broken: bool,
+    pub(crate) disk: D,
+    pub(crate) counter: SafeCell,
+    pub(crate) journal: JobJournal,
+    pub(crate) broken: bool,
 }
 
 impl<D: SectorDisk> Model for NodeStore<D> {
@@ -67,6 +67,7 @@ impl<D: SectorDisk> NodeStore<D> {
         ensures answers { Answers (append_refusal self.old (Command.Put queue payload)) result }
         ensures refused { IsSome (append_refusal self.old (Command.Put queue payload)) → self.new ≡ self.old }
         ensures device { IsErrOf result StoreFault.Device → IsTrue self.new.broken }
+        ensures kept { IsErrOf result StoreFault.Device → durable_of self.new ≡ durable_of self.old }
         ensures ok { IfOk result (Changed self.old self.new (Put queue payload)) }
         ensures slots { self.new.journal.slots ≡ self.old.journal.slots }
         ensures run { IsTrue (D.state self.old.disk).honest
@@ -76,6 +77,8 @@ impl<D: SectorDisk> NodeStore<D> {
         ensures sound { IsTrue (D.state self.old.disk).honest → IsFalse self.old.broken
             → IsSound self.old.journal.slots (D.state self.old.disk)
             → Each (D.state self.old.disk) (D.state self.new.disk) (IsSoundImage self.old.journal.slots) }
+        ensures stays_sound { IsSound self.old.journal.slots (D.state self.old.disk)
+            → IsSound self.new.journal.slots (D.state self.new.disk) }
         ensures after { IsTrue (D.state self.old.disk).honest → IsOk result
             → AllStandFor self.new.journal.slots (durable_of self.new) (D.state self.new.disk) }
         ensures settled { IsTrue (D.state self.old.disk).honest → IsOk result
@@ -92,6 +95,7 @@ impl<D: SectorDisk> NodeStore<D> {
         ensures answers { Answers (append_refusal self.old (Command.Done id)) result }
         ensures refused { IsSome (append_refusal self.old (Command.Done id)) → self.new ≡ self.old }
         ensures device { IsErrOf result StoreFault.Device → IsTrue self.new.broken }
+        ensures kept { IsErrOf result StoreFault.Device → durable_of self.new ≡ durable_of self.old }
         ensures ok { IfOk result (Changed self.old self.new (Done id)) }
         ensures slots { self.new.journal.slots ≡ self.old.journal.slots }
         ensures run { IsTrue (D.state self.old.disk).honest
@@ -101,6 +105,8 @@ impl<D: SectorDisk> NodeStore<D> {
         ensures sound { IsTrue (D.state self.old.disk).honest → IsFalse self.old.broken
             → IsSound self.old.journal.slots (D.state self.old.disk)
             → Each (D.state self.old.disk) (D.state self.new.disk) (IsSoundImage self.old.journal.slots) }
+        ensures stays_sound { IsSound self.old.journal.slots (D.state self.old.disk)
+            → IsSound self.new.journal.slots (D.state self.new.disk) }
         ensures after { IsTrue (D.state self.old.disk).honest → IsOk result
             → AllStandFor self.new.journal.slots (durable_of self.new) (D.state self.new.disk) }
         ensures settled { IsTrue (D.state self.old.disk).honest → IsOk result
@@ -116,6 +122,7 @@ impl<D: SectorDisk> NodeStore<D> {
         ensures answers { Answers (raise_refusal self.old) result }
         ensures refused { IsSome (raise_refusal self.old) → self.new ≡ self.old }
         ensures device { IsErrOf result StoreFault.Device → IsTrue self.new.broken }
+        ensures kept { IsErrOf result StoreFault.Device → durable_of self.new ≡ durable_of self.old }
         ensures ok { IfOk result (Changed self.old self.new Raise) }
         ensures slots { self.new.journal.slots ≡ self.old.journal.slots }
         ensures run { IsTrue (D.state self.old.disk).honest
@@ -125,6 +132,8 @@ impl<D: SectorDisk> NodeStore<D> {
         ensures sound { IsTrue (D.state self.old.disk).honest → IsFalse self.old.broken
             → IsSound self.old.journal.slots (D.state self.old.disk)
             → Each (D.state self.old.disk) (D.state self.new.disk) (IsSoundImage self.old.journal.slots) }
+        ensures stays_sound { IsSound self.old.journal.slots (D.state self.old.disk)
+            → IsSound self.new.journal.slots (D.state self.new.disk) }
         ensures after { IsTrue (D.state self.old.disk).honest → IsOk result
             → AllStandFor self.new.journal.slots (durable_of self.new) (D.state self.new.disk) }
         ensures settled { IsTrue (D.state self.old.disk).honest → IsOk result
@@ -153,6 +162,7 @@ impl<D: SectorDisk> NodeStore<D> {
         ensures answers { Answers (append_refusal self.old command) result }
         ensures refused { IsSome (append_refusal self.old command) → self.new ≡ self.old }
         ensures device { IsErrOf result StoreFault.Device → IsTrue self.new.broken }
+        ensures kept { IsErrOf result StoreFault.Device → durable_of self.new ≡ durable_of self.old }
         ensures ok { IfOk result (Changed self.old self.new (command_of command)) }
         ensures slots { self.new.journal.slots ≡ self.old.journal.slots }
         ensures run { IsTrue (D.state self.old.disk).honest

@@ -1,9 +1,7 @@
 -- The body of a slot of a cell: the value in eight bytes, greatest first, and zeros.
-use Rattle.std.specs.Prelude.{ℕ, List, ◌++◌, drop, replicate, Bool, not, ◌==◌, count_by, Option, Some, None, if◌then◌else◌}
+use Rattle.std.specs.Prelude.{ℕ, List, ◌++◌, drop, replicate, Option, Some, None, if◌then◌else◌}
+use Rattle.sector_disk.specs.Blank.{is_blank}
 use Rattle.std.specs.Int.{from_be_bytes, to_be_bytes, w64}
-
-abbrev pub is_blank : List ℕ → Bool
-is_blank bytes = count_by (λ byte. not (byte == 0)) bytes == 0
 
 -- the value that a body stands for, if it is a cell's: `from_be_bytes` reads the first eight bytes
 unfoldable pub body_value : List ℕ → Option ℕ

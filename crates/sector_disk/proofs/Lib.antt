@@ -3,3 +3,4 @@ pub mod Bytes
 pub mod Notes
 pub mod Calls
 pub mod Crashed
+pub mod Blanks

@@ -5,3 +5,4 @@ pub mod Crash
 pub mod Undo
 pub mod Moments
 pub mod Inside
+pub mod Blank

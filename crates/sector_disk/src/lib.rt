@@ -13,4 +13,4 @@ mod tests;
 pub use disk::SectorDisk;
 pub use fault::DiskFault;
 pub use memory::MemDisk;
-pub use sector::Sector;
+pub use sector::{Sector, is_blank};

@@ -1,10 +1,19 @@
 // A sector, and its bytes without the zeros at its end.
-ghost use Rattle.std.specs.Prelude.{◌≡◌, drop};
+ghost use Rattle.std.specs.Prelude.{◌≡◌, ◌≤◌, drop};
+ghost use Rattle.sector_disk.specs.Blank.{is_blank};
 ghost use Rattle.sector_disk.specs.Crash.{filled};
 ghost use Rattle.sector_disk.specs.Undo.{whole};
 
 /// What a disk reads and writes at once.
 pub type Sector = [u8; 512];
+
+/// Whether all bytes from there on are zero.
+pub fn is_blank(sector: &Sector, from: usize) -> bool
+    requires { from ≤ 512 }
+    ensures { result ≡ is_blank (drop from sector.now) }
+{
+    sector[from..].iter().filter(|byte| **byte != 0).count() == 0
+}
 
 pub fn trimmed(sector: &Sector) -> &[u8]
     ensures { whole result.now ≡ sector.now }

@@ -1,4 +1,4 @@
-use Rattle.std.proofs.Common.{◌≡◌, true, refl, arith}
+use Rattle.std.proofs.Common.{◌≡◌, true, refl}
 use Rattle.job_journal.proofs.Formats.{erased_start, erased_run, erased_more}
 use Rattle.job_journal.proofs.formatting.erase.Goals as goal
 

@@ -1,13 +1,10 @@
-use Rattle.std.proofs.Common.{◌≡◌, ◌+◌, false, sym, ◌∙◌, ap, subst, IsTrue, not, inl, None, Some, Option}
-use Rattle.sector_disk.specs.Disk.{AllSettled}
+use Rattle.std.proofs.Common.{◌≡◌, ◌+◌, false, sym, ◌∙◌, ap, subst, not, inl, None, Some}
 use Rattle.sector_disk.specs.Run.{Run, Each}
 use Rattle.slot_gate.specs.Slot.{slot_at, InSlot}
 use Rattle.slot_gate.specs.Stored.{Knows, IsStored, Follows}
-use Rattle.job_journal.specs.Jobs.{jobs_of}
-use Rattle.job_model.specs.Records.{record_of}
-use Rattle.job_journal.specs.Journal.{IsSound, IsSoundImage, InJournal}
+use Rattle.job_journal.specs.Journal.{IsSound, IsSoundImage}
 use Rattle.job_journal.specs.Mounted.{JournalState, AllHold, IsJournal, next_slot}
-use Rattle.job_journal.specs.Appending.{BeforeOrAfter, appended, refusal, record_for}
+use Rattle.job_journal.specs.Appending.{BeforeOrAfter, appended, refusal}
 use Rattle.job_journal.proofs.Frames.{jobs_are}
 use Rattle.job_journal.proofs.Appends.{append_images, append_sound, append_after, append_run, appended_is, admitted}
 use Rattle.job_journal.proofs.journal.JobJournal.append.Goals as goal

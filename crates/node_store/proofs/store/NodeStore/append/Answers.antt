@@ -1,4 +1,4 @@
-use Rattle.std.proofs.Common.{◌≡◌, sym, ◌∙◌, ap, subst, refl, IsTrue, IsFalse}
+use Rattle.std.proofs.Common.{◌∙◌, ap, refl}
 use Rattle.job_model.specs.Table.{command_of}
 use Rattle.job_journal.specs.Mounted.{JournalState}
 use Rattle.node_store.specs.Store.{StoreState}

@@ -1,0 +1,162 @@
+-- A sector that reads as a record is the one that is written for it.
+use Rattle.std.proofs.Common.{◌≡◌, ◌<◌, ◌≤◌, ◌+◌, ◌-◌, ℕ, zero, suc, List, [], ◌∷◌, ◌++◌, take, drop, length, replicate, get_or, Bool, true, false, not, cond, count_by, ◌==◌, ◌&&◌, nat_lt, nat_le, Option, Some, None, sym, ◌∙◌, ap, subst, refl, arith, if◌then◌else◌}
+use Rattle.std.specs.Int.{from_be_bytes, to_be_bytes, w64, w16}
+use Rattle.std.proofs.lemmas.Bool.Decides.{nat_tests}
+use Rattle.std.proofs.lemmas.Nat.{be_bytes_8, be_bytes_2}
+use Rattle.std.proofs.lemmas.List.{take-append-drop, drop-drop, drop-replicate, length-take, length-drop}
+use Rattle.std.proofs.lemmas.List.Sums.{sum_by-cons}
+use Rattle.sector_disk.specs.Blank.{is_blank}
+use Rattle.job_model.specs.declared.job.Job.{Job}
+use Rattle.job_model.specs.declared.payload.TheConstants.{PAYLOAD_CAPACITY}
+use Rattle.job_model.specs.declared.queue.TheConstants.{QUEUES}
+use Rattle.job_model.specs.declared.record.Record.{Record}
+use Rattle.job_model.specs.declared.record.Record.TheVariants.{Put, Done, Base, Keep}
+use Rattle.job_model.specs.Records.{id_in, length_in, number_of, job_of, record_by, record_of, number_bytes, job_bytes, bytes_of, AllBytes}
+
+take_same : (n k : ℕ) (xs : List ℕ) → k < n → get_or (take n xs) k 0 ≡ get_or xs k 0
+take_same zero k xs lt = absurd (omega (arith, lt))
+take_same (suc n) k [] lt = refl
+take_same (suc n) zero (x ∷ xs) lt = refl
+take_same (suc n) (suc k) (x ∷ xs) lt = take_same n k xs (omega (arith, lt))
+
+small_take : (n : ℕ) (xs : List ℕ) → AllBytes xs → AllBytes (take n xs)
+small_take zero xs small i = omega arith
+small_take (suc n) [] small i = small i
+small_take (suc n) (x ∷ xs) small zero = small zero
+small_take (suc n) (x ∷ xs) small (suc i) = small_take n xs (λ k. small (suc k)) i
+
+small_drop : (n : ℕ) (xs : List ℕ) → AllBytes xs → AllBytes (drop n xs)
+small_drop zero xs small = small
+small_drop (suc n) [] small = small
+small_drop (suc n) (x ∷ xs) small = small_drop n xs (λ k. small (suc k))
+
+head_is : (n : ℕ) (xs : List ℕ) → n < length xs → drop n xs ≡ get_or xs n 0 ∷ drop (suc n) xs
+head_is n [] lt = absurd (omega (arith, lt))
+head_is zero (x ∷ xs) lt = refl
+head_is (suc n) (x ∷ xs) lt = head_is n xs (omega (arith, lt))
+
+-- how many aren't zero
+abbrev marked : List ℕ → ℕ
+marked xs = count_by (λ byte. not (byte == 0)) xs
+
+none_of : (n : ℕ) → (n == 0) ≡ true → n ≡ 0
+none_of n is = grind (arith, nat_tests, is)
+
+zeros_are : (xs : List ℕ) → is_blank xs ≡ true → xs ≡ replicate (length xs) 0
+zeros_are [] blank = refl
+zeros_are (zero ∷ xs) blank = ap (λ r. 0 ∷ r) (zeros_are xs blank)
+zeros_are (suc x ∷ xs) blank =
+    let other : (suc x == 0) ≡ false = grind (arith, nat_tests) in
+    let one : marked (suc x ∷ xs) ≡ 1 + marked xs =
+    sum_by-cons (λ byte. cond (not (byte == 0)) 1 0) (suc x) xs ∙ ap (λ b. cond (not b) 1 0 + marked xs) other in
+    let none : marked (suc x ∷ xs) ≡ 0 = none_of (marked (suc x ∷ xs)) blank in
+    absurd (omega (arith, one, none))
+
+-- the number in the first eight bytes is written as they stand there
+eight_read : (xs : List ℕ) → AllBytes xs → 8 ≤ length xs → to_be_bytes w64 (from_be_bytes w64 xs) ≡ take 8 xs
+eight_read xs small long =
+    be_bytes_8 (take 8 xs) (from_be_bytes w64 xs) (omega (arith, length-take 8 xs, long)) (small_take 8 xs small)
+    (omega (
+      arith,
+      take_same 8 0 xs (omega arith),
+      take_same 8 1 xs (omega arith),
+      take_same 8 2 xs (omega arith),
+      take_same 8 3 xs (omega arith),
+      take_same 8 4 xs (omega arith),
+      take_same 8 5 xs (omega arith),
+      take_same 8 6 xs (omega arith),
+      take_same 8 7 xs (omega arith),
+    ))
+
+two_read : (xs : List ℕ) → AllBytes xs → 2 ≤ length xs → to_be_bytes w16 (from_be_bytes w16 xs) ≡ take 2 xs
+two_read xs small long =
+    be_bytes_2 (take 2 xs) (from_be_bytes w16 xs) (omega (arith, length-take 2 xs, long)) (small_take 2 xs small)
+    (omega (arith, take_same 2 0 xs (omega arith), take_same 2 1 xs (omega arith)))
+
+-- the kind and the number behind it
+front : (body : List ℕ) → length body ≡ 512 → AllBytes body → body ≡ get_or body 0 0 ∷ (to_be_bytes w64 (id_in body) ++ drop 9 body)
+front body long small =
+    let number = eight_read (drop 1 body) (small_drop 1 body small) (omega (arith, length-drop 1 body, long)) in
+    head_is 0 body (omega (arith, long))
+    ∙ ap (λ t. get_or body 0 0 ∷ t)
+    (sym (take-append-drop 8 (drop 1 body)) ∙ ap (λ t. t ++ drop 8 (drop 1 body)) (sym number) ∙ ap (λ t. to_be_bytes w64 (id_in body) ++ t) (drop-drop 8 1 body))
+
+pub number_is : (body : List ℕ) (number : ℕ) → length body ≡ 512 → AllBytes body → number_of body ≡ Some number → body ≡ number_bytes (get_or body 0 0) number
+unfolding number_of
+number_is body number long small is = by_blank (is_blank (drop 9 body)) refl
+  where
+    by_blank : (blank : Bool) → is_blank (drop 9 body) ≡ blank → body ≡ number_bytes (get_or body 0 0) number
+    by_blank false other =
+        let none : None ≡ Some number = sym (ap (λ b. if b then Some (id_in body) else None) other) ∙ is in
+        cc
+    by_blank true blank =
+        let some : Some (id_in body) ≡ Some number = sym (ap (λ b. if b then Some (id_in body) else None) blank) ∙ is in
+        let same : id_in body ≡ number = cc in
+        let rest : length (drop 9 body) ≡ 503 = omega (arith, length-drop 9 body, long) in
+        front body long small
+        ∙ ap (λ t. get_or body 0 0 ∷ (to_be_bytes w64 (id_in body) ++ t)) (zeros_are (drop 9 body) blank ∙ ap (λ k. replicate k 0) rest)
+        ∙ ap (λ i. number_bytes (get_or body 0 0) i) same
+
+-- the queue, the length, the payload and the zeros
+behind : (body : List ℕ) → length body ≡ 512 → AllBytes body → length_in body ≤ PAYLOAD_CAPACITY → is_blank (drop (12 + length_in body) body) ≡ true
+    → drop 9 body ≡ get_or body 9 0 ∷ (to_be_bytes w16 (length_in body) ++ (take (length_in body) (drop 12 body) ++ drop (length_in body) (replicate 500 0)))
+behind body long small short blank =
+    let n = length_in body in
+    let size = two_read (drop 10 body) (small_drop 10 body small) (omega (arith, length-drop 10 body, long)) in
+    let rest : length (drop (12 + n) body) ≡ 500 - n = omega (arith, length-drop (12 + n) body, long, short) in
+    let zeros : drop n (drop 12 body) ≡ drop n (replicate 500 0) =
+    drop-drop n 12 body ∙ zeros_are (drop (12 + n) body) blank ∙ ap (λ k. replicate k 0) rest ∙ sym (drop-replicate n 500 0) in
+    head_is 9 body (omega (arith, long))
+    ∙ ap (λ t. get_or body 9 0 ∷ t)
+    (sym (take-append-drop 2 (drop 10 body)) ∙ ap (λ t. t ++ drop 2 (drop 10 body)) (sym size)
+    ∙ ap (λ t. to_be_bytes w16 n ++ t) (drop-drop 2 10 body ∙ sym (take-append-drop n (drop 12 body)) ∙ ap (λ t. take n (drop 12 body) ++ t) zeros))
+
+abbrev job_in : List ℕ → Job
+job_in body = record { id = id_in body; queue = get_or body 9 0; payload = take (length_in body) (drop 12 body) }
+
+job_read : (body : List ℕ) → length body ≡ 512 → AllBytes body → length_in body ≤ PAYLOAD_CAPACITY → is_blank (drop (12 + length_in body) body) ≡ true
+    → body ≡ job_bytes (get_or body 0 0) (job_in body)
+job_read body long small short blank =
+    let n = length_in body in
+    let p = take n (drop 12 body) in
+    let size : n ≡ length p = omega (arith, length-take n (drop 12 body), length-drop 12 body, long, short) in
+    front body long small
+    ∙ ap (λ t. get_or body 0 0 ∷ (to_be_bytes w64 (id_in body) ++ t)) (behind body long small short blank)
+    ∙ ap (λ k. get_or body 0 0 ∷ (to_be_bytes w64 (id_in body) ++ get_or body 9 0 ∷ (to_be_bytes w16 k ++ (p ++ drop k (replicate 500 0))))) size
+
+pub job_is : (body : List ℕ) (job : Job) → length body ≡ 512 → AllBytes body → job_of body ≡ Some job → body ≡ job_bytes (get_or body 0 0) job
+unfolding job_of
+job_is body job long small is =
+    by_tests (nat_lt (get_or body 9 0) QUEUES) (nat_le (length_in body) PAYLOAD_CAPACITY) (is_blank (drop (12 + length_in body) body)) refl refl is
+  where
+    by_tests : (low short blank : Bool) → nat_le (length_in body) PAYLOAD_CAPACITY ≡ short → is_blank (drop (12 + length_in body) body) ≡ blank
+        → (if low && short && blank then Some (job_in body) else None) ≡ Some job → body ≡ job_bytes (get_or body 0 0) job
+    by_tests true true true short blank found =
+        let same : job_in body ≡ job = cc in
+        job_read body long small (grind (arith, nat_tests, short)) blank ∙ ap (λ (j : Job). job_bytes (get_or body 0 0) j) same
+    by_tests true true false short blank found = cc
+    by_tests true false b short blank found = cc
+    by_tests false s b short blank found = cc
+
+by_kind : (body : List ℕ) (kind : ℕ) (job : Option Job) (number : Option ℕ) (found : Record) → record_by kind job number ≡ Some found
+    → ((j : Job) → job ≡ Some j → body ≡ job_bytes kind j) → ((n : ℕ) → number ≡ Some n → body ≡ number_bytes kind n) → body ≡ bytes_of found
+by_kind body zero job number found is jobs numbers = cc
+by_kind body (suc zero) None number found is jobs numbers = cc
+by_kind body (suc zero) (Some j) number found is jobs numbers = let same : Put j ≡ found = cc in subst (λ r. body ≡ bytes_of r) same (jobs j refl)
+by_kind body (suc (suc zero)) job None found is jobs numbers = cc
+by_kind body (suc (suc zero)) job (Some n) found is jobs numbers = let same : Done n ≡ found = cc in subst (λ r. body ≡ bytes_of r) same (numbers n refl)
+by_kind body (suc (suc (suc zero))) job None found is jobs numbers = cc
+by_kind body (suc (suc (suc zero))) job (Some n) found is jobs numbers = let same : Base n ≡ found = cc in subst (λ r. body ≡ bytes_of r) same (numbers n refl)
+by_kind body (suc (suc (suc (suc zero)))) None number found is jobs numbers = cc
+by_kind body (suc (suc (suc (suc zero)))) (Some j) number found is jobs numbers = let same : Keep j ≡ found = cc in subst (λ r. body ≡ bytes_of r) same (jobs j refl)
+by_kind body (suc (suc (suc (suc (suc k))))) job number found is jobs numbers =
+    let a : (suc (suc (suc (suc (suc k)))) == 1) ≡ false = grind (arith, nat_tests) in
+    let b : (suc (suc (suc (suc (suc k)))) == 2) ≡ false = grind (arith, nat_tests) in
+    let c : (suc (suc (suc (suc (suc k)))) == 3) ≡ false = grind (arith, nat_tests) in
+    let d : (suc (suc (suc (suc (suc k)))) == 4) ≡ false = grind (arith, nat_tests) in
+    cc
+
+pub sector_is : (sector : List ℕ) (found : Record) → length sector ≡ 512 → AllBytes sector → record_of sector ≡ Some found → sector ≡ bytes_of found
+unfolding record_of
+sector_is sector found long small is =
+    by_kind sector (get_or sector 0 0) (job_of sector) (number_of sector) found is (λ j e. job_is sector j long small e) (λ n e. number_is sector n long small e)

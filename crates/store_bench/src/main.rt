@@ -1,0 +1,108 @@
+//! Fills a journal of 4,096 slots with so many records, one at least, and mounts its store so many times. It prints how
+//! many device calls the last append and a mounting make, and is a measure of time: `rt run -- 4096 200`.
+#![tactic(auto)]
+
+ghost use Rattle.std.specs.Prelude.{◌≡◌, IfOk, length};
+
+use anyhow::Context;
+use job_model::{Command, Payload, Queue};
+use node_store::NodeStore;
+use sector_disk::MemDisk;
+use std::alloc::Global;
+use std::env;
+
+// The smallest disk whose areas have 4,096 slots each.
+const SECTORS: u64 = 16392;
+
+const SLOTS: u64 = 4096;
+
+fn main(rt: HostRuntime) -> anyhow::Result<()> {
+    let records: u64 = env::args(&rt)?
+        .nth(1)
+        .context("how many records?")?
+        .parse()?;
+    let rounds: u64 = env::args(&rt)?
+        .nth(2)
+        .context("how many mountings?")?
+        .parse()?;
+    let mut disk = filled(rt.alloc(), records.saturating_sub(1))?;
+    let append = calls_of_append(rt.alloc(), &mut disk)?;
+    println!(rt; "an append: {append} device calls")?;
+    let (mounting, disk) = calls_of_mounting(rt.alloc(), disk);
+    println!(rt; "a mounting of {records} records: {mounting} device calls")?;
+    mount_again(rt.alloc(), disk, rounds)
+}
+
+fn put() -> anyhow::Result<Command> {
+    let queue = Queue::new(0).context("no queue")?;
+    let payload = Payload::new(b"hi").context("no payload")?;
+    Ok(Command::Put(queue, payload))
+}
+
+// A disk with so many records: each job is put and then done.
+fn filled(alloc: Global, records: u64) -> anyhow::Result<MemDisk>
+    ensures { IfOk result (λ disk. length disk.contents ≡ 16392) }
+{
+    let mut disk = MemDisk::new(alloc, SECTORS)?;
+    node_store::format(&mut disk)?;
+    let mut journal = job_journal::mount(alloc, &mut disk, SLOTS)?;
+    for k in 0..records {
+        let command = if k % 2 == 0 {
+            put()?
+        } else {
+            Command::Done(k / 2)
+        };
+        journal.append(&mut disk, command)?;
+    }
+    Ok(disk)
+}
+
+// Appends one record more, and gives the fewest device calls with which it is done: a crash with no fill takes the tries
+// with fewer back.
+fn calls_of_append(alloc: Global, disk: &mut MemDisk) -> anyhow::Result<u64>
+    requires { length disk.old.contents ≡ 16392 }
+{
+    for calls in 0..100 {
+        disk.crash(&[]);
+        let mut journal = job_journal::mount(alloc, disk, SLOTS)?;
+        disk.arm(calls);
+        if journal.append(disk, put()?).is_ok() {
+            disk.crash(&[]);
+            return Ok(calls);
+        }
+    }
+    Err(anyhow::anyhow!("no append is done in 100 calls"))
+}
+
+// The fewest device calls with which the store is mounted: one more than the greatest number that isn't enough, which is
+// found bit by bit.
+fn calls_of_mounting(alloc: Global, disk: MemDisk) -> (u64, MemDisk) {
+    let mut disk = disk;
+    let mut few: u64 = 0;
+    for bit in [
+        16384, 8192, 4096, 2048, 1024, 512, 256, 128, 64, 32, 16, 8, 4, 2, 1,
+    ] {
+        disk.arm(few | bit);
+        disk = match NodeStore::mount(alloc, disk) {
+            Ok(store) => store.into_disk(),
+            Err(refused) => {
+                few |= bit;
+                refused.disk
+            }
+        };
+    }
+    disk.crash(&[]);
+    (few.saturating_add(1), disk)
+}
+
+fn mount_again(alloc: Global, disk: MemDisk, rounds: u64) -> anyhow::Result<()> {
+    let mut disk = disk;
+    for _ in 0..rounds {
+        disk.crash(&[]);
+        disk = match NodeStore::mount(alloc, disk) {
+            Ok(store) => store.into_disk(),
+            Err(refused) => return Err(refused.fault.into()),
+        };
+    }
+    Ok(())
+}
