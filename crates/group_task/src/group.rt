@@ -7,7 +7,8 @@ use std::marker::Model;
 /// The number of a group: the node that started it and is its coordinator, and that node's count.
 ///
 /// A node counts the groups that it starts, from 1 on, and keeps the count where a failure doesn't
-/// erase it; so no two groups ever have one number. (Garcia-Molina 1982: the group number.)
+/// erase it, so that no two groups have one number. That it does so is the promise of the layers that
+/// count: a number by itself is any creator with any count. (Garcia-Molina 1982: the group number.)
 #[derive(Clone, Copy, Debug, PartialEq, Eq, PartialOrd, Ord)]
 pub struct GroupNo {
     creator: NodeId,

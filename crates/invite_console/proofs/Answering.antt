@@ -1,13 +1,13 @@
 -- The outcome of `answer`, from what was fed so far.
-use Rattle.std.proofs.Common.{◌≡◌, ℕ, ◌+◌, ◌-◌, ◌≤◌, List, [], ◌++◌, length, take, drop, Bool, true, false, Option, Some, None, codes, refl, sym, ap, ◌∙◌, append-nil, append_assoc, arith}
+use Rattle.std.proofs.Common.{◌≡◌, ℕ, ◌-◌, ◌≤◌, List, [], ◌++◌, length, take, drop, Bool, true, false, Option, Some, None, codes, refl, sym, ap, ◌∙◌, append-nil, append_assoc, arith}
 use Rattle.std.specs.Prelude.{is_none, is_some}
 use Rattle.std.proofs.Math.Seq.{take-length}
 use Rattle.wire_msg.specs.Envelope.{Envelope}
-use Rattle.wire_msg.specs.Contents.{messages_in, unfinished_in, is_malformed, messages_behind, unfinished_behind}
+use Rattle.wire_msg.specs.Contents.{messages_in, unfinished_in, is_malformed, messages_behind}
 use Rattle.node_core.specs.Start.{alone}
-use Rattle.invite_console.specs.Ends.{Outcome, before, line, refused}
-use Rattle.invite_console.specs.Answer.{answers, answers_to, end_of_answers, first_count}
-use Rattle.invite_console.specs.Session.{Progress, onward, onward_if, TakesAll}
+use Rattle.invite_console.specs.Ends.{before, line}
+use Rattle.invite_console.specs.Answer.{answers_to, end_of_answers, first_count}
+use Rattle.invite_console.specs.Session.{Progress, onward, TakesAll}
 use Rattle.invite_console.proofs.Sessions.{onward_end}
 use Rattle.invite_console.proofs.Feeding.{messages_turn, messages_beyond, broken_messages, broken_unfinished, empty_messages}
 

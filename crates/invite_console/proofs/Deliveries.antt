@@ -1,17 +1,16 @@
 -- A message is planned and committed.
-use Rattle.std.proofs.Common.{◌≡◌, ℕ, List, [], false, refl, sym, ap, ◌∙◌}
+use Rattle.std.proofs.Common.{◌≡◌, List, [], sym, ap, ◌∙◌}
 use Rattle.job_model.specs.declared.job.Job.{Job}
 use Rattle.wire_msg.specs.Envelope.{Envelope}
 use Rattle.node_core.specs.declared.event.Event.{Event}
 use Rattle.node_core.specs.declared.event.Event.TheVariants.{Deliver}
 use Rattle.node_core.specs.declared.plan.Plan.{Plan}
-use Rattle.node_core.specs.State.{State}
 use Rattle.node_core.specs.Effect.{Effect}
 use Rattle.node_core.specs.Effects.{effect_of}
 use Rattle.node_core.specs.Core.{Core, IsPlanFor}
 use Rattle.node_core.specs.Quiet.{IsQuiet}
 use Rattle.node_core.proofs.Quiets.{stays_quiet}
-use Rattle.invite_console.specs.Answer.{delivery, next_count}
+use Rattle.invite_console.specs.Answer.{next_count}
 use Rattle.invite_console.specs.Session.{Delivers}
 
 -- what the plan was made for is what comes of it

@@ -1,10 +1,10 @@
 -- A stream that is fed piece by piece from a list of bytes.
-use Rattle.std.proofs.Common.{◌≡◌, ℕ, ◌+◌, ◌-◌, ◌≤◌, List, [], ◌++◌, length, take, drop, Option, Some, None, true, false, refl, sym, ap, ◌∙◌, append-nil, arith}
-use Rattle.std.specs.Prelude.{is_none, is_some, Bool}
+use Rattle.std.proofs.Common.{◌≡◌, ℕ, ◌+◌, ◌-◌, ◌≤◌, List, [], ◌++◌, take, drop, Option, Some, None, false, refl, sym, ap, ◌∙◌, append-nil, arith}
+use Rattle.std.specs.Prelude.{is_some, Bool}
 use Rattle.std.proofs.Math.Seq.{take-add}
 use Rattle.std.proofs.lemmas.List.{take-append-drop}
 use Rattle.wire_msg.specs.Envelope.{Envelope}
-use Rattle.wire_msg.specs.Contents.{messages_in, unfinished_in, is_malformed, messages_behind, unfinished_behind, contents_of, contents_within}
+use Rattle.wire_msg.specs.Contents.{messages_in, unfinished_in, messages_behind, unfinished_behind, contents_of, contents_within}
 use Rattle.wire_msg.proofs.Contents.{any_cutting}
 
 -- nothing stands in no bytes

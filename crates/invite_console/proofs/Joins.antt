@@ -1,6 +1,6 @@
 -- The bytes of lines put together.
-use Rattle.std.proofs.Common.{◌≡◌, ℕ, ◌+◌, List, [], ◌∷◌, ◌++◌, Option, Some, None, Result, Ok, Err, option_map, refl, sym, ap, ◌∙◌, append_assoc, append-nil}
-use Rattle.invite_console.specs.Lines.{joined, line_bytes, hex_lines_from, lines_of}
+use Rattle.std.proofs.Common.{◌≡◌, ℕ, ◌+◌, List, [], ◌++◌, Option, Some, None, Result, Ok, Err, option_map, refl, sym, ap, ◌∙◌, append_assoc, append-nil}
+use Rattle.invite_console.specs.Lines.{joined, line_bytes}
 
 joined_read : (n : ℕ) (before after : List ℕ) (bytes : Option (List ℕ)) (later : Result (List ℕ) ℕ) → option_map (λ more. before ++ more) bytes ≡ Some after
     → joined n (Some before) (joined n bytes later) ≡ joined (n + 1) (Some after) later

@@ -3,6 +3,7 @@ pub mod Consumed
 pub mod Deliveries
 pub mod Feeding
 pub mod Joins
+pub mod Pairs
 pub mod Sessions
 pub mod Shown
 pub mod Splitting

@@ -1,11 +1,11 @@
 -- How a session goes on with each message.
-use Rattle.std.proofs.Common.{◌≡◌, ℕ, List, [], ◌∷◌, ◌++◌, Bool, true, false, if◌then◌else◌, codes, refl, sym, ap, ◌∙◌, append_assoc, ◌+◌, ◌<◌, length, drop, get_or, add-one}
+use Rattle.std.proofs.Common.{◌≡◌, ℕ, List, [], ◌∷◌, ◌++◌, true, false, codes, refl, sym, ap, ◌∙◌, append_assoc, ◌+◌, ◌<◌, length, drop, get_or, add-one}
 use Rattle.std.proofs.Math.Seq.{drop-cons}
 use Rattle.wire_msg.specs.Envelope.{Envelope}
 use Rattle.node_core.specs.State.{State}
 use Rattle.invite_console.specs.Ends.{Outcome, before, line}
 use Rattle.invite_console.specs.Answer.{answers, delivery, is_strange, message_lines}
-use Rattle.invite_console.specs.Session.{Progress, after_message, onward, TakesAll}
+use Rattle.invite_console.specs.Session.{Progress, after_message, onward}
 
 answers_taken : (nodes self : ℕ) (s : State) (end : Outcome) (m : Envelope) (rest : List Envelope) → is_strange nodes self m s ≡ false
     → answers nodes self s end (m ∷ rest) ≡ before (message_lines (delivery nodes self m s).sent) (answers nodes self (delivery nodes self m s).state end rest)

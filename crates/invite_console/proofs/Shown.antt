@@ -1,12 +1,12 @@
 -- The outcome of `show`, from what was fed so far.
-use Rattle.std.proofs.Common.{◌≡◌, ℕ, ◌≤◌, List, [], ◌++◌, length, take, drop, Bool, true, false, Option, Some, None, codes, refl, sym, ap, ◌∙◌, append-nil, arith}
+use Rattle.std.proofs.Common.{◌≡◌, ℕ, ◌≤◌, List, [], ◌++◌, length, take, true, false, Option, Some, None, codes, refl, sym, ap, ◌∙◌, arith}
 use Rattle.std.specs.Prelude.{is_some}
 use Rattle.std.proofs.Math.Seq.{take-length}
 use Rattle.std.proofs.lemmas.List.Concat.{flat_map-append}
 use Rattle.wire_msg.specs.Envelope.{Envelope}
 use Rattle.wire_msg.specs.Framing.{rest_len}
 use Rattle.wire_msg.specs.Contents.{messages_in, unfinished_in}
-use Rattle.invite_console.specs.Ends.{Outcome, before, line}
+use Rattle.invite_console.specs.Ends.{before, line}
 use Rattle.invite_console.specs.Show.{message_text, shown, shown_of, end_of_show, rest_text}
 use Rattle.invite_console.proofs.Feeding.{broken_messages, broken_unfinished, empty_messages}
 

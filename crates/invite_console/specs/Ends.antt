@@ -1,5 +1,5 @@
 -- What a command prints, and how it ends.
-use Rattle.std.specs.Prelude.{◌≡◌, ℕ, List, [], ◌∷◌, ◌++◌, Bool, true, false, if◌then◌else◌, codes, decimal, Option, IfSome, Result, Ok, Err}
+use Rattle.std.specs.Prelude.{◌≡◌, ℕ, List, [], ◌∷◌, ◌++◌, Bool, false, if◌then◌else◌, codes, Option, IfSome, Result, Ok, Err}
 use Rattle.std.specs.Io.KnownBytes.{Appends, Keeps}
 use Rattle.invite_console.specs.declared.ends.Ending.{Ending}
 use Rattle.invite_console.specs.declared.ends.Ending.TheVariants.{Done, Refused, NoMemory, Unread, Unwritten}

@@ -7,6 +7,7 @@
 
 mod answers;
 mod batches;
+mod digits;
 mod ends;
 mod input;
 mod lines;

@@ -1,7 +1,9 @@
 ghost use Rattle.std.specs.Prelude.{◌≡◌, ◌++◌, IfOk, IfErr, OnOk, MatchOption, Some, Ok, false, true, option_map, [], ◌∷◌, codes, decimal};
+ghost use Rattle.invite_console.specs.Digits.{AreValues};
 ghost use Rattle.invite_console.specs.Ends.{outcome_of, refused};
 ghost use Rattle.invite_console.specs.Lines.{bytes_of, line_bytes, lines_of, CutsLine, hex_lines_of, IsFaultAt, IsLineFault};
 
+use crate::digits::{decode_pairs, digit_values};
 use crate::ends::Printout;
 use crate::words::{push_number, push_text};
 use memchr::memchr;
@@ -26,8 +28,14 @@ impl From<AllocError> for LineFault {
     }
 }
 
-/// Adds the bytes that a word spells: hex digits of either case, or a dash for no bytes. False says that it can't be read.
-pub(crate) fn push_bytes(bytes: &mut Vec<u8>, word: &[u8]) -> Result<bool, AllocError>
+/// Adds the bytes that a word spells: hex digits of either case, whose values are given, or a dash for no bytes. False says that
+/// it can't be read.
+pub(crate) fn push_bytes(
+    values: &[u8; 256],
+    bytes: &mut Vec<u8>,
+    word: &[u8],
+) -> Result<bool, AllocError>
+    requires { AreValues values.now }
     ensures { IfOk result (λ good. MatchOption (bytes_of word.now) (good ≡ false)
         (λ more. (good ≡ true) × (bytes.new.items ≡ bytes.old.items ++ more))) }
 {
@@ -36,17 +44,26 @@ pub(crate) fn push_bytes(bytes: &mut Vec<u8>, word: &[u8]) -> Result<bool, Alloc
         [b'-'] => return Ok(true),
         _ => {}
     }
+    if word.len() % 2 == 1 {
+        return Ok(false);
+    }
     let start = bytes.len();
     bytes.resize(start + word.len() / 2, 0)?;
-    Ok(hex::decode_to_slice(word, &mut bytes[start..]).is_ok())
+    Ok(decode_pairs(values, word, &mut bytes[start..]))
 }
 
 /// Adds the bytes of the line of this number, which is passed over where it is empty.
-fn push_line(bytes: &mut Vec<u8>, number: u64, line: &[u8]) -> Result<(), LineFault>
+fn push_line(
+    values: &[u8; 256],
+    bytes: &mut Vec<u8>,
+    number: u64,
+    line: &[u8],
+) -> Result<(), LineFault>
+    requires { AreValues values.now }
     ensures ok { OnOk result (option_map (λ more. bytes.old.items ++ more) (line_bytes line.now) ≡ Some bytes.new.items) }
     ensures err { IfErr result (IsFaultAt number (line_bytes line.now)) }
 {
-    if line.is_empty() || push_bytes(bytes, line)? {
+    if line.is_empty() || push_bytes(values, bytes, line)? {
         Ok(())
     } else {
         Err(LineFault::BadLine(number))
@@ -67,15 +84,16 @@ pub(crate) fn hex_lines(alloc: Global, input: &[u8]) -> Result<Vec<u8>, LineFaul
     ensures ok { IfOk result (λ bytes. hex_lines_of input.now ≡ Ok bytes.items) }
     ensures err { IfErr result (IsLineFault (hex_lines_of input.now)) }
 {
+    let values = digit_values();
     let mut bytes = Vec::with_capacity(alloc, input.len() / 2)?;
     let mut number = 1u64;
     let mut left = input;
     while let Some((line, behind)) = cut_line(left) {
-        push_line(&mut bytes, number, line)?;
+        push_line(&values, &mut bytes, number, line)?;
         left = behind;
         number += 1;
     }
-    push_line(&mut bytes, number, left)?;
+    push_line(&values, &mut bytes, number, left)?;
     Ok(bytes)
 }
 

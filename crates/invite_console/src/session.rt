@@ -15,7 +15,7 @@ use job_model::JobTable;
 use node_core::{CoreFault, Event, NodeCore};
 use std::alloc::{AllocError, Global};
 use std::marker::Model;
-use wire_msg::{Message, encode};
+use wire_msg::{Message, encode_into};
 
 /// The count of the group in which the node begins, Normal and alone.
 const FIRST_COUNT: u64 = 1;
@@ -26,10 +26,11 @@ const NEXT_COUNT: u64 = 2;
 /// A node that only messages come to, and what it has printed so far. No job is pending, and no message needs the disk.
 #[derive(Drop)]
 pub(crate) struct Session {
-    alloc: Global,
     core: NodeCore,
     table: JobTable,
     text: Vec<u8>,
+    // the spelling of the last answer, which is kept for its room
+    bytes: Vec<u8>,
 }
 
 impl Model for Session {
@@ -52,10 +53,10 @@ impl Session {
         ensures { IfOk result (λ session. session ≡ record { id = id; nodes = nodes; state = alone id FIRST_COUNT; text = [] }) }
     {
         Ok(Session {
-            alloc,
             core: NodeCore::new(alloc, id, nodes, FIRST_COUNT),
             table: JobTable::with_room(alloc, 0)?,
             text: Vec::new(alloc),
+            bytes: Vec::new(alloc),
         })
     }
 
@@ -68,7 +69,7 @@ impl Session {
         let Some(sent) = deliver(&mut self.core, &self.table, message)? else {
             return Ok(false);
         };
-        push_messages(self.alloc, &mut self.text, &sent)?;
+        push_messages(&mut self.text, &mut self.bytes, &sent)?;
         Ok(true)
     }
 
@@ -124,21 +125,30 @@ fn deliver(
 }
 
 /// Adds messages, a line of hex for each.
-fn push_messages(alloc: Global, text: &mut Vec<u8>, messages: &[Message]) -> Result<(), AllocError>
+fn push_messages(
+    text: &mut Vec<u8>,
+    bytes: &mut Vec<u8>,
+    messages: &[Message],
+) -> Result<(), AllocError>
     ensures { OnOk result (text.new.items ≡ text.old.items ++ message_lines messages.now) }
 {
     for message in messages {
-        push_message(alloc, text, message)?;
+        push_message(text, bytes, message)?;
     }
     Ok(())
 }
 
-fn push_message(alloc: Global, text: &mut Vec<u8>, message: &Message) -> Result<(), AllocError>
+/// Adds a message as a line of hex. Its spelling is written in place of what `bytes` held.
+fn push_message(
+    text: &mut Vec<u8>,
+    bytes: &mut Vec<u8>,
+    message: &Message,
+) -> Result<(), AllocError>
     ensures { OnOk result (text.new.items ≡ text.old.items ++ line (encode_lower (spelling message.now))) }
 {
-    let Ok(bytes) = encode(alloc, message) else {
+    if encode_into(bytes, message).is_err() {
         return Err(AllocError);
-    };
-    push_hex(text, &bytes)?;
+    }
+    push_hex(text, bytes)?;
     Ok(text.push(b'\n')?)
 }

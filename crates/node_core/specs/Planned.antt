@@ -11,7 +11,7 @@ use Rattle.node_core.specs.declared.plan.Standing.{Standing}
 use Rattle.node_core.specs.declared.plan.HandChange.{HandChange}
 use Rattle.node_core.specs.declared.plan.HandChange.TheVariants.{Keep, Clear, Lose, Gain}
 use Rattle.node_core.specs.declared.plan.Act.{Act}
-use Rattle.node_core.specs.declared.plan.Act.TheVariants.{Settle, Invite, Recover, Place}
+use Rattle.node_core.specs.declared.plan.Act.TheVariants.{Stay, Settle, Invite, Recover, Place}
 use Rattle.node_core.specs.declared.plan.Plan.{Plan}
 use Rattle.node_core.specs.declared.phase.Phase.TheVariants.{Election}
 use Rattle.node_core.specs.declared.vector.Vector.{Vector}
@@ -58,6 +58,7 @@ hand_after (Gain jobs) hand = hand ++ jobs.items
 
 -- what carrying out the plan makes of the state, where answer is the new count or the new id
 abbrev pub carried : ℕ → Act → ℕ → State → Effect → Effect
+carried self (Stay job) answer s ready = ready
 carried self (Settle standing change job) answer s ready = record ready { state = with_standing standing (hand_after change s.hand) }
 carried self (Invite receivers) answer s ready = record {
   state = record (regrouped self answer s) { phase = Election };
@@ -66,10 +67,10 @@ carried self (Invite receivers) answer s ready = record {
 carried self Recover answer s ready = recovery self answer s
 carried self (Place to queue payload) answer s ready =
     if to == self
-    then quietly (record s { hand = s.hand ++ (record { origin = self; id = answer; queue = queue; payload = payload }) ∷ [] })
+    then quietly (record s { hand = s.hand ++ (record { origin = self; id = answer; queue = queue; payload = payload.value }) ∷ [] })
     else record {
       state = s;
-      sent = letter self to (Work s.group answer queue payload) ∷ [];
+      sent = letter self to (Work s.group answer queue payload.value) ∷ [];
     }
 
 abbrev pub planned_effect : ℕ → Plan → ℕ → State → Effect
@@ -77,11 +78,13 @@ planned_effect self plan answer s = carried self plan.act answer s (record { sta
 
 -- the command that a plan with this act wants
 abbrev pub act_wants : Act → Option Command
+act_wants (Stay None) = None
+act_wants (Stay (Some id)) = Some (Done id)
 act_wants (Settle standing change None) = None
 act_wants (Settle standing change (Some id)) = Some (Done id)
 act_wants (Invite receivers) = Some Raise
 act_wants Recover = Some Raise
-act_wants (Place to queue payload) = Some (Put queue payload)
+act_wants (Place to queue payload) = Some (Put queue payload.value)
 
 -- the command that a plan wants
 abbrev pub plan_wants : Plan → Option Command
@@ -96,6 +99,7 @@ wanted_by (durable.Done id) = Some (Done id)
 
 -- how many messages carrying out the plan sends
 abbrev pub act_sends : ℕ → Act → List Envelope → ℕ
+act_sends self (Stay job) messages = length messages
 act_sends self (Settle standing change job) messages = length messages
 act_sends self (Invite receivers) messages = length receivers
 act_sends self Recover messages = 0
@@ -106,6 +110,7 @@ plan_sends self plan = act_sends self plan.act plan.messages.items
 
 -- by how many jobs the hand may grow
 abbrev pub gain_of : Act → ℕ
+gain_of (Stay job) = 0
 gain_of (Settle standing Keep job) = 0
 gain_of (Settle standing Clear job) = 0
 gain_of (Settle standing (Lose origin id) job) = 0
@@ -116,6 +121,7 @@ gain_of (Place to queue payload) = 1
 
 -- the plan can be carried out without growth, and leaves a consistent state
 abbrev pub CanAct : ℕ → ℕ → State → Act → List Envelope → ℕ → Type 0
+CanAct nodes self s (Stay job) sent room = Unit {0}
 CanAct nodes self s (Settle standing change job) sent room = IsConsistent nodes self (with_standing standing (hand_after change s.hand))
 CanAct nodes self s (Invite receivers) sent room = (sent ≡ []) × (length receivers ≤ room) × AreOthers nodes self receivers
 CanAct nodes self s Recover sent room = sent ≡ []

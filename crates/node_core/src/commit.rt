@@ -1,7 +1,8 @@
-ghost use Rattle.std.specs.Prelude.{◌≡◌, ◌≢◌, ◌≤◌, ◌<◌, ◌+◌, length, Some, None, [], ◌∷◌, ◌++◌};
+ghost use Rattle.std.specs.Prelude.{◌≡◌, ◌≢◌, ◌≤◌, ◌<◌, ◌+◌, length, Some, None, [], ◌∷◌, ◌++◌, ℕ};
 ghost use Rattle.node_core.specs.State.{state_of};
 ghost use Rattle.node_core.specs.Words.{own_group, regrouped, letter};
 ghost use Rattle.node_core.specs.Timers.{recovery};
+ghost use Rattle.node_core.specs.Consistent.{IsConsistent};
 ghost use Rattle.node_core.specs.Planned.{gain_of, with_standing, hand_after};
 
 use crate::in_hand::InHand;
@@ -62,28 +63,30 @@ pub fn recover(vector: &mut Vector, id: NodeId, group: GroupNo)
 }
 
 /// Takes a new job in hand, or answers the message that sends it to its owner.
+#[tactic(auto, using(crate::proofs::Sets::more_from, crate::proofs::Sets::one_from))]
 pub fn place(
     vector: &mut Vector,
     id: NodeId,
     to: NodeId,
     job: u64,
     queue: Queue,
-    payload: Payload,
+    payload: &Payload,
 ) -> Option<Message>
     requires { to ≡ id → length vector.old.hand.jobs < vector.old.hand.room }
     ensures own { to ≡ id → (state_of vector.new ≡ record (state_of vector.old) {
-      hand = vector.old.hand.jobs ++ (record { origin = id; id = job; queue = queue; payload = payload }) ∷ [];
+      hand = vector.old.hand.jobs ++ (record { origin = id; id = job; queue = queue; payload = payload.now }) ∷ [];
     })
         × (result ≡ None) }
     ensures other { to ≢ id → (state_of vector.new ≡ state_of vector.old)
-        × (result ≡ Some (letter id to (Body.Work vector.old.group job queue payload))) }
+        × (result ≡ Some (letter id to (Body.Work vector.old.group job queue payload.now))) }
+    ensures consistent { (nodes : ℕ) → IsConsistent nodes id (state_of vector.old) → IsConsistent nodes id (state_of vector.new) }
 {
     if to.is(id) {
         vector.hand.push(InHand {
             origin: id,
             id: job,
             queue,
-            payload,
+            payload: *payload,
         });
         None
     } else {
@@ -91,7 +94,7 @@ pub fn place(
             group: vector.group,
             id: job,
             queue,
-            payload,
+            payload: *payload,
         };
         Some(Message::between(id, to, order))
     }

@@ -28,19 +28,19 @@ pub fn plan_event(
     nodes: u8,
     id: NodeId,
     vector: &Vector,
-    event: Event,
+    event: &Event,
     table: &JobTable,
 ) -> Result<Plan, CoreFault>
     requires limit { nodes ≤ NODES }
     requires consistent { IsConsistent nodes id (state_of vector.now) }
     ensures plan { IfOk result (λ plan. IsPlanOf nodes id (state_of vector.now) plan
-        (wants_of id table.now.pending event (state_of vector.now))
-        (λ answer. effect_of nodes id table.now.pending event answer (state_of vector.now))) }
+        (wants_of id table.now.pending event.now (state_of vector.now))
+        (λ answer. effect_of nodes id table.now.pending event.now answer (state_of vector.now))) }
     ensures few { IfOk result (λ plan. plan_sends id plan ≤ most_of nodes table.now.pending) }
-    ensures done { IfOk result (λ _. refusal_of nodes id event (state_of vector.now) ≡ None) }
-    ensures refused { IfSome (refusal_of nodes id event (state_of vector.now)) (λ fault. result ≡ Err fault) }
+    ensures done { IfOk result (λ _. refusal_of nodes id event.now (state_of vector.now) ≡ None) }
+    ensures refused { IfSome (refusal_of nodes id event.now (state_of vector.now)) (λ fault. result ≡ Err fault) }
     ensures memory { IfErr result (λ fault. fault ≢ CoreFault.NoMemory
-        → refusal_of nodes id event (state_of vector.now) ≡ Some fault) }
+        → refusal_of nodes id event.now (state_of vector.now) ≡ Some fault) }
 {
     match event {
         Event::CheckTimer => Ok(timers::check_timer(alloc, nodes, id, vector)?),
@@ -51,12 +51,11 @@ pub fn plan_event(
         Event::DispatchTimer => Ok(timers::dispatch_timer(alloc, nodes, id, vector, table)?),
         Event::Recover => Ok(operator::recovery(alloc, nodes, id, vector)),
         Event::Deliver(message) => {
-            if !is_known(nodes, id, &message) {
+            if !is_known(nodes, id, message) {
                 return Err(CoreFault::Stranger);
             }
             let from = message.sender();
-            let body = *message.body();
-            Ok(plan_message(alloc, nodes, id, from, body, vector, table)?)
+            Ok(plan_message(alloc, nodes, id, from, message.body(), vector, table)?)
         }
         Event::Submit(queue, payload) => {
             match vector.phase {
@@ -67,16 +66,16 @@ pub fn plan_event(
             if !vector.coordinator.is(id) {
                 return Err(CoreFault::NotCoordinator(vector.coordinator));
             }
-            Ok(operator::submit(alloc, nodes, id, queue, payload, vector)?)
+            Ok(operator::submit(alloc, nodes, id, *queue, payload, vector)?)
         }
         Event::Finish(origin, job) => {
             if matches!(vector.phase, Phase::Down) {
                 return Err(CoreFault::Down);
             }
-            if !vector.hand.contains(origin, job) {
+            if !vector.hand.contains(*origin, *job) {
                 return Err(CoreFault::UnknownJob);
             }
-            Ok(operator::finish(alloc, nodes, id, origin, job, vector, table)?)
+            Ok(operator::finish(alloc, nodes, id, *origin, *job, vector, table)?)
         }
     }
 }
@@ -88,31 +87,31 @@ fn plan_message(
     nodes: u8,
     id: NodeId,
     from: NodeId,
-    body: Body,
+    body: &Body,
     vector: &Vector,
     table: &JobTable,
 ) -> Result<Plan, AllocError>
     requires other { id ≢ from }
     requires known { from < nodes }
-    requires names { list_all (λ id. nat_lt id nodes) (ids_in body) ≡ true }
+    requires names { list_all (λ id. nat_lt id nodes) (ids_in body.now) ≡ true }
     requires consistent { IsConsistent nodes id (state_of vector.now) }
     ensures row { IfOk result (λ plan. IsPlanOf nodes id (state_of vector.now) plan
-        (delivered_wants from table.now.pending body (state_of vector.now))
-        (λ answer. delivered id from body answer (state_of vector.now))) }
+        (delivered_wants from table.now.pending body.now (state_of vector.now))
+        (λ answer. delivered id from body.now answer (state_of vector.now))) }
     ensures few { IfOk result (λ plan. plan_sends id plan < nodes) }
 {
     match body {
         Body::AreYouCoordinator => messages::asked_coordinator(alloc, nodes, id, from, vector),
         Body::Coordinator(agreed) => Ok(messages::answered_coordinator(
-            alloc, nodes, id, from, agreed, vector,
+            alloc, nodes, id, from, *agreed, vector,
         )),
-        Body::Invitation(group) => messages::invited(alloc, nodes, id, group, vector),
-        Body::Accept(group) => Ok(messages::accepted(alloc, nodes, id, from, group, vector)),
-        Body::Ready(task) => messages::told_ready(alloc, nodes, id, from, task, vector),
-        Body::ReadyAck(group) => Ok(messages::acknowledged(alloc, nodes, id, from, group, vector)),
-        Body::AreYouThere(group) => messages::asked_there(alloc, nodes, id, from, group, vector),
+        Body::Invitation(group) => messages::invited(alloc, nodes, id, *group, vector),
+        Body::Accept(group) => Ok(messages::accepted(alloc, nodes, id, from, *group, vector)),
+        Body::Ready(task) => messages::told_ready(alloc, nodes, id, from, *task, vector),
+        Body::ReadyAck(group) => Ok(messages::acknowledged(alloc, nodes, id, from, *group, vector)),
+        Body::AreYouThere(group) => messages::asked_there(alloc, nodes, id, from, *group, vector),
         Body::Here(group, agreed) => Ok(messages::answered_there(
-            alloc, nodes, id, from, group, agreed, vector,
+            alloc, nodes, id, from, *group, *agreed, vector,
         )),
         Body::Work {
             group,
@@ -122,12 +121,12 @@ fn plan_message(
         } => {
             let job = InHand {
                 origin: from,
-                id: job,
-                queue,
-                payload,
+                id: *job,
+                queue: *queue,
+                payload: *payload,
             };
-            messages::got_work(alloc, nodes, id, group, job, vector)
+            messages::got_work(alloc, nodes, id, *group, job, vector)
         }
-        Body::Done(job) => Ok(messages::told_done(alloc, nodes, id, job, vector, table)),
+        Body::Done(job) => Ok(messages::told_done(alloc, nodes, id, *job, vector, table)),
     }
 }

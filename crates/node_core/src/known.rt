@@ -33,8 +33,8 @@ fn names_known(nodes: u8, body: &Body) -> bool
 fn all_known(nodes: u8, members: Members) -> bool
     ensures { result ≡ list_all (λ id. nat_lt id nodes) members }
 {
-    for place in 0..members.len() {
-        if members.get(place).number() >= nodes {
+    for member in members.iter() {
+        if member.number() >= nodes {
             return false;
         }
     }

@@ -17,7 +17,8 @@ use crate::operator::recovery;
 use crate::others::{with_other, without_other};
 use crate::phase::Phase;
 use crate::plan::{
-    Act, HandChange, Plan, Standing, nothing, quietly, reply, standing_of, write_to_each,
+    Act, HandChange, Plan, Standing, nothing, quietly, reply, settle_and_reply, standing_of,
+    write_to_each,
 };
 use crate::vector::Vector;
 use group_task::{GroupNo, Members, NodeId, Task, owner};
@@ -42,14 +43,10 @@ pub fn asked_coordinator(
     ensures few { IfOk result (λ plan. plan_sends id plan < nodes) }
 {
     if matches!(vector.phase, Phase::Down) {
-        return Ok(nothing(alloc, vector));
+        return Ok(nothing(alloc));
     }
     let answer = Body::Coordinator(leads(id, vector));
-    reply(
-        alloc,
-        standing_of(vector),
-        Message::between(id, from, answer),
-    )
+    reply(alloc, Message::between(id, from, answer))
 }
 
 /// Coordinator: a coordinator that checks notes the others.
@@ -76,7 +73,7 @@ pub fn answered_coordinator(
         };
         return quietly(alloc, standing);
     }
-    nothing(alloc, vector)
+    nothing(alloc)
 }
 
 /// Invitation: a Normal node stops its work and joins, and a coordinator passes the invitation on to its members.
@@ -95,7 +92,7 @@ pub fn invited(
     ensures few { IfOk result (λ plan. plan_sends id plan < nodes) }
 {
     if !takes_invitation(id, group, vector) {
-        return Ok(nothing(alloc, vector));
+        return Ok(nothing(alloc));
     }
     let creator = group.creator();
     let members = passed_on(nodes, id, group, vector);
@@ -170,7 +167,7 @@ pub fn accepted(
         };
         return quietly(alloc, standing);
     }
-    nothing(alloc, vector)
+    nothing(alloc)
 }
 
 /// Ready: a member takes the task from its coordinator, and says so each time that it is told.
@@ -198,7 +195,7 @@ pub fn told_ready(
             phase: Phase::Normal,
             ..standing_of(vector)
         };
-        return reply(
+        return settle_and_reply(
             alloc,
             standing,
             Message::between(id, from, Body::ReadyAck(vector.group)),
@@ -207,11 +204,10 @@ pub fn told_ready(
     if told && matches!(vector.phase, Phase::Normal) {
         return reply(
             alloc,
-            standing_of(vector),
             Message::between(id, from, Body::ReadyAck(vector.group)),
         );
     }
-    Ok(nothing(alloc, vector))
+    Ok(nothing(alloc))
 }
 
 /// Whether the task is that of the node's group, told by its coordinator, and makes it a member.
@@ -240,7 +236,7 @@ pub fn acknowledged(
     ensures none { plan_sends id result ≡ 0 }
 {
     if !(awaits_ready(id, vector) && group.is(vector.group)) {
-        return nothing(alloc, vector);
+        return nothing(alloc);
     }
     let unready = without_other(nodes, id, vector.unready, from);
     let phase = if unready.is_empty() {
@@ -276,14 +272,10 @@ pub fn asked_there(
     ensures few { IfOk result (λ plan. plan_sends id plan < nodes) }
 {
     if matches!(vector.phase, Phase::Down) {
-        return Ok(nothing(alloc, vector));
+        return Ok(nothing(alloc));
     }
     let here = group.is(vector.group) && vector.coordinator.is(id) && vector.up.contains(from);
-    reply(
-        alloc,
-        standing_of(vector),
-        Message::between(id, from, Body::Here(group, here)),
-    )
+    reply(alloc, Message::between(id, from, Body::Here(group, here)))
 }
 
 /// Here: a member whose coordinator is there waits on, and one whose coordinator is not recovers.
@@ -304,7 +296,7 @@ pub fn answered_there(
     ensures none { plan_sends id result ≡ 0 }
 {
     if !(vector.probing && vector.coordinator.is(from) && group.is(vector.group)) {
-        return nothing(alloc, vector);
+        return nothing(alloc);
     }
     if agreed {
         let standing = Standing {
@@ -333,16 +325,16 @@ pub fn got_work(
     ensures none { IfOk result (λ plan. plan_sends id plan ≡ 0) }
 {
     if !matches!(vector.phase, Phase::Normal) || !group.is(vector.group) {
-        return Ok(nothing(alloc, vector));
+        return Ok(nothing(alloc));
     }
     let Some(task) = vector.task else {
-        return Ok(nothing(alloc, vector));
+        return Ok(nothing(alloc));
     };
     if !task.members().contains(job.origin)
         || !owner(&task, job.queue).is(id)
         || vector.hand.contains(job.origin, job.id)
     {
-        return Ok(nothing(alloc, vector));
+        return Ok(nothing(alloc));
     }
     let mut gains = Vec::new(alloc);
     gains.push(job)?;
@@ -369,9 +361,9 @@ pub fn told_done(
 {
     if !matches!(vector.phase, Phase::Down) && table.contains(job) {
         return Plan {
-            act: Act::Settle(standing_of(vector), HandChange::Keep, Some(job)),
+            act: Act::Stay(Some(job)),
             messages: Vec::new(alloc),
         };
     }
-    nothing(alloc, vector)
+    nothing(alloc)
 }

@@ -147,7 +147,7 @@ impl NodeCore {
             → refusal_of self.old.nodes self.old.id event self.old.state ≡ Some fault) }
         ensures unchanged { OnErr result (self.new ≡ self.old) }
     {
-        let plan = plan_event(self.alloc, self.nodes, self.id, &self.vector, event, table)?;
+        let plan = plan_event(self.alloc, self.nodes, self.id, &self.vector, &event, table)?;
         self.vector.hand.reserve(plan.gain())?;
         Ok(plan)
     }
@@ -167,6 +167,7 @@ impl NodeCore {
     {
         let Plan { act, mut messages } = plan;
         match act {
+            Act::Stay(_) => {}
             Act::Settle(standing, change, _) => settle(&mut self.vector, standing, change),
             Act::Invite(receivers) => {
                 let group = GroupNo::numbered(self.id, answer);
@@ -179,13 +180,14 @@ impl NodeCore {
                 recover(&mut self.vector, self.id, group);
             }
             Act::Place(to, queue, payload) => {
+                let payload = Box::into_inner(payload);
                 if let Some(message) = place(
                     &mut self.vector,
                     self.id,
                     to,
                     answer,
                     queue,
-                    payload,
+                    &payload,
                 ) {
                     messages.push_reserved(message);
                 }

@@ -38,16 +38,17 @@ pub fn submit(
     nodes: u8,
     id: NodeId,
     queue: Queue,
-    payload: Payload,
+    payload: &Payload,
     vector: &Vector,
 ) -> Result<Plan, AllocError>
     requires normal { is_normal vector.now.phase ≡ true }
     requires consistent { IsConsistent nodes id (state_of vector.now) }
-    ensures row { IfOk result (λ plan. IsPlanOf nodes id (state_of vector.now) plan (Some (Put queue payload))
-        (λ answer. submit id queue payload answer (state_of vector.now))) }
+    ensures row { IfOk result (λ plan. IsPlanOf nodes id (state_of vector.now) plan (Some (Put queue payload.now))
+        (λ answer. submit id queue payload.now answer (state_of vector.now))) }
     ensures few { IfOk result (λ plan. plan_sends id plan < nodes) }
 {
     let messages = Vec::with_capacity(alloc, 1)?;
+    let payload = Box::new(alloc, *payload)?;
     Ok(Plan {
         act: Act::Place(owner_in(vector, queue), queue, payload),
         messages,

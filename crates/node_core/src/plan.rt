@@ -39,14 +39,16 @@ pub enum HandChange {
 /// What a plan does.
 #[derive(Drop)]
 pub enum Act {
+    /// Leaves the node as it is. Where there is an id, the job is done.
+    Stay(Option<u64>),
     /// Takes this standing. Where there is an id, the job is done.
     Settle(Standing, HandChange, Option<u64>),
     /// Makes a new group, and invites these nodes into it.
     Invite(Members),
     /// Makes a new group of this node alone.
     Recover,
-    /// Makes a job pending, and takes it in hand or sends it to its owner.
-    Place(NodeId, Queue, Payload),
+    /// Makes a job pending, and takes it in hand or sends it to its owner. The payload stands apart, since a plan is moved often.
+    Place(NodeId, Queue, Box<Payload>),
 }
 
 /// What an event will make of a node, with the memory that this takes.
@@ -62,10 +64,10 @@ impl Plan {
         ensures { wanted_by result ≡ plan_wants self.now }
     {
         match &self.act {
-            Act::Settle(_, _, None) => Durable::None,
-            Act::Settle(_, _, Some(id)) => Durable::Done(*id),
+            Act::Stay(None) | Act::Settle(_, _, None) => Durable::None,
+            Act::Stay(Some(id)) | Act::Settle(_, _, Some(id)) => Durable::Done(*id),
             Act::Invite(_) | Act::Recover => Durable::Raise,
-            Act::Place(_, queue, payload) => Durable::Put(*queue, *payload),
+            Act::Place(_, queue, payload) => Durable::Put(*queue, **payload),
         }
     }
 
@@ -89,8 +91,7 @@ pub fn write_to_each(messages: &mut Vec<Message>, id: NodeId, receivers: Members
     ensures len { vec_len messages.new ≡ vec_len messages.old + length receivers }
     ensures capacity { vec_capacity messages.new ≡ vec_capacity messages.old }
 {
-    for place in 0..receivers.len() {
-        let receiver = receivers.get(place);
+    for receiver in receivers.iter() {
         messages.push_reserved(Message::between(id, receiver, *body));
     }
 }
@@ -131,10 +132,13 @@ pub fn standing_of(vector: &Vector) -> Standing
 }
 
 /// Nothing changes, and nothing is sent.
-pub fn nothing(alloc: Global, vector: &Vector) -> Plan
-    ensures { (result.act ≡ Act.Settle (standing_of vector.now) HandChange.Keep None) × (result.messages.items ≡ []) }
+pub fn nothing(alloc: Global) -> Plan
+    ensures { (result.act ≡ Act.Stay None) × (result.messages.items ≡ []) }
 {
-    quietly(alloc, standing_of(vector))
+    Plan {
+        act: Act::Stay(None),
+        messages: Vec::new(alloc),
+    }
 }
 
 /// A new standing, and nothing is sent.
@@ -147,14 +151,34 @@ pub fn quietly(alloc: Global, standing: Standing) -> Plan
     }
 }
 
-/// One message is sent.
-pub fn reply(alloc: Global, standing: Standing, message: Message) -> Result<Plan, AllocError>
+/// Nothing changes, and one message is sent.
+pub fn reply(alloc: Global, message: Message) -> Result<Plan, AllocError>
+    ensures { IfOk result (λ plan. (plan.act ≡ Act.Stay None) × (plan.messages.items ≡ message ∷ [])) }
+{
+    Ok(Plan {
+        act: Act::Stay(None),
+        messages: one(alloc, message)?,
+    })
+}
+
+/// A new standing, and one message is sent.
+pub fn settle_and_reply(
+    alloc: Global,
+    standing: Standing,
+    message: Message,
+) -> Result<Plan, AllocError>
     ensures { IfOk result (λ plan. (plan.act ≡ Act.Settle standing HandChange.Keep None) × (plan.messages.items ≡ message ∷ [])) }
+{
+    Ok(Plan {
+        act: Act::Settle(standing, HandChange::Keep, None),
+        messages: one(alloc, message)?,
+    })
+}
+
+fn one(alloc: Global, message: Message) -> Result<Vec<Message>, AllocError>
+    ensures { IfOk result (λ messages. messages.items ≡ message ∷ []) }
 {
     let mut messages = Vec::with_capacity(alloc, 1)?;
     messages.push_reserved(message);
-    Ok(Plan {
-        act: Act::Settle(standing, HandChange::Keep, None),
-        messages,
-    })
+    Ok(messages)
 }

@@ -7,11 +7,10 @@ ghost use Rattle.wire_msg.specs.Spelling.{Spells};
 ghost use Rattle.wire_msg.specs.Framing.{frame_len, IsPartial, IsAt};
 ghost use Rattle.wire_msg.specs.Contents.{Feeds};
 
-use crate::body::Body;
 use crate::fault::WireFault;
 use crate::message::Message;
-use crate::reading::read;
 use std::alloc::AllocError;
+use std::slice;
 
 /// Reads on behind the unfinished frame `rest`, and leaves the next one there. What was added before memory ran out is taken back.
 pub(crate) fn read_on(
@@ -78,10 +77,11 @@ fn take_frames(bytes: &[u8], out: &mut Vec<Message>) -> Result<usize, WireFault>
     ensures malformed { result ≡ Err Malformed → (messages : List Envelope) × (out.new.items ≡ out.old.items ++ messages) × IsAt bytes.now messages None }
     ensures no_memory { result ≡ Err NoMemory → take (length out.old.items) out.new.items ≡ out.old.items }
 {
+    let blank = Message::blank();
     let mut left = bytes;
     while let Some(len) = whole_frame(left) {
         let (frame, after) = left.split_at(len);
-        take_frame(frame, out)?;
+        take_frame(frame, &blank, out)?;
         left = after;
     }
     Ok(bytes.len() - left.len())
@@ -99,18 +99,18 @@ fn whole_frame(bytes: &[u8]) -> Option<usize>
     if len <= bytes.len() { Some(len) } else { None }
 }
 
-/// Adds the message of a frame.
+/// Adds the message of a frame. It is read where it stays, in place of the blank one, since it is long.
 #[inline]
-fn take_frame(frame: &[u8], out: &mut Vec<Message>) -> Result<(), WireFault>
+fn take_frame(frame: &[u8], blank: &Message, out: &mut Vec<Message>) -> Result<(), WireFault>
     ensures ok { OnOk result ((m : Envelope) × Spells m frame.now × (out.new.items ≡ out.old.items ++ m ∷ [])) }
     ensures malformed { result ≡ Err Malformed → (m : Envelope) → Spells m frame.now → ⊥ }
     ensures err { OnErr result (out.new.items ≡ out.old.items) }
 {
-    let mut body = Body::AreYouCoordinator;
-    let Some((sender, receiver)) = read(frame, &mut body) else {
+    let place = out.len();
+    out.extend_from_slice(slice::from_ref(blank))?;
+    if out[place].read(frame).is_none() {
+        out.truncate(place);
         return Err(WireFault::Malformed);
-    };
-    out.reserve(1)?;
-    out.push_reserved(Message::between(sender, receiver, body));
+    }
     Ok(())
 }

@@ -17,7 +17,7 @@ pub use laws::{any_cutting, message_of_spelling, one_reading, one_spelling};
 pub use message::Message;
 pub use reading::decode;
 pub use stream::Stream;
-pub use writing::encode;
+pub use writing::{encode, encode_into};
 
 #[cfg(test)]
 mod tests;

@@ -1,7 +1,9 @@
-ghost use Rattle.std.specs.Prelude.{◌≡◌, ◌≢◌};
+ghost use Rattle.std.specs.Prelude.{◌≡◌, ◌≢◌, option_map};
 ghost use Rattle.wire_msg.specs.Envelope.{envelope};
+ghost use Rattle.wire_msg.specs.Reading.{whole_at};
 
 use crate::body::Body;
+use crate::reading::read;
 use group_task::NodeId;
 use std::marker::Model;
 
@@ -28,6 +30,7 @@ impl Model for Message {
 
 impl Message {
     /// The message, unless sender and receiver are the same node.
+    #[inline]
     pub fn new(sender: NodeId, receiver: NodeId, body: Body) -> Option<Message>
         ensures { result ≡ envelope sender receiver body }
     {
@@ -38,6 +41,7 @@ impl Message {
     }
 
     /// The node that sent it; it is not the receiver.
+    #[inline]
     pub fn sender(&self) -> NodeId
         ensures value { result ≡ self.now.sender }
         ensures differ { self.now.sender ≢ self.now.receiver }
@@ -46,6 +50,7 @@ impl Message {
     }
 
     /// The node that it is for.
+    #[inline]
     pub fn receiver(&self) -> NodeId
         ensures value { result ≡ self.now.receiver }
     {
@@ -53,6 +58,7 @@ impl Message {
     }
 
     /// What it says.
+    #[inline]
     pub fn body(&self) -> &Body
         ensures { result.now ≡ self.now.body }
     {
@@ -60,6 +66,7 @@ impl Message {
     }
 
     /// The message between two nodes that are known to differ.
+    #[inline]
     pub fn between(sender: NodeId, receiver: NodeId, body: Body) -> Message
         requires { sender ≢ receiver }
         ensures { result ≡ record { sender = sender; receiver = receiver; body = body } }
@@ -69,5 +76,25 @@ impl Message {
             receiver,
             body,
         }
+    }
+
+    /// Some message, in whose place another one is read.
+    #[inline]
+    pub(crate) fn blank() -> Message {
+        Message::between(
+            NodeId::numbered(0),
+            NodeId::numbered(1),
+            Body::AreYouCoordinator,
+        )
+    }
+
+    /// Makes this the message that the bytes spell, all of them. Where they spell none, it is some message.
+    #[inline]
+    pub(crate) fn read(&mut self, bytes: &[u8]) -> Option<()>
+        ensures { option_map (λ _. self.new) result ≡ whole_at bytes.now }
+    {
+        let ends = read(bytes, &mut self.body)?;
+        (self.sender, self.receiver) = ends;
+        Some(())
     }
 }

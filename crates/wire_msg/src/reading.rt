@@ -135,33 +135,33 @@ impl Reader<'_> {
     fn body(&mut self, kind: u8, body: &mut Body) -> Option<()>
         ensures { option_map (λ _. (body.new, self.new.rest.now)) result ≡ body_at kind self.old.rest.now }
     {
-        *body = match kind {
-            1 => Body::AreYouCoordinator,
-            2 => Body::Coordinator(self.truth()?),
-            3 => Body::AreYouThere(self.group()?),
+        match kind {
+            1 => *body = Body::AreYouCoordinator,
+            2 => *body = Body::Coordinator(self.truth()?),
+            3 => *body = Body::AreYouThere(self.group()?),
             4 => {
                 let group = self.group()?;
-                Body::Here(group, self.truth()?)
+                *body = Body::Here(group, self.truth()?);
             }
-            5 => Body::Invitation(self.group()?),
-            6 => Body::Accept(self.group()?),
-            7 => Body::Ready(self.task()?),
-            8 => Body::ReadyAck(self.group()?),
+            5 => *body = Body::Invitation(self.group()?),
+            6 => *body = Body::Accept(self.group()?),
+            7 => *body = Body::Ready(self.task()?),
+            8 => *body = Body::ReadyAck(self.group()?),
             9 => {
                 let group = self.group()?;
                 let id = self.u64()?;
                 let queue = self.queue()?;
                 let payload = self.payload()?;
-                Body::Work {
+                *body = Body::Work {
                     group,
                     id,
                     queue,
                     payload,
-                }
+                };
             }
-            10 => Body::Done(self.u64()?),
+            10 => *body = Body::Done(self.u64()?),
             _ => return None,
-        };
+        }
         Some(())
     }
 }

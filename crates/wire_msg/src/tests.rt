@@ -85,10 +85,17 @@ fn non_message(place: usize) -> (&'static [u8], &'static str) {
 
 #[test]
 fn vectors(rt: HostRuntime) -> Result<(), Fail> {
+    let mut again = Vec::new(rt.alloc());
     for place in 0..KINDS {
         let message = message(place).ok_or("a message")?;
         let bytes = encode(rt.alloc(), &message)?;
         assert_eq!(rt; bytes.as_slice(), spelling(place), "{place} is written");
+        encode_into(&mut again, &message)?;
+        assert_eq!(rt;
+            again.as_slice(),
+            spelling(place),
+            "{place} is written again"
+        );
         assert!(rt; decode(spelling(place)) == Ok(message), "{place} is read");
     }
     Ok(())

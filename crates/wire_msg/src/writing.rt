@@ -1,4 +1,4 @@
-ghost use Rattle.std.specs.Prelude.{◌≡◌, ◌++◌, length, OnOk, IfOk, IfErr};
+ghost use Rattle.std.specs.Prelude.{◌≡◌, [], ◌++◌, length, OnOk, OnErr, IfOk, IfErr};
 ghost use Rattle.wire_msg.specs.Spelling.{group as group_bytes, task as task_bytes, work as work_bytes, kind_of, content, AreBytes, IsGroup, IsTask, IsWork, IsBody, Spells};
 
 use crate::body::Body;
@@ -123,21 +123,23 @@ fn put_body(out: &mut Vec<u8>, body: &Body) -> Result<(), AllocError>
     }
 }
 
-fn spell(alloc: Global, message: &Message) -> Result<Vec<u8>, AllocError>
-    ensures { IfOk result (λ bytes. Spells message.now bytes.items) }
+/// Writes the spelling into an empty list.
+fn spell(out: &mut Vec<u8>, message: &Message) -> Result<(), AllocError>
+    requires { out.old.items ≡ [] }
+    ensures { OnOk result (Spells message.now out.new.items) }
 {
     let sender = message.sender().number();
     let receiver = message.receiver().number();
     let body = message.body();
     let len = len_of(body);
-    let mut out = Vec::with_capacity(alloc, 6 + usize::from(len))?;
+    out.reserve(6 + usize::from(len))?;
     out.push(1)?;
     out.push(kind_of(body))?;
     out.push(sender)?;
     out.push(receiver)?;
     out.extend_from_slice(&len.to_be_bytes())?;
-    put_body(&mut out, body)?;
-    Ok(out)
+    put_body(out, body)?;
+    Ok(())
 }
 
 /// The spelling of the message, at most 426 bytes. The only fault is `NoMemory`.
@@ -145,5 +147,22 @@ pub fn encode(alloc: Global, message: &Message) -> Result<Vec<u8>, WireFault>
     ensures ok { IfOk result (λ bytes. Spells message.now bytes.items) }
     ensures fault { IfErr result (λ e. e ≡ WireFault.NoMemory) }
 {
-    Ok(spell(alloc, message)?)
+    let mut bytes = Vec::new(alloc);
+    spell(&mut bytes, message)?;
+    Ok(bytes)
+}
+
+/// Writes the spelling of the message in place of what `bytes` held. A list that is used again and again takes memory for the
+/// longest spelling alone.
+pub fn encode_into(bytes: &mut Vec<u8>, message: &Message) -> Result<(), WireFault>
+    ensures ok { OnOk result (Spells message.now bytes.new.items) }
+    ensures fault { IfErr result (λ e. e ≡ WireFault.NoMemory) }
+    ensures none { OnErr result (bytes.new.items ≡ []) }
+{
+    bytes.clear();
+    if spell(bytes, message).is_err() {
+        bytes.clear();
+        return Err(WireFault::NoMemory);
+    }
+    Ok(())
 }

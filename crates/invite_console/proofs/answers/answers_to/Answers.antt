@@ -1,7 +1,6 @@
-use Rattle.std.proofs.Common.{◌≡◌, ◌-◌, ◌≤◌, ◌∙◌, sym, ap, codes, true, false, None, take, drop, arith}
+use Rattle.std.proofs.Common.{◌≡◌, ◌∙◌, sym, ap, false, None, take, arith}
 use Rattle.std.specs.Prelude.{is_some}
 use Rattle.wire_msg.specs.Contents.{messages_in, unfinished_in}
-use Rattle.invite_console.specs.Ends.{line}
 use Rattle.invite_console.proofs.Answering.{HasTaken, has_taken_none, takes_turn, goes_on, ends_refused, ends_malformed, ends_well}
 use Rattle.invite_console.proofs.Feeding.{empty_unfinished, stream_turn, none_where}
 use Rattle.invite_console.proofs.answers.answers_to.Goals as goal

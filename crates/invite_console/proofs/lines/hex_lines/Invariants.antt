@@ -1,4 +1,4 @@
-use Rattle.std.proofs.Common.{◌≡◌, ℕ, ◌+◌, ◌≤◌, length, Some}
+use Rattle.std.proofs.Common.{◌≡◌, ◌+◌, ◌≤◌, length, Some}
 use Rattle.invite_console.specs.Lines.{hex_lines_from, hex_lines_of, joined, lines_of}
 use Rattle.invite_console.proofs.lines.hex_lines.Given as goal
 

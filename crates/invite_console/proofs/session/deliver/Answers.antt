@@ -1,4 +1,3 @@
-use Rattle.invite_console.specs.Session.{Delivers}
 use Rattle.invite_console.proofs.Deliveries.{delivers, quiet_after}
 use Rattle.invite_console.proofs.session.deliver.Goals as goal
 

@@ -1,6 +1,5 @@
-use Rattle.std.proofs.Common.{◌≡◌, ◌-◌, ◌≤◌, ◌++◌, ◌∙◌, sym, ap, codes, true, false, None, List, ℕ, take, drop, arith}
+use Rattle.std.proofs.Common.{◌≡◌, ◌++◌, ◌∙◌, sym, ap, codes, true, false, None, List, ℕ, take, arith}
 use Rattle.std.specs.Prelude.{is_some}
-use Rattle.wire_msg.specs.Envelope.{Envelope}
 use Rattle.wire_msg.specs.Framing.{rest_len}
 use Rattle.wire_msg.specs.Contents.{messages_in, unfinished_in}
 use Rattle.invite_console.specs.Ends.{line}

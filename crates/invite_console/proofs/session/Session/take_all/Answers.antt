@@ -1,4 +1,4 @@
-use Rattle.std.proofs.Common.{◌≡◌, ◌++◌, ◌∙◌, sym, ap, codes, true, false, arith}
+use Rattle.std.proofs.Common.{◌≡◌, ◌++◌, ◌∙◌, ap, codes, true, false}
 use Rattle.invite_console.specs.Ends.{line}
 use Rattle.invite_console.specs.Answer.{is_strange}
 use Rattle.invite_console.specs.Session.{after_message}

@@ -1,0 +1,266 @@
+use crate::cluster::{Act, Cluster};
+use group_task::{NODES, NodeId, owner};
+use job_model::Queue;
+use node_core::Phase;
+use std::alloc::Global;
+use std::process::Abort;
+use std::test::Fail;
+use wire_msg::{Body, Message, decode, encode};
+
+/// Node 0 finds the others, and invites them into its group.
+const MERGE: [Act; 6] = [
+    Act::Check(0),
+    Act::Deliver(0),
+    Act::Deliver(1),
+    Act::Deliver(2),
+    Act::Deliver(3),
+    Act::Merge(0),
+];
+
+/// Node 1 joins, and is told the task.
+const JOIN: [Act; 5] = [
+    Act::Deliver(4),
+    Act::Deliver(6),
+    Act::Accept(0),
+    Act::Deliver(7),
+    Act::Deliver(8),
+];
+
+/// Node 2 accepts too late, asks its coordinator, and recovers.
+const LATE: [Act; 5] = [
+    Act::Deliver(5),
+    Act::Deliver(9),
+    Act::Coord(2),
+    Act::Deliver(10),
+    Act::Deliver(11),
+];
+
+const JOINED: &str = "node 0 Normal coord 0 group 0:2 up 1 members 0,1 count 2 pending - hand -
+node 1 Normal coord 0 group 0:2 up - members 0,1 count 1 pending - hand -
+node 2 Normal coord 2 group 2:1 up - members 2 count 1 pending - hand -
+";
+
+const RECOVERED: &str = "node 0 Normal coord 0 group 0:2 up 1 members 0,1 count 2 pending - hand -
+node 1 Normal coord 0 group 0:2 up - members 0,1 count 1 pending - hand -
+node 2 Normal coord 2 group 2:2 up - members 2 count 2 pending - hand -
+";
+
+/// Three nodes after these acts, of which nothing is printed.
+fn three_after(rt: &impl Abort, alloc: Global, parts: &[&[Act]]) -> Result<Cluster, Fail> {
+    let mut cluster = Cluster::new(rt, alloc, 3)?;
+    for part in parts {
+        cluster.run(part)?;
+    }
+    cluster.text.clear();
+    Ok(cluster)
+}
+
+/// Makes these acts, and compares what they print, and the nodes after them.
+fn check(
+    rt: &impl Abort,
+    cluster: &mut Cluster,
+    acts: &[Act],
+    lines: &str,
+    nodes: &str,
+) -> Result<(), Fail> {
+    cluster.run(acts)?;
+    assert_eq!(rt; cluster.text.as_slice(), lines.as_bytes());
+    cluster.text.clear();
+    cluster.put_nodes()?;
+    assert_eq!(rt; cluster.text.as_slice(), nodes.as_bytes());
+    Ok(())
+}
+
+#[test]
+fn merge_of_three(rt: HostRuntime) -> Result<(), Fail> {
+    let mut cluster = three_after(&rt, rt.alloc(), &[])?;
+    check(
+        &rt,
+        &mut cluster,
+        &MERGE,
+        "ok 0:010100010000 1:010100020000
+ok 2:01020100000101
+ok 3:01020200000101
+ok
+ok
+ok 4:010500010009000000000000000002 5:010500020009000000000000000002
+",
+        "node 0 Election coord 0 group 0:2 up - members - count 2 pending - hand -
+node 1 Normal coord 1 group 1:1 up - members 1 count 1 pending - hand -
+node 2 Normal coord 2 group 2:1 up - members 2 count 1 pending - hand -
+",
+    )
+}
+
+#[test]
+fn two_join(rt: HostRuntime) -> Result<(), Fail> {
+    let mut cluster = three_after(&rt, rt.alloc(), &[&MERGE])?;
+    check(
+        &rt,
+        &mut cluster,
+        &JOIN,
+        "ok 6:010601000009000000000000000002
+ok
+ok 7:01070001000c000000000000000002020001
+ok 8:010801000009000000000000000002
+ok
+",
+        JOINED,
+    )
+}
+
+#[test]
+fn late_accept(rt: HostRuntime) -> Result<(), Fail> {
+    let mut cluster = three_after(&rt, rt.alloc(), &[&MERGE, &JOIN])?;
+    check(
+        &rt,
+        &mut cluster,
+        &LATE,
+        "ok 9:010602000009000000000000000002
+ok
+ok 10:010302000009000000000000000002
+ok 11:01040002000a00000000000000000200
+ok
+",
+        RECOVERED,
+    )
+}
+
+/// After its accept node 2 is in Reorganization, and the accept changes nothing at node 0.
+#[test]
+fn late_accept_half_way(rt: HostRuntime) -> Result<(), Fail> {
+    let mut cluster = three_after(&rt, rt.alloc(), &[&MERGE, &JOIN])?;
+    check(
+        &rt,
+        &mut cluster,
+        &[Act::Deliver(5), Act::Deliver(9)],
+        "ok 9:010602000009000000000000000002\nok\n",
+        "node 0 Normal coord 0 group 0:2 up 1 members 0,1 count 2 pending - hand -
+node 1 Normal coord 0 group 0:2 up - members 0,1 count 1 pending - hand -
+node 2 Reorganization coord 0 group 0:2 up - members - count 1 pending - hand -
+",
+    )
+}
+
+#[test]
+fn repeated_ready(rt: HostRuntime) -> Result<(), Fail> {
+    let mut cluster = three_after(&rt, rt.alloc(), &[&MERGE, &JOIN, &LATE])?;
+    check(
+        &rt,
+        &mut cluster,
+        &[Act::Deliver(7)],
+        "ok 12:010801000009000000000000000002\n",
+        RECOVERED,
+    )
+}
+
+#[test]
+fn work_and_done(rt: HostRuntime) -> Result<(), Fail> {
+    let mut cluster = three_after(&rt, rt.alloc(), &[&MERGE, &JOIN])?;
+    check(
+        &rt,
+        &mut cluster,
+        &[
+            Act::Submit(1, 0, b"\0"),
+            Act::Submit(0, 1, b"hi"),
+            Act::Deliver(9),
+        ],
+        "refused NotCoordinator 0
+ok id 0 9:01090001001600000000000000000200000000000000000100026869
+ok
+",
+        "node 0 Normal coord 0 group 0:2 up 1 members 0,1 count 2 pending 0 hand -
+node 1 Normal coord 0 group 0:2 up - members 0,1 count 1 pending - hand 0:0
+node 2 Normal coord 2 group 2:1 up - members 2 count 1 pending - hand -
+",
+    )?;
+    cluster.text.clear();
+    check(
+        &rt,
+        &mut cluster,
+        &[Act::Finish(1, 0, 0), Act::Deliver(10)],
+        "ok 10:010a010000080000000000000000\nok\n",
+        JOINED,
+    )
+}
+
+/// An invitation into a node's own group changes nothing, and one into another node's group is accepted.
+#[test]
+fn own_invitation(rt: HostRuntime) -> Result<(), Fail> {
+    let mut cluster = three_after(&rt, rt.alloc(), &[])?;
+    cluster.sent.push(decode(b"\x01\x05\x01\x00\x00\x09\x00\x00\x00\x00\x00\x00\x00\x00\x02")?)?;
+    cluster.sent.push(decode(b"\x01\x05\x01\x00\x00\x09\x01\x00\x00\x00\x00\x00\x00\x00\x02")?)?;
+    check(
+        &rt,
+        &mut cluster,
+        &[Act::Deliver(0), Act::Deliver(1)],
+        "ok\nok 2:010600010009010000000000000002\n",
+        "node 0 Reorganization coord 1 group 1:2 up - members - count 1 pending - hand -
+node 1 Normal coord 1 group 1:1 up - members 1 count 1 pending - hand -
+node 2 Normal coord 2 group 2:1 up - members 2 count 1 pending - hand -
+",
+    )
+}
+
+/// How long a node of six waits that asked, and whom these answered that they coordinate.
+fn wait_after(rt: &impl Abort, alloc: Global, node: u8, found: &[u8]) -> Result<Option<u64>, Fail> {
+    let mut cluster = Cluster::new(rt, alloc, 6)?;
+    cluster.run(&[Act::Check(node)])?;
+    let receiver = NodeId::new(node).ok_or("no id of a node")?;
+    for (place, other) in found.iter().enumerate() {
+        let sender = NodeId::new(*other).ok_or("no id of a node")?;
+        let answer = Message::new(sender, receiver, Body::Coordinator(true));
+        cluster.sent.push(answer.ok_or("no message")?)?;
+        cluster.run(&[Act::Deliver(place.saturating_add(5))])?;
+    }
+    cluster.merge_wait(node)
+}
+
+#[test]
+fn merge_waits(rt: HostRuntime) -> Result<(), Fail> {
+    assert_eq!(rt; wait_after(&rt, rt.alloc(), 2, &[0, 5])?, Some(3));
+    assert_eq!(rt; wait_after(&rt, rt.alloc(), 5, &[0, 2])?, Some(0));
+    assert_eq!(rt; wait_after(&rt, rt.alloc(), 2, &[])?, None);
+    Ok(())
+}
+
+/// All 64 nodes join one group: each of the six rounds brings a message to or from each of the 63 others.
+#[test]
+fn greatest_group(rt: HostRuntime) -> Result<(), Fail> {
+    let mut cluster = Cluster::new(&rt, rt.alloc(), NODES)?;
+    cluster.run(&[Act::Check(0)])?;
+    cluster.deliver_all(0, 126)?;
+    cluster.run(&[Act::Merge(0)])?;
+    cluster.deliver_all(126, 252)?;
+    cluster.run(&[Act::Accept(0)])?;
+    check_task(&rt, rt.alloc(), &cluster)?;
+    cluster.deliver_all(252, 378)?;
+    check_group(&rt, &cluster)
+}
+
+/// The first message that tells the task of 64 members: its length is 74.
+fn check_task(rt: &impl Abort, alloc: Global, cluster: &Cluster) -> Result<(), Fail> {
+    let ready = cluster.sent.get(252).ok_or("no task is sent")?;
+    let bytes = encode(alloc, ready)?;
+    assert_eq!(rt; bytes.len(), 80);
+    assert!(rt;
+        bytes.starts_with(
+            b"\x01\x07\x00\x01\x00\x4a\x00\x00\x00\x00\x00\x00\x00\x00\x02\x40\x00\x01\x02"
+        )
+    );
+    Ok(())
+}
+
+fn check_group(rt: &impl Abort, cluster: &Cluster) -> Result<(), Fail> {
+    assert_eq!(rt; cluster.sent.len(), 378);
+    let fifteen = Queue::new(15).ok_or("no such queue")?;
+    for node in cluster.nodes.iter() {
+        let vector = node.core.vector();
+        let task = vector.task.ok_or("no task")?;
+        assert!(rt; vector.phase == Phase::Normal);
+        assert_eq!(rt; vector.coordinator.number(), 0);
+        assert_eq!(rt; task.members().len(), 64);
+        assert_eq!(rt; owner(&task, fifteen).number(), 15);
+    }
+    Ok(())
+}
