@@ -13,3 +13,14 @@ pub mod Kepts
 pub mod Owners
 pub mod Jobs
 pub mod Pending
+pub mod Ups
+pub mod Wanted
+pub mod Mounts
+pub mod Turned
+pub mod Serves
+pub mod Ignores
+pub mod Remounts
+pub mod Nodes
+pub mod Crashes
+pub mod Opens
+pub mod AnyDisk

@@ -14,3 +14,9 @@ pub mod Marks
 pub mod Owners
 pub mod Jobs
 pub mod Named
+pub mod Faults
+pub mod Carrying
+pub mod Node
+pub mod Stepping
+pub mod Remounting
+pub mod Arming

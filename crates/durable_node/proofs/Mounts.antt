@@ -1,0 +1,89 @@
+-- What calls of a store leave of what its disk stands for.
+use Rattle.std.proofs.Common.{◌≡◌, ◌+◌, ◌*◌, ◌≤◌, ⊎_elim, ℕ, true, false, Bool, Option, Some, None, sym, ◌∙◌, ap, subst, refl, arith, IsTrue}
+use Rattle.sector_disk.specs.Disk.{Image, DiskState, IsImage, SameBut, nothing}
+use Rattle.sector_disk.specs.Run.{Run, Each}
+use Rattle.safe_cell.specs.Cell.{cell_at}
+use Rattle.job_model.specs.Command.{Command}
+use Rattle.job_model.specs.Durable.{Durable}
+use Rattle.job_journal.specs.Journal.{jobs_by, jobs_in, IsSound, IsSoundImage}
+use Rattle.job_journal.proofs.Frames.{SameFrom, cell_same_from, found_same_from, sound_same_from}
+use Rattle.node_store.specs.Store.{durable_by, stands_for, slots_for, AllStandFor}
+use Rattle.durable_node.specs.NodeState.{NodeState, settled}
+use Rattle.durable_node.specs.Possible.{IsWanted, IsSettling}
+use Rattle.durable_node.specs.Carrying.{BeforeOrAfter}
+use Rattle.durable_node.specs.Node.{IsLeft}
+
+pub was_honest : (old new : DiskState) → new.honest ≡ old.honest → IsTrue new.honest → IsTrue old.honest
+was_honest old new same honest = subst (λ (b : Bool). IsTrue b) same honest
+
+pub quiet_same : (at many : ℕ) (d c : Image) → SameBut nothing d c → SameFrom at many d c
+quiet_same at many d c same = record { same = λ k le lt. same.same k (λ no. no) }
+
+-- an image with the same sectors stands for the same
+pub stands_same : (slots : ℕ) (d c : Image) → SameBut nothing d c → stands_for slots c ≡ stands_for slots d
+stands_same slots d c same =
+    ap (λ (v : Option ℕ). durable_by v (jobs_in slots c)) (cell_same_from 0 d c (quiet_same 0 4 d c same))
+    ∙ ap (λ f. durable_by (cell_at d 0) (jobs_by f)) (found_same_from slots d c (quiet_same 4 (4 + 4 * slots) d c same))
+
+-- soundness after calls that kept it in each image
+pub sound_after : (slots : ℕ) (touched : ℕ → Type 0) (old new : DiskState) → new.honest ≡ old.honest → (IsTrue old.honest → Run touched old new)
+    → (IsTrue old.honest → Each old new (IsSoundImage slots)) → IsSound slots new
+sound_after slots touched old new same run each honest image is =
+    let was = was_honest old new same honest in each was image ((run was).ends image is)
+
+pub sound_quiet : (slots : ℕ) (old new : DiskState) → new.honest ≡ old.honest → (IsTrue old.honest → Run nothing old new) → IsSound slots old → IsSound slots new
+sound_quiet slots old new same run sound honest image is =
+    let was = was_honest old new same honest in
+    let from = (run was).follows image ((run was).ends image is) in
+    sound_same_from slots from.0 image (quiet_same 4 (4 + 4 * slots) from.0 image from.2) (sound was from.0 from.1)
+
+-- calls that wrote nothing leave what was left
+pub left_quiet : (old new : DiskState) (s : NodeState) → new.sectors ≡ old.sectors → new.honest ≡ old.honest → (IsTrue old.honest → Run nothing old new) → IsLeft old s → IsLeft new s
+left_quiet old new s sectors same run left = record {
+  sectors = omega (arith, left.sectors, sectors);
+  images = λ honest image is. (let was = was_honest old new same honest in
+      let from = (run was).follows image ((run was).ends image is) in
+      let found = left.images was from.0 from.1 in (
+        found.0,
+        found.1,
+        ap (λ (n : ℕ). stands_for (slots_for n) image) sectors ∙ stands_same (slots_for old.sectors) from.0 image from.2 ∙ found.2,
+      ));
+  sound = subst (λ (n : ℕ). IsSound (slots_for n) new) (sym sectors) (sound_quiet (slots_for old.sectors) old new same run left.sound);
+}
+
+some_same : (d e : Durable) → Some d ≡ Some e → d ≡ e
+some_same d e h = cc
+
+-- a mounting finds what was kept, with the command in doubt or without it
+pub settles : (old new : DiskState) (s : NodeState) (d : Durable) → IsTrue old.honest → Run nothing old new → IsLeft old s → AllStandFor (slots_for old.sectors) d new
+    → (kept : Bool) × IsSettling kept s.doubt × (d ≡ settled kept s)
+settles old new s d honest run left all =
+    let image = new.contents in
+    let is : IsImage new image = record { size = refl; same = λ at still. refl } in
+    let from = run.follows image (run.ends image is) in
+    let found = left.images honest from.0 from.1 in
+    (found.0, found.1, some_same d (settled found.0 s) (sym (all image is) ∙ stands_same (slots_for old.sectors) from.0 image from.2 ∙ found.2))
+
+-- with no doubt each image stands for what is kept
+pub stands_all : (disk : DiskState) (s : NodeState) → s.doubt ≡ None → IsLeft disk s → IsTrue disk.honest → AllStandFor (slots_for disk.sectors) s.durable disk
+stands_all disk s none left honest image is =
+    let found = left.images honest image is in of_choice found.0 found.1 found.2
+  where
+    of_choice : (kept : Bool) → IsSettling kept s.doubt → stands_for (slots_for disk.sectors) image ≡ Some (settled kept s) → stands_for (slots_for disk.sectors) image ≡ Some s.durable
+    of_choice true wanted h = absurd (subst (λ (c : Option Command). IsWanted c) none wanted)
+    of_choice false wanted h = h
+
+-- after a command was carried out
+pub left_by : (disk : DiskState) (s : NodeState) → 24 ≤ disk.sectors → (IsTrue disk.honest → AllStandFor (slots_for disk.sectors) s.durable disk) → IsSound (slots_for disk.sectors) disk → IsLeft disk s
+left_by disk s sectors all sound = record { sectors = sectors; images = λ honest image is. (false, tt, all honest image is); sound = sound }
+
+-- after the device failed in a command
+pub left_in_doubt : (touched : ℕ → Type 0) (old new : DiskState) (s : NodeState) → 24 ≤ new.sectors → new.honest ≡ old.honest → IsWanted s.doubt
+    → (IsTrue old.honest → Run touched old new) → (IsTrue old.honest → Each old new (BeforeOrAfter (slots_for new.sectors) s.durable s.doubt))
+    → IsSound (slots_for new.sectors) new → IsLeft new s
+left_in_doubt touched old new s sectors same wanted run each sound = record {
+  sectors = sectors;
+  images = λ honest image is. (let was = was_honest old new same honest in
+      ⊎_elim (λ before. (false, tt, before)) (λ after. (true, wanted, after)) (each was image ((run was).ends image is)));
+  sound = sound;
+}

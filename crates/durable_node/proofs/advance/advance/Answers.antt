@@ -1,0 +1,70 @@
+use Rattle.std.proofs.Common.{◌≡◌, Option, Some, None, sym, ◌∙◌, subst, refl}
+use Rattle.node_core.specs.declared.event.Event.{Event}
+use Rattle.node_core.specs.declared.fault.CoreFault.{CoreFault}
+use Rattle.node_core.specs.Refusals.{refusal_of}
+use Rattle.node_core.specs.State.{is_down}
+use Rattle.node_store.specs.Store.{StoreState, durable_of}
+use Rattle.durable_node.specs.Node.{IsNode, disk_in, kept_in, node_with}
+use Rattle.durable_node.specs.Stepping.{CountsOf, Steps, most_by}
+use Rattle.durable_node.proofs.Nodes.{node_ignored, node_served, same_node, counts_under, counts_still, few_ignored, not_device, up_on_ok, clash}
+use Rattle.durable_node.proofs.Serves.{serves_at}
+use Rattle.durable_node.proofs.Ignores.{ignores}
+use Rattle.durable_node.proofs.advance.advance.Goals as goal
+
+pub returns-clause-node : goal.returns-clause-node
+returns-clause-node g c =
+    let state = g.D.SectorDisk.state in
+    let e = c.handle.ensures in
+    let up = sym c.is_down.ensures ∙ c.if-is_down.false in
+    let node = subst (λ (st : Option (StoreState _)). IsNode state c.args.id c.args.nodes c.args.core.now c.args.disk.now st) c.in-Some.is c.requires.node in
+    node_served state c.args.id c.args.nodes c.args.core.now c.handle.new.core c.args.disk.now c.in-Some.store c.handle.new.store c.args.doubt.now c.handle.new.doubt c.args.event node up
+    e.id e.nodes e.slots e.counts.sectors e.sound c.handle.result e.done e.whole (λ d. (e.fallen d).0) e.unchanged
+
+pub returns-clause-step : goal.returns-clause-step
+returns-clause-step g c = λ memory.
+    let state = g.D.SectorDisk.state in
+    let e = c.handle.ensures in
+    let up = sym c.is_down.ensures ∙ c.if-is_down.false in
+    let node = subst (λ (st : Option (StoreState _)). IsNode state c.args.id c.args.nodes c.args.core.now c.args.disk.now st) c.in-Some.is c.requires.node in
+    subst (λ (st : Option (StoreState _)). Steps state (node_with c.args.id c.args.nodes c.args.core.now c.args.disk.now st c.args.doubt.now c.args.found.now)
+    (node_with c.args.id c.args.nodes c.handle.new.core c.args.disk.now (Some c.handle.new.store) c.handle.new.doubt None) c.args.event c.handle.result) (sym c.in-Some.is)
+    (serves_at state c.args.id c.args.nodes c.in-Some.store.journal.slots c.args.core.now c.handle.new.core c.args.disk.now c.in-Some.store c.handle.new.store c.args.doubt.now c.handle.new.doubt c.args.found.now c.args.event
+    node.placed (node.slots c.in-Some.store refl) up c.handle.result
+    (up_on_ok c.in-Some.store.journal.slots c.args.nodes c.args.id c.args.core.now.state c.handle.new.core.state (durable_of c.in-Some.store) (durable_of c.handle.new.store) c.args.event up c.handle.result e.done)
+    e.counts.sectors e.counts.honest memory e.done e.whole e.failed e.fallen e.unchanged e.refused e.run e.images e.after e.sound)
+
+pub returns-clause-counts : goal.returns-clause-counts
+returns-clause-counts g c =
+    let state = g.D.SectorDisk.state in
+    let node = subst (λ (st : Option (StoreState _)). IsNode state c.args.id c.args.nodes c.args.core.now c.args.disk.now st) c.in-Some.is c.requires.node in
+    subst (λ (st : Option (StoreState _)). CountsOf state (disk_in c.args.disk.now st) (disk_in c.args.disk.now (Some c.handle.new.store)) c.handle.result) (sym c.in-Some.is)
+    (counts_under state c.args.disk.now c.in-Some.store c.handle.new.store c.handle.result node.placed c.handle.ensures.counts)
+
+pub returns-in-Recover-clause-step : goal.returns-in-Recover-clause-step
+returns-in-Recover-clause-step g c = λ memory.
+    let state = g.D.SectorDisk.state in
+    subst (λ (event : Event). Steps state (node_with c.args.id c.args.nodes c.args.core.now c.args.disk.now c.args.store.now c.args.doubt.now c.args.found.now)
+    (node_with c.args.id c.args.nodes c.remount.new.core c.remount.new.disk c.remount.new.store c.remount.new.doubt c.remount.new.found) event c.remount.result) (sym c.in-Recover.is)
+    (c.remount.ensures.step c.args.found.now memory)
+
+pub returns-in_default : goal.returns-in_default
+returns-in_default g c =
+    let state = g.D.SectorDisk.state in
+    let e = c.ignore.ensures in
+    let refused = (λ (why : CoreFault). refusal_of c.args.core.now.nodes c.args.core.now.id c.args.event c.args.core.now.state ≡ Some why) in
+    let fallen = c.requires.node.fallen (sym c.is_down.ensures ∙ c.if-is_down.true) in
+    record {
+      node = node_ignored state c.args.id c.args.nodes c.args.core.now c.ignore.new.core c.args.disk.now c.args.store.now c.requires.node e.id e.nodes e.kept;
+      step = λ memory. ignores state c.args.id c.args.nodes c.args.core.now c.ignore.new.core c.args.disk.now c.args.store.now c.args.doubt.now c.args.found.now c.args.event
+          fallen e.kept c.in_default.not-Recover c.ignore.result memory (rw (c.requires.node.core_nodes, c.requires.node.core_id) at e.done) (rw (c.requires.node.core_nodes, c.requires.node.core_id) at e.refused);
+      mounting = λ down is. absurd (c.in_default.not-Recover is);
+      memory = λ memory. same_node c.args.id c.args.nodes c.args.core.now c.ignore.new.core c.args.disk.now c.args.store.now c.args.store.now c.args.doubt.now c.args.doubt.now e.kept refl refl;
+      counts = counts_still state (disk_in c.args.disk.now c.args.store.now) c.ignore.result (not_device refused c.ignore.result e.refused);
+      few = few_ignored (most_by c.args.nodes (kept_in _ c.args.store.now)) _ c.ignore.result e.done;
+    }
+
+pub returns-in-Recover-clause-mounting : goal.returns-in-Recover-clause-mounting
+returns-in-Recover-clause-mounting g c = λ down is. c.remount.ensures.mounting c.args.found.now
+
+pub returns-clause-mounting : goal.returns-clause-mounting
+returns-clause-mounting g c = λ down is. absurd (clash (is_down c.args.core.now.state.phase) down (sym c.is_down.ensures ∙ c.if-is_down.false))

@@ -1,0 +1,19 @@
+use Rattle.std.proofs.Common.{◌≡◌, true, subst}
+use Rattle.node_core.specs.declared.event.Event.TheVariants.{Recover}
+use Rattle.node_core.specs.State.{is_down}
+use Rattle.durable_node.specs.Node.{Node, node_with}
+use Rattle.durable_node.specs.Remounting.{Remounted}
+use Rattle.durable_node.specs.Stepping.{Steps}
+use Rattle.durable_node.proofs.node.DurableNode.step.Goals as goal
+
+pub returns-clause-step : goal.returns-clause-step
+returns-clause-step g c = λ memory.
+    let n = c.advance.new in
+    subst (λ (old : Node _). Steps g.D.SectorDisk.state old (node_with c.self.inside.id c.self.inside.nodes n.core n.disk n.store n.doubt n.found) c.args.event c.advance.result) c.self.view_is
+    (c.advance.ensures.step memory)
+
+pub returns-clause-mounting : goal.returns-clause-mounting
+returns-clause-mounting g c =
+    let n = c.advance.new in
+    let new = node_with c.self.inside.id c.self.inside.nodes n.core n.disk n.store n.doubt n.found in
+    subst (λ (old : Node _). is_down old.state.phase ≡ true → c.args.event ≡ Recover → Remounted old new c.advance.result new.found) c.self.view_is c.advance.ensures.mounting

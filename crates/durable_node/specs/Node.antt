@@ -1,0 +1,96 @@
+-- What contracts see of a node over a disk, and what it stands for.
+use Rattle.std.specs.Prelude.{ℕ, ◌≡◌, ◌<◌, ◌≤◌, Bool, true, false, IsTrue, IsFalse, IsSomeAnd, Option, Some, None}
+use Rattle.sector_disk.specs.Disk.{Image, DiskState, IsImage}
+use Rattle.job_model.specs.Command.{Command, Raise, Put, Done}
+use Rattle.job_model.specs.Durable.{Durable}
+use Rattle.node_core.specs.declared.durable.Durable.{Durable as Wanted}
+use Rattle.node_core.specs.declared.durable.Durable.TheVariants as wanted
+use Rattle.group_task.specs.declared.node.TheConstants.{NODES}
+use Rattle.node_core.specs.Core.{Core}
+use Rattle.node_core.specs.Start.{down}
+use Rattle.node_core.specs.State.{State, is_down}
+use Rattle.job_journal.specs.Journal.{IsSound}
+use Rattle.node_store.specs.Store.{StoreState, durable_of, slots_for, stands_for}
+use Rattle.durable_node.specs.NodeState.{NodeState, settled}
+use Rattle.durable_node.specs.Possible.{IsSettling}
+
+-- a command in doubt as the node tells it, with the count, or for a job the next id, from before it
+abbrev pub told_doubt : Durable → Option Command → Option (Wanted × ℕ)
+told_doubt d None = None
+told_doubt d (Some Raise) = Some (wanted.Raise, d.counter)
+told_doubt d (Some (Put queue payload)) = Some (wanted.Put queue payload, d.next)
+told_doubt d (Some (Done id)) = Some (wanted.Done id, d.next)
+
+pub record Node (Disk : Type 0) : Type 0 where
+  pub id : ℕ
+  pub nodes : ℕ
+  pub state : State
+  -- the disk, mounted or not: there always is one
+  pub disk : Option Disk
+  -- what the disk keeps, where the node is up
+  pub kept : Option Durable
+  -- the command in doubt
+  pub doubt : Option (Wanted × ℕ)
+  -- what the last call mounted
+  pub found : Option Durable
+
+-- the disk, which stands by itself or under a store
+abbrev pub disk_in : {Disk : Type 0} → Option Disk → Option (StoreState Disk) → Option Disk
+disk_in (Some disk) store = Some disk
+disk_in None (Some store) = Some store.disk
+disk_in None None = None
+
+abbrev pub kept_in : {Disk : Type 0} → Bool → Option (StoreState Disk) → Option Durable
+kept_in true store = None
+kept_in false None = None
+kept_in false (Some store) = Some (durable_of store)
+
+-- a store mounted with this count, whatever came of the raise: it left the jobs as they were
+abbrev pub found_in : {Disk : Type 0} → Option ℕ → Option (StoreState Disk) → Option Durable
+found_in None store = None
+found_in (Some count) None = None
+found_in (Some count) (Some store) = Some (record { counter = count; next = store.journal.table.next; pending = store.journal.table.pending })
+
+-- the disk stands by itself, or under a store
+abbrev pub IsPlaced : {Disk : Type 0} → Option Disk → Option (StoreState Disk) → Type 0
+IsPlaced (Some disk) None = Unit {0}
+IsPlaced None (Some store) = Unit {0}
+IsPlaced (Some disk) (Some store) = ⊥
+IsPlaced None None = ⊥
+
+-- a node of these parts
+abbrev pub node_with : {Disk : Type 0} → ℕ → ℕ → Core → Option Disk → Option (StoreState Disk) → Option (Wanted × ℕ) → Option ℕ → Node Disk
+node_with id nodes core disk store doubt found = record {
+  id = id;
+  nodes = nodes;
+  state = core.state;
+  disk = disk_in disk store;
+  kept = kept_in (is_down core.state.phase) store;
+  doubt = doubt;
+  found = found_in found store;
+}
+
+-- Each image that a crash now may leave stands for what is kept, with or without the command in doubt.
+pub record IsLeft (disk : DiskState) (s : NodeState) : Type 0 where
+  pub sectors : 24 ≤ disk.sectors
+  pub images : IsTrue disk.honest → (image : Image) → IsImage disk image → (kept : Bool) × IsSettling kept s.doubt × (stands_for (slots_for disk.sectors) image ≡ Some (settled kept s))
+  pub sound : IsSound (slots_for disk.sectors) disk
+
+-- The node is in this state, and its disk too.
+pub record Stands {Disk : Type 0} (disks : Disk → DiskState) (n : Node Disk) (s : NodeState) : Type 0 where
+  pub state : n.state ≡ s.state
+  pub doubt : n.doubt ≡ told_doubt s.durable s.doubt
+  pub up : is_down n.state.phase ≡ false → (n.kept ≡ Some s.durable) × (s.doubt ≡ None)
+  pub disk : (disk : Disk) → n.disk ≡ Some disk → IsLeft (disks disk) s
+
+-- What is true of every node: it is up on a store that isn't broken, or it is down in the one state of a node that is down.
+pub record IsNode {Disk : Type 0} (disks : Disk → DiskState) (id nodes : ℕ) (core : Core) (disk : Option Disk) (store : Option (StoreState Disk)) : Type 0 where
+  pub core_id : core.id ≡ id
+  pub core_nodes : core.nodes ≡ nodes
+  pub within : id < nodes
+  pub most : nodes ≤ NODES
+  pub placed : IsPlaced disk store
+  pub up : is_down core.state.phase ≡ false → IsSomeAnd store (λ (st : StoreState Disk). IsFalse st.broken)
+  pub fallen : is_down core.state.phase ≡ true → core.state ≡ down id
+  pub slots : (st : StoreState Disk) → store ≡ Some st → st.journal.slots ≡ slots_for (disks st.disk).sectors
+  pub sound : (now : Disk) → disk_in disk store ≡ Some now → IsSound (slots_for (disks now).sectors) (disks now)

@@ -1,0 +1,61 @@
+ghost use Rattle.std.specs.Prelude.{◌≡◌, ◌≢◌, ◌≤◌, Option, ℕ, IfOk, Some, None, Err, length, true, false, IsTrue};
+ghost use Rattle.node_core.specs.declared.event.Event.TheVariants as on;
+ghost use Rattle.node_core.specs.declared.fault.CoreFault.TheVariants.{NoMemory};
+ghost use Rattle.node_core.specs.State.{is_down};
+ghost use Rattle.durable_node.specs.Node.{disk_in, kept_in, found_in, IsNode, node_with};
+ghost use Rattle.durable_node.specs.Remounting.{Remounted};
+ghost use Rattle.durable_node.specs.Stepping.{CountsOf, Steps, most_by};
+
+use crate::fault::NodeFault;
+use crate::handle::handle;
+use crate::ignore::ignore;
+use crate::remount::remount;
+use crate::step::Step;
+use group_task::NodeId;
+use node_core::{Durable, Event, NodeCore, Phase};
+use node_store::NodeStore;
+use sector_disk::SectorDisk;
+use std::alloc::Global;
+
+/// One event, over the parts of a node: where it is up, where it is down, and where it mounts its disk.
+pub(crate) fn advance<D: SectorDisk + Drop>(
+    alloc: Global,
+    id: NodeId,
+    nodes: u8,
+    core: &mut NodeCore,
+    disk: &mut Option<D>,
+    store: &mut Option<NodeStore<D>>,
+    doubt: &mut Option<(Durable, u64)>,
+    found: &mut Option<u64>,
+    event: Event,
+) -> Result<Step, NodeFault>
+    requires node { IsNode D.state id nodes core.old disk.old store.old }
+    ensures node { IsNode D.state id nodes core.new disk.new store.new }
+    ensures step { result ≢ Err (NodeFault.Core NoMemory)
+        → Steps D.state (node_with id nodes core.old disk.old store.old doubt.old found.old) (node_with id nodes core.new disk.new store.new doubt.new found.new) event result }
+    ensures memory { result ≡ Err (NodeFault.Core NoMemory)
+        → node_with id nodes core.new disk.new store.new doubt.new found.new ≡ node_with id nodes core.old disk.old store.old doubt.old None }
+    ensures counts { CountsOf D.state (disk_in disk.old store.old) (disk_in disk.new store.new) result }
+    ensures mounting { is_down core.old.state.phase ≡ true → event ≡ Event.Recover
+        → Remounted (node_with id nodes core.old disk.old store.old doubt.old found.old) (node_with id nodes core.new disk.new store.new doubt.new found.new) result (found_in found.new store.new) }
+    ensures few { IfOk result (λ step. length step.sent.items ≤ most_by nodes (kept_in (is_down core.old.state.phase) store.old)) }
+{
+    *found = None;
+    if is_down(core) {
+        return match event {
+            Event::Recover => remount(alloc, id, nodes, core, disk, store, doubt, found),
+            other => ignore(alloc, core, store, other),
+        };
+    }
+    match store {
+        Some(store) => handle(alloc, id, nodes, core, store, doubt, event),
+        None => unreachable!(),
+    }
+}
+
+/// Whether the node is down.
+pub(crate) fn is_down(core: &NodeCore) -> bool
+    ensures { result ≡ is_down core.now.state.phase }
+{
+    matches!(core.vector().phase, Phase::Down)
+}

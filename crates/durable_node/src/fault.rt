@@ -1,0 +1,49 @@
+// What a call of a node is refused with.
+ghost use Rattle.std.specs.Prelude.{◌≡◌, ◌↔◌, IsTrue};
+ghost use Rattle.durable_node.specs.Faults.{fault_for};
+
+use node_core::CoreFault;
+use node_store::StoreFault;
+
+#[derive(Clone, Copy, Debug, PartialEq, Eq)]
+pub enum NodeFault {
+    /// The node refuses the event.
+    Core(CoreFault),
+    /// No slot of the journal is free, or a job wouldn't fit beside those that are pending.
+    Full,
+    /// The counter is the greatest there is, or no id is left.
+    Exhausted,
+    /// The device failed. The node is Down.
+    Device,
+    /// The disk was never formatted. Only a mounting answers this, and what follows.
+    NotFormatted,
+    /// What is found with its body in this sector isn't allowed there.
+    Damaged(u64),
+    /// The disk has too few sectors.
+    TooSmall,
+}
+
+/// A fault of the store, as a node tells it.
+pub(crate) fn node_fault(fault: StoreFault) -> NodeFault
+    ensures { result ≡ fault_for fault }
+{
+    match fault {
+        StoreFault::Device | StoreFault::Broken => NodeFault::Device,
+        StoreFault::Exhausted => NodeFault::Exhausted,
+        StoreFault::NotFormatted => NodeFault::NotFormatted,
+        StoreFault::Damaged(sector) => NodeFault::Damaged(sector),
+        StoreFault::Full => NodeFault::Full,
+        StoreFault::NoSuchJob => NodeFault::Core(CoreFault::UnknownJob),
+        StoreFault::NoMemory => NodeFault::Core(CoreFault::NoMemory),
+        StoreFault::TooSmall => NodeFault::TooSmall,
+    }
+}
+
+impl NodeFault {
+    /// Whether the device failed, so that the node is Down.
+    pub fn is_device(&self) -> bool
+        ensures { IsTrue result ↔ (self.now ≡ NodeFault.Device) }
+    {
+        matches!(self, NodeFault::Device)
+    }
+}

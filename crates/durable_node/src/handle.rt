@@ -1,0 +1,99 @@
+ghost use Rattle.std.specs.Prelude.{◌≡◌, ◌≢◌, ◌≤◌, ◌<◌, ℕ, true, false, IsTrue, IsFalse, IsOk, IfOk, IfErr, IsErrOf, Some, None, Err, length};
+ghost use Rattle.sector_disk.specs.Disk.{Counts};
+ghost use Rattle.sector_disk.specs.Run.{Run, Each};
+ghost use Rattle.group_task.specs.declared.node.TheConstants.{NODES};
+ghost use Rattle.node_core.specs.declared.fault.CoreFault.TheVariants.{NoMemory};
+ghost use Rattle.node_core.specs.State.{is_down};
+ghost use Rattle.node_core.specs.Most.{most_of};
+ghost use Rattle.node_core.specs.Start.{down};
+ghost use Rattle.node_core.specs.Planned.{wanted_by};
+ghost use Rattle.node_core.specs.Wants.{wants_of};
+ghost use Rattle.job_journal.specs.Journal.{IsSound};
+ghost use Rattle.node_store.specs.Store.{durable_of, InStore, AllStandFor};
+ghost use Rattle.durable_node.specs.Carrying.{BeforeOrAfter};
+ghost use Rattle.durable_node.specs.Node.{told_doubt};
+ghost use Rattle.durable_node.specs.Possible.{IsWanted};
+ghost use Rattle.durable_node.specs.Stepping.{IsDone, IsFailed, IsTurnedAway};
+
+use crate::carry::carry;
+use crate::fault::NodeFault;
+use crate::step::Step;
+use group_task::NodeId;
+use node_core::{Durable, Event, NodeCore};
+use node_store::NodeStore;
+use sector_disk::SectorDisk;
+use std::alloc::Global;
+
+/// Handles an event at a node that is up: growths first, then the device, and the change last. After `Device` the core is
+/// down.
+#[tactic(auto, using(crate::proofs::Wanted::wanted_pending))]
+pub(crate) fn handle<D: SectorDisk>(
+    alloc: Global,
+    id: NodeId,
+    nodes: u8,
+    core: &mut NodeCore,
+    store: &mut NodeStore<D>,
+    doubt: &mut Option<(Durable, u64)>,
+    event: Event,
+) -> Result<Step, NodeFault>
+    requires id { core.old.id ≡ id }
+    requires nodes { core.old.nodes ≡ nodes }
+    requires within { id < nodes }
+    requires most { nodes ≤ NODES }
+    requires whole { IsFalse store.old.broken }
+    requires sound { IsSound store.old.journal.slots (D.state store.old.disk) }
+    ensures id { core.new.id ≡ id }
+    ensures nodes { core.new.nodes ≡ nodes }
+    ensures counts { Counts (D.state store.old.disk) (D.state store.new.disk) (IsErrOf result NodeFault.Device) (IsOk result) }
+
+    // The event was handled.
+    ensures done { IfOk result (IsDone store.old.journal.slots nodes id core.old.state (durable_of store.old) event core.new.state (durable_of store.new)) }
+    ensures few { IfOk result (λ step. length step.sent.items ≤ most_of nodes (durable_of store.old).pending) }
+    ensures whole { IsOk result → IsFalse store.new.broken × (doubt.new ≡ doubt.old) }
+
+    // The device failed in its command.
+    ensures failed { IsErrOf result NodeFault.Device → IsFailed store.old.journal.slots nodes id core.old.state (durable_of store.old) event }
+    ensures fallen { IsErrOf result NodeFault.Device → (core.new.state ≡ down id) × (doubt.new ≡ told_doubt (durable_of store.old) (wants_of id (durable_of store.old).pending event core.old.state)) }
+
+    // It was refused.
+    ensures unchanged { IfErr result (λ fault. fault ≢ NodeFault.Device → (core.new.state ≡ core.old.state) × (store.new ≡ store.old) × (doubt.new ≡ doubt.old)) }
+    ensures refused { IfErr result (λ fault. fault ≢ NodeFault.Device → fault ≢ NodeFault.Core NoMemory → IsTurnedAway store.old.journal.slots nodes id core.old.state (durable_of store.old) event fault) }
+
+    ensures slots { store.new.journal.slots ≡ store.old.journal.slots }
+    ensures sound { IsSound store.old.journal.slots (D.state store.new.disk) }
+    ensures run { IsTrue (D.state store.old.disk).honest → Run (InStore store.old.journal.slots) (D.state store.old.disk) (D.state store.new.disk) }
+    ensures images { IsTrue (D.state store.old.disk).honest → AllStandFor store.old.journal.slots (durable_of store.old) (D.state store.old.disk)
+        → Each (D.state store.old.disk) (D.state store.new.disk) (BeforeOrAfter store.old.journal.slots (durable_of store.old) (wants_of id (durable_of store.old).pending event core.old.state)) }
+    ensures after { IsTrue (D.state store.old.disk).honest → AllStandFor store.old.journal.slots (durable_of store.old) (D.state store.old.disk)
+        → IsOk result → AllStandFor store.old.journal.slots (durable_of store.new) (D.state store.new.disk) }
+{
+    let plan = match core.plan_step(event, store.table()) {
+        Ok(plan) => plan,
+        Err(fault) => return Err(NodeFault::Core(fault)),
+    };
+    let wants = plan.wants();
+    let in_doubt = doubted(store, wants);
+    let answer = match carry(store, &wants) {
+        Ok(answer) => answer,
+        Err(fault) => {
+            if fault.is_device() {
+                *doubt = in_doubt;
+                *core = NodeCore::down(alloc, id, nodes);
+            }
+            return Err(fault);
+        }
+    };
+    let sent = core.commit_step(plan, answer.unwrap_or(0));
+    Ok(Step { sent, answer })
+}
+
+/// What is in doubt if the device fails in the command: the command with the count, or the next id, from before it.
+fn doubted<D: SectorDisk>(store: &NodeStore<D>, wants: Durable) -> Option<(Durable, u64)>
+    ensures { result ≡ told_doubt (durable_of store.now) (wanted_by wants) }
+{
+    match wants {
+        Durable::None => None,
+        Durable::Raise => Some((wants, store.counter())),
+        Durable::Put(_, _) | Durable::Done(_) => Some((wants, store.table().next())),
+    }
+}

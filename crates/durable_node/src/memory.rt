@@ -1,0 +1,90 @@
+// A node over a disk in memory: how it opens, and how it crashes.
+ghost use Rattle.std.specs.Prelude.{◌≡◌, ◌≤◌, ◌<◌, ◌+◌, ◌*◌, IfOk, Some, None};
+ghost use Rattle.group_task.specs.declared.node.TheConstants.{NODES};
+ghost use Rattle.sector_disk.specs.Memory.{Memory, state_of, all_synced};
+ghost use Rattle.sector_disk.specs.Crash.{IsCrashed};
+ghost use Rattle.node_core.specs.Start.{down};
+ghost use Rattle.durable_node.specs.After.{after};
+ghost use Rattle.durable_node.specs.Arming.{armed_disk, armed_store};
+ghost use Rattle.durable_node.specs.Node.{IsPlaced, Stands};
+ghost use Rattle.durable_node.specs.NodeState.{NodeState, opening};
+ghost use Rattle.durable_node.specs.What.{Crashed};
+
+use crate::node::DurableNode;
+use crate::remount::take_disk;
+use group_task::NodeId;
+use node_core::NodeCore;
+use node_store::{NodeStore, format};
+use sector_disk::MemDisk;
+use std::alloc::{AllocError, Global};
+
+impl DurableNode<MemDisk> {
+    /// A node on a new disk of two areas of so many slots: formatted, mounted and recovered. Refused where there is no
+    /// memory.
+    pub fn open(
+        alloc: Global,
+        id: NodeId,
+        nodes: u8,
+        slots: u64,
+    ) -> Result<DurableNode<MemDisk>, AllocError>
+        requires within { id < nodes }
+        requires most { nodes ≤ NODES }
+        requires least { 4 ≤ slots }
+        requires greatest { slots ≤ 4096 }
+        ensures id { IfOk result (λ node. node.id ≡ id) }
+        ensures nodes { IfOk result (λ node. node.nodes ≡ nodes) }
+        ensures opens { IfOk result (λ node. Stands state_of node (opening id)) }
+        ensures sectors { IfOk result (λ node. (disk : Memory) → node.disk ≡ Some disk → (state_of disk).sectors ≡ 8 + 4 * slots) }
+        ensures found { IfOk result (λ node. node.found ≡ None) }
+    {
+        let mut disk = MemDisk::new(alloc, 8 + 4 * slots)?;
+        if format(&mut disk).is_err() {
+            return Err(AllocError);
+        }
+        let mut node = DurableNode::down(alloc, id, nodes, disk);
+        if node.recover().is_err() {
+            return Err(AllocError);
+        }
+        node.found = None;
+        Ok(node)
+    }
+
+    /// Lets so many more calls of the disk pass, and fails all later ones, until it is armed anew or crashes.
+    pub fn arm(&mut self, calls: u64)
+        ensures armed { self.new ≡ record self.old { disk = armed_disk calls self.old.disk; found = None } }
+        ensures stands { (s : NodeState) → Stands state_of self.old s → Stands state_of self.new s }
+    {
+        arm_disk(&mut self.disk, &mut self.store, calls);
+        self.found = None;
+    }
+
+    /// Stops the node here. It is Down, and its disk has the bytes of `fill` in the sectors that weren't synced, as
+    /// [`MemDisk::crash`] says. What is in doubt stays in doubt.
+    pub fn crash(&mut self, fill: &[u8])
+        ensures down { self.new ≡ record self.old { state = down self.old.id; disk = self.new.disk; kept = None; found = None } }
+        ensures disk { (was now : Memory) → self.old.disk ≡ Some was → self.new.disk ≡ Some now
+            → IsCrashed was fill.now now.contents × (now ≡ all_synced now.contents was.failures) }
+        ensures stands { (s : NodeState) → Stands state_of self.old s → Stands state_of self.new (after self.old.id self.old.nodes s Crashed) }
+    {
+        let mut disk = take_disk(&mut self.disk, &mut self.store);
+        disk.crash(fill);
+        self.disk = Some(disk);
+        self.core = NodeCore::down(self.alloc, self.id, self.nodes);
+        self.found = None;
+    }
+}
+
+/// Arms the disk where it is.
+fn arm_disk(disk: &mut Option<MemDisk>, store: &mut Option<NodeStore<MemDisk>>, calls: u64)
+    requires placed { IsPlaced disk.old store.old }
+    ensures disk { disk.new ≡ armed_disk calls disk.old }
+    ensures store { store.new ≡ armed_store calls store.old }
+{
+    match disk {
+        Some(disk) => disk.arm(calls),
+        None => match store {
+            Some(store) => store.arm(calls),
+            None => unreachable!(),
+        },
+    }
+}

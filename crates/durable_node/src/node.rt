@@ -1,0 +1,174 @@
+// A node over its disk.
+ghost use Rattle.std.specs.Prelude.{◌≡◌, ◌≢◌, ◌≤◌, ◌<◌, IfOk, IfSome, IsNone, Some, None, Err, length, true};
+ghost use Rattle.group_task.specs.declared.node.TheConstants.{NODES};
+ghost use Rattle.job_model.specs.Table.{durable_of};
+ghost use Rattle.job_journal.specs.Journal.{IsSound};
+ghost use Rattle.node_core.specs.declared.fault.CoreFault.TheVariants.{NoMemory};
+ghost use Rattle.node_core.specs.Start.{down};
+ghost use Rattle.node_core.specs.State.{state_of, is_down};
+ghost use Rattle.node_store.specs.Store.{slots_for};
+ghost use Rattle.durable_node.specs.Remounting.{Remounted};
+ghost use Rattle.durable_node.specs.Stepping.{CountsOf, Steps, most_by};
+
+use crate::advance::{advance, is_down};
+use crate::fault::NodeFault;
+use crate::step::Step;
+use group_task::NodeId;
+use job_model::JobTable;
+use node_core::{Durable, Event, NodeCore, Vector};
+use node_store::NodeStore;
+use sector_disk::SectorDisk;
+use std::alloc::Global;
+use std::marker::Model;
+
+/// The state machine of one node over a disk that failures of the node don't erase.
+///
+/// An event is one atomic step, in this order:
+///
+/// 1. All memory is taken, and the event is refused or planned.
+/// 2. The plan's command is carried out on the disk.
+/// 3. The change is made, and only now the messages are handed out.
+///
+/// Where the device fails in the second step, the node is Down and nothing is sent: whether the command is on the disk is
+/// in doubt, until a recovery mounts the disk and finds out.
+#[derive(Drop)]
+pub struct DurableNode<D: SectorDisk> {
+    pub(crate) alloc: Global,
+    pub(crate) id: NodeId,
+    pub(crate) nodes: u8,
+    pub(crate) core: NodeCore,
+    // The disk stands here until it is mounted, and then under the store, also while the node is Down again.
+    pub(crate) disk: Option<D>,
+    pub(crate) store: Option<NodeStore<D>>,
+    pub(crate) doubt: Option<(Durable, u64)>,
+    // The counter that the last call found by mounting.
+    pub(crate) found: Option<u64>,
+}
+
+impl<D: SectorDisk> Model for DurableNode<D> {
+    ghost use Rattle.durable_node.specs.Node.{Node, IsNode, node_with};
+
+    ghost Value = { Node D };
+
+    ghost view = { λ a. node_with a.id a.nodes a.core a.disk a.store a.doubt a.found };
+
+    ghost invariant = { λ a. IsNode D.state a.id a.nodes a.core a.disk a.store };
+}
+
+impl<D: SectorDisk> DurableNode<D> {
+    /// A node that is Down over a disk, as after a crash: it comes up by the event Recover.
+    pub fn down(alloc: Global, id: NodeId, nodes: u8, disk: D) -> DurableNode<D>
+        requires within { id < nodes }
+        requires most { nodes ≤ NODES }
+        requires sound { IsSound (slots_for (D.state disk).sectors) (D.state disk) }
+        ensures { result ≡ record { id = id; nodes = nodes; state = down id; disk = Some disk; kept = None; doubt = None; found = None } }
+    {
+        DurableNode {
+            alloc,
+            id,
+            nodes,
+            core: NodeCore::down(alloc, id, nodes),
+            disk: Some(disk),
+            store: None,
+            doubt: None,
+            found: None,
+        }
+    }
+
+    /// What the node knows.
+    pub fn vector(&self) -> &Vector
+        ensures { state_of result.now ≡ self.now.state }
+    {
+        self.core.vector()
+    }
+
+    /// The counter and the jobs that the disk keeps. None where the node is Down.
+    pub fn durable(&self) -> Option<(u64, &JobTable)>
+        ensures some { IfSome result (λ shown. self.now.kept ≡ Some (durable_of shown.0 shown.1.now)) }
+        ensures none { IsNone result → self.now.kept ≡ None }
+    {
+        if is_down(&self.core) {
+            return None;
+        }
+        match &self.store {
+            Some(store) => Some((store.counter(), store.table())),
+            None => None,
+        }
+    }
+
+    /// What the last call that could change the node mounted: the counter from before the raise, and the jobs. It is told
+    /// also where that raise was refused or failed. None where that call mounted nothing.
+    pub fn mounted(&self) -> Option<(u64, &JobTable)>
+        ensures some { IfSome result (λ shown. self.now.found ≡ Some (durable_of shown.0 shown.1.now)) }
+        ensures none { IsNone result → self.now.found ≡ None }
+    {
+        match (self.found, &self.store) {
+            (Some(count), Some(store)) => Some((count, store.table())),
+            _ => None,
+        }
+    }
+
+    /// The command in which the device failed, with the count, or for a job the next id, from before it. It is kept until a
+    /// recovery settles it; one that is refused, or whose mounting fails, doesn't.
+    pub fn doubt(&self) -> Option<(Durable, u64)>
+        ensures { result ≡ self.now.doubt }
+    {
+        self.doubt
+    }
+}
+
+impl<D: SectorDisk + Drop> DurableNode<D> {
+    /// One event. A node that is Down does nothing but mount its disk, at the event Recover.
+    ///
+    /// Refused as the core refuses it, and then: `Full`, `Exhausted`, and where the node mounts its disk `NotFormatted`,
+    /// `Damaged` and `TooSmall`. A refusal leaves the node as it was. After `Device` the node is Down.
+    pub fn step(&mut self, event: Event) -> Result<Step, NodeFault>
+        ensures id { self.new.id ≡ self.old.id }
+        ensures nodes { self.new.nodes ≡ self.old.nodes }
+        ensures step { result ≢ Err (NodeFault.Core NoMemory) → Steps D.state self.old self.new event result }
+        ensures memory { result ≡ Err (NodeFault.Core NoMemory) → self.new ≡ record self.old { found = None } }
+        ensures counts { CountsOf D.state self.old.disk self.new.disk result }
+        // Over any disk, honest or not.
+        ensures mounting { is_down self.old.state.phase ≡ true → event ≡ Event.Recover → Remounted self.old self.new result self.new.found }
+        ensures few { IfOk result (λ step. length step.sent.items ≤ most_by self.old.nodes self.old.kept) }
+    {
+        advance(
+            self.alloc,
+            self.id,
+            self.nodes,
+            &mut self.core,
+            &mut self.disk,
+            &mut self.store,
+            &mut self.doubt,
+            &mut self.found,
+            event,
+        )
+    }
+
+    /// The event Recover: a node that is Down mounts its disk, and each node is then alone in a new group.
+    pub fn recover(&mut self) -> Result<Step, NodeFault>
+        ensures id { self.new.id ≡ self.old.id }
+        ensures nodes { self.new.nodes ≡ self.old.nodes }
+        ensures step { result ≢ Err (NodeFault.Core NoMemory) → Steps D.state self.old self.new Event.Recover result }
+        ensures memory { result ≡ Err (NodeFault.Core NoMemory) → self.new ≡ record self.old { found = None } }
+        ensures counts { CountsOf D.state self.old.disk self.new.disk result }
+        ensures mounting { is_down self.old.state.phase ≡ true → Remounted self.old self.new result self.new.found }
+        ensures few { IfOk result (λ step. length step.sent.items ≤ most_by self.old.nodes self.old.kept) }
+    {
+        self.step(Event::Recover)
+    }
+
+    /// The disk alone, as it is.
+    pub fn into_disk(self) -> D
+        ensures { self.disk ≡ Some result }
+    {
+        let DurableNode { disk, store, .. } = self;
+        match disk {
+            Some(disk) => disk,
+            None => match store {
+                Some(store) => store.into_disk(),
+                None => unreachable!(),
+            },
+        }
+    }
+}
