@@ -1,0 +1,11 @@
+pub mod Runs
+pub mod RunBooks
+pub mod Marked
+pub mod Picked
+pub mod Moments
+pub mod Headlines
+pub mod Grown
+pub mod Given
+pub mod Growing
+pub mod Examples
+pub mod Exact

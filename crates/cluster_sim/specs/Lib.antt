@@ -1,0 +1,10 @@
+pub mod World
+pub mod Step
+pub mod Run
+pub mod Acts
+pub mod Exact
+pub mod Given
+pub mod Marked
+pub mod Report
+pub mod Headline
+pub mod Growth

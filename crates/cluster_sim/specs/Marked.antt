@@ -1,0 +1,45 @@
+-- The commands and mountings of a run, each with its node, in the order of the steps.
+use Rattle.std.specs.Prelude.{ℕ, ◌+◌, ◌<◌, ◌^◌, ◌≡◌, ◌==◌, List, [], ◌∷◌, ◌++◌, map, length, slice_get, if◌then◌else◌, Option, Some, None}
+use Rattle.durable_node.specs.NodeState.{NodeState}
+use Rattle.durable_node.specs.What.{What}
+use Rattle.durable_node.specs.Kept.{Kept}
+use Rattle.durable_node.specs.Marks.{Mark, commands_of, mountings_of, marks_at, opening_marks}
+use Rattle.cluster_sim.specs.World.{World, start}
+use Rattle.cluster_sim.specs.Step.{Step, Takes, Loses, Cuts, Mends, Denies, world_after}
+use Rattle.cluster_sim.specs.Run.{RunFrom}
+
+abbrev pub tagged : ℕ → List Mark → List (ℕ × Mark)
+tagged n ms = map (λ m. (n, m)) ms
+
+-- those of one node
+abbrev pub own : ℕ → List (ℕ × Mark) → List Mark
+own n [] = []
+own n (p ∷ ps) = if p.0 == n then p.1 ∷ own n ps else own n ps
+
+abbrev pub marks_for : ℕ → ℕ → Option NodeState → ℕ → What → List Mark
+marks_for n nodes None count what = []
+marks_for n nodes (Some s) count what = marks_at n nodes s count what
+
+-- the marks of a step, where each node has given so many commands
+abbrev pub step_marks : ℕ → World → (ℕ → ℕ) → Step → List (ℕ × Mark)
+step_marks nodes w counts (Takes n number what) = tagged n (marks_for n nodes (slice_get w.states n) (counts n) what)
+step_marks nodes w counts (Loses k) = []
+step_marks nodes w counts (Cuts a b) = []
+step_marks nodes w counts (Mends a b) = []
+step_marks nodes w counts (Denies why) = []
+
+abbrev pub counts_after : (ℕ → ℕ) → List (ℕ × Mark) → ℕ → ℕ
+counts_after counts marks n = counts n + length (commands_of (own n marks))
+
+abbrev pub run_marks : ℕ → World → (ℕ → ℕ) → List Step → List (ℕ × Mark)
+run_marks nodes w counts [] = []
+run_marks nodes w counts (step ∷ steps) = step_marks nodes w counts step ++ run_marks nodes (world_after nodes w step) (counts_after counts (step_marks nodes w counts step)) steps
+
+-- the run is too short for a counter to come to its greatest value
+abbrev pub IsShortRun : List Step → Type 0
+IsShortRun steps = length steps + 1 < 2 ^ 64
+
+-- each node's commands and mountings in a run are kept; the opening's raise came first
+abbrev pub RunsAreKept : Type 0
+RunsAreKept = (nodes : ℕ) (steps : List Step) → RunFrom nodes (start nodes) steps → IsShortRun steps → (n : ℕ) (s : NodeState) → slice_get (start nodes).states n ≡ Some s →
+    Kept (commands_of (opening_marks ++ own n (run_marks nodes (start nodes) (λ k. 1) steps))) (mountings_of (opening_marks ++ own n (run_marks nodes (start nodes) (λ k. 1) steps)))

@@ -1,0 +1,6 @@
+//! Runs of a whole cluster, nodes with their disks and the network between them, and the laws of all runs.
+#![tactic(auto)]
+
+mod laws;
+
+pub use laws::{acts_are_exact, every_schedule, goes_on, groups_given, kept, left_by_a_run};

@@ -1,0 +1,13 @@
+//! Lines of text, their words, and the numbers and bytes that words spell.
+#![tactic(auto)]
+
+mod laws;
+mod lines;
+mod reading;
+
+pub use laws::numbers;
+pub use lines::{LineFault, bytes, cut_line};
+pub use reading::{number, words};
+
+#[cfg(test)]
+mod tests;

@@ -1,0 +1,48 @@
+ghost use Rattle.std.specs.Prelude.{◌≡◌, MatchOption, ◌∷◌, [], IfOk, option_map};
+ghost use Rattle.line_words.specs.Lines.{bytes_of, lines_of, CutsLine};
+
+use memchr::memchr;
+use std::alloc::{AllocError, Global};
+
+/// Why lines were not read.
+#[derive(Clone, Copy, Debug, PartialEq, Eq)]
+pub enum LineFault {
+    /// The line of this number can't be read. All lines count, from 1 on.
+    BadLine(u64),
+    /// Memory ran out.
+    NoMemory,
+}
+
+impl From<AllocError> for LineFault {
+    ghost use Rattle.line_words.specs.declared.lines.LineFault.TheVariants.{NoMemory};
+
+    ghost from_gives = { λ _ fault. fault ≡ NoMemory };
+
+    fn from(_error: AllocError) -> LineFault {
+        LineFault::NoMemory
+    }
+}
+
+/// The first line and what stands behind its line feed, if there is one.
+pub fn cut_line(text: &[u8]) -> Option<(&[u8], &[u8])>
+    ensures { MatchOption result (lines_of text.now ≡ text.now ∷ []) (λ cut. CutsLine text.now cut.0.now cut.1.now) }
+{
+    let end = memchr(b'\n', text)?;
+    Some((&text[..end], &text[end + 1..]))
+}
+
+/// The bytes that a word spells: hex digits of either case, or a dash for no bytes.
+pub fn bytes(alloc: Global, word: &[u8]) -> Result<Option<Vec<u8>>, AllocError>
+    ensures { IfOk result (λ bytes. option_map (λ found. found.items) bytes ≡ bytes_of word.now) }
+{
+    match word {
+        [] => return Ok(None),
+        [b'-'] => return Ok(Some(Vec::new(alloc))),
+        _ => {}
+    }
+    match hex::decode(alloc, word) {
+        Ok(bytes) => Ok(Some(bytes)),
+        Err(hex::FromHexError::OutOfMemory) => Err(AllocError),
+        Err(_) => Ok(None),
+    }
+}

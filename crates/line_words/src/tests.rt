@@ -1,0 +1,87 @@
+use super::{bytes, cut_line, number, words};
+use std::test::Fail;
+
+#[test]
+fn numbers(rt: HostRuntime) {
+    for (word, want) in [
+        ("0", Some(0)),
+        ("7", Some(7)),
+        ("10", Some(10)),
+        ("4096", Some(4096)),
+        ("18446744073709551615", Some(18_446_744_073_709_551_615)),
+        ("18446744073709551616", None),
+        ("18446744073709551620", None),
+        ("100000000000000000000", None),
+        ("", None),
+        ("00", None),
+        ("01", None),
+        ("+1", None),
+        ("-", None),
+        ("-1", None),
+        ("1a", None),
+        ("1.0", None),
+        (" 1", None),
+        ("1 ", None),
+        ("/", None),
+        (":", None),
+    ] {
+        assert!(rt; number(word.as_bytes()) == want, "{word}");
+    }
+}
+
+#[test]
+fn words_of_lines(rt: HostRuntime) -> Result<(), Fail> {
+    for (line, want) in [
+        ("", [""].as_slice()),
+        ("mend", ["mend"].as_slice()),
+        ("cut 1 22", ["cut", "1", "22"].as_slice()),
+        ("cut  1", ["cut", "", "1"].as_slice()),
+        (" cut", ["", "cut"].as_slice()),
+        ("cut ", ["cut", ""].as_slice()),
+        ("cut\t1\r", ["cut\t1\r"].as_slice()),
+    ] {
+        let found = words(rt.alloc(), line.as_bytes())?;
+        assert_eq!(rt; found.len(), want.len(), "{line}");
+        for (word, expected) in found.iter().zip(want) {
+            assert_eq!(rt; *word, expected.as_bytes(), "{line}");
+        }
+    }
+    Ok(())
+}
+
+#[test]
+fn bytes_of_words(rt: HostRuntime) -> Result<(), Fail> {
+    for (word, want) in [
+        ("-", Some(b"".as_slice())),
+        ("a5", Some(b"\xa5".as_slice())),
+        ("A5", Some(b"\xa5".as_slice())),
+        ("6869", Some(b"hi".as_slice())),
+        ("00fF", Some(b"\x00\xff".as_slice())),
+        ("", None),
+        ("--", None),
+        ("-0", None),
+        ("0x", None),
+        ("a", None),
+        ("a5a", None),
+        ("g0", None),
+        (" a5", None),
+    ] {
+        let found = bytes(rt.alloc(), word.as_bytes())?;
+        assert!(rt; found.as_deref() == want, "{word}");
+    }
+    Ok(())
+}
+
+#[test]
+fn first_lines(rt: HostRuntime) {
+    for (text, want) in [
+        ("", None),
+        ("cut 1 2", None),
+        ("\n", Some(("", ""))),
+        ("cut 1 2\n", Some(("cut 1 2", ""))),
+        ("cut 1 2\r\n\nmend", Some(("cut 1 2\r", "\nmend"))),
+    ] {
+        let want = want.map(|(line, behind): (&str, &str)| (line.as_bytes(), behind.as_bytes()));
+        assert!(rt; cut_line(text.as_bytes()) == want, "{text}");
+    }
+}

@@ -1,0 +1,86 @@
+-- The act that a line of a schedule names.
+use Rattle.std.specs.Prelude.{ℕ, List, [], ◌∷◌, Option, Some, None, option_map}
+use Rattle.schedule.specs.declared.act.Act.{Act}
+use Rattle.schedule.specs.declared.act.Act.TheVariants as act
+use Rattle.schedule.specs.declared.verb.Verb.{Verb}
+use Rattle.schedule.specs.declared.verb.Verb.TheVariants.{Check, Merge, Accept, Ready, Coord, Dispatch, Deliver, Lose, Cut, Mend, Submit, Finish, Arm, Crash, Recover}
+use Rattle.line_words.specs.Words.{number_of}
+use Rattle.line_words.specs.Lines.{bytes_of}
+use Rattle.schedule.specs.Verbs.{verb_of}
+use Rattle.schedule.specs.Fields.{node_of, queue_of, payload_of}
+
+-- what is made of two or three fields, where all of them can be read
+abbrev pub of_two : {A B C : Type 0} → (A → B → C) → Option A → Option B → Option C
+of_two make None b = None
+of_two make (Some a) b = option_map (make a) b
+
+abbrev pub of_three : {A B C D : Type 0} → (A → B → C → D) → Option A → Option B → Option C → Option D
+of_three make None b c = None
+of_three make (Some a) b c = of_two (make a) b c
+
+-- a verb with one field
+abbrev pub short_act : Verb → List ℕ → Option Act
+short_act Check node = option_map act.Check (node_of node)
+short_act Merge node = option_map act.Merge (node_of node)
+short_act Accept node = option_map act.Accept (node_of node)
+short_act Ready node = option_map act.Ready (node_of node)
+short_act Coord node = option_map act.Coord (node_of node)
+short_act Dispatch node = option_map act.Dispatch (node_of node)
+short_act Deliver number = option_map act.Deliver (number_of number)
+short_act Lose number = option_map act.Lose (number_of number)
+short_act Cut field = None
+short_act Mend field = None
+short_act Submit field = None
+short_act Finish field = None
+short_act Arm field = None
+short_act Crash node = option_map (λ n. act.Crash n []) (node_of node)
+short_act Recover node = option_map act.Recover (node_of node)
+
+-- a verb with two fields
+abbrev pub middle_act : Verb → List ℕ → List ℕ → Option Act
+middle_act Check a b = None
+middle_act Merge a b = None
+middle_act Accept a b = None
+middle_act Ready a b = None
+middle_act Coord a b = None
+middle_act Dispatch a b = None
+middle_act Deliver a b = None
+middle_act Lose a b = None
+middle_act Cut a b = of_two act.Cut (node_of a) (node_of b)
+middle_act Mend a b = of_two act.Mend (node_of a) (node_of b)
+middle_act Submit a b = None
+middle_act Finish a b = None
+middle_act Arm node calls = of_two act.Arm (node_of node) (number_of calls)
+middle_act Crash node fill = of_two act.Crash (node_of node) (bytes_of fill)
+middle_act Recover a b = None
+
+-- a verb with three fields
+abbrev pub long_act : Verb → List ℕ → List ℕ → List ℕ → Option Act
+long_act Check a b c = None
+long_act Merge a b c = None
+long_act Accept a b c = None
+long_act Ready a b c = None
+long_act Coord a b c = None
+long_act Dispatch a b c = None
+long_act Deliver a b c = None
+long_act Lose a b c = None
+long_act Cut a b c = None
+long_act Mend a b c = None
+long_act Submit node queue payload = of_three act.Submit (node_of node) (queue_of queue) (payload_of payload)
+long_act Finish node origin id = of_three act.Finish (node_of node) (node_of origin) (number_of id)
+long_act Arm a b c = None
+long_act Crash a b c = None
+long_act Recover a b c = None
+
+abbrev pub with_verb : {A : Type 0} → (Verb → Option A) → Option Verb → Option A
+with_verb read None = None
+with_verb read (Some verb) = read verb
+
+-- the act of these words
+abbrev pub act_of : List (List ℕ) → Option Act
+act_of [] = None
+act_of (name ∷ []) = None
+act_of (name ∷ a ∷ []) = with_verb (λ verb. short_act verb a) (verb_of name)
+act_of (name ∷ a ∷ b ∷ []) = with_verb (λ verb. middle_act verb a b) (verb_of name)
+act_of (name ∷ a ∷ b ∷ c ∷ []) = with_verb (λ verb. long_act verb a b c) (verb_of name)
+act_of (name ∷ a ∷ b ∷ c ∷ d ∷ rest) = None

@@ -1,0 +1,5 @@
+pub mod Verbs
+pub mod Fields
+pub mod Acts
+pub mod Text
+pub mod Limits

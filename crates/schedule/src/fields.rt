@@ -1,0 +1,43 @@
+ghost use Rattle.std.specs.Prelude.{◌≡◌, ◌≤◌, IfOk};
+ghost use Rattle.schedule.specs.Fields.{node_of, queue_of, payload_of, number_between};
+
+use group_task::NodeId;
+use job_model::{Payload, Queue};
+use line_words::{bytes, number};
+use std::alloc::{AllocError, Global};
+
+/// The node that a word names.
+pub fn node(word: &[u8]) -> Option<NodeId>
+    ensures { result ≡ node_of word.now }
+{
+    NodeId::new(u8::try_from(number(word)?).ok()?)
+}
+
+/// The queue that a word names.
+pub fn queue(word: &[u8]) -> Option<Queue>
+    ensures { result ≡ queue_of word.now }
+{
+    Queue::new(u8::try_from(number(word)?).ok()?)
+}
+
+/// The payload that a word spells.
+pub fn payload(alloc: Global, word: &[u8]) -> Result<Option<Payload>, AllocError>
+    ensures { IfOk result (λ payload. payload ≡ payload_of word.now) }
+{
+    match bytes(alloc, word)? {
+        Some(bytes) => Ok(Payload::new(&bytes)),
+        None => Ok(None),
+    }
+}
+
+/// The number that a word spells, where it is from `least` to `most`.
+pub fn between(least: u64, most: u64, word: &[u8]) -> Option<u64>
+    ensures { result ≡ number_between least most word.now }
+{
+    let number = number(word)?;
+    if least <= number && number <= most {
+        Some(number)
+    } else {
+        None
+    }
+}

@@ -1,0 +1,16 @@
+//! Schedules as text: a line for each act.
+#![tactic(auto)]
+
+mod act;
+mod fields;
+mod parsing;
+mod reading;
+mod size;
+mod verb;
+
+pub use act::{Act, Fill};
+pub use reading::read_schedule;
+pub use size::{LEAST_SLOTS, MOST_ACTS, MOST_SLOTS, Schedule, Size};
+
+#[cfg(test)]
+mod tests;

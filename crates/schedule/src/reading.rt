@@ -1,0 +1,118 @@
+ghost use Rattle.std.specs.Prelude.{◌≡◌, ◌+◌, ◌<◌, ◌^◌, IfOk, IfErr, OnOk, Ok, Err, Some, None, map, length, List, [], ◌∷◌, ◌++◌};
+ghost use Rattle.line_words.specs.Words.{words_of};
+ghost use Rattle.line_words.specs.Lines.{lines_of, IsLineFault};
+ghost use Rattle.schedule.specs.Text.{acts_from, named_size, onto, plan, plan_of, size_of, IsFaultAt};
+ghost use Rattle.schedule.specs.Limits.{IsWithinLimits};
+
+use crate::act::Act;
+use crate::fields::between;
+use crate::parsing::act;
+use crate::size::{LEAST_SLOTS, MOST_ACTS, MOST_SLOTS, Schedule, Size};
+use group_task::NODES;
+use line_words::{LineFault, cut_line, words};
+use std::alloc::{AllocError, Global};
+
+/// Reads a schedule: its first line that isn't empty names the cluster, each later one an act. The fault names the first line
+/// that can't be read; where no line names a cluster, that is the one behind the last.
+pub fn read_schedule(alloc: Global, input: &[u8]) -> Result<Schedule, LineFault>
+    ensures ok { IfOk result (λ schedule. plan_of input.now ≡ Ok (plan schedule.size schedule.acts.items)) }
+    ensures fits { IfOk result (λ schedule. IsWithinLimits schedule.size schedule.acts.items) }
+    ensures err { IfErr result (IsLineFault (plan_of input.now)) }
+{
+    let mut before = 0u64;
+    let mut left = input;
+    while let Some((line, behind)) = cut_line(left) {
+        before += 1;
+        if !line.is_empty() {
+            let size = read_size(alloc, before, line)?;
+            let acts = read_acts(alloc, before, behind)?;
+            return Ok(Schedule { size, acts });
+        }
+        left = behind;
+    }
+    let size = read_size(alloc, before + 1, left)?;
+    Ok(Schedule {
+        size,
+        acts: Vec::new(alloc),
+    })
+}
+
+/// The size that the line of this number names.
+fn read_size(alloc: Global, number: u64, line: &[u8]) -> Result<Size, LineFault>
+    ensures ok { IfOk result (λ size. size_of (words_of line.now) ≡ Some size) }
+    ensures err { IfErr result (IsFaultAt number (size_of (words_of line.now))) }
+{
+    let words = words(alloc, line)?;
+    match size(&words) {
+        Some(size) => Ok(size),
+        None => Err(LineFault::BadLine(number)),
+    }
+}
+
+/// The size that these words name.
+fn size(words: &[&[u8]]) -> Option<Size>
+    ensures { result ≡ size_of (map (λ word. word.now) words.now) }
+{
+    match words {
+        [name, nodes, slots] => named_size(name, nodes, slots),
+        [] => None,
+        [_] => None,
+        [_, _] => None,
+        [_, _, _, _, ..] => None,
+    }
+}
+
+fn named_size(name: &[u8], nodes: &[u8], slots: &[u8]) -> Option<Size>
+    ensures { result ≡ named_size name.now nodes.now slots.now }
+{
+    if name != "cluster".as_bytes() {
+        return None;
+    }
+    Some(Size {
+        nodes: between(1, u64::from(NODES), nodes)? as u8,
+        slots: between(LEAST_SLOTS, MOST_SLOTS, slots)?,
+    })
+}
+
+/// The acts of the lines of a text, of which the first has the number behind `before`. Empty lines are passed over.
+#[tactic(auto, using(crate::proofs::Behind::behind_line, crate::proofs::Behind::behind_last, crate::proofs::Behind::behind_fault, crate::proofs::Behind::behind_nothing))]
+fn read_acts(alloc: Global, before: u64, text: &[u8]) -> Result<Vec<Act>, LineFault>
+    requires counted { before + length text.now + 1 < 2 ^ 64 }
+    ensures ok { IfOk result (λ acts. acts_from before 0 (lines_of text.now) ≡ Ok acts.items) }
+    ensures err { IfErr result (IsLineFault (acts_from before 0 (lines_of text.now))) }
+{
+    let mut acts = Vec::new(alloc);
+    let mut number = before;
+    let mut left = text;
+    while let Some((line, behind)) = cut_line(left) {
+        number += 1;
+        read_act(alloc, number, line, &mut acts)?;
+        left = behind;
+    }
+    read_act(alloc, number + 1, left, &mut acts)?;
+    Ok(acts)
+}
+
+/// Adds the act of the line of this number, which is passed over where it is empty.
+fn read_act(alloc: Global, number: u64, line: &[u8], acts: &mut Vec<Act>) -> Result<(), LineFault>
+    ensures ok { OnOk result (Some acts.new.items ≡ onto acts.old.items line.now) }
+    ensures err { IfErr result (IsFaultAt number (onto acts.old.items line.now)) }
+{
+    if line.is_empty() {
+        return Ok(());
+    }
+    if acts.len() as u64 >= MOST_ACTS {
+        return Err(LineFault::BadLine(number));
+    }
+    let words = words(alloc, line)?;
+    match act(alloc, &words)? {
+        Some(act) => Ok(push(acts, act)?),
+        None => Err(LineFault::BadLine(number)),
+    }
+}
+
+fn push(acts: &mut Vec<Act>, act: Act) -> Result<(), AllocError>
+    ensures { OnOk result (acts.new.items ≡ acts.old.items ++ act ∷ []) }
+{
+    Ok(acts.push(act)?)
+}

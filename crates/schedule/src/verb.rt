@@ -1,0 +1,70 @@
+ghost use Rattle.std.specs.Prelude.{◌≡◌, bytes_eq};
+ghost use Rattle.schedule.specs.Verbs.{verb_of};
+
+/// What a line of a schedule asks for.
+#[derive(Clone, Copy, Debug, PartialEq, Eq)]
+pub enum Verb {
+    Check,
+    Merge,
+    Accept,
+    Ready,
+    Coord,
+    Dispatch,
+    Deliver,
+    Lose,
+    Cut,
+    Mend,
+    Submit,
+    Finish,
+    Arm,
+    Crash,
+    Recover,
+}
+
+impl Verb {
+    /// The verb that a word is.
+    pub fn from_word(word: &[u8]) -> Option<Verb>
+        ensures { result ≡ verb_of word.now }
+    {
+        if is(word, "check") {
+            Some(Verb::Check)
+        } else if is(word, "merge") {
+            Some(Verb::Merge)
+        } else if is(word, "accept") {
+            Some(Verb::Accept)
+        } else if is(word, "ready") {
+            Some(Verb::Ready)
+        } else if is(word, "coord") {
+            Some(Verb::Coord)
+        } else if is(word, "dispatch") {
+            Some(Verb::Dispatch)
+        } else if is(word, "deliver") {
+            Some(Verb::Deliver)
+        } else if is(word, "lose") {
+            Some(Verb::Lose)
+        } else if is(word, "cut") {
+            Some(Verb::Cut)
+        } else if is(word, "mend") {
+            Some(Verb::Mend)
+        } else if is(word, "submit") {
+            Some(Verb::Submit)
+        } else if is(word, "finish") {
+            Some(Verb::Finish)
+        } else if is(word, "arm") {
+            Some(Verb::Arm)
+        } else if is(word, "crash") {
+            Some(Verb::Crash)
+        } else if is(word, "recover") {
+            Some(Verb::Recover)
+        } else {
+            None
+        }
+    }
+}
+
+/// Whether a word is this name.
+fn is(word: &[u8], name: &str) -> bool
+    ensures { result ≡ bytes_eq word.now name.now }
+{
+    word == name.as_bytes()
+}

@@ -1,0 +1,86 @@
+-- Delivery by what is kept is delivery by what was done.
+use Rattle.std.proofs.Common.{◌≡◌, ℕ, zero, suc, Bool, true, false, List, [], ◌∷◌, ◌++◌, length, slice_get, refl, sym, ◌∙◌, ap, arith, slice_index_or, append_assoc, Option, Some, None}
+use Rattle.std.specs.Prelude.{◌==◌, ◌&&◌, ◌||◌, not, nat_lt, if◌then◌else◌, slice_set, replicate, unwrap_or, Ok, Err}
+use Rattle.std.proofs.lemmas.List.{append-nil, length-append}
+use Rattle.std.proofs.lemmas.Option.{unwrap_or-slice_get}
+use Rattle.group_task.specs.declared.node.TheConstants.{NODES}
+use Rattle.group_task.specs.Ids.{has}
+use Rattle.wire_msg.specs.Envelope.{Envelope}
+use Rattle.sim_net.specs.declared.fault.NetFault.TheVariants.{Lost, Cut}
+use Rattle.sim_net.specs.Network.{Network, silent, lesser, greater, is_cut, found_by, unless_cut}
+use Rattle.sim_net.specs.Changes.{Change, Sends, Loses, Cuts, Mends, after_change, after_changes, sent_by, was_lost, same_pair, was_cut, told_of, AreOfNodes, DeliveredByChanges}
+use Rattle.sim_net.proofs.Cuts.{cut_now, mended_now, not_lost_yet, lost_now}
+
+length-set : {A : Type 0} (xs : List A) (n : ℕ) (x : A) → length (slice_set xs n x) ≡ length xs
+length-set [] n x = refl
+length-set (y ∷ xs) zero x = refl
+length-set (y ∷ xs) (suc n) x = ap suc (length-set xs n x)
+
+all_sent : (cs : List Change) (net : Network) → (after_changes net cs).sent ≡ net.sent ++ sent_by cs
+all_sent [] net = sym (append-nil net.sent)
+all_sent (Sends m ∷ cs) net = all_sent cs (after_change net (Sends m)) ∙ append_assoc net.sent (m ∷ []) (sent_by cs)
+all_sent (Loses k ∷ cs) net = all_sent cs (after_change net (Loses k))
+all_sent (Cuts a b ∷ cs) net = all_sent cs (after_change net (Cuts a b))
+all_sent (Mends a b ∷ cs) net = all_sent cs (after_change net (Mends a b))
+
+or_regroup : (a b c : Bool) → (a || b) || c ≡ b || (a || c)
+or_regroup true true c = refl
+or_regroup true false c = refl
+or_regroup false true c = refl
+or_regroup false false c = refl
+
+all_lost : (cs : List Change) (net : Network) (k n : ℕ) → length net.lost ≡ n → slice_index_or (after_changes net cs).lost k false ≡ slice_index_or net.lost k false || was_lost k n cs
+all_lost [] net k n is = nothing_more (slice_index_or net.lost k false)
+  where
+    nothing_more : (b : Bool) → b ≡ b || false
+    nothing_more true = refl
+    nothing_more false = refl
+all_lost (Sends m ∷ cs) net k n is =
+    all_lost cs (after_change net (Sends m)) k (suc n) (omega (arith, is, length-append net.lost (false ∷ [])))
+    ∙ ap (λ (b : Bool). b || was_lost k (suc n) cs) (not_lost_yet net.lost k)
+all_lost (Loses j ∷ cs) net k n is =
+    all_lost cs (after_change net (Loses j)) k n (length-set net.lost j true ∙ is)
+    ∙ ap (λ (b : Bool). b || was_lost k n cs) (lost_now net.lost j k ∙ ap (λ (x : ℕ). (k == j && nat_lt k x) || slice_index_or net.lost k false) is)
+    ∙ or_regroup (k == j && nat_lt k n) (slice_index_or net.lost k false) (was_lost k n cs)
+all_lost (Cuts a b ∷ cs) net k n is = all_lost cs (after_change net (Cuts a b)) k n is
+all_lost (Mends a b ∷ cs) net k n is = all_lost cs (after_change net (Mends a b)) k n is
+
+all_cut : (cs : List Change) (net : Network) (a b : ℕ) (before : Bool) → length net.cuts ≡ NODES → AreOfNodes cs → is_cut net.cuts a b ≡ before → is_cut (after_changes net cs).cuts a b ≡ was_cut a b before cs
+all_cut [] net a b before rows nodes is = is
+all_cut (Sends m ∷ cs) net a b before rows nodes is = all_cut cs (after_change net (Sends m)) a b before rows nodes is
+all_cut (Loses k ∷ cs) net a b before rows nodes is = all_cut cs (after_change net (Loses k)) a b before rows nodes is
+all_cut (Cuts c d ∷ cs) net a b before rows nodes is =
+    all_cut cs (after_change net (Cuts c d)) a b (same_pair a b c d || before) (length-set net.cuts _ _ ∙ rows) nodes.2
+    (cut_now net.cuts a b c d (omega (arith, rows, nodes.0)) (omega (arith, rows, nodes.1)) ∙ ap (λ (t : Bool). same_pair a b c d || t) is)
+all_cut (Mends c d ∷ cs) net a b before rows nodes is =
+    all_cut cs (after_change net (Mends c d)) a b (not (same_pair a b c d) && before) (length-set net.cuts _ _ ∙ rows) nodes.2
+    (mended_now net.cuts a b c d (omega (arith, rows, nodes.0)) (omega (arith, rows, nodes.1)) ∙ ap (λ (t : Bool). not (same_pair a b c d) && t) is)
+
+-- nothing is cut at the start
+none_cut : (n i x : ℕ) → has (slice_index_or (replicate n []) i []) x ≡ false
+none_cut zero i x = refl
+none_cut (suc n) zero x = refl
+none_cut (suc n) (suc i) x = none_cut n i x
+
+if_same : (lost : Bool) (cuts : Bool) (m : Envelope) (cut : List (List ℕ)) → is_cut cut m.sender m.receiver ≡ cuts
+    → unless_cut cut (found_by (Some m) (Some lost)) ≡ (if lost then Err Lost else (if cuts then Err Cut else Ok m))
+if_same true cuts m cut is = refl
+if_same false cuts m cut is = rw is refl
+
+told_same : (o : Option Envelope) (l : Option Bool) (cut : List (List ℕ)) (cs : List Change) (lost : Bool) → unwrap_or l false ≡ lost
+    → ((m : Envelope) → is_cut cut m.sender m.receiver ≡ was_cut m.sender m.receiver false cs) → unless_cut cut (found_by o l) ≡ told_of cs o lost
+told_same None l cut cs lost is same = refl
+told_same (Some m) None cut cs lost is same =
+    let no : false ≡ lost = is in
+    if_same false (was_cut m.sender m.receiver false cs) m cut (same m) ∙ ap (λ (b : Bool). told_of cs (Some m) b) no
+told_same (Some m) (Some b) cut cs lost is same =
+    if_same b (was_cut m.sender m.receiver false cs) m cut (same m) ∙ ap (λ (x : Bool). told_of cs (Some m) x) is
+
+pub delivered_by_changes : DeliveredByChanges
+delivered_by_changes cs nodes k =
+    let net : Network = after_changes silent cs in
+    let sent : net.sent ≡ sent_by cs = all_sent cs silent in
+    let lost : unwrap_or (slice_get net.lost k) false ≡ was_lost k 0 cs = unwrap_or-slice_get net.lost k false ∙ all_lost cs silent k 0 refl in
+    told_same (slice_get net.sent k) (slice_get net.lost k) net.cuts cs (was_lost k 0 cs) lost
+    (λ m. all_cut cs silent m.sender m.receiver false refl nodes (none_cut NODES (lesser m.sender m.receiver) (greater m.sender m.receiver)))
+    ∙ ap (λ (ms : List Envelope). told_of cs (slice_get ms k) (was_lost k 0 cs)) sent

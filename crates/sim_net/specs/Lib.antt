@@ -1,0 +1,5 @@
+pub mod Letters
+pub mod Rooms
+pub mod Network
+pub mod Changes
+pub use Rattle.wire_msg.specs.Envelope

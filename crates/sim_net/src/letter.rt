@@ -1,0 +1,188 @@
+//! Messages as they are kept: 16 bytes for each, and what is longer in lists beside it.
+
+ghost use Rattle.std.specs.Prelude.{◌≡◌, ◌+◌, ◌<◌, ◌≤◌, ◌^◌, ◌++◌, length, vec_len, vec_capacity, All};
+ghost use Rattle.sim_net.specs.Letters.{letter_of, noted, task_kept, work_kept, payload_kept, body_of, HasNumber, CanBeRead, HasPayload, work_said};
+ghost use Rattle.job_model.specs.declared.payload.TheConstants.{PAYLOAD_CAPACITY};
+
+use group_task::{GroupNo, NodeId, Task};
+use job_model::{PAYLOAD_CAPACITY, Payload, Queue};
+use wire_msg::{Body, Message};
+
+/// The kind of a message, and its answer where it has one.
+#[derive(Clone, Copy)]
+pub enum Kind {
+    AreYouCoordinator,
+    Coordinator(bool),
+    AreYouThere,
+    Here(bool),
+    Invitation,
+    Accept,
+    Ready,
+    ReadyAck,
+    Work,
+    Done,
+}
+
+/// What of a body has a fixed size: the group that it names is (creator : number), the job of a Done has the number as its id,
+/// and the task of a Ready and the work of a Work have it as their place in the lists beside. What a kind has no use for is
+/// the sender, or 0.
+#[derive(Clone, Copy)]
+pub struct Noted {
+    pub kind: Kind,
+    pub creator: NodeId,
+    pub number: u64,
+}
+
+/// A message as it is kept.
+#[derive(Clone, Copy)]
+pub struct Letter {
+    pub sender: NodeId,
+    pub receiver: NodeId,
+    pub kind: Kind,
+    pub creator: NodeId,
+    pub number: u64,
+}
+
+/// A Work as it is kept: where its payload begins among all payloads, and how long it is.
+#[derive(Clone, Copy)]
+pub struct KeptWork {
+    pub group: GroupNo,
+    pub id: u64,
+    pub queue: Queue,
+    pub start: usize,
+    pub len: usize,
+}
+
+/// What is kept of a body in a fixed size, where so many tasks and works are kept before it.
+fn note_of(sender: NodeId, tasks: usize, works: usize, body: &Body) -> Noted
+    ensures value { result ≡ noted sender tasks works body.now }
+    ensures number { HasNumber (tasks + 1) (works + 1) result.kind result.number }
+{
+    let of = |kind: Kind, group: GroupNo| Noted {
+        kind,
+        creator: group.creator(),
+        number: group.count(),
+    };
+    let own = |kind: Kind, number: u64| Noted {
+        kind,
+        creator: sender,
+        number,
+    };
+    match body {
+        Body::AreYouCoordinator => own(Kind::AreYouCoordinator, 0),
+        Body::Coordinator(answer) => own(Kind::Coordinator(*answer), 0),
+        Body::AreYouThere(group) => of(Kind::AreYouThere, *group),
+        Body::Here(group, answer) => of(Kind::Here(*answer), *group),
+        Body::Invitation(group) => of(Kind::Invitation, *group),
+        Body::Accept(group) => of(Kind::Accept, *group),
+        Body::Ready(_) => own(Kind::Ready, tasks as u64),
+        Body::ReadyAck(group) => of(Kind::ReadyAck, *group),
+        Body::Work { .. } => own(Kind::Work, works as u64),
+        Body::Done(id) => own(Kind::Done, *id),
+    }
+}
+
+/// The letter of a message, where so many tasks and works are kept before it.
+pub fn letter_of(message: &Message, tasks: usize, works: usize) -> Letter
+    ensures value { result ≡ letter_of tasks works message.now }
+    ensures can_be_read { CanBeRead (tasks + 1) (works + 1) result }
+{
+    let sender = message.sender();
+    let noted = note_of(sender, tasks, works, message.body());
+    Letter {
+        sender,
+        receiver: message.receiver(),
+        kind: noted.kind,
+        creator: noted.creator,
+        number: noted.number,
+    }
+}
+
+/// Keeps the task of a Ready, in the room that is there.
+pub fn keep_task(tasks: &mut Vec<Task>, body: &Body)
+    requires { vec_len tasks.old < vec_capacity tasks.old }
+    ensures tasks { tasks.new.items ≡ tasks.old.items ++ task_kept body.now }
+    ensures few { vec_len tasks.new ≤ vec_len tasks.old + 1 }
+    ensures room { vec_capacity tasks.new ≡ vec_capacity tasks.old }
+{
+    if let Body::Ready(task) = body {
+        tasks.push_reserved(*task);
+    }
+}
+
+/// Keeps a Work whose payload begins here, in the room that is there.
+pub fn keep_work(works: &mut Vec<KeptWork>, start: usize, body: &Body)
+    requires { vec_len works.old < vec_capacity works.old }
+    ensures works { works.new.items ≡ works.old.items ++ work_kept start body.now }
+    ensures few { vec_len works.new ≤ vec_len works.old + 1 }
+    ensures room { vec_capacity works.new ≡ vec_capacity works.old }
+{
+    if let Body::Work {
+        group,
+        id,
+        queue,
+        payload,
+    } = body
+    {
+        works.push_reserved(KeptWork {
+            group: *group,
+            id: *id,
+            queue: *queue,
+            start,
+            len: payload.len(),
+        });
+    }
+}
+
+/// Keeps the payload of a Work, in the room that is there.
+pub fn keep_payload(payloads: &mut Vec<u8>, body: &Body)
+    requires { vec_len payloads.old + PAYLOAD_CAPACITY ≤ vec_capacity payloads.old }
+    ensures payloads { payloads.new.items ≡ payloads.old.items ++ payload_kept body.now }
+    ensures fits { length (payload_kept body.now) ≤ PAYLOAD_CAPACITY }
+    ensures few { vec_len payloads.new ≤ vec_len payloads.old + PAYLOAD_CAPACITY }
+    ensures room { vec_capacity payloads.old ≤ vec_capacity payloads.new }
+{
+    if let Body::Work { payload, .. } = body {
+        let _ = payloads.extend_from_slice(payload.as_slice());
+    }
+}
+
+/// The body of a letter whose group has a count, and whose task or work is kept.
+pub fn body_of(tasks: &[Task], works: &[KeptWork], payloads: &[u8], letter: &Letter) -> Body
+    requires number { HasNumber (length tasks.now) (length works.now) letter.now.kind letter.now.number }
+    requires payloads { All (HasPayload (length payloads.now)) works.now }
+    ensures { result ≡ body_of tasks.now works.now payloads.now letter.now }
+{
+    let Letter {
+        kind,
+        creator,
+        number,
+        ..
+    } = *letter;
+    match kind {
+        Kind::AreYouCoordinator => Body::AreYouCoordinator,
+        Kind::Coordinator(answer) => Body::Coordinator(answer),
+        Kind::AreYouThere => Body::AreYouThere(GroupNo::numbered(creator, number)),
+        Kind::Here(answer) => Body::Here(GroupNo::numbered(creator, number), answer),
+        Kind::Invitation => Body::Invitation(GroupNo::numbered(creator, number)),
+        Kind::Accept => Body::Accept(GroupNo::numbered(creator, number)),
+        Kind::Ready => Body::Ready(tasks[number as usize]),
+        Kind::ReadyAck => Body::ReadyAck(GroupNo::numbered(creator, number)),
+        Kind::Work => work_said(payloads, &works[number as usize]),
+        Kind::Done => Body::Done(number),
+    }
+}
+
+/// A Work with its payload.
+fn work_said(payloads: &[u8], work: &KeptWork) -> Body
+    requires { HasPayload (length payloads.now) work.now }
+    ensures { result ≡ work_said payloads.now work.now }
+{
+    let bytes = &payloads[work.start..work.start + work.len];
+    Body::Work {
+        group: work.group,
+        id: work.id,
+        queue: work.queue,
+        payload: Payload::new(bytes).unwrap(),
+    }
+}

@@ -1,0 +1,101 @@
+ghost use Rattle.std.specs.Prelude.{◌≡◌, ◌-◌, ◌+◌, ◌<◌, ◌≤◌, [], ◌∷◌, ◌++◌, length, max, slice_get, OnOk, OnErr};
+
+use crate::letter::{KeptWork, Letter, body_of, keep_payload, keep_task, keep_work, letter_of};
+use group_task::Task;
+use job_model::PAYLOAD_CAPACITY;
+use std::alloc::{AllocError, Global};
+use std::marker::Model;
+use wire_msg::Message;
+
+/// Messages in the order in which they were added.
+///
+/// Each takes 16 bytes, a Ready 24 more, and a Work 48 more and the bytes of its payload: so a long list takes about what the
+/// spellings of its messages take.
+#[derive(Drop)]
+pub struct MessageList {
+    letters: Vec<Letter>,
+    tasks: Vec<Task>,
+    works: Vec<KeptWork>,
+    payloads: Vec<u8>,
+    // for so many more messages there is room, whatever they say
+    room: usize,
+}
+
+impl Model for MessageList {
+    ghost use Rattle.std.specs.Prelude.{map};
+    ghost use Rattle.sim_net.specs.Letters.{Kept, message_of};
+
+    ghost Value = { Kept };
+
+    ghost use Rattle.sim_net.specs.Rooms.{IsKept};
+
+    ghost view = { λ a. record { messages = map (message_of a.tasks.items a.works.items a.payloads.items) a.letters.items; room = a.room } };
+
+    ghost invariant = { IsKept };
+}
+
+impl MessageList {
+    /// An empty list. It takes no memory before its first message.
+    pub fn new(alloc: Global) -> MessageList
+        ensures { result ≡ record { messages = []; room = 0 } }
+    {
+        MessageList {
+            letters: Vec::new(alloc),
+            tasks: Vec::new(alloc),
+            works: Vec::new(alloc),
+            payloads: Vec::new(alloc),
+            room: 0,
+        }
+    }
+
+    /// How many messages there are.
+    pub fn len(&self) -> usize
+        ensures { result ≡ length self.now.messages }
+    {
+        self.letters.len()
+    }
+
+    /// Makes room for so many more messages, whatever they say.
+    pub fn reserve(&mut self, more: usize) -> Result<(), AllocError>
+        ensures messages { self.new.messages ≡ self.old.messages }
+        ensures room { OnOk result (self.new.room ≡ max self.old.room more) }
+        ensures refused { OnErr result (self.old.room < more) }
+        ensures unchanged { OnErr result (self.new ≡ self.old) }
+    {
+        if more <= self.room {
+            return Ok(());
+        }
+        let Some(bytes) = more.checked_mul(PAYLOAD_CAPACITY) else {
+            return Err(AllocError);
+        };
+        self.letters.reserve(more)?;
+        self.tasks.reserve(more)?;
+        self.works.reserve(more)?;
+        self.payloads.reserve(bytes)?;
+        self.room = more;
+        Ok(())
+    }
+
+    /// Adds a message in the room that is there.
+    pub fn push(&mut self, message: &Message)
+        requires { 0 < self.old.room }
+        ensures { self.new ≡ record { messages = self.old.messages ++ message.now ∷ []; room = self.old.room - 1 } }
+    {
+        let body = message.body();
+        let letter = letter_of(message, self.tasks.len(), self.works.len());
+        keep_task(&mut self.tasks, body);
+        keep_work(&mut self.works, self.payloads.len(), body);
+        keep_payload(&mut self.payloads, body);
+        self.letters.push_reserved(letter);
+        self.room -= 1;
+    }
+
+    /// The message at a place, counted from 0.
+    pub fn get(&self, place: usize) -> Option<Message>
+        ensures { result ≡ slice_get self.now.messages place }
+    {
+        let letter = self.letters.get(place)?;
+        let body = body_of(&self.tasks, &self.works, &self.payloads, letter);
+        Some(Message::between(letter.sender, letter.receiver, body))
+    }
+}

@@ -1,0 +1,157 @@
+ghost use Rattle.std.specs.Prelude.{◌≡◌, ◌↔◌, ◌+◌, ◌<◌, ◌≤◌, length, max, Err, OnOk, OnErr, IfOk, IfErr};
+ghost use Rattle.sim_net.specs.Network.{silent, lesser, greater, is_cut, found, delivery, after_sent, after_lost, after_cut, after_mend};
+
+use crate::fault::NetFault;
+use crate::list::MessageList;
+use group_task::{Members, NODES, NodeId};
+use std::alloc::Global;
+use std::marker::Model;
+use wire_msg::Message;
+
+/// All messages that were ever sent, each under its number, with its mark of loss, and the pairs of nodes that are cut.
+///
+/// No message ever leaves: what was delivered may come again, at any later time.
+#[derive(Drop)]
+pub struct Net {
+    sent: MessageList,
+    lost: Vec<bool>,
+    // in the row of the lesser node of a pair that is cut the greater one
+    cuts: [Members; NODES as usize],
+}
+
+impl Model for Net {
+    ghost use Rattle.std.specs.Prelude.{◌≡◌, ◌+◌, ◌≤◌, length, vec_len, vec_capacity};
+    ghost use Rattle.sim_net.specs.Network.{Network, Roomy};
+
+    ghost Value = { Roomy };
+
+    ghost view = { λ a. record { network = record { sent = a.sent.messages; lost = a.lost.items; cuts = a.cuts }; room = a.sent.room } };
+
+    ghost invariant = { λ a. (vec_len a.lost ≡ length a.sent.messages) × (vec_len a.lost + a.sent.room ≤ vec_capacity a.lost) };
+}
+
+impl Net {
+    /// A network with nothing sent and no pair cut. It takes no memory before it is asked for room.
+    pub fn new(alloc: Global) -> Net
+        ensures { result ≡ record { network = silent; room = 0 } }
+    {
+        Net {
+            sent: MessageList::new(alloc),
+            lost: Vec::new(alloc),
+            cuts: [Members::new(); NODES as usize],
+        }
+    }
+
+    /// All messages that were ever sent, each at the place of its number; the lost ones too.
+    pub fn sent(&self) -> &MessageList
+        ensures { result.now.messages ≡ self.now.network.sent }
+    {
+        &self.sent
+    }
+
+    /// Makes room for so many more messages, whatever they say: sending them takes no memory then.
+    pub fn reserve(&mut self, more: usize) -> Result<(), NetFault>
+        ensures network { self.new.network ≡ self.old.network }
+        ensures room { OnOk result (self.new.room ≡ max self.old.room more) }
+        ensures fault { IfErr result (λ e. e ≡ NetFault.NoMemory) }
+        ensures refused { OnErr result ((self.old.room < more) × (self.new ≡ self.old)) }
+    {
+        self.lost.reserve(more)?;
+        self.sent.reserve(more)?;
+        Ok(())
+    }
+
+    /// Sends a message, and answers its number, counted from 0.
+    pub fn send(&mut self, message: Message) -> Result<u64, NetFault>
+        ensures number { IfOk result (λ number. number ≡ length self.old.network.sent) }
+        ensures sent { OnOk result (self.new.network ≡ after_sent self.old.network message) }
+        ensures room { self.old.room ≤ self.new.room + 1 }
+        ensures fault { IfErr result (λ e. e ≡ NetFault.NoMemory) }
+        ensures refused { OnErr result ((self.old.room ≡ 0) × (self.new ≡ self.old)) }
+    {
+        self.reserve(1)?;
+        let number = self.sent.len() as u64;
+        self.lost.push_reserved(false);
+        self.sent.push(&message);
+        Ok(number)
+    }
+
+    /// The message of this number. It stays, and may come again.
+    pub fn deliver(&self, number: u64) -> Result<Message, NetFault>
+        ensures { result ≡ delivery self.now.network number }
+    {
+        let message = self.find(number)?;
+        if self.is_cut(message.sender(), message.receiver()) {
+            return Err(NetFault::Cut);
+        }
+        Ok(message)
+    }
+
+    /// Loses the message of this number: from now on it never comes.
+    pub fn lose(&mut self, number: u64) -> Result<(), NetFault>
+        ensures lost { OnOk result (self.new ≡ record { network = after_lost self.old.network number; room = self.old.room }) }
+        ensures refused { (fault : NetFault) → (result ≡ Err fault) ↔ (found self.old.network number ≡ Err fault) }
+        ensures unchanged { OnErr result (self.new ≡ self.old) }
+    {
+        let place = number as usize;
+        if place >= self.lost.len() {
+            return Err(NetFault::NoSuch);
+        }
+        if self.lost[place] {
+            return Err(NetFault::Lost);
+        }
+        self.lost[place] = true;
+        Ok(())
+    }
+
+    /// Cuts two nodes from one another, in both directions. A pair that is cut stays so, and a node isn't cut from itself.
+    pub fn cut(&mut self, a: NodeId, b: NodeId)
+        ensures { self.new ≡ record { network = after_cut self.old.network a b; room = self.old.room } }
+    {
+        let (lesser, greater) = in_order(a, b);
+        let row = &mut self.cuts[usize::from(lesser.number())];
+        row.insert(greater);
+    }
+
+    /// Joins two nodes again, in both directions. A pair that isn't cut stays so.
+    pub fn mend(&mut self, a: NodeId, b: NodeId)
+        ensures { self.new ≡ record { network = after_mend self.old.network a b; room = self.old.room } }
+    {
+        let (lesser, greater) = in_order(a, b);
+        let row = &mut self.cuts[usize::from(lesser.number())];
+        row.remove(greater);
+    }
+
+    /// The message of this number, unless it is lost.
+    fn find(&self, number: u64) -> Result<Message, NetFault>
+        ensures { result ≡ found self.now.network number }
+    {
+        let place = number as usize;
+        let Some(message) = self.sent.get(place) else {
+            return Err(NetFault::NoSuch);
+        };
+        if self.lost[place] {
+            return Err(NetFault::Lost);
+        }
+        Ok(message)
+    }
+
+    /// Whether the pair of these two nodes is cut.
+    fn is_cut(&self, a: NodeId, b: NodeId) -> bool
+        ensures { result ≡ is_cut self.now.network.cuts a b }
+    {
+        let (lesser, greater) = in_order(a, b);
+        self.cuts[usize::from(lesser.number())].contains(greater)
+    }
+}
+
+/// Two nodes, the lesser first.
+fn in_order(a: NodeId, b: NodeId) -> (NodeId, NodeId)
+    ensures { result ≡ (lesser a b, greater a b) }
+{
+    if b.number() < a.number() {
+        (b, a)
+    } else {
+        (a, b)
+    }
+}
