@@ -9,3 +9,9 @@ pub mod Given
 pub mod Growing
 pub mod Examples
 pub mod Exact
+pub mod Sending
+pub mod Coming
+pub mod Members
+pub mod Doings
+pub mod Quiet
+pub mod Opened

@@ -19,12 +19,12 @@ use Rattle.cluster_sim.specs.Step.{Step, Takes, Loses, Cuts, Mends, Denies, stat
 use Rattle.cluster_sim.specs.Run.{IsBrought, RunFrom, world_at, history_in, histories_from, histories_of, RunsAreBundles}
 
 -- a cell that is set, and the others
-get_set_same : {A : Type 0} (xs : List A) (n : ℕ) (x y : A) → slice_get xs n ≡ Some x → slice_get (slice_set xs n y) n ≡ Some y
+pub get_set_same : {A : Type 0} (xs : List A) (n : ℕ) (x y : A) → slice_get xs n ≡ Some x → slice_get (slice_set xs n y) n ≡ Some y
 get_set_same [] n x y at = absurd cc
 get_set_same (z ∷ xs) zero x y at = refl
 get_set_same (z ∷ xs) (suc n) x y at = get_set_same xs n x y at
 
-get_set_other : {A : Type 0} (xs : List A) (n m : ℕ) (y : A) → n ≢ m → slice_get (slice_set xs m y) n ≡ slice_get xs n
+pub get_set_other : {A : Type 0} (xs : List A) (n m : ℕ) (y : A) → n ≢ m → slice_get (slice_set xs m y) n ≡ slice_get xs n
 get_set_other [] n m y ne = refl
 get_set_other (z ∷ xs) zero zero y ne = absurd (ne refl)
 get_set_other (z ∷ xs) zero (suc m) y ne = refl

@@ -8,3 +8,6 @@ pub mod Marked
 pub mod Report
 pub mod Headline
 pub mod Growth
+pub mod Told
+pub mod Machine
+pub mod Events

@@ -24,3 +24,4 @@ pub mod Nodes
 pub mod Crashes
 pub mod Opens
 pub mod AnyDisk
+pub mod Placed

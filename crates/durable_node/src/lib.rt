@@ -13,6 +13,7 @@ mod ignore;
 mod laws;
 mod memory;
 mod node;
+mod place;
 mod remount;
 mod step;
 

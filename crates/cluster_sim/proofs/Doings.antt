@@ -1,0 +1,247 @@
+-- What a cluster makes of an act, by the kind of the act.
+use Rattle.std.proofs.Common.{◌≡◌, ℕ, Bool, true, false, List, [], length, nat_lt, refl, sym, ◌∙◌, ap, subst, Option, Some, None, Result, Ok, Err}
+use Rattle.std.specs.Prelude.{◌&&◌, IfSome, IfOk}
+use Rattle.wire_msg.specs.Envelope.{Envelope}
+use Rattle.sim_net.specs.declared.fault.NetFault.{NetFault}
+use Rattle.sim_net.specs.Network.{Network, found, delivery, after_lost, after_cut, after_mend}
+use Rattle.node_core.specs.declared.event.Event.{Event}
+use Rattle.node_core.specs.declared.event.Event.TheVariants as on
+use Rattle.durable_node.specs.What.{What, Did, Refused, Faulted, Rests, Crashed, Recovered, MountFailed, RaiseFailed, RaiseRefused, event_of, brought, AreAddressed}
+use Rattle.schedule.specs.declared.act.Act.{Act}
+use Rattle.schedule.specs.declared.act.Act.TheVariants as act
+use Rattle.cluster_sim.specs.declared.outcome.Outcome.{Outcome}
+use Rattle.cluster_sim.specs.declared.outcome.Outcome.TheVariants as outcome
+use Rattle.cluster_sim.specs.declared.outcome.Refusal.TheVariants as refusal
+use Rattle.cluster_sim.specs.World.{World}
+use Rattle.cluster_sim.specs.Step.{Step, Loses, Cuts, Mends, Denies, OfNet, Stranger}
+use Rattle.cluster_sim.specs.Run.{IsBrought}
+use Rattle.cluster_sim.specs.Acts.{IsOf, IsRecovery, At, Brings, lost_step, if_known, IsStepOf}
+use Rattle.cluster_sim.specs.Events.{event_at}
+use Rattle.cluster_sim.specs.Machine.{Machine, StandsFor, CameOf, Makes, Acted}
+
+-- ---- what comes of an event
+
+pub brought_came : (w : World) (n number : ℕ) (event : Event) → IsBrought w number (brought (Some event)) → AreAddressed n (brought (Some event))
+    → (what : What) → CameOf event what → IsBrought w number (brought (event_of what)) × AreAddressed n (brought (event_of what))
+brought_came w n number event brings goes (Did e) is = subst (λ (x : Event). IsBrought w number (brought (Some x)) × AreAddressed n (brought (Some x))) (sym is) (brings, goes)
+brought_came w n number event brings goes (Refused e fault) is = subst (λ (x : Event). IsBrought w number (brought (Some x)) × AreAddressed n (brought (Some x))) (sym is) (brings, goes)
+brought_came w n number event brings goes (Faulted e) is = subst (λ (x : Event). IsBrought w number (brought (Some x)) × AreAddressed n (brought (Some x))) (sym is) (brings, goes)
+brought_came w n number event brings goes (Rests rest) is = absurd is
+brought_came w n number event brings goes Crashed is = absurd is
+brought_came w n number event brings goes (Recovered kept) is = (tt, tt)
+brought_came w n number event brings goes MountFailed is = (tt, tt)
+brought_came w n number event brings goes (RaiseFailed kept) is = (tt, tt)
+brought_came w n number event brings goes (RaiseRefused kept) is = (tt, tt)
+
+of_event : (event : Event) → (event ≡ on.Recover → ⊥) → (what : What) → CameOf event what → IsOf event what
+of_event event other (Did e) is = is
+of_event event other (Refused e fault) is = is
+of_event event other (Faulted e) is = is
+of_event event other (Rests rest) is = is
+of_event event other Crashed is = is
+of_event event other (Recovered kept) is = other is
+of_event event other MountFailed is = other is
+of_event event other (RaiseFailed kept) is = other is
+of_event event other (RaiseRefused kept) is = other is
+
+of_recovery : (what : What) → CameOf on.Recover what → IsRecovery what
+of_recovery (Did e) is = is
+of_recovery (Refused e fault) is = is
+of_recovery (Faulted e) is = is
+of_recovery (Rests rest) is = is
+of_recovery Crashed is = is
+of_recovery (Recovered kept) is = tt
+of_recovery MountFailed is = tt
+of_recovery (RaiseFailed kept) is = tt
+of_recovery (RaiseRefused kept) is = tt
+
+at_more : (b : Bool) (n number : ℕ) (P Q : What → Type 0) (step : Step) → ((what : What) → P what → Q what) → At b n number P step → At b n number Q step
+at_more true n number P Q step more at = (at.0, at.1, more at.0 at.2)
+at_more false n number P Q step more at = at
+
+-- ---- an act that is an event
+
+abbrev IsTakenAs : Act → ℕ × Event → Type 0
+IsTakenAs a e = (brought (Some e.1) ≡ []) × ((nodes : ℕ) (w : World) (step : Step) → At (nat_lt e.0 nodes) e.0 0 (CameOf e.1) step → IsStepOf nodes w a step)
+
+taken : (a : Act) → IfSome (event_at a) (IsTakenAs a)
+taken (act.Check n) = (refl, λ nodes w step at. at_more (nat_lt n nodes) n 0 (CameOf on.CheckTimer) (IsOf on.CheckTimer) step (of_event on.CheckTimer (λ e. cc)) at)
+taken (act.Merge n) = (refl, λ nodes w step at. at_more (nat_lt n nodes) n 0 (CameOf on.MergeTimer) (IsOf on.MergeTimer) step (of_event on.MergeTimer (λ e. cc)) at)
+taken (act.Accept n) = (refl, λ nodes w step at. at_more (nat_lt n nodes) n 0 (CameOf on.AcceptTimer) (IsOf on.AcceptTimer) step (of_event on.AcceptTimer (λ e. cc)) at)
+taken (act.Ready n) = (refl, λ nodes w step at. at_more (nat_lt n nodes) n 0 (CameOf on.ReadyTimer) (IsOf on.ReadyTimer) step (of_event on.ReadyTimer (λ e. cc)) at)
+taken (act.Coord n) = (refl, λ nodes w step at. at_more (nat_lt n nodes) n 0 (CameOf on.CoordTimer) (IsOf on.CoordTimer) step (of_event on.CoordTimer (λ e. cc)) at)
+taken (act.Dispatch n) = (refl, λ nodes w step at. at_more (nat_lt n nodes) n 0 (CameOf on.DispatchTimer) (IsOf on.DispatchTimer) step (of_event on.DispatchTimer (λ e. cc)) at)
+taken (act.Deliver k) = tt
+taken (act.Lose k) = tt
+taken (act.Cut a b) = tt
+taken (act.Mend a b) = tt
+taken (act.Submit n queue payload) =
+    (refl, λ nodes w step at. at_more (nat_lt n nodes) n 0 (CameOf (on.Submit queue payload)) (IsOf (on.Submit queue payload)) step (of_event (on.Submit queue payload) (λ e. cc)) at)
+taken (act.Finish n origin id) = (refl, λ nodes w step at. at_more (nat_lt n nodes) n 0 (CameOf (on.Finish origin id)) (IsOf (on.Finish origin id)) step (of_event (on.Finish origin id) (λ e. cc)) at)
+taken (act.Arm n calls) = tt
+taken (act.Crash n fill) = tt
+taken (act.Recover n) = (refl, λ nodes w step at. at_more (nat_lt n nodes) n 0 (CameOf on.Recover) IsRecovery step of_recovery at)
+
+-- ---- a step of an act
+
+pub acted_by : (Q : Step → Type 0) (w : World) (a : Act) (o : Outcome) (new : Machine) → ((step : Step) → Q step → IsStepOf (length w.states) w a step) → Makes Q w o new → Acted w a o new
+acted_by Q w a o new is_step makes = record {
+  step = makes.step;
+  next = record { of_act = is_step makes.step makes.is; allowed = makes.allowed; of_slots = makes.of_slots };
+  is_told = makes.is_told;
+  stands = makes.stands;
+}
+
+acted_if : {E : Type 0} (Q : Step → Type 0) (w : World) (a : Act) (result : Result Outcome E) (new : Machine) → ((step : Step) → Q step → IsStepOf (length w.states) w a step) → IfOk result (λ (o : Outcome). Makes Q w o new)
+    → IfOk result (λ (o : Outcome). Acted w a o new)
+acted_if Q w a (Ok o) new is_step makes = acted_by Q w a o new is_step makes
+acted_if Q w a (Err e) new is_step makes = tt
+
+pub event_acted : {E : Type 0} (w : World) (a : Act) (n : ℕ) (event : Event) (result : Result Outcome E) (new : Machine) → event_at a ≡ Some (n, event)
+    → ((number : ℕ) → IsBrought w number (brought (Some event)) → AreAddressed n (brought (Some event)) → IfOk result (λ (o : Outcome). Makes (λ step. At (nat_lt n (length w.states)) n number (CameOf event) step) w o new))
+    → IfOk result (λ (o : Outcome). Acted w a o new)
+event_acted w a n event result new at makes =
+    let is : IsTakenAs a (n, event) = subst (λ (x : Option (ℕ × Event)). IfSome x (IsTakenAs a)) at (taken a) in
+    acted_if (λ step. At (nat_lt n (length w.states)) n 0 (CameOf event) step) w a result new (λ step at. is.1 (length w.states) w step at)
+    (makes 0 (subst (λ (ms : List Envelope). IsBrought w 0 ms) (sym is.0) tt) (subst (λ (ms : List Envelope). AreAddressed n ms) (sym is.0) tt))
+
+-- ---- the network's acts
+
+pub delivered : {E : Type 0} (w : World) (k : ℕ) (m : Envelope) (result : Result Outcome E) (new : Machine) → delivery w.net k ≡ Ok m
+    → (IsBrought w k (brought (Some (on.Deliver m))) → AreAddressed m.receiver (brought (Some (on.Deliver m)))
+    → IfOk result (λ (o : Outcome). Makes (λ step. At (nat_lt m.receiver (length w.states)) m.receiver k (CameOf (on.Deliver m)) step) w o new))
+    → IfOk result (λ (o : Outcome). Acted w (act.Deliver k) o new)
+delivered w k m result new comes makes = acted_if (λ step. At (nat_lt m.receiver (length w.states)) m.receiver k (CameOf (on.Deliver m)) step) w (act.Deliver k) result new
+    (λ step at. subst (λ (d : Result Envelope NetFault). Brings (length w.states) k d step) (sym comes)
+    (at_more (nat_lt m.receiver (length w.states)) m.receiver k (CameOf (on.Deliver m)) (IsOf (on.Deliver m)) step (of_event (on.Deliver m) (λ e. cc)) at))
+    (makes (comes, tt) (refl, tt))
+
+pub undelivered : (w : World) (k : ℕ) (fault : NetFault) (machine : Machine) → StandsFor machine w → delivery w.net k ≡ Err fault → Acted w (act.Deliver k) (outcome.Refused (refusal.Net fault)) machine
+undelivered w k fault machine stands is = record {
+  step = Denies (OfNet fault);
+  next = record { of_act = subst (λ (d : Result Envelope NetFault). Brings (length w.states) k d (Denies (OfNet fault))) (sym is) refl; allowed = tt; of_slots = tt };
+  is_told = refl;
+  stands = stands;
+}
+
+-- the nodes stay, and the network is another
+pub rewired : (machine : Machine) (w : World) (net net' : Network) → StandsFor machine w → net ≡ net' → StandsFor (record machine { net = net }) (record w { net = net' })
+rewired machine w net net' stands is = record { count = stands.count; net = is; each = stands.each }
+
+pub lost : (w : World) (k : ℕ) (machine : Machine) (m : Envelope) → StandsFor machine w → found machine.net k ≡ Ok m
+    → Acted w (act.Lose k) (outcome.Done None (length machine.net.sent) 0) (record machine { net = after_lost machine.net k })
+lost w k machine m stands is = record {
+  step = Loses k;
+  next = record {
+    of_act = sym (ap (λ (d : Result Envelope NetFault). lost_step k d) (ap (λ (n : Network). found n k) (sym stands.net) ∙ is));
+    allowed = (m, ap (λ (n : Network). found n k) (sym stands.net) ∙ is);
+    of_slots = tt;
+  };
+  is_told = ap (λ (n : Network). outcome.Done None (length n.sent) 0) stands.net;
+  stands = rewired machine w _ _ stands (ap (λ (n : Network). after_lost n k) stands.net);
+}
+
+pub not_lost : (w : World) (k : ℕ) (fault : NetFault) (machine : Machine) → StandsFor machine w → found machine.net k ≡ Err fault → Acted w (act.Lose k) (outcome.Refused (refusal.Net fault)) machine
+not_lost w k fault machine stands is = record {
+  step = Denies (OfNet fault);
+  next = record { of_act = sym (ap (λ (d : Result Envelope NetFault). lost_step k d) (ap (λ (n : Network). found n k) (sym stands.net) ∙ is)); allowed = tt; of_slots = tt };
+  is_told = refl;
+  stands = stands;
+}
+
+pub cuts : (w : World) (a b : ℕ) (machine : Machine) → StandsFor machine w → (nat_lt a (length machine.nodes) && nat_lt b (length machine.nodes)) ≡ true
+    → Acted w (act.Cut a b) (outcome.Done None (length machine.net.sent) 0) (record machine { net = after_cut machine.net a b })
+cuts w a b machine stands known = record {
+  step = Cuts a b;
+  next = record { of_act = sym (ap (λ (x : Bool). if_known x (Cuts a b)) (ap (λ (c : ℕ). nat_lt a c && nat_lt b c) (sym stands.count) ∙ known)); allowed = tt; of_slots = tt };
+  is_told = ap (λ (n : Network). outcome.Done None (length n.sent) 0) stands.net;
+  stands = rewired machine w _ _ stands (ap (λ (n : Network). after_cut n a b) stands.net);
+}
+
+pub mends : (w : World) (a b : ℕ) (machine : Machine) → StandsFor machine w → (nat_lt a (length machine.nodes) && nat_lt b (length machine.nodes)) ≡ true
+    → Acted w (act.Mend a b) (outcome.Done None (length machine.net.sent) 0) (record machine { net = after_mend machine.net a b })
+mends w a b machine stands known = record {
+  step = Mends a b;
+  next = record { of_act = sym (ap (λ (x : Bool). if_known x (Mends a b)) (ap (λ (c : ℕ). nat_lt a c && nat_lt b c) (sym stands.count) ∙ known)); allowed = tt; of_slots = tt };
+  is_told = ap (λ (n : Network). outcome.Done None (length n.sent) 0) stands.net;
+  stands = rewired machine w _ _ stands (ap (λ (n : Network). after_mend n a b) stands.net);
+}
+
+pub cut_denied : (w : World) (a b : ℕ) (machine : Machine) → StandsFor machine w → (nat_lt a (length machine.nodes) && nat_lt b (length machine.nodes)) ≡ false → Acted w (act.Cut a b) (outcome.Refused refusal.Stranger) machine
+cut_denied w a b machine stands known = record {
+  step = Denies Stranger;
+  next = record { of_act = sym (ap (λ (x : Bool). if_known x (Cuts a b)) (ap (λ (c : ℕ). nat_lt a c && nat_lt b c) (sym stands.count) ∙ known)); allowed = tt; of_slots = tt };
+  is_told = refl;
+  stands = stands;
+}
+
+pub mend_denied : (w : World) (a b : ℕ) (machine : Machine) → StandsFor machine w → (nat_lt a (length machine.nodes) && nat_lt b (length machine.nodes)) ≡ false → Acted w (act.Mend a b) (outcome.Refused refusal.Stranger) machine
+mend_denied w a b machine stands known = record {
+  step = Denies Stranger;
+  next = record { of_act = sym (ap (λ (x : Bool). if_known x (Mends a b)) (ap (λ (c : ℕ). nat_lt a c && nat_lt b c) (sym stands.count) ∙ known)); allowed = tt; of_slots = tt };
+  is_told = refl;
+  stands = stands;
+}
+
+-- ---- with what the calls of the network say
+
+no_err : {A E : Type 0} (r : Result A E) → ((e : E) → r ≡ Err e → ⊥) → (a : A) × (r ≡ Ok a)
+no_err (Ok a) none = (a, refl)
+no_err (Err e) none = absurd (none e refl)
+
+-- the outcome and the network are told by equations
+told_as : (w : World) (a : Act) (machine : Machine) (net net' : Network) (o o' : Outcome) → net' ≡ net → o' ≡ o → Acted w a o (record machine { net = net }) → Acted w a o' (record machine { net = net' })
+told_as w a machine net net' o o' same_net same acted = subst (λ (n : Network). Acted w a o' (record machine { net = n })) (sym same_net) (subst (λ (x : Outcome). Acted w a x (record machine { net = net })) (sym same) acted)
+
+sent_none : (first : ℕ) (net net' : Network) → net' ≡ net → length net.sent ≡ first → outcome.Done None (length net'.sent) 0 ≡ outcome.Done None first 0
+sent_none first net net' same is = λ i. outcome.Done None ((ap (λ (n : Network). length n.sent) same ∙ is) i) 0
+
+pub lost_by : (w : World) (k : ℕ) (machine now : Machine) (net' : Network) (o : Outcome) → machine ≡ now → StandsFor now w → ((fault : NetFault) → found machine.net k ≡ Err fault → ⊥)
+    → net' ≡ after_lost machine.net k → o ≡ outcome.Done None (length net'.sent) 0 → Acted w (act.Lose k) o (record machine { net = net' })
+lost_by w k machine now net' o view stands none same is =
+    let there = no_err (found machine.net k) none in
+    told_as w (act.Lose k) machine (after_lost machine.net k) net' _ o same (is ∙ sent_none (length machine.net.sent) (after_lost machine.net k) net' same refl)
+    (lost w k machine there.0 (subst (λ (m : Machine). StandsFor m w) (sym view) stands) there.1)
+
+pub not_lost_by : (w : World) (k : ℕ) (fault : NetFault) (machine now : Machine) (net' : Network) (o : Outcome) → machine ≡ now → StandsFor now w → found machine.net k ≡ Err fault
+    → net' ≡ machine.net → o ≡ outcome.Refused (refusal.Net fault) → Acted w (act.Lose k) o (record machine { net = net' })
+not_lost_by w k fault machine now net' o view stands at same is =
+    told_as w (act.Lose k) machine machine.net net' _ o same is (not_lost w k fault machine (subst (λ (m : Machine). StandsFor m w) (sym view) stands) at)
+
+pub cut_by : (w : World) (a b : ℕ) (machine now : Machine) (net' : Network) (o : Outcome) → machine ≡ now → StandsFor now w → (nat_lt a (length now.nodes) && nat_lt b (length now.nodes)) ≡ true
+    → net' ≡ after_cut machine.net a b → o ≡ outcome.Done None (length net'.sent) 0 → Acted w (act.Cut a b) o (record machine { net = net' })
+cut_by w a b machine now net' o view stands known same is =
+    told_as w (act.Cut a b) machine (after_cut machine.net a b) net' _ o same (is ∙ sent_none (length machine.net.sent) (after_cut machine.net a b) net' same refl)
+    (cuts w a b machine (subst (λ (m : Machine). StandsFor m w) (sym view) stands) (ap (λ (m : Machine). nat_lt a (length m.nodes) && nat_lt b (length m.nodes)) view ∙ known))
+
+pub mend_by : (w : World) (a b : ℕ) (machine now : Machine) (net' : Network) (o : Outcome) → machine ≡ now → StandsFor now w → (nat_lt a (length now.nodes) && nat_lt b (length now.nodes)) ≡ true
+    → net' ≡ after_mend machine.net a b → o ≡ outcome.Done None (length net'.sent) 0 → Acted w (act.Mend a b) o (record machine { net = net' })
+mend_by w a b machine now net' o view stands known same is =
+    told_as w (act.Mend a b) machine (after_mend machine.net a b) net' _ o same (is ∙ sent_none (length machine.net.sent) (after_mend machine.net a b) net' same refl)
+    (mends w a b machine (subst (λ (m : Machine). StandsFor m w) (sym view) stands) (ap (λ (m : Machine). nat_lt a (length m.nodes) && nat_lt b (length m.nodes)) view ∙ known))
+
+pub ok_not_err : {A E : Type 0} (r : Result A E) (a : A) (e : E) → r ≡ Ok a → r ≡ Err e → ⊥
+ok_not_err r a e ok err = let bad = sym ok ∙ err in cc
+
+pub quietly : (w : World) (n : ℕ) (none : What) → brought (event_of none) ≡ [] → (what : What) → what ≡ none → IsBrought w 0 (brought (event_of what)) × AreAddressed n (brought (event_of what))
+quietly w n none empty what is =
+    subst (λ (ms : List Envelope). IsBrought w 0 ms × AreAddressed n ms) (sym (ap (λ (x : What). brought (event_of x)) is ∙ empty)) (tt, tt)
+
+-- an act that is neither an event nor another of those that are told apart
+pub no_other : (a : Act) → event_at a ≡ None → ((k : ℕ) → a ≡ act.Deliver k → ⊥) → ((k : ℕ) → a ≡ act.Lose k → ⊥) → ((x y : ℕ) → a ≡ act.Cut x y → ⊥) → ((x y : ℕ) → a ≡ act.Mend x y → ⊥)
+    → ((n calls : ℕ) → a ≡ act.Arm n calls → ⊥) → ((n : ℕ) (fill : List ℕ) → a ≡ act.Crash n fill → ⊥) → ⊥
+no_other (act.Check n) none deliver lose cut mend arm crash = let bad = none in cc
+no_other (act.Merge n) none deliver lose cut mend arm crash = let bad = none in cc
+no_other (act.Accept n) none deliver lose cut mend arm crash = let bad = none in cc
+no_other (act.Ready n) none deliver lose cut mend arm crash = let bad = none in cc
+no_other (act.Coord n) none deliver lose cut mend arm crash = let bad = none in cc
+no_other (act.Dispatch n) none deliver lose cut mend arm crash = let bad = none in cc
+no_other (act.Deliver k) none deliver lose cut mend arm crash = deliver k refl
+no_other (act.Lose k) none deliver lose cut mend arm crash = lose k refl
+no_other (act.Cut a b) none deliver lose cut mend arm crash = cut a b refl
+no_other (act.Mend a b) none deliver lose cut mend arm crash = mend a b refl
+no_other (act.Submit n queue payload) none deliver lose cut mend arm crash = let bad = none in cc
+no_other (act.Finish n origin id) none deliver lose cut mend arm crash = let bad = none in cc
+no_other (act.Arm n calls) none deliver lose cut mend arm crash = arm n calls refl
+no_other (act.Crash n fill) none deliver lose cut mend arm crash = crash n fill refl
+no_other (act.Recover n) none deliver lose cut mend arm crash = let bad = none in cc

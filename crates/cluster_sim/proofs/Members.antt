@@ -1,0 +1,152 @@
+-- A cluster of which one node took a step, or the network alone, or nothing.
+use Rattle.std.proofs.Common.{◌≡◌, ◌≢◌, ℕ, zero, suc, ◌<◌, ◌≤◌, Bool, true, false, List, [], ◌∷◌, length, slice_get, get_or, nat_lt, refl, sym, ◌∙◌, ap, subst, arith, Option, Some, Result, Ok, Err}
+use Rattle.std.specs.Prelude.{◌==◌, slice_set, IfOk, OnErr}
+use Rattle.std.proofs.lemmas.Option.{slice_get_within, slice_get-get_or, slice_get_read}
+use Rattle.sector_disk.specs.Memory.{Memory, state_of}
+use Rattle.sim_net.specs.Network.{Network, after_all_sent}
+use Rattle.durable_node.specs.Node.{Node, Stands}
+use Rattle.durable_node.specs.NodeState.{NodeState, opening}
+use Rattle.durable_node.specs.What.{What, event_of, brought, AreAddressed}
+use Rattle.durable_node.specs.After.{after}
+use Rattle.durable_node.proofs.Nodes.{is_some}
+use Rattle.cluster_sim.specs.declared.outcome.Outcome.{Outcome}
+use Rattle.cluster_sim.specs.declared.outcome.Outcome.TheVariants as outcome
+use Rattle.cluster_sim.specs.declared.outcome.Refusal.TheVariants as refusal
+use Rattle.cluster_sim.specs.World.{World}
+use Rattle.cluster_sim.specs.Step.{Step, Takes, Denies, Stranger, state_after, sent_after}
+use Rattle.cluster_sim.specs.Run.{IsBrought}
+use Rattle.cluster_sim.specs.Acts.{At, IsOfSlotsAt, what_outcome, node_outcome}
+use Rattle.cluster_sim.specs.Told.{told}
+use Rattle.cluster_sim.specs.Machine.{Machine, IsMember, IsCluster, StandsFor, IsSame, Comes, Makes}
+use Rattle.cluster_sim.proofs.Runs.{get_set_same, get_set_other}
+use Rattle.durable_node.proofs.Tests.{eq_nat}
+use Rattle.std.proofs.lemmas.Bool.Decides.{nat_tests}
+
+pub length_set : {A : Type 0} (xs : List A) (n : ℕ) (x : A) → length (slice_set xs n x) ≡ length xs
+length_set [] n x = refl
+length_set (y ∷ xs) zero x = refl
+length_set (y ∷ xs) (suc n) x = ap suc (length_set xs n x)
+
+-- ---- one place is written
+
+-- what holds at the new place, and at the others, holds at all
+at_each : {A : Type 0} (P : ℕ → A → Type 0) (xs : List A) (n : ℕ) (old new : A) → slice_get xs n ≡ Some old → P n new → ((k : ℕ) (x : A) → k ≢ n → slice_get xs k ≡ Some x → P k x)
+    → (k : ℕ) (x : A) → slice_get (slice_set xs n new) k ≡ Some x → P k x
+at_each {A} P xs n old new was here all k x at = by_place (k == n) refl
+  where
+    by_place : (b : Bool) → (k == n) ≡ b → P k x
+    by_place true is =
+        let same : k ≡ n = eq_nat k n is in
+        let found : Some new ≡ Some x = sym (get_set_same xs n old new was) ∙ ap (λ (j : ℕ). slice_get (slice_set xs n new) j) (sym same) ∙ at in
+        subst (λ (j : ℕ). P j x) (sym same) (subst (λ (y : A). P n y) (is_some new x found) here)
+    by_place false is =
+        let ne : k ≢ n = grind (arith, nat_tests) in
+        all k x ne (sym (get_set_other xs k n new ne) ∙ at)
+
+same_member : (slots count id : ℕ) (old new : Node Memory) → IsMember slots count id old → IsSame old new → IsMember slots count id new
+same_member slots count id old new is same = record {
+  id_is = same.id ∙ is.id_is;
+  nodes_is = same.nodes ∙ is.nodes_is;
+  size = same.size slots is.size;
+}
+
+pub still_cluster : (slots n : ℕ) (nodes : List (Node Memory)) (old new : Node Memory) → IsCluster slots nodes → slice_get nodes n ≡ Some old → IsSame old new → IsCluster slots (slice_set nodes n new)
+still_cluster slots n nodes old new cluster at same = record {
+  least_slots = cluster.least_slots;
+  most_slots = cluster.most_slots;
+  least = rw (length_set nodes n new) cluster.least;
+  most = rw (length_set nodes n new) cluster.most;
+  members = rw (length_set nodes n new)
+      (at_each (λ (k : ℕ) (x : Node Memory). IsMember slots (length nodes) k x) nodes n old new at (same_member slots (length nodes) n old new (cluster.members n old at) same) (λ k x _. cluster.members k x));
+}
+
+-- ---- what the cluster stands for
+
+-- node n goes to a new state, and the network too
+pub moves : (slots n : ℕ) (nodes : List (Node Memory)) (old new : Node Memory) (net net' net'' : Network) (w : World) (s s' : NodeState) → slice_get nodes n ≡ Some old
+    → StandsFor (record { slots = slots; nodes = nodes; net = net }) w → slice_get w.states n ≡ Some s → Stands state_of new s' → net' ≡ net''
+    → StandsFor (record { slots = slots; nodes = slice_set nodes n new; net = net' }) (record { states = slice_set w.states n s'; net = net'' })
+moves slots n nodes old new net net' net'' w s s' at stands was is same_net = record {
+  count = length_set nodes n new ∙ stands.count ∙ sym (length_set w.states n s');
+  net = same_net;
+  each = λ k node t at_k was_k. at_each (λ (j : ℕ) (x : Node Memory). (t : NodeState) → slice_get (slice_set w.states n s') j ≡ Some t → Stands state_of x t) nodes n old new at
+      (λ t' was_n. subst (λ (z : NodeState). Stands state_of new z) (is_some s' t' (sym (get_set_same w.states n s s' was) ∙ was_n)) is)
+      (λ j x ne at_j. (λ t' was_j. stands.each j x t' at_j (sym (get_set_other w.states j n s' ne) ∙ was_j))) k node at_k t was_k;
+}
+
+-- ---- a node takes a step
+
+state_of_place : (states : List NodeState) (n : ℕ) → n < length states → (s : NodeState) × (slice_get states n ≡ Some s)
+state_of_place states n within = (_, slice_get-get_or states n (opening 0) within)
+
+true_within : (n count : ℕ) → n < count → nat_lt n count ≡ true
+true_within n count within = grind (arith, nat_tests)
+
+pub takes : (slots n number : ℕ) (P : What → Type 0) (nodes : List (Node Memory)) (old new : Node Memory) (net net' : Network) (outcome : Outcome) (w : World) → IsCluster slots nodes → slice_get nodes n ≡ Some old
+    → StandsFor (record { slots = slots; nodes = nodes; net = net }) w
+    → ((what : What) → P what → IsBrought w number (brought (event_of what)) × AreAddressed n (brought (event_of what)))
+    → ((s : NodeState) → Stands state_of old s → Comes slots old.id old.nodes P s outcome new net net')
+    → Makes (λ step. At (nat_lt n (length w.states)) n number P step) w outcome (record { slots = slots; nodes = slice_set nodes n new; net = net' })
+takes slots n number P nodes old new net net' outcome w cluster at stands brings comes =
+    let member = cluster.members n old at in
+    let within : n < length w.states = subst (λ (k : ℕ). n < k) stands.count (slice_get_within nodes n old at) in
+    let was = state_of_place w.states n within in
+    let came : Comes slots n (length w.states) P was.0 outcome new net net' =
+    subst (λ (k : ℕ). Comes slots n k P was.0 outcome new net net') (member.nodes_is ∙ stands.count)
+    (subst (λ (k : ℕ). Comes slots k old.nodes P was.0 outcome new net net') member.id_is (comes was.0 (stands.each n old was.0 at was.1))) in
+    let count = length w.states in
+    record {
+      step = Takes n number came.what;
+      is = subst (λ (b : Bool). At b n number P (Takes n number came.what)) (sym (true_within n count within)) (came.what, refl, came.is);
+      allowed = (was.0, was.1, came.possible, (brings came.what came.is).0, (brings came.what came.is).1);
+      of_slots = subst (λ (o : Option NodeState). IsOfSlotsAt slots n count o came.what) (sym was.1) came.of_slots;
+      is_told = came.is_told ∙ ap (λ (first : Network). told (what_outcome n count (length first.sent) was.0 came.what)) stands.net
+          ∙ ap (λ (o : Option NodeState). told (node_outcome n count (length w.net.sent) o came.what)) (sym was.1);
+      stands = subst (λ (o : Option NodeState). StandsFor (record { slots = slots; nodes = slice_set nodes n new; net = net' }) (record {
+        states = state_after n count o came.what w.states;
+        net = after_all_sent w.net (sent_after n count o came.what);
+      })) (sym was.1) (moves slots n nodes old new net net' _ w was.0 (after n count was.0 came.what) at stands was.1 came.stands
+          (came.sent ∙ ap (λ (before : Network). after_all_sent before (sent_after n count (Some was.0) came.what)) stands.net));
+    }
+
+pub takes_if : {E : Type 0} (slots n number : ℕ) (P : What → Type 0) (nodes : List (Node Memory)) (old new : Node Memory) (net net' : Network) (result : Result Outcome E) (w : World) → IsCluster slots nodes
+    → slice_get nodes n ≡ Some old → StandsFor (record { slots = slots; nodes = nodes; net = net }) w
+    → ((what : What) → P what → IsBrought w number (brought (event_of what)) × AreAddressed n (brought (event_of what)))
+    → ((s : NodeState) → Stands state_of old s → IfOk result (λ (o : Outcome). Comes slots old.id old.nodes P s o new net net'))
+    → IfOk result (λ (o : Outcome). Makes (λ step. At (nat_lt n (length w.states)) n number P step) w o (record { slots = slots; nodes = slice_set nodes n new; net = net' }))
+takes_if slots n number P nodes old new net net' (Ok o) w cluster at stands brings comes = takes slots n number P nodes old new net net' o w cluster at stands brings comes
+takes_if slots n number P nodes old new net net' (Err e) w cluster at stands brings comes = tt
+
+-- ---- a node that gave nothing, and a node outside the cluster
+
+pub rests : (slots n : ℕ) (nodes : List (Node Memory)) (old new : Node Memory) (net net' : Network) (w : World) → slice_get nodes n ≡ Some old
+    → StandsFor (record { slots = slots; nodes = nodes; net = net }) w → ((s : NodeState) → Stands state_of old s → Stands state_of new s) → net' ≡ net
+    → StandsFor (record { slots = slots; nodes = slice_set nodes n new; net = net' }) w
+rests slots n nodes old new net net' w at stands keeps same_net = record {
+  count = length_set nodes n new ∙ stands.count;
+  net = same_net ∙ stands.net;
+  each = λ k node t at_k was_k. at_each (λ (j : ℕ) (x : Node Memory). (t : NodeState) → slice_get w.states j ≡ Some t → Stands state_of x t) nodes n old new at
+      (λ t' was_n. keeps t' (stands.each n old t' at was_n))
+      (λ j x ne at_j t' was_j. stands.each j x t' at_j was_j) k node at_k t was_k;
+}
+
+pub is_stranger : (n count : ℕ) → count ≤ n → nat_lt n count ≡ false
+is_stranger n count beyond = grind (arith, nat_tests)
+
+pub denies : (Q : Step → Type 0) (machine : Machine) (w : World) → StandsFor machine w → Q (Denies Stranger) → Makes Q w (outcome.Refused refusal.Stranger) machine
+denies Q machine w stands is = record { step = Denies Stranger; is = is; allowed = tt; of_slots = tt; is_told = refl; stands = stands }
+
+pub rests_if : {E : Type 0} (slots n : ℕ) (nodes : List (Node Memory)) (old new : Node Memory) (net net' : Network) (result : Result Outcome E) (w : World) → slice_get nodes n ≡ Some old
+    → StandsFor (record { slots = slots; nodes = nodes; net = net }) w → OnErr result ((s : NodeState) → Stands state_of old s → Stands state_of new s) → OnErr result (net' ≡ net)
+    → OnErr result (StandsFor (record { slots = slots; nodes = slice_set nodes n new; net = net' }) w)
+rests_if slots n nodes old new net net' (Ok o) w at stands keeps same = tt
+rests_if slots n nodes old new net net' (Err e) w at stands keeps same = rests slots n nodes old new net net' w at stands keeps same
+
+-- what is read at a place
+pub place_at : {A : Type 0} (xs : List A) (count place id : ℕ) (x : A) → count ≡ length xs → place < count → place ≡ id → x ≡ get_or xs place x → slice_get xs id ≡ Some x
+place_at {A} xs count place id x len within is value = subst (λ (k : ℕ). slice_get xs k ≡ Some x) is (slice_get_read xs count place x len within value)
+
+pub denied_at : (w : World) (id number : ℕ) (P : What → Type 0) (machine : Machine) → StandsFor machine w → length machine.nodes ≤ id
+    → Makes (λ step. At (nat_lt id (length w.states)) id number P step) w (outcome.Refused refusal.Stranger) machine
+denied_at w id number P machine stands beyond = denies (λ step. At (nat_lt id (length w.states)) id number P step) machine w stands
+    (subst (λ (b : Bool). At b id number P (Denies Stranger)) (sym (is_stranger id (length w.states) (subst (λ (k : ℕ). k ≤ id) stands.count beyond))) refl)

@@ -1,0 +1,104 @@
+-- What contracts see of a cluster, and what it stands for.
+use Rattle.std.specs.Prelude.{ℕ, ◌≡◌, ◌+◌, ◌*◌, ◌≤◌, List, length, slice_get, Option, Some}
+use Rattle.group_task.specs.declared.node.TheConstants.{NODES}
+use Rattle.sector_disk.specs.Memory.{Memory, state_of}
+use Rattle.sim_net.specs.Network.{Network, after_all_sent}
+use Rattle.node_core.specs.declared.event.Event.{Event}
+use Rattle.node_core.specs.declared.event.Event.TheVariants as on
+use Rattle.durable_node.specs.Node.{Node, Stands}
+use Rattle.durable_node.specs.NodeState.{NodeState, opening}
+use Rattle.durable_node.specs.What.{What, Did, Refused, Faulted, Rests, Crashed, Recovered, MountFailed, RaiseFailed, RaiseRefused}
+use Rattle.durable_node.specs.After.{after, sent_at}
+use Rattle.durable_node.specs.Possible.{IsPossible, IsOfSlots}
+use Rattle.schedule.specs.declared.act.Act.{Act}
+use Rattle.cluster_sim.specs.declared.outcome.Outcome.{Outcome}
+use Rattle.cluster_sim.specs.World.{World}
+use Rattle.cluster_sim.specs.Step.{Step, world_after}
+use Rattle.cluster_sim.specs.Run.{IsAllowed}
+use Rattle.cluster_sim.specs.Acts.{StepOfSlots, what_outcome, outcome_of}
+use Rattle.cluster_sim.specs.Growth.{IsNext}
+use Rattle.cluster_sim.specs.Told.{told}
+
+-- the slots of a disk's area, the nodes by their ids, and the network
+pub record Machine : Type 0 where
+  pub slots : ℕ
+  pub nodes : List (Node Memory)
+  pub net : Network
+
+-- a disk, where there is one, has two areas of so many slots
+abbrev pub IsOfSize : ℕ → Option Memory → Type 0
+IsOfSize slots disk = (d : Memory) → disk ≡ Some d → length d.contents ≡ 8 + 4 * slots
+
+-- a node of this id, in a cluster of so many nodes over disks of so many slots
+pub record IsMember (slots count id : ℕ) (node : Node Memory) : Type 0 where
+  pub id_is : node.id ≡ id
+  pub nodes_is : node.nodes ≡ count
+  pub size : IsOfSize slots node.disk
+
+-- what is true of every cluster
+pub record IsCluster (slots : ℕ) (nodes : List (Node Memory)) : Type 0 where
+  pub least_slots : 4 ≤ slots
+  pub most_slots : slots ≤ 4096
+  pub least : 1 ≤ length nodes
+  pub most : length nodes ≤ NODES
+  pub members : (k : ℕ) (node : Node Memory) → slice_get nodes k ≡ Some node → IsMember slots (length nodes) k node
+
+-- each node of a cluster is in its state, and its disk too, and the network is as it is
+pub record StandsFor (machine : Machine) (w : World) : Type 0 where
+  pub count : length machine.nodes ≡ length w.states
+  pub net : machine.net ≡ w.net
+  pub each : (k : ℕ) (node : Node Memory) (s : NodeState) → slice_get machine.nodes k ≡ Some node → slice_get w.states k ≡ Some s → Stands state_of node s
+
+-- the first of so many nodes, each of which has just opened over a disk of so many slots
+pub record AreOpened (slots count so_far : ℕ) (nodes : List (Node Memory)) : Type 0 where
+  pub len : length nodes ≡ so_far
+  pub member : (k : ℕ) (node : Node Memory) → slice_get nodes k ≡ Some node → IsMember slots count k node
+  pub opens : (k : ℕ) (node : Node Memory) → slice_get nodes k ≡ Some node → Stands state_of node (opening k)
+
+-- ---- one node
+
+-- it came of this event, or of the mounting that the event Recover makes at a node that is down
+abbrev pub CameOf : Event → What → Type 0
+CameOf event (Did e) = e ≡ event
+CameOf event (Refused e fault) = e ≡ event
+CameOf event (Faulted e) = e ≡ event
+CameOf event (Rests rest) = ⊥
+CameOf event Crashed = ⊥
+CameOf event (Recovered kept) = event ≡ on.Recover
+CameOf event MountFailed = event ≡ on.Recover
+CameOf event (RaiseFailed kept) = event ≡ on.Recover
+CameOf event (RaiseRefused kept) = event ≡ on.Recover
+
+-- one such thing came of a call at a node that was in this state, and so it is told, sent and kept
+pub record Comes (slots id nodes : ℕ) (P : What → Type 0) (s : NodeState) (outcome : Outcome) (new : Node Memory) (net net' : Network) : Type 0 where
+  pub what : What
+  pub is : P what
+  pub possible : IsPossible id nodes s what
+  pub of_slots : IsOfSlots slots id nodes s what
+  pub is_told : outcome ≡ told (what_outcome id nodes (length net.sent) s what)
+  pub sent : net' ≡ after_all_sent net (sent_at id nodes s what)
+  pub stands : Stands state_of new (after id nodes s what)
+
+-- the node stays the one of its id, over a disk of its size
+pub record IsSame (old new : Node Memory) : Type 0 where
+  pub id : new.id ≡ old.id
+  pub nodes : new.nodes ≡ old.nodes
+  pub size : (slots : ℕ) → IsOfSize slots old.disk → IsOfSize slots new.disk
+
+-- ---- the cluster
+
+-- a step of this kind led from what the cluster stood for to what it stands for now, and so it is told
+pub record Makes (Q : Step → Type 0) (w : World) (outcome : Outcome) (new : Machine) : Type 0 where
+  pub step : Step
+  pub is : Q step
+  pub allowed : IsAllowed (length w.states) w step
+  pub of_slots : StepOfSlots new.slots (length w.states) w step
+  pub is_told : outcome ≡ told (outcome_of (length w.states) w step)
+  pub stands : StandsFor new (world_after (length w.states) w step)
+
+-- the act had one of its steps
+pub record Acted (w : World) (act : Act) (outcome : Outcome) (new : Machine) : Type 0 where
+  pub step : Step
+  pub next : IsNext (length w.states) new.slots w act step
+  pub is_told : outcome ≡ told (outcome_of (length w.states) w step)
+  pub stands : StandsFor new (world_after (length w.states) w step)

@@ -1,0 +1,123 @@
+// One node of a cluster, and the network that carries its messages.
+ghost use Rattle.std.specs.Prelude.{◌≡◌, ◌≤◌, length, IfOk, OnErr, ℕ, None};
+ghost use Rattle.sector_disk.specs.Memory.{state_of};
+ghost use Rattle.sim_net.specs.Network.{after_all_sent};
+ghost use Rattle.durable_node.specs.Node.{Stands};
+ghost use Rattle.durable_node.specs.NodeState.{NodeState};
+ghost use Rattle.durable_node.specs.Stepping.{most_by};
+ghost use Rattle.durable_node.specs.What.{Rests, Nothing, Crashed};
+ghost use Rattle.cluster_sim.specs.Machine.{IsOfSize, IsSame, CameOf, Comes};
+ghost use Rattle.cluster_sim.specs.Told.{IsToldFault};
+ghost use Rattle.node_core.specs.declared.fault.CoreFault.TheVariants.{NoMemory};
+
+use crate::outcome::{Outcome, Refusal};
+use durable_node::{DurableNode, NodeFault};
+use node_core::{CoreFault, Event};
+use schedule::Fill;
+use sector_disk::MemDisk;
+use sim_net::Net;
+use std::alloc::AllocError;
+use wire_msg::Message;
+
+/// An event at a node. Room for its messages is taken first, so that none is kept back once the event is handled.
+///
+/// Refused where there is no memory: the node and the network stay as they were.
+pub(crate) fn handle(
+    node: &mut DurableNode<MemDisk>,
+    net: &mut Net,
+    nodes: usize,
+    event: Event,
+) -> Result<Outcome, AllocError>
+    requires { node.old.nodes ≡ nodes }
+    ensures same { IsSame node.old node.new }
+    ensures came { (slots : ℕ) (s : NodeState) → slots ≤ 4096 → IsOfSize slots node.old.disk → Stands state_of node.old s
+        → IfOk result (λ outcome. Comes slots node.old.id node.old.nodes (CameOf event) s outcome node.new net.old.network net.new.network) }
+    ensures memory { OnErr result ((s : NodeState) → Stands state_of node.old s → Stands state_of node.new s) }
+    ensures unsent { OnErr result (net.new.network ≡ net.old.network) }
+{
+    node.has_disk();
+    let most = most_messages(node, nodes);
+    if net.reserve(most).is_err() {
+        return Err(AllocError);
+    }
+    let first = net.sent().len() as u64;
+    match node.step(event) {
+        Ok(step) => {
+            send_all(net, &step.sent);
+            Ok(Outcome::Done {
+                answer: step.answer,
+                first,
+                many: step.sent.len() as u64,
+            })
+        }
+        Err(fault) => fault_told(fault),
+    }
+}
+
+/// What is told of an event that a node refused, or at which its device failed.
+fn fault_told(fault: NodeFault) -> Result<Outcome, AllocError>
+    ensures outcome { IfOk result (λ outcome. IsToldFault fault outcome) }
+    ensures memory { OnErr result (fault ≡ NodeFault.Core NoMemory) }
+{
+    match fault {
+        NodeFault::Core(CoreFault::NoMemory) => Err(AllocError),
+        NodeFault::Device => Ok(Outcome::Faulted),
+        other => Ok(Outcome::Refused(Refusal::Node(other))),
+    }
+}
+
+/// How many messages one event of a node may send at most.
+fn most_messages(node: &DurableNode<MemDisk>, nodes: usize) -> usize
+    requires { node.now.nodes ≡ nodes }
+    ensures { result ≡ most_by node.now.nodes node.now.kept }
+{
+    match node.durable() {
+        Some((_, table)) => nodes.saturating_sub(1).max(table.pending().len()),
+        None => 0,
+    }
+}
+
+/// Sends messages in the room that is there.
+fn send_all(net: &mut Net, messages: &[Message])
+    requires { length messages.now ≤ net.old.room }
+    ensures { net.new.network ≡ after_all_sent net.old.network messages.now }
+{
+    for message in messages {
+        match net.send(*message) {
+            Ok(_) => {}
+            Err(_) => unreachable!(),
+        }
+    }
+}
+
+/// Arms a node's disk.
+pub(crate) fn arm(node: &mut DurableNode<MemDisk>, net: &Net, calls: u64) -> Outcome
+    ensures same { IsSame node.old node.new }
+    ensures came { (slots : ℕ) (s : NodeState) → Stands state_of node.old s
+        → Comes slots node.old.id node.old.nodes (λ what. what ≡ Rests Nothing) s result node.new net.now.network net.now.network }
+{
+    node.arm(calls);
+    nothing_sent(net)
+}
+
+/// Crashes a node.
+pub(crate) fn crash(node: &mut DurableNode<MemDisk>, net: &Net, fill: &Fill) -> Outcome
+    ensures same { IsSame node.old node.new }
+    ensures came { (slots : ℕ) (s : NodeState) → Stands state_of node.old s
+        → Comes slots node.old.id node.old.nodes (λ what. what ≡ Crashed) s result node.new net.now.network net.now.network }
+{
+    node.has_disk();
+    node.crash(fill.as_slice());
+    nothing_sent(net)
+}
+
+/// What is told of an act that is done and sends nothing.
+pub(crate) fn nothing_sent(net: &Net) -> Outcome
+    ensures { result ≡ Outcome.Done None (length net.now.network.sent) 0 }
+{
+    Outcome::Done {
+        answer: None,
+        first: net.sent().len() as u64,
+        many: 0,
+    }
+}

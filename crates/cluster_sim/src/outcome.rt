@@ -1,0 +1,28 @@
+// What comes of an act.
+use durable_node::NodeFault;
+use sim_net::NetFault;
+
+/// What came of an act.
+#[derive(Clone, Copy, Debug, PartialEq, Eq)]
+pub enum Outcome {
+    /// It was done: the answer of the disk, if its command had one, the number of the first message that was sent, and how
+    /// many were sent.
+    Done {
+        answer: Option<u64>,
+        first: u64,
+        many: u64,
+    },
+    /// Nothing changed.
+    Refused(Refusal),
+    /// The device failed, and the node is Down.
+    Faulted,
+}
+
+/// Why an act was refused.
+#[derive(Clone, Copy, Debug, PartialEq, Eq)]
+pub enum Refusal {
+    Node(NodeFault),
+    Net(NetFault),
+    /// It names a node outside the cluster.
+    Stranger,
+}
