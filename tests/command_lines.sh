@@ -14,7 +14,7 @@ expect() {
         echo "status $status in place of $want: $*"
         failed=1
     fi
-    if [ "$want" -eq 2 ] && ! { grep -q '^  answer ' <<<"$text" && grep -q '^  show ' <<<"$text"; }; then
+    if [ "$want" -eq 2 ] && ! { grep -q '^  answer ' <<<"$text" && grep -q '^  show ' <<<"$text" && grep -q '^  sim ' <<<"$text"; }; then
         echo "the usage text doesn't name every command: $*"
         failed=1
     fi
@@ -38,8 +38,11 @@ expect 2 '' answer -1 3
 expect 2 '' answer 0x0 3
 expect 2 '' answer --help
 expect 2 '' show 1
+expect 2 '' sim 1
 expect 0 '010102000000\n' answer 0 3
 expect 0 '010102000000\n' answer 0 64
 expect 1 '01010200000100\n' answer 0 3
 expect 1 'zz\n' show
+expect 0 'cluster 1 4\ndeliver 0\n' sim
+expect 1 'cluster 0 4\n' sim
 exit "$failed"

@@ -17,6 +17,7 @@ const UNREADABLE: u8 = 2;
 enum Task {
     Answer(Place),
     Show,
+    Sim,
 }
 
 /// One node of a cluster.
@@ -49,6 +50,7 @@ fn run(rt: &HostRuntime) -> io::Result<u8> {
             invite_console::answer(alloc, place.id, place.nodes, &mut input, &mut output)
         }
         Task::Show => invite_console::show(alloc, &mut input, &mut output),
+        Task::Sim => invite_console::sim(alloc, &mut input, &mut output),
     };
     Ok(ending.status())
 }
@@ -89,6 +91,7 @@ fn task_in(matches: &ArgMatches<'_>) -> Option<Task> {
             Some(Task::Answer(Place { id, nodes }))
         }
         "show" => Some(Task::Show),
+        "sim" => Some(Task::Sim),
         _ => None,
     }
 }
@@ -118,9 +121,13 @@ fn command<'a>(alloc: Global) -> Result<Command<'a>, AllocError> {
     let show = Command::new(alloc, "show").about(
         "Reads messages in hex lines, and prints them as text",
     );
+    let sim = Command::new(alloc, "sim").about(
+        "Reads a schedule, runs it on a simulated cluster, and prints what each act did",
+    );
     Command::new(alloc, "invite")
         .subcommand_required(true)
         .disable_help_subcommand(true)
         .subcommand(answer)?
-        .subcommand(show)
+        .subcommand(show)?
+        .subcommand(sim)
 }

@@ -6,4 +6,5 @@ pub mod Joins
 pub mod Pairs
 pub mod Sessions
 pub mod Shown
-pub mod Splitting
+pub mod Sents
+pub mod Sims

@@ -5,3 +5,6 @@ pub mod Digits
 pub mod Answer
 pub mod Session
 pub mod Show
+pub mod Acts
+pub mod Rows
+pub mod Sim

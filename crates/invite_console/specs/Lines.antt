@@ -1,28 +1,9 @@
--- Lines, and the words in them.
-use Rattle.std.specs.Prelude.{◌≡◌, ℕ, ◌+◌, ◌<◌, List, [], ◌∷◌, ◌++◌, length, ◌==◌, ◌&&◌, Bool, if◌then◌else◌, Option, Some, None, Result, Ok, Err, codes, decimal}
-use Rattle.std.specs.List.{slice_split}
-use Rattle.std.specs.Result.{result_ok}
-use Rattle.hex.specs.Hex.{decode_of}
+-- Hex lines, put together.
+use Rattle.std.specs.Prelude.{◌≡◌, ℕ, ◌+◌, List, [], ◌∷◌, ◌++◌, Option, Some, None, Result, Ok, Err, codes, decimal}
+use Rattle.line_words.specs.declared.lines.LineFault.{LineFault}
+use Rattle.line_words.specs.declared.lines.LineFault.TheVariants.{BadLine, NoMemory}
+use Rattle.line_words.specs.Lines.{bytes_of, lines_of}
 use Rattle.invite_console.specs.Ends.{Outcome, refused}
-use Rattle.invite_console.specs.declared.lines.LineFault.{LineFault}
-use Rattle.invite_console.specs.declared.lines.LineFault.TheVariants.{BadLine, NoMemory}
-
-abbrev pub is_line_feed : ℕ → Bool
-is_line_feed b = b == 10
-
--- the lines of an input; what stands behind the last line feed is a line too
-abbrev pub lines_of : List ℕ → List (List ℕ)
-lines_of input = slice_split is_line_feed input
-
--- the first line of a text, with what stands behind its line feed
-pub record CutsLine (text line behind : List ℕ) : Type 0 where
-  pub lines : lines_of text ≡ line ∷ lines_of behind
-  pub shorter : length behind < length text
-
--- the bytes that a word spells in hex; a dash spells none
-abbrev pub bytes_of : List ℕ → Option (List ℕ)
-bytes_of [] = None
-bytes_of (c ∷ rest) = if c == 45 && length rest == 0 then Some [] else result_ok (decode_of (c ∷ rest))
 
 -- the bytes of a line of `answer` or `show`; an empty line has none
 abbrev pub line_bytes : List ℕ → Option (List ℕ)
@@ -47,11 +28,6 @@ hex_lines_of input = hex_lines_from 1 (lines_of input)
 abbrev pub IsFaultAt : ℕ → Option (List ℕ) → LineFault → Type 0
 IsFaultAt n read (BadLine m) = (m ≡ n) × (read ≡ None)
 IsFaultAt n read NoMemory = Unit {0}
-
--- the fault names the first line that can't be read, or memory ran out
-abbrev pub IsLineFault : {A : Type 0} → Result A ℕ → LineFault → Type 0
-IsLineFault r (BadLine n) = r ≡ Err n
-IsLineFault r NoMemory = Unit {0}
 
 -- what a command prints for the bytes that its lines spell; nothing is run where a line can't be read
 abbrev pub over_read : (List ℕ → Outcome) → Result (List ℕ) ℕ → Outcome

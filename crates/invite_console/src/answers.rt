@@ -10,10 +10,11 @@ ghost use Rattle.invite_console.specs.Answer.{answer_text, answers_to, first_cou
 use crate::batches::{PIECE, next_batch};
 use crate::ends::{Ending, Printout, Trouble};
 use crate::input::read_input;
-use crate::lines::{LineFault, bad_line, hex_lines};
+use crate::lines::{bad_line, hex_lines};
 use crate::printing::print;
 use crate::session::Session;
 use group_task::NodeId;
+use line_words::LineFault;
 use std::alloc::{AllocError, Global};
 use std::io::{Read, Write};
 use wire_msg::Stream;

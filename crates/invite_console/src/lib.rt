@@ -5,6 +5,7 @@
 //! A further command is one file with two functions, as [`answer`] and [`show`] are, and one file of `specs/` with its text.
 #![tactic(auto)]
 
+mod acts;
 mod answers;
 mod batches;
 mod digits;
@@ -13,8 +14,10 @@ mod input;
 mod lines;
 mod printing;
 mod reads;
+mod rows;
 mod session;
 mod showing;
+mod simulating;
 mod words;
 
 pub use answers::{answer, needs_no_disk};
@@ -22,6 +25,9 @@ pub use ends::{Ending, Trouble};
 pub use input::{MAX_READS, read_input, read_within};
 pub use reads::Reads;
 pub use showing::show;
+pub use simulating::sim;
 
+#[cfg(test)]
+mod schedules;
 #[cfg(test)]
 mod tests;

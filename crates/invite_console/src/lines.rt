@@ -1,32 +1,14 @@
-ghost use Rattle.std.specs.Prelude.{◌≡◌, ◌++◌, IfOk, IfErr, OnOk, MatchOption, Some, Ok, false, true, option_map, [], ◌∷◌, codes, decimal};
+ghost use Rattle.std.specs.Prelude.{◌≡◌, ◌++◌, IfOk, IfErr, OnOk, MatchOption, Some, Ok, false, true, option_map, codes, decimal};
 ghost use Rattle.invite_console.specs.Digits.{AreValues};
 ghost use Rattle.invite_console.specs.Ends.{outcome_of, refused};
-ghost use Rattle.invite_console.specs.Lines.{bytes_of, line_bytes, lines_of, CutsLine, hex_lines_of, IsFaultAt, IsLineFault};
+ghost use Rattle.line_words.specs.Lines.{bytes_of, IsLineFault};
+ghost use Rattle.invite_console.specs.Lines.{line_bytes, hex_lines_of, IsFaultAt};
 
 use crate::digits::{decode_pairs, digit_values};
 use crate::ends::Printout;
 use crate::words::{push_number, push_text};
-use memchr::memchr;
+use line_words::{LineFault, cut_line};
 use std::alloc::{AllocError, Global};
-
-/// Why lines were not read.
-#[derive(Clone, Copy, Debug, PartialEq, Eq)]
-pub(crate) enum LineFault {
-    /// The line of this number can't be read. All lines count, from 1 on.
-    BadLine(u64),
-    /// Memory ran out.
-    NoMemory,
-}
-
-impl From<AllocError> for LineFault {
-    ghost use Rattle.invite_console.specs.declared.lines.LineFault.TheVariants.{NoMemory};
-
-    ghost from_gives = { λ _ fault. fault ≡ NoMemory };
-
-    fn from(_error: AllocError) -> LineFault {
-        LineFault::NoMemory
-    }
-}
 
 /// Adds the bytes that a word spells: hex digits of either case, whose values are given, or a dash for no bytes. False says that
 /// it can't be read.
@@ -68,14 +50,6 @@ fn push_line(
     } else {
         Err(LineFault::BadLine(number))
     }
-}
-
-/// The first line and what stands behind its line feed, if there is one.
-fn cut_line(text: &[u8]) -> Option<(&[u8], &[u8])>
-    ensures { MatchOption result (lines_of text.now ≡ text.now ∷ []) (λ cut. CutsLine text.now cut.0.now cut.1.now) }
-{
-    let end = memchr(b'\n', text)?;
-    Some((&text[..end], &text[end + 1..]))
 }
 
 /// The bytes that hex lines spell together. Empty lines are passed over, and the last line may lack its line feed.

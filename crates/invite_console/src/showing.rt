@@ -5,11 +5,12 @@ ghost use Rattle.invite_console.specs.Show.{body_text, group_text, message_text,
 use crate::batches::{PIECE, next_batch};
 use crate::ends::{Ending, Printout, Trouble};
 use crate::input::read_input;
-use crate::lines::{LineFault, bad_line, hex_lines};
+use crate::lines::{bad_line, hex_lines};
 use crate::printing::print;
 use crate::words::{push_bytes_text, push_group, push_ids, push_number, push_text, push_truth};
 use group_task::{GroupNo, Task};
 use job_model::{Payload, Queue};
+use line_words::LineFault;
 use std::alloc::{AllocError, Global};
 use std::io::{Read, Write};
 use wire_msg::{Body, Message, Stream};

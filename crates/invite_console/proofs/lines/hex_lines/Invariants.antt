@@ -1,5 +1,6 @@
 use Rattle.std.proofs.Common.{◌≡◌, ◌+◌, ◌≤◌, length, Some}
-use Rattle.invite_console.specs.Lines.{hex_lines_from, hex_lines_of, joined, lines_of}
+use Rattle.line_words.specs.Lines.{lines_of}
+use Rattle.invite_console.specs.Lines.{hex_lines_from, hex_lines_of, joined}
 use Rattle.invite_console.proofs.lines.hex_lines.Given as goal
 
 abbrev pub invariant-loop-line : goal.invariant-loop-line

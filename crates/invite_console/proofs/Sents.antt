@@ -1,0 +1,21 @@
+-- The messages of an act, one after another.
+use Rattle.std.proofs.Common.{◌≡◌, ℕ, zero, suc, ◌+◌, List, [], ◌∷◌, ◌++◌, drop, Some, slice_get, sym, ap, ◌∙◌, append_assoc, add-one}
+use Rattle.wire_msg.specs.Envelope.{Envelope}
+use Rattle.invite_console.specs.Acts.{message_text, sent_text}
+
+at_place : (place : ℕ) (ms : List Envelope) (m : Envelope) → slice_get ms place ≡ Some m → drop place ms ≡ m ∷ drop (suc place) ms
+at_place zero [] m found = absurd cc
+at_place zero (x ∷ ms) m found = let same : x ≡ m = cc in ap (λ (y : Envelope). y ∷ ms) same
+at_place (suc place) [] m found = absurd cc
+at_place (suc place) (x ∷ ms) m found = at_place place ms m found
+
+next_place : (place : ℕ) (ms : List Envelope) (m : Envelope) → slice_get ms place ≡ Some m → drop place ms ≡ m ∷ drop (place + 1) ms
+next_place place ms m found = at_place place ms m found ∙ ap (λ (k : ℕ). m ∷ drop k ms) (sym (add-one place))
+
+-- one message more
+pub sent_one : (place : ℕ) (ms : List Envelope) (m : Envelope) (old new : List ℕ) → slice_get ms place ≡ Some m → new ≡ old ++ message_text place m
+    → new ++ sent_text (place + 1) (drop (place + 1) ms) ≡ old ++ sent_text place (drop place ms)
+sent_one place ms m old new found added =
+    ap (λ (front : List ℕ). front ++ sent_text (place + 1) (drop (place + 1) ms)) added
+    ∙ (append_assoc old (message_text place m) (sent_text (place + 1) (drop (place + 1) ms))
+    ∙ ap (λ (rest : List Envelope). old ++ sent_text place rest) (sym (next_place place ms m found)))

@@ -1,0 +1,230 @@
+-- A simulation told one act further.
+use Rattle.std.proofs.Common.{◌≡◌, ℕ, zero, suc, ◌+◌, List, [], ◌∷◌, ◌++◌, ◌<◌, ◌≤◌, length, map, drop, Option, Some, None, Result, Ok, Err, IfOk, OnOk, IsOk, slice_get, refl, sym, ap, subst, ◌∙◌, append_assoc, add-one, add-zero, arith}
+use Rattle.std.specs.Prelude.{slice_set}
+use Rattle.std.proofs.lemmas.List.{append-nil, drop_all, map-append, length-map, length-append}
+use Rattle.std.proofs.Math.Seq.{drop-append_seam}
+use Rattle.wire_msg.specs.Envelope.{Envelope}
+use Rattle.sim_net.specs.Network.{Network}
+use Rattle.sector_disk.specs.Memory.{Memory, state_of}
+use Rattle.durable_node.specs.Node.{Node, Stands}
+use Rattle.durable_node.specs.NodeState.{NodeState}
+use Rattle.durable_node.specs.What.{What, Did, Refused, Faulted, Rests, Crashed, Recovered, MountFailed, RaiseFailed, RaiseRefused}
+use Rattle.schedule.specs.declared.act.Act.{Act}
+use Rattle.cluster_sim.specs.declared.outcome.Outcome.{Outcome}
+use Rattle.cluster_sim.specs.World.{World, openings, start}
+use Rattle.cluster_sim.specs.Step.{Step, Takes, Loses, Cuts, Mends, Denies, OfNet, Stranger, state_after, world_after}
+use Rattle.cluster_sim.specs.Acts.{node_outcome, outcome_of}
+use Rattle.cluster_sim.specs.Report.{Moment, moment_of, step_sent, report_of}
+use Rattle.cluster_sim.specs.Growth.{grown, IsNext, RunsGrow, RunsOpen}
+use Rattle.cluster_sim.specs.Told.{told}
+use Rattle.cluster_sim.specs.Machine.{Machine, Acted, StandsFor}
+use Rattle.invite_console.specs.Acts.{act_line, act_lines, first_of}
+use Rattle.invite_console.specs.Sim.{AddsRow, AddsRows, HasWorld, IsSoFar, TellsRun}
+
+-- ---- the lines
+
+lines_append : (k : ℕ) (ms : List Moment) (m : Moment) → act_lines k (ms ++ m ∷ []) ≡ act_lines k ms ++ act_line (k + length ms) m.act (told m.outcome) m.sent
+lines_append k [] m =
+    append-nil (act_line k m.act (told m.outcome) m.sent) ∙ ap (λ (n : ℕ). act_line n m.act (told m.outcome) m.sent) (sym (add-zero k))
+lines_append k (x ∷ ms) m =
+    ap (λ (rest : List ℕ). act_line k x.act (told x.outcome) x.sent ++ rest) (lines_append (k + 1) ms m)
+    ∙ (sym (append_assoc (act_line k x.act (told x.outcome) x.sent) (act_lines (k + 1) ms) (act_line (k + 1 + length ms) m.act (told m.outcome) m.sent))
+    ∙ ap (λ (n : ℕ). act_lines k (x ∷ ms) ++ act_line n m.act (told m.outcome) m.sent) (omega arith))
+
+-- ---- what was sent
+
+told_first : (n nodes first : ℕ) (s : Option NodeState) (what : What) → first_of first (told (node_outcome n nodes first s what)) ≡ first
+told_first n nodes first None what = refl
+told_first n nodes first (Some s) (Did event) = refl
+told_first n nodes first (Some s) (Refused event fault) = refl
+told_first n nodes first (Some s) (Faulted event) = refl
+told_first n nodes first (Some s) (Rests rest) = refl
+told_first n nodes first (Some s) Crashed = refl
+told_first n nodes first (Some s) (Recovered kept) = refl
+told_first n nodes first (Some s) MountFailed = refl
+told_first n nodes first (Some s) (RaiseFailed kept) = refl
+told_first n nodes first (Some s) (RaiseRefused kept) = refl
+
+-- an act that was done tells how many messages had been sent before it
+pub first_sent : (nodes : ℕ) (w : World) (step : Step) → first_of (length w.net.sent) (told (outcome_of nodes w step)) ≡ length w.net.sent
+first_sent nodes w (Takes n number what) = told_first n nodes (length w.net.sent) (slice_get w.states n) what
+first_sent nodes w (Loses k) = refl
+first_sent nodes w (Cuts a b) = refl
+first_sent nodes w (Mends a b) = refl
+first_sent nodes w (Denies (OfNet fault)) = refl
+first_sent nodes w (Denies Stranger) = refl
+
+sent_after_step : (nodes : ℕ) (w : World) (step : Step) → (world_after nodes w step).net.sent ≡ w.net.sent ++ step_sent nodes w step
+sent_after_step nodes w (Takes n number what) = refl
+sent_after_step nodes w (Loses k) = sym (append-nil w.net.sent)
+sent_after_step nodes w (Cuts a b) = sym (append-nil w.net.sent)
+sent_after_step nodes w (Mends a b) = sym (append-nil w.net.sent)
+sent_after_step nodes w (Denies why) = sym (append-nil w.net.sent)
+
+-- the messages of a step are the last ones
+pub last_sent : (nodes : ℕ) (w : World) (step : Step) → drop (length w.net.sent) (world_after nodes w step).net.sent ≡ step_sent nodes w step
+last_sent nodes w step =
+    ap (λ (sent : List Envelope). drop (length w.net.sent) sent) (sent_after_step nodes w step) ∙ drop-append_seam w.net.sent (step_sent nodes w step)
+
+-- ---- how many nodes there are
+
+length_set : (xs : List NodeState) (k : ℕ) (x : NodeState) → length (slice_set xs k x) ≡ length xs
+length_set [] k x = refl
+length_set (y ∷ xs) zero x = refl
+length_set (y ∷ xs) (suc k) x = ap (λ (n : ℕ). suc n) (length_set xs k x)
+
+states_set : (n nodes : ℕ) (s : Option NodeState) (what : What) (states : List NodeState) → length (state_after n nodes s what states) ≡ length states
+states_set n nodes None what states = refl
+states_set n nodes (Some s) what states = length_set states n _
+
+states_kept : (nodes : ℕ) (w : World) (step : Step) → length (world_after nodes w step).states ≡ length w.states
+states_kept nodes w (Takes n number what) = states_set n nodes (slice_get w.states n) what w.states
+states_kept nodes w (Loses k) = refl
+states_kept nodes w (Cuts a b) = refl
+states_kept nodes w (Mends a b) = refl
+states_kept nodes w (Denies why) = refl
+
+-- ---- one act further
+
+-- the line of the act, as its moment has it
+told_line : (nodes k : ℕ) (w : World) (a : Act) (step : Step) (new : Machine) (outcome : Outcome) → outcome ≡ told (outcome_of nodes w step) → StandsFor new (world_after nodes w step)
+    → act_line k a outcome (drop (length w.net.sent) new.net.sent) ≡ act_line k a (told (moment_of nodes w a step).outcome) (moment_of nodes w a step).sent
+told_line nodes k w a step new outcome is_told stands =
+    ap (λ (o : Outcome). act_line k a o (drop (length w.net.sent) new.net.sent)) is_told
+    ∙ ap (λ (sent : List Envelope). act_line k a (told (outcome_of nodes w step)) sent) (ap (λ (net : Network). drop (length w.net.sent) net.sent) stands.net ∙ last_sent nodes w step)
+
+numbered : (acts : List Act) (ms : List Moment) → map (λ (m : Moment). m.act) ms ≡ acts → length acts ≡ 0 + length ms
+numbered acts ms same = let count : length acts ≡ length ms = ap length (sym same) ∙ length-map ms (λ (m : Moment). m.act) in omega (arith, count)
+
+-- the text has the line of one moment more
+lines_further : (nodes : ℕ) (w : World) (ms : List Moment) (old new : Machine) (acts : List Act) (a : Act) (outcome : Outcome) (step : Step) (text behind : List ℕ)
+    → text ≡ act_lines 0 ms → map (λ (m : Moment). m.act) ms ≡ acts → old.net ≡ w.net
+    → outcome ≡ told (outcome_of nodes w step) → StandsFor new (world_after nodes w step)
+    → behind ≡ text ++ act_line (length acts) a outcome (drop (length old.net.sent) new.net.sent)
+    → behind ≡ act_lines 0 (ms ++ moment_of nodes w a step ∷ [])
+lines_further nodes w ms old new acts a outcome step text behind text_is acts_are net is_told stands added =
+    let m = moment_of nodes w a step in
+    let from_w : behind ≡ text ++ act_line (length acts) a outcome (drop (length w.net.sent) new.net.sent) =
+    added ∙ ap (λ (net : Network). text ++ act_line (length acts) a outcome (drop (length net.sent) new.net.sent)) net in
+    let of_moment : behind ≡ text ++ act_line (length acts) a (told m.outcome) m.sent =
+    from_w ∙ ap (λ (l : List ℕ). text ++ l) (told_line nodes (length acts) w a step new outcome is_told stands) in
+    let at_place : behind ≡ text ++ act_line (0 + length ms) a (told m.outcome) m.sent =
+    of_moment ∙ ap (λ (k : ℕ). text ++ act_line k a (told m.outcome) m.sent) (numbered acts ms acts_are) in
+    at_place ∙ (ap (λ (t : List ℕ). t ++ act_line (0 + length ms) a (told m.outcome) m.sent) text_is ∙ sym (lines_append 0 ms m))
+
+-- the acts so far, one act further
+pub further : RunsGrow → (nodes slots : ℕ) (old new : Machine) (acts : List Act) (a : Act) (outcome : Outcome) (text behind : List ℕ)
+    → IsSoFar nodes slots old acts text → ((w : World) → StandsFor old w → Acted w a outcome new) → new.slots ≡ old.slots
+    → behind ≡ text ++ act_line (length acts) a outcome (drop (length old.net.sent) new.net.sent)
+    → IsSoFar nodes slots new (acts ++ a ∷ []) behind
+further grow nodes slots old new acts a outcome text behind so acted same added =
+    let w = so.world in
+    let act = acted w so.stands in
+    let next : IsNext nodes slots w a act.step =
+    subst (λ (n : ℕ). IsNext n slots w a act.step) so.count (subst (λ (k : ℕ). IsNext (length w.states) k w a act.step) (same ∙ so.slots_are) act.next) in
+    let stands : StandsFor new (world_after nodes w act.step) = subst (λ (n : ℕ). StandsFor new (world_after n w act.step)) so.count act.stands in
+    let is_told : outcome ≡ told (outcome_of nodes w act.step) = act.is_told ∙ ap (λ (n : ℕ). told (outcome_of n w act.step)) so.count in
+    record {
+      world = world_after nodes w act.step;
+      report = grown nodes w a act.step so.report;
+      left = grow nodes slots w so.report a act.step so.left next;
+      count = states_kept nodes w act.step ∙ so.count;
+      slots_are = same ∙ so.slots_are;
+      stands = stands;
+      acts_are = map-append (λ (m : Moment). m.act) so.report.moments (moment_of nodes w a act.step ∷ []) ∙ ap (λ (xs : List Act). xs ++ a ∷ []) so.acts_are;
+      text_is = lines_further nodes w so.report.moments old new acts a outcome act.step text behind so.text_is so.acts_are so.stands.net is_told stands added;
+    }
+
+-- ---- what the line of an act asks for
+
+sent_before : (old : Machine) (w : World) → StandsFor old w → length w.net.sent ≡ length old.net.sent
+sent_before old w stands = sym (ap (λ (net : Network). length net.sent) stands.net)
+
+-- nothing that was sent is taken back
+pub sent_stays : (old new : Machine) (w : World) (a : Act) (outcome : Outcome) → StandsFor old w → Acted w a outcome new → length old.net.sent ≤ length new.net.sent
+sent_stays old new w a outcome stands acted =
+    let n = length w.states in
+    let now : length new.net.sent ≡ length (w.net.sent ++ step_sent n w acted.step) =
+    ap (λ (net : Network). length net.sent) acted.stands.net ∙ ap (λ (sent : List Envelope). length sent) (sent_after_step n w acted.step) in
+    let more = length-append w.net.sent (step_sent n w acted.step) in
+    omega (arith, now, more, sent_before old w stands)
+
+-- an act that was done tells how many messages had been sent
+pub first_is : (old new : Machine) (w : World) (a : Act) (outcome : Outcome) → StandsFor old w → Acted w a outcome new → first_of (length old.net.sent) outcome ≡ length old.net.sent
+first_is old new w a outcome stands acted =
+    let n = length w.states in
+    subst (λ (k : ℕ). first_of k outcome ≡ k) (sent_before old w stands)
+    (ap (λ (o : Outcome). first_of (length w.net.sent) o) acted.is_told ∙ first_sent n w acted.step)
+
+pub world_kept : (old new : Machine) (w : World) (a : Act) (outcome : Outcome) → Acted w a outcome new → HasWorld new
+world_kept old new w a outcome acted = (world_after (length w.states) w acted.step, acted.stands)
+
+-- ---- the beginning, and the end
+
+count_openings : (n k : ℕ) → length (openings n k) ≡ k
+count_openings n zero = refl
+count_openings n (suc k) = ap (λ (m : ℕ). suc m) (count_openings (suc n) k)
+
+-- a cluster that was opened has told nothing
+pub begins : RunsOpen → (nodes slots : ℕ) (machine : Machine) → machine.slots ≡ slots → StandsFor machine (start nodes) → IsSoFar nodes slots machine [] []
+begins opens nodes slots machine same stands = record {
+  world = start nodes;
+  report = report_of nodes [] [];
+  left = opens nodes slots;
+  count = count_openings 0 nodes;
+  slots_are = same;
+  stands = stands;
+  acts_are = refl;
+  text_is = refl;
+}
+
+-- all acts were told, and then the nodes
+pub ends : (nodes slots : ℕ) (machine : Machine) (acts : List Act) (text all : List ℕ) → IsSoFar nodes slots machine acts text
+    → ((w : World) → StandsFor machine w → AddsRows 0 w.states text all) → TellsRun nodes slots acts all
+ends nodes slots machine acts text all so rows = record {
+  world = so.world;
+  report = so.report;
+  left = so.left;
+  acts_are = so.acts_are;
+  told = subst (λ (t : List ℕ). AddsRows 0 so.world.states t all) so.text_is (rows so.world so.stands);
+}
+
+-- ---- the table
+
+one_there : (xs : List NodeState) (k : ℕ) → k < length xs → (s : NodeState) × (slice_get xs k ≡ Some s) × (drop k xs ≡ s ∷ drop (suc k) xs)
+one_there [] k within = absurd (omega arith)
+one_there (x ∷ xs) zero within = (x, refl, refl)
+one_there (x ∷ xs) (suc k) within = let rest = one_there xs k (omega arith) in (rest.0, rest.1, rest.2)
+
+-- one line more
+pub row_more : (w : World) (machine : Machine) (k : ℕ) (node : Node Memory) (first text behind end : List ℕ) → StandsFor machine w → k < length machine.nodes → slice_get machine.nodes k ≡ Some node
+    → ((s : NodeState) → Stands state_of node s → AddsRow k s text behind)
+    → ((e : List ℕ) → AddsRows k (drop k w.states) text e → AddsRows 0 w.states first e)
+    → AddsRows (k + 1) (drop (k + 1) w.states) behind end → AddsRows 0 w.states first end
+row_more w machine k node first text behind end stands within found row before rest =
+    let here = one_there w.states k (omega (arith, stands.count)) in
+    let left : drop k w.states ≡ here.0 ∷ drop (k + 1) w.states = here.2 ∙ ap (λ (m : ℕ). here.0 ∷ drop m w.states) (sym (add-one k)) in
+    before end (subst (λ (states : List NodeState). AddsRows k states text end) (sym left) (behind, row here.0 (stands.each k node here.0 found here.1), rest))
+
+-- the last line
+pub rows_end : (w : World) (machine : Machine) (k : ℕ) (first text : List ℕ) → StandsFor machine w → k ≡ length machine.nodes
+    → ((e : List ℕ) → AddsRows k (drop k w.states) text e → AddsRows 0 w.states first e) → AddsRows 0 w.states first text
+rows_end w machine k first text stands all before =
+    before text (subst (λ (states : List NodeState). AddsRows k states text text) (sym (drop_all k w.states (omega (arith, stands.count, all)))) refl)
+
+-- ---- one act of the code
+
+-- the act was done, its line was added, and so all that was done is told
+pub step_told : {T E F : Type 0} → RunsGrow → (nodes slots number place : ℕ) (old new : Machine) (before : List Act) (a : Act) (messages : List Envelope) (text behind : List ℕ)
+    (outcome : Result Outcome E) (result : Result T F) → length before ≡ number → place ≡ length old.net.sent → messages ≡ new.net.sent → new.slots ≡ old.slots
+    → ((w : World) → StandsFor old w → IfOk outcome (λ o. Acted w a o new)) → OnOk result (IsOk outcome)
+    → IfOk outcome (λ o. OnOk result (behind ≡ text ++ act_line number a o (drop place messages)))
+    → IsSoFar nodes slots old before text → OnOk result (IsSoFar nodes slots new (before ++ a ∷ []) behind)
+step_told grow nodes slots number place old new before a messages text behind outcome (Err f) count at all same acted done added so = tt
+step_told grow nodes slots number place old new before a messages text behind (Err e) (Ok u) count at all same acted done added so = absurd cc
+step_told grow nodes slots number place old new before a messages text behind (Ok o) (Ok u) count at all same acted done added so =
+    let line : behind ≡ text ++ act_line (length before) a o (drop (length old.net.sent) new.net.sent) =
+    added ∙ (ap (λ (k : ℕ). text ++ act_line k a o (drop place messages)) (sym count)
+    ∙ (ap (λ (k : ℕ). text ++ act_line (length before) a o (drop k messages)) at
+    ∙ ap (λ (ms : List Envelope). text ++ act_line (length before) a o (drop (length old.net.sent) ms)) all)) in
+    further grow nodes slots old new before a o text behind so acted same line

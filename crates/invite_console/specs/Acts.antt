@@ -1,0 +1,98 @@
+-- The lines of a simulation: one for each act.
+use Rattle.std.specs.Prelude.{ℕ, ◌+◌, List, [], ◌∷◌, ◌++◌, codes, decimal, Option, Some, None}
+use Rattle.hex.specs.Hex.{encode_lower}
+use Rattle.wire_msg.specs.Envelope.{Envelope}
+use Rattle.wire_msg.specs.Spelling.{spelling}
+use Rattle.node_core.specs.declared.fault.CoreFault.{CoreFault}
+use Rattle.node_core.specs.declared.fault.CoreFault.TheVariants as core
+use Rattle.durable_node.specs.declared.fault.NodeFault.{NodeFault}
+use Rattle.durable_node.specs.declared.fault.NodeFault.TheVariants as node
+use Rattle.sim_net.specs.declared.fault.NetFault.{NetFault}
+use Rattle.sim_net.specs.declared.fault.NetFault.TheVariants as net
+use Rattle.schedule.specs.declared.act.Act.{Act}
+use Rattle.schedule.specs.declared.act.Act.TheVariants as act
+use Rattle.cluster_sim.specs.declared.outcome.Outcome.{Outcome}
+use Rattle.cluster_sim.specs.declared.outcome.Outcome.TheVariants.{Done, Refused, Faulted}
+use Rattle.cluster_sim.specs.declared.outcome.Refusal.{Refusal}
+use Rattle.cluster_sim.specs.declared.outcome.Refusal.TheVariants.{Node, Net, Stranger}
+use Rattle.cluster_sim.specs.Told.{told}
+use Rattle.cluster_sim.specs.Report.{Moment}
+
+abbrev pub message_text : ℕ → Envelope → List ℕ
+message_text number m = codes " " ++ decimal number ++ codes ":" ++ encode_lower (spelling m)
+
+-- messages, each with its number, the first of them having this one
+abbrev pub sent_text : ℕ → List Envelope → List ℕ
+sent_text number [] = []
+sent_text number (m ∷ ms) = message_text number m ++ sent_text (number + 1) ms
+
+abbrev pub core_name : CoreFault → List ℕ
+core_name core.Stranger = codes "Stranger"
+core_name core.Down = codes "Down"
+core_name (core.NotCoordinator id) = codes "NotCoordinator " ++ decimal id
+core_name core.NotNormal = codes "NotNormal"
+core_name core.UnknownJob = codes "UnknownJob"
+core_name core.NoMemory = codes "no memory"
+
+-- why a node refused
+abbrev pub fault_name : NodeFault → List ℕ
+fault_name (node.Core fault) = core_name fault
+fault_name node.Full = codes "Full"
+fault_name node.Exhausted = codes "Exhausted"
+fault_name node.Device = codes "Device"
+fault_name node.NotFormatted = codes "NotFormatted"
+fault_name (node.Damaged sector) = codes "Damaged " ++ decimal sector
+fault_name node.TooSmall = codes "TooSmall"
+
+abbrev pub net_name : NetFault → List ℕ
+net_name net.NoSuch = codes "NoSuch"
+net_name net.Lost = codes "Lost"
+net_name net.Cut = codes "Cut"
+net_name net.NoMemory = codes "no memory"
+
+abbrev pub refusal_name : Refusal → List ℕ
+refusal_name (Node fault) = fault_name fault
+refusal_name (Net fault) = net_name fault
+refusal_name Stranger = codes "Stranger"
+
+abbrev pub id_text : Option ℕ → List ℕ
+id_text None = []
+id_text (Some id) = codes " id " ++ decimal id
+
+-- the id of a submitted job, which no other act tells
+abbrev pub answer_text : Act → Option ℕ → List ℕ
+answer_text (act.Check n) answer = []
+answer_text (act.Merge n) answer = []
+answer_text (act.Accept n) answer = []
+answer_text (act.Ready n) answer = []
+answer_text (act.Coord n) answer = []
+answer_text (act.Dispatch n) answer = []
+answer_text (act.Deliver k) answer = []
+answer_text (act.Lose k) answer = []
+answer_text (act.Cut a b) answer = []
+answer_text (act.Mend a b) answer = []
+answer_text (act.Submit n queue payload) answer = id_text answer
+answer_text (act.Finish n origin id) answer = []
+answer_text (act.Arm n calls) answer = []
+answer_text (act.Crash n fill) answer = []
+answer_text (act.Recover n) answer = []
+
+-- what came of an act, and the messages that were sent in it
+abbrev pub outcome_text : Act → Outcome → List Envelope → List ℕ
+outcome_text a (Done answer first many) sent = codes "ok" ++ answer_text a answer ++ sent_text first sent
+outcome_text a (Refused why) sent = codes "refused " ++ refusal_name why
+outcome_text a Faulted sent = codes "fault Device"
+
+-- the line of an act, by its number from 0 on
+abbrev pub act_line : ℕ → Act → Outcome → List Envelope → List ℕ
+act_line number a outcome sent = decimal number ++ codes " " ++ outcome_text a outcome sent ++ codes "\n"
+
+abbrev pub act_lines : ℕ → List Moment → List ℕ
+act_lines number [] = []
+act_lines number (m ∷ ms) = act_line number m.act (told m.outcome) m.sent ++ act_lines (number + 1) ms
+
+-- the number of the first message that was sent, where an act was done
+abbrev pub first_of : ℕ → Outcome → ℕ
+first_of else_this (Done answer first many) = first
+first_of else_this (Refused why) = else_this
+first_of else_this Faulted = else_this

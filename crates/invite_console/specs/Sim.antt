@@ -1,0 +1,81 @@
+-- The text of the command `sim`.
+use Rattle.std.specs.Prelude.{◌≡◌, ℕ, ◌+◌, List, [], ◌∷◌, ◌++◌, codes, decimal, length, Bool, true, false, Option, IfSome, Result, Ok, Err}
+use Rattle.std.specs.Io.KnownBytes.{Appends, Keeps}
+use Rattle.node_core.specs.State.{is_down}
+use Rattle.durable_node.specs.NodeState.{NodeState}
+use Rattle.schedule.specs.declared.act.Act.{Act}
+use Rattle.schedule.specs.Text.{Plan, plan_of}
+use Rattle.cluster_sim.specs.World.{World}
+use Rattle.cluster_sim.specs.Report.{Report}
+use Rattle.cluster_sim.specs.Growth.{IsLeft, acts_in}
+use Rattle.cluster_sim.specs.Machine.{Machine, StandsFor}
+use Rattle.invite_console.specs.declared.ends.Ending.{Ending}
+use Rattle.invite_console.specs.declared.ends.Ending.TheVariants.{Done, Refused, NoMemory, Unread, Unwritten}
+use Rattle.invite_console.specs.Ends.{Outcome, ending_of, line, refused}
+use Rattle.invite_console.specs.Acts.{act_lines}
+use Rattle.invite_console.specs.Rows.{HasRow, down_row}
+
+-- ---- the table
+
+abbrev pub AddsRowBy : Bool → ℕ → NodeState → List ℕ → List ℕ → Type 0
+AddsRowBy true id s old new = new ≡ old ++ line (down_row id)
+AddsRowBy false id s old new = HasRow id s.state s.durable old new
+
+-- the line of a node, added to a text
+abbrev pub AddsRow : ℕ → NodeState → List ℕ → List ℕ → Type 0
+AddsRow id s old new = AddsRowBy (is_down s.state.phase) id s old new
+
+-- the lines of nodes, of which the first has this id
+abbrev pub AddsRows : ℕ → List NodeState → List ℕ → List ℕ → Type 0
+AddsRows id [] old new = new ≡ old
+AddsRows id (s ∷ states) old new = (behind : List ℕ) × AddsRow id s old behind × AddsRows (id + 1) states behind new
+
+-- ---- the whole text
+
+-- Some run of these acts is told act by act, and then the nodes as it leaves them. Whatever is promised of every run of a
+-- schedule is promised of this one.
+pub record TellsRun (nodes slots : ℕ) (acts : List Act) (text : List ℕ) : Type 0 where
+  pub world : World
+  pub report : Report
+  pub left : IsLeft nodes slots world report
+  pub acts_are : acts_in report ≡ acts
+  pub told : AddsRows 0 world.states (act_lines 0 report.moments) text
+
+abbrev pub TellsPlan : Result Plan ℕ → Outcome → Type 0
+TellsPlan (Err n) outcome = outcome ≡ refused (codes "bad line " ++ decimal n)
+TellsPlan (Ok plan) outcome = (outcome.good ≡ true) × TellsRun plan.size.nodes plan.size.slots plan.acts outcome.text
+
+-- what `sim` prints for an input
+abbrev pub IsSimulation : List ℕ → Outcome → Type 0
+IsSimulation input outcome = TellsPlan (plan_of input) outcome
+
+-- ---- how a command ends whose text is one of several
+
+-- one of the texts for the bytes that were read, and nothing else, is written
+abbrev pub AnsweredBy : (List ℕ → Outcome → Type 0) → Option (List ℕ) → Option (List ℕ) → Option (List ℕ) → Ending → Type 0
+AnsweredBy Is input old new ending =
+    (bytes : List ℕ) × (outcome : Outcome) × IfSome input (λ known. known ≡ bytes) × Is bytes outcome × (ending ≡ ending_of outcome.good) × Appends old new outcome.text
+
+abbrev pub PrintsBy : (List ℕ → Outcome → Type 0) → Option (List ℕ) → Option (List ℕ) → Option (List ℕ) → Ending → Type 0
+PrintsBy Is input old new Done = AnsweredBy Is input old new Done
+PrintsBy Is input old new Refused = AnsweredBy Is input old new Refused
+PrintsBy Is input old new NoMemory = Appends old new (line (codes "no memory"))
+PrintsBy Is input old new Unread = Keeps old new
+PrintsBy Is input old new Unwritten = Unit {0}
+
+-- ---- on the way
+
+-- the acts so far were told, and the cluster is as they left it
+pub record IsSoFar (nodes slots : ℕ) (machine : Machine) (acts : List Act) (text : List ℕ) : Type 0 where
+  pub world : World
+  pub report : Report
+  pub left : IsLeft nodes slots world report
+  pub count : length world.states ≡ nodes
+  pub slots_are : machine.slots ≡ slots
+  pub stands : StandsFor machine world
+  pub acts_are : acts_in report ≡ acts
+  pub text_is : text ≡ act_lines 0 report.moments
+
+-- the cluster stands for some world
+abbrev pub HasWorld : Machine → Type 0
+HasWorld machine = (w : World) × StandsFor machine w

@@ -1,0 +1,188 @@
+//! The lines of a simulation: one for each act.
+
+ghost use Rattle.std.specs.Prelude.{◌≡◌, ◌++◌, ◌≤◌, IfOk, IsOk, OnOk, codes, decimal, drop, length};
+ghost use Rattle.invite_console.specs.Acts.{act_line, answer_text, core_name, fault_name, first_of, message_text, net_name, outcome_text, refusal_name, sent_text};
+
+use crate::words::{push_hex, push_number, push_text};
+use cluster_sim::{Outcome, Refusal};
+use durable_node::NodeFault;
+use node_core::CoreFault;
+use schedule::Act;
+use sim_net::{MessageList, NetFault};
+use std::alloc::{AllocError, Global};
+use wire_msg::{Message, encode};
+
+/// Adds the line of an act that was done or refused. Where there was no memory for it, that is handed on.
+pub(crate) fn push_done(
+    alloc: Global,
+    text: &mut Vec<u8>,
+    number: u64,
+    act: &Act,
+    outcome: Result<Outcome, AllocError>,
+    messages: &MessageList,
+    place: usize,
+) -> Result<(), AllocError>
+    requires place { IfOk outcome (λ _. place ≤ length messages.now.messages) }
+    requires first { IfOk outcome (λ came. first_of place came ≡ place) }
+    ensures done { OnOk result (IsOk outcome) }
+    ensures line { IfOk outcome (λ came. OnOk result (text.new.items ≡ text.old.items ++ act_line number act.now came (drop place messages.now.messages))) }
+{
+    match outcome {
+        Ok(outcome) => push_act(alloc, text, number, act, outcome, messages, place),
+        Err(error) => Err(error),
+    }
+}
+
+/// Adds the line of an act, by its number from 0 on. The messages that were sent in it are the last ones, from this place on.
+fn push_act(
+    alloc: Global,
+    text: &mut Vec<u8>,
+    number: u64,
+    act: &Act,
+    outcome: Outcome,
+    messages: &MessageList,
+    place: usize,
+) -> Result<(), AllocError>
+    requires place { place ≤ length messages.now.messages }
+    requires first { first_of place outcome ≡ place }
+    ensures { OnOk result (text.new.items ≡ text.old.items ++ act_line number act.now outcome (drop place messages.now.messages)) }
+{
+    push_number(text, number)?;
+    push_text(text, " ")?;
+    push_outcome(alloc, text, act, outcome, messages, place)?;
+    push_text(text, "\n")
+}
+
+fn push_outcome(
+    alloc: Global,
+    text: &mut Vec<u8>,
+    act: &Act,
+    outcome: Outcome,
+    messages: &MessageList,
+    place: usize,
+) -> Result<(), AllocError>
+    requires place { place ≤ length messages.now.messages }
+    requires first { first_of place outcome ≡ place }
+    ensures { OnOk result (text.new.items ≡ text.old.items ++ outcome_text act.now outcome (drop place messages.now.messages)) }
+{
+    match outcome {
+        Outcome::Done { answer, .. } => {
+            push_text(text, "ok")?;
+            push_answer(text, act, answer)?;
+            push_sent(alloc, text, messages, place)
+        }
+        Outcome::Refused(why) => {
+            push_text(text, "refused ")?;
+            push_refusal(text, why)
+        }
+        Outcome::Faulted => push_text(text, "fault Device"),
+    }
+}
+
+/// Adds the id of a submitted job, which no other act tells.
+fn push_answer(text: &mut Vec<u8>, act: &Act, answer: Option<u64>) -> Result<(), AllocError>
+    ensures { OnOk result (text.new.items ≡ text.old.items ++ answer_text act.now answer) }
+{
+    match (act, answer) {
+        (Act::Submit(_, _, _), Some(id)) => {
+            push_text(text, " id ")?;
+            push_number(text, id)
+        }
+        _ => Ok(()),
+    }
+}
+
+fn push_refusal(text: &mut Vec<u8>, why: Refusal) -> Result<(), AllocError>
+    ensures { OnOk result (text.new.items ≡ text.old.items ++ refusal_name why) }
+{
+    match why {
+        Refusal::Node(fault) => push_fault(text, fault),
+        Refusal::Net(fault) => push_text(text, net_word(fault)),
+        Refusal::Stranger => push_text(text, "Stranger"),
+    }
+}
+
+fn push_fault(text: &mut Vec<u8>, fault: NodeFault) -> Result<(), AllocError>
+    ensures { OnOk result (text.new.items ≡ text.old.items ++ fault_name fault) }
+{
+    match fault {
+        NodeFault::Core(fault) => push_core_fault(text, fault),
+        NodeFault::Full => push_text(text, "Full"),
+        NodeFault::Exhausted => push_text(text, "Exhausted"),
+        NodeFault::Device => push_text(text, "Device"),
+        NodeFault::NotFormatted => push_text(text, "NotFormatted"),
+        NodeFault::Damaged(sector) => push_named_number(text, "Damaged ", sector),
+        NodeFault::TooSmall => push_text(text, "TooSmall"),
+    }
+}
+
+fn push_core_fault(text: &mut Vec<u8>, fault: CoreFault) -> Result<(), AllocError>
+    ensures { OnOk result (text.new.items ≡ text.old.items ++ core_name fault) }
+{
+    match fault {
+        CoreFault::Stranger => push_text(text, "Stranger"),
+        CoreFault::Down => push_text(text, "Down"),
+        CoreFault::NotCoordinator(id) => push_named_number(
+            text,
+            "NotCoordinator ",
+            u64::from(id.number()),
+        ),
+        CoreFault::NotNormal => push_text(text, "NotNormal"),
+        CoreFault::UnknownJob => push_text(text, "UnknownJob"),
+        CoreFault::NoMemory => push_text(text, "no memory"),
+    }
+}
+
+fn push_named_number(text: &mut Vec<u8>, name: &str, number: u64) -> Result<(), AllocError>
+    ensures { OnOk result (text.new.items ≡ text.old.items ++ (name.now ++ decimal number)) }
+{
+    push_text(text, name)?;
+    push_number(text, number)
+}
+
+fn net_word(fault: NetFault) -> &'static str
+    ensures { result.now ≡ net_name fault }
+{
+    match fault {
+        NetFault::NoSuch => "NoSuch",
+        NetFault::Lost => "Lost",
+        NetFault::Cut => "Cut",
+        NetFault::NoMemory => "no memory",
+    }
+}
+
+/// Adds the messages from a place on, each with its number, which is its place.
+fn push_sent(
+    alloc: Global,
+    text: &mut Vec<u8>,
+    messages: &MessageList,
+    place: usize,
+) -> Result<(), AllocError>
+    requires place { place ≤ length messages.now.messages }
+    ensures { OnOk result (text.new.items ≡ text.old.items ++ sent_text place (drop place messages.now.messages)) }
+{
+    for at in place..messages.len() {
+        let Some(message) = messages.get(at) else {
+            unreachable!()
+        };
+        push_message(alloc, text, at as u64, &message)?;
+    }
+    Ok(())
+}
+
+fn push_message(
+    alloc: Global,
+    text: &mut Vec<u8>,
+    number: u64,
+    message: &Message,
+) -> Result<(), AllocError>
+    ensures { OnOk result (text.new.items ≡ text.old.items ++ message_text number message.now) }
+{
+    push_text(text, " ")?;
+    push_number(text, number)?;
+    push_text(text, ":")?;
+    let Ok(bytes) = encode(alloc, message) else {
+        return Err(AllocError);
+    };
+    push_hex(text, &bytes)
+}
