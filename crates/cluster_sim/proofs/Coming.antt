@@ -26,7 +26,7 @@ use Rattle.cluster_sim.specs.declared.outcome.Refusal.TheVariants as refusal
 use Rattle.cluster_sim.specs.Acts.{answer_shown, what_outcome}
 use Rattle.cluster_sim.specs.Told.{told, IsToldFault}
 use Rattle.cluster_sim.proofs.Sending.{none_sent}
-use Rattle.cluster_sim.specs.Machine.{IsOfSize, IsSame, CameOf, Comes}
+use Rattle.cluster_sim.specs.Machine.{IsOfSize, IsSame, IsCounted, CameOf, Comes}
 
 -- the fault of a result, if there is one
 abbrev pub fault_or : {A : Type 0} → NodeFault → Result A NodeFault → NodeFault
@@ -129,6 +129,7 @@ comes_by event old new net net' result outcome has steps is_told sent slots s mo
       of_slots = subst (λ (n : ℕ). IsOfSlots n old.id old.nodes s came.0) (ap slots_for (size was.0 was.1) ∙ slots_of_size slots most) does.of_slots;
       is_told = is_told (slots_for (state_of was.0).sectors) s came.0 does;
       sent = sent ∙ ap (λ (ms : List Envelope). after_all_sent net ms) does.sent;
+      found = does.mounted;
       stands = came.2;
     }
 
@@ -145,3 +146,20 @@ faults_by event old new net net' fault (Ok o) has steps is same slots s most siz
       | inl failed ↦ failed.1 ∙ device_told slots old.id old.nodes (length net.sent) s event new.found what (subst (λ (f : NodeFault). Does slots old.id old.nodes s event (Err f) new.found what) failed.0 does)
       | inr other ↦ other.1 ∙ refused_told slots old.id old.nodes (length net.sent) s event fault new.found what other.0 does
     ]
+
+-- ---- the failures of the disk
+
+pub counted_done : (old new : Option Memory) (step : Step) (answer : Option ℕ) (first many : ℕ) → CountsOf state_of old new (Ok step) → IsCounted old new (outcome.Done answer first many)
+counted_done old new step answer first many counts was now before after =
+    let c = counts was now before after in
+    record { sectors = c.sectors; honest = c.honest; later = c.later; unchanged = λ _. c.unchanged (λ bad. cc); cause = λ is. absurd (let bad = is in cc) }
+
+pub counted_fault : {E : Type 0} (old new : Option Memory) (fault : NodeFault) (answer : Result Outcome E) → IfOk answer (λ (o : Outcome). IsToldFault fault o) → CountsOf state_of old new (Err fault)
+    → IfOk answer (λ (o : Outcome). IsCounted old new o)
+counted_fault old new fault (Err e) is counts = tt
+counted_fault old new fault (Ok o) is counts = λ was now before after. elim is.1 [
+  | inl failed ↦ (let c = counts was now before after in
+      record { sectors = c.sectors; honest = c.honest; later = c.later; unchanged = λ not. absurd (not failed.1); cause = λ _. c.cause (let it = failed.0 in cc) })
+  | inr other ↦ (let c = counts was now before after in
+      record { sectors = c.sectors; honest = c.honest; later = c.later; unchanged = λ _. c.unchanged (λ device. other.0 (let it = device in cc)); cause = λ is. absurd (let bad = sym other.1 ∙ is in cc) })
+]

@@ -89,6 +89,7 @@ acted_by Q w a o new is_step makes = record {
   step = makes.step;
   next = record { of_act = is_step makes.step makes.is; allowed = makes.allowed; of_slots = makes.of_slots };
   is_told = makes.is_told;
+  shows = makes.shows;
   stands = makes.stands;
 }
 
@@ -121,6 +122,7 @@ undelivered w k fault machine stands is = record {
   step = Denies (OfNet fault);
   next = record { of_act = subst (λ (d : Result Envelope NetFault). Brings (length w.states) k d (Denies (OfNet fault))) (sym is) refl; allowed = tt; of_slots = tt };
   is_told = refl;
+  shows = tt;
   stands = stands;
 }
 
@@ -138,6 +140,7 @@ lost w k machine m stands is = record {
     of_slots = tt;
   };
   is_told = ap (λ (n : Network). outcome.Done None (length n.sent) 0) stands.net;
+  shows = tt;
   stands = rewired machine w _ _ stands (ap (λ (n : Network). after_lost n k) stands.net);
 }
 
@@ -146,6 +149,7 @@ not_lost w k fault machine stands is = record {
   step = Denies (OfNet fault);
   next = record { of_act = sym (ap (λ (d : Result Envelope NetFault). lost_step k d) (ap (λ (n : Network). found n k) (sym stands.net) ∙ is)); allowed = tt; of_slots = tt };
   is_told = refl;
+  shows = tt;
   stands = stands;
 }
 
@@ -155,6 +159,7 @@ cuts w a b machine stands known = record {
   step = Cuts a b;
   next = record { of_act = sym (ap (λ (x : Bool). if_known x (Cuts a b)) (ap (λ (c : ℕ). nat_lt a c && nat_lt b c) (sym stands.count) ∙ known)); allowed = tt; of_slots = tt };
   is_told = ap (λ (n : Network). outcome.Done None (length n.sent) 0) stands.net;
+  shows = tt;
   stands = rewired machine w _ _ stands (ap (λ (n : Network). after_cut n a b) stands.net);
 }
 
@@ -164,6 +169,7 @@ mends w a b machine stands known = record {
   step = Mends a b;
   next = record { of_act = sym (ap (λ (x : Bool). if_known x (Mends a b)) (ap (λ (c : ℕ). nat_lt a c && nat_lt b c) (sym stands.count) ∙ known)); allowed = tt; of_slots = tt };
   is_told = ap (λ (n : Network). outcome.Done None (length n.sent) 0) stands.net;
+  shows = tt;
   stands = rewired machine w _ _ stands (ap (λ (n : Network). after_mend n a b) stands.net);
 }
 
@@ -172,6 +178,7 @@ cut_denied w a b machine stands known = record {
   step = Denies Stranger;
   next = record { of_act = sym (ap (λ (x : Bool). if_known x (Cuts a b)) (ap (λ (c : ℕ). nat_lt a c && nat_lt b c) (sym stands.count) ∙ known)); allowed = tt; of_slots = tt };
   is_told = refl;
+  shows = tt;
   stands = stands;
 }
 
@@ -180,6 +187,7 @@ mend_denied w a b machine stands known = record {
   step = Denies Stranger;
   next = record { of_act = sym (ap (λ (x : Bool). if_known x (Mends a b)) (ap (λ (c : ℕ). nat_lt a c && nat_lt b c) (sym stands.count) ∙ known)); allowed = tt; of_slots = tt };
   is_told = refl;
+  shows = tt;
   stands = stands;
 }
 

@@ -15,8 +15,8 @@ use Rattle.cluster_sim.specs.Step.{Step, Takes, Loses, Cuts, Mends, Denies, stat
 use Rattle.cluster_sim.specs.Run.{world_at}
 use Rattle.cluster_sim.specs.Acts.{IsRunOf}
 use Rattle.cluster_sim.specs.Given.{opening_groups, groups_at, groups_from, groups_of}
-use Rattle.cluster_sim.specs.Marked.{own, marks_for, step_marks, counts_after, run_marks}
-use Rattle.cluster_sim.specs.Report.{Moment, TriedAt, MountedAt, Report, moment_of, moments_from, opening_marks_from, marks_of_run, commands_in, mountings_in, own_commands, report_of}
+use Rattle.cluster_sim.specs.Tagged.{own, marks_for, step_marks, counts_after, run_marks}
+use Rattle.cluster_sim.specs.Reporting.{Moment, TriedAt, MountedAt, Report, moment_of, moments_from, opening_marks_from, marks_of_run, commands_in, mountings_in, own_commands, report_of}
 use Rattle.cluster_sim.specs.Headline.{Headline}
 use Rattle.cluster_sim.specs.Growth.{acts_in, tried_so_far, grown, IsNext, RunsOpen, RunsGrow, LeftKeeps}
 use Rattle.cluster_sim.proofs.Picked.{own_tried, own_append, own_marks}
@@ -107,7 +107,7 @@ state_length : (n nodes : ℕ) (o : Option NodeState) (what : What) (states : Li
 state_length n nodes None what states = refl
 state_length n nodes (Some s) what states = length-set states n (after n nodes s what)
 
-step_length : (nodes : ℕ) (w : World) (step : Step) → length (world_after nodes w step).states ≡ length w.states
+pub step_length : (nodes : ℕ) (w : World) (step : Step) → length (world_after nodes w step).states ≡ length w.states
 step_length nodes w (Takes n number what) = state_length n nodes (slice_get w.states n) what w.states
 step_length nodes w (Loses k) = refl
 step_length nodes w (Cuts a b) = refl
@@ -123,7 +123,7 @@ openings_length zero i = refl
 openings_length (suc k) i = ap suc (openings_length k (suc i))
 
 -- the number that the run's marks count is the one that the report shows
-counts_shown : (nodes : ℕ) (steps : List Step) (n : ℕ) → n < nodes
+pub counts_shown : (nodes : ℕ) (steps : List Step) (n : ℕ) → n < nodes
     → counts_at nodes (start nodes) (λ (k : ℕ). 1) steps n ≡ length (own_commands n (commands_in (marks_of_run nodes steps)))
 counts_shown nodes steps n lt =
     let ms : List (ℕ × Mark) = run_marks nodes (start nodes) (λ (k : ℕ). 1) steps in
@@ -132,13 +132,13 @@ counts_shown nodes steps n lt =
     let so_long : length (own_commands n (commands_in (marks_of_run nodes steps))) ≡ suc (so_many n ms) = ap (λ (ts : List Tried). length ts) shown in
     omega (arith, counted, so_long)
 
-in_append : (xs ys : List (ℕ × Mark)) → commands_in (xs ++ ys) ≡ commands_in xs ++ commands_in ys
+pub in_append : (xs ys : List (ℕ × Mark)) → commands_in (xs ++ ys) ≡ commands_in xs ++ commands_in ys
 in_append [] ys = refl
 in_append ((n, Acknowledged c a) ∷ xs) ys = ap (λ (ts : List TriedAt). record { node = n; tried = record { command = c; acked = Some a } } ∷ ts) (in_append xs ys)
 in_append ((n, Unanswered c) ∷ xs) ys = ap (λ (ts : List TriedAt). record { node = n; tried = record { command = c; acked = None } } ∷ ts) (in_append xs ys)
 in_append ((n, Mounted w) ∷ xs) ys = in_append xs ys
 
-mounted_append : (xs ys : List (ℕ × Mark)) → mountings_in (xs ++ ys) ≡ mountings_in xs ++ mountings_in ys
+pub mounted_append : (xs ys : List (ℕ × Mark)) → mountings_in (xs ++ ys) ≡ mountings_in xs ++ mountings_in ys
 mounted_append [] ys = refl
 mounted_append ((n, Acknowledged c a) ∷ xs) ys = mounted_append xs ys
 mounted_append ((n, Unanswered c) ∷ xs) ys = mounted_append xs ys

@@ -24,13 +24,13 @@ use Rattle.cluster_sim.specs.World.{openings, start}
 use Rattle.cluster_sim.specs.Step.{Step}
 use Rattle.cluster_sim.specs.Run.{RunFrom, world_at, history_in, histories_of}
 use Rattle.cluster_sim.specs.Given.{AllGiven, groups_of}
-use Rattle.cluster_sim.specs.Marked.{own, run_marks, IsShortRun}
-use Rattle.cluster_sim.specs.Report.{Moment, TriedAt, moments_from, state_at, state_or_down, commands_in, mountings_in, own_commands, own_mountings, own_counts, marks_of_run, report_of}
+use Rattle.cluster_sim.specs.Tagged.{own, run_marks, IsShortRun}
+use Rattle.cluster_sim.specs.Reporting.{Moment, TriedAt, moments_from, state_at, state_or_down, commands_in, mountings_in, own_commands, own_mountings, own_counts, marks_of_run, report_of}
 use Rattle.cluster_sim.specs.Headline.{groups_within, NamesGiven, HasBook, EverySchedule}
 use Rattle.cluster_sim.proofs.Runs.{history_at, how_many, runs_are_bundles}
 use Rattle.cluster_sim.proofs.RunBooks.{run_book}
 use Rattle.cluster_sim.proofs.Given.{given_before, none_twice}
-use Rattle.cluster_sim.proofs.Marked.{runs_are_kept}
+use Rattle.cluster_sim.proofs.Tagged.{runs_are_kept}
 use Rattle.cluster_sim.proofs.Exact.{all_acts_run}
 use Rattle.cluster_sim.proofs.Picked.{own_tried, own_mounted, own_marks, own_history, starts_opened, among_own, own_counts_of}
 use Rattle.cluster_sim.proofs.Moments.{run_front, as_many, moment_state, moment_says, opening_shown}

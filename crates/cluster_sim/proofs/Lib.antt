@@ -1,6 +1,6 @@
 pub mod Runs
 pub mod RunBooks
-pub mod Marked
+pub mod Tagged
 pub mod Picked
 pub mod Moments
 pub mod Headlines
@@ -15,3 +15,13 @@ pub mod Members
 pub mod Doings
 pub mod Quiet
 pub mod Opened
+pub mod Faulting
+pub mod Hands
+pub mod Numbered
+pub mod Keeping
+pub mod Rooms
+pub mod Strangers
+pub mod Telling
+pub mod Advancing
+pub mod Opening
+pub mod Promised

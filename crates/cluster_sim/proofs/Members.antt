@@ -7,7 +7,7 @@ use Rattle.sim_net.specs.Network.{Network, after_all_sent}
 use Rattle.durable_node.specs.Node.{Node, Stands}
 use Rattle.durable_node.specs.NodeState.{NodeState, opening}
 use Rattle.durable_node.specs.What.{What, event_of, brought, AreAddressed}
-use Rattle.durable_node.specs.After.{after}
+use Rattle.durable_node.specs.After.{after, found_at}
 use Rattle.durable_node.proofs.Nodes.{is_some}
 use Rattle.cluster_sim.specs.declared.outcome.Outcome.{Outcome}
 use Rattle.cluster_sim.specs.declared.outcome.Outcome.TheVariants as outcome
@@ -79,7 +79,7 @@ moves slots n nodes old new net net' net'' w s s' at stands was is same_net = re
 state_of_place : (states : List NodeState) (n : ℕ) → n < length states → (s : NodeState) × (slice_get states n ≡ Some s)
 state_of_place states n within = (_, slice_get-get_or states n (opening 0) within)
 
-true_within : (n count : ℕ) → n < count → nat_lt n count ≡ true
+pub true_within : (n count : ℕ) → n < count → nat_lt n count ≡ true
 true_within n count within = grind (arith, nat_tests)
 
 pub takes : (slots n number : ℕ) (P : What → Type 0) (nodes : List (Node Memory)) (old new : Node Memory) (net net' : Network) (outcome : Outcome) (w : World) → IsCluster slots nodes → slice_get nodes n ≡ Some old
@@ -102,6 +102,8 @@ takes slots n number P nodes old new net net' outcome w cluster at stands brings
       of_slots = subst (λ (o : Option NodeState). IsOfSlotsAt slots n count o came.what) (sym was.1) came.of_slots;
       is_told = came.is_told ∙ ap (λ (first : Network). told (what_outcome n count (length first.sent) was.0 came.what)) stands.net
           ∙ ap (λ (o : Option NodeState). told (node_outcome n count (length w.net.sent) o came.what)) (sym was.1);
+      shows = λ node s at_n was_n. ap (λ (x : Node Memory). x.found) (sym (is_some new node (sym (get_set_same nodes n old new at) ∙ at_n))) ∙ came.found
+          ∙ ap (λ (x : NodeState). found_at x came.what) (is_some was.0 s (sym was.1 ∙ was_n));
       stands = subst (λ (o : Option NodeState). StandsFor (record { slots = slots; nodes = slice_set nodes n new; net = net' }) (record {
         states = state_after n count o came.what w.states;
         net = after_all_sent w.net (sent_after n count o came.what);
@@ -134,7 +136,7 @@ pub is_stranger : (n count : ℕ) → count ≤ n → nat_lt n count ≡ false
 is_stranger n count beyond = grind (arith, nat_tests)
 
 pub denies : (Q : Step → Type 0) (machine : Machine) (w : World) → StandsFor machine w → Q (Denies Stranger) → Makes Q w (outcome.Refused refusal.Stranger) machine
-denies Q machine w stands is = record { step = Denies Stranger; is = is; allowed = tt; of_slots = tt; is_told = refl; stands = stands }
+denies Q machine w stands is = record { step = Denies Stranger; is = is; allowed = tt; of_slots = tt; is_told = refl; shows = tt; stands = stands }
 
 pub rests_if : {E : Type 0} (slots n : ℕ) (nodes : List (Node Memory)) (old new : Node Memory) (net net' : Network) (result : Result Outcome E) (w : World) → slice_get nodes n ≡ Some old
     → StandsFor (record { slots = slots; nodes = nodes; net = net }) w → OnErr result ((s : NodeState) → Stands state_of old s → Stands state_of new s) → OnErr result (net' ≡ net)

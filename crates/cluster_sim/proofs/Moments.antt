@@ -10,7 +10,7 @@ use Rattle.cluster_sim.specs.World.{World}
 use Rattle.cluster_sim.specs.Step.{Step, Takes, Loses, Cuts, Mends, Denies, sent_after, world_after}
 use Rattle.cluster_sim.specs.Run.{RunFrom, world_at}
 use Rattle.cluster_sim.specs.Acts.{IsRunOf}
-use Rattle.cluster_sim.specs.Report.{Moment, moment_of, moments_from, state_at, step_sent}
+use Rattle.cluster_sim.specs.Reporting.{Moment, moment_of, moments_from, state_at, step_sent}
 
 -- a front of a run is a run
 pub run_front : (k nodes : ℕ) (steps : List Step) (w : World) → RunFrom nodes w steps → RunFrom nodes w (take k steps)

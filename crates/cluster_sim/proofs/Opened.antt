@@ -30,12 +30,12 @@ opened_more slots count so_far nodes node so id_is nodes_is size opens = record 
 pub none_opened : (slots count : ℕ) → AreOpened slots count 0 []
 none_opened slots count = record { len = refl; member = λ k node at. absurd cc; opens = λ k node at. absurd cc }
 
-length_openings : (n k : ℕ) → length (openings n k) ≡ k
+pub length_openings : (n k : ℕ) → length (openings n k) ≡ k
 length_openings n zero = refl
 length_openings n (suc k) = ap suc (length_openings (suc n) k)
 
 -- node k opens in its own state
-opening_at : (n count k : ℕ) (s : NodeState) → slice_get (openings n count) k ≡ Some s → opening (n + k) ≡ s
+pub opening_at : (n count k : ℕ) (s : NodeState) → slice_get (openings n count) k ≡ Some s → opening (n + k) ≡ s
 opening_at n zero k s at = absurd cc
 opening_at n (suc count) zero s at = ap opening (add-zero n) ∙ is_some (opening n) s at
 opening_at n (suc count) (suc k) s at = ap opening (let e : n + suc k ≡ suc n + k = omega arith in e) ∙ opening_at (suc n) count k s at

@@ -14,10 +14,10 @@ use Rattle.cluster_sim.specs.World.{World, openings, start}
 use Rattle.cluster_sim.specs.Step.{Step, Takes, Loses, Cuts, Mends, Denies, sent_after, world_after}
 use Rattle.cluster_sim.specs.Run.{history_in}
 use Rattle.cluster_sim.specs.Given.{numbered, given_by, groups_from, opening_groups, groups_of}
-use Rattle.cluster_sim.specs.Marked.{own, run_marks}
-use Rattle.cluster_sim.specs.Report.{TriedAt, opening_marks_from, marks_of_run, commands_in, mountings_in, own_commands, own_mountings, own_counts}
+use Rattle.cluster_sim.specs.Tagged.{own, run_marks}
+use Rattle.cluster_sim.specs.Reporting.{TriedAt, opening_marks_from, marks_of_run, commands_in, mountings_in, own_commands, own_mountings, own_counts}
 use Rattle.cluster_sim.proofs.Runs.{state_here, state_elsewhere}
-use Rattle.cluster_sim.proofs.Marked.{own_same, own_other, run_own}
+use Rattle.cluster_sim.proofs.Tagged.{own_same, own_other, run_own}
 
 -- ---- commands and mountings
 

@@ -1,6 +1,7 @@
 -- A node that is armed, and one that crashes: nothing is sent.
-use Rattle.std.proofs.Common.{◌≡◌, ℕ, List, length, refl, sym, ◌∙◌, ap, Option, Some, None}
-use Rattle.std.specs.Prelude.{IsSome}
+use Rattle.std.proofs.Common.{◌≡◌, ℕ, List, length, refl, sym, ◌∙◌, ap, subst, arith, Option, Some, None}
+use Rattle.std.specs.Prelude.{IsSome, ◌≢◌}
+use Rattle.sector_disk.specs.Disk.{Counts}
 use Rattle.sector_disk.specs.Memory.{Memory, state_of, all_synced}
 use Rattle.sector_disk.specs.Crash.{IsCrashed}
 use Rattle.sim_net.specs.Network.{Network}
@@ -13,7 +14,7 @@ use Rattle.durable_node.specs.After.{after}
 use Rattle.durable_node.proofs.Nodes.{is_some}
 use Rattle.cluster_sim.specs.declared.outcome.Outcome.{Outcome}
 use Rattle.cluster_sim.specs.declared.outcome.Outcome.TheVariants as outcome
-use Rattle.cluster_sim.specs.Machine.{IsOfSize, IsSame, Comes}
+use Rattle.cluster_sim.specs.Machine.{IsOfSize, IsSame, IsCounted, Comes}
 use Rattle.cluster_sim.proofs.Coming.{some_of}
 use Rattle.cluster_sim.proofs.Sending.{none_sent}
 
@@ -36,10 +37,38 @@ crash_same fill old new has is crashed = record {
   size = λ slots size d at. let was = some_of old.disk has in (crashed was.0 d was.1 at).0.size ∙ size was.0 was.1;
 }
 
-pub armed_comes : (slots id nodes : ℕ) (s : NodeState) (o : Outcome) (new : Node Memory) (net : Network) → o ≡ outcome.Done None (length net.sent) 0 → Stands state_of new s
+pub armed_comes : (slots id nodes : ℕ) (s : NodeState) (o : Outcome) (new : Node Memory) (net : Network) → o ≡ outcome.Done None (length net.sent) 0 → new.found ≡ None → Stands state_of new s
     → Comes slots id nodes (λ what. what ≡ Rests Nothing) s o new net net
-armed_comes slots id nodes s o new net is stands = record { what = Rests Nothing; is = refl; possible = tt; of_slots = tt; is_told = is; sent = sym (none_sent net); stands = stands }
+armed_comes slots id nodes s o new net is none stands = record { what = Rests Nothing; is = refl; possible = tt; of_slots = tt; is_told = is; sent = sym (none_sent net); found = none; stands = stands }
 
-pub crashed_comes : (slots id nodes : ℕ) (s : NodeState) (o : Outcome) (new : Node Memory) (net : Network) → o ≡ outcome.Done None (length net.sent) 0 → Stands state_of new (after id nodes s Crashed)
+pub crashed_comes : (slots id nodes : ℕ) (s : NodeState) (o : Outcome) (new : Node Memory) (net : Network) → o ≡ outcome.Done None (length net.sent) 0 → new.found ≡ None → Stands state_of new (after id nodes s Crashed)
     → Comes slots id nodes (λ what. what ≡ Crashed) s o new net net
-crashed_comes slots id nodes s o new net is stands = record { what = Crashed; is = refl; possible = tt; of_slots = tt; is_told = is; sent = sym (none_sent net); stands = stands }
+crashed_comes slots id nodes s o new net is none stands = record { what = Crashed; is = refl; possible = tt; of_slots = tt; is_told = is; sent = sym (none_sent net); found = none; stands = stands }
+
+-- ---- what is counted of their disks
+
+-- a memory with as many failures as before
+same_failures : (was now : Memory) (o : Outcome) → length now.contents ≡ length was.contents → now.failures ≡ was.failures → (o ≡ outcome.Faulted → ⊥)
+    → Counts (state_of was) (state_of now) (o ≡ outcome.Faulted) (o ≢ outcome.Faulted)
+same_failures was now o size same quiet = record { sectors = size; honest = refl; later = omega (arith, same); unchanged = λ _. same; cause = λ is. absurd (quiet is) }
+
+armed_disks : (calls : ℕ) (disk : Option Memory) (o : Outcome) → (o ≡ outcome.Faulted → ⊥) → IsCounted disk (armed_disk calls disk) o
+armed_disks calls None o quiet was now old new = absurd cc
+armed_disks calls (Some d) o quiet was now old new =
+    let before : d ≡ was = is_some d was old in
+    let after : record d { left = Some calls } ≡ now = is_some (record d { left = Some calls }) now new in
+    same_failures was now o (ap (λ (m : Memory). length m.contents) (sym after) ∙ ap (λ (m : Memory). length m.contents) before)
+    (ap (λ (m : Memory). m.failures) (sym after) ∙ ap (λ (m : Memory). m.failures) before) quiet
+
+pub done_quiet : (o : Outcome) (answer : Option ℕ) (first many : ℕ) → o ≡ outcome.Done answer first many → o ≡ outcome.Faulted → ⊥
+done_quiet o answer first many is bad = let both = sym is ∙ bad in cc
+
+pub armed_counted : (calls : ℕ) (old new : Node Memory) (o : Outcome) (first : ℕ) → new ≡ record old { disk = armed_disk calls old.disk; found = None } → o ≡ outcome.Done None first 0 → IsCounted old.disk new.disk o
+armed_counted calls old new o first is told =
+    subst (λ (d : Option Memory). IsCounted old.disk d o) (sym (ap (λ (n : Node Memory). n.disk) is)) (armed_disks calls old.disk o (done_quiet o None first 0 told))
+
+pub crash_counted : (fill : List ℕ) (old new : Node Memory) (o : Outcome) (first : ℕ)
+    → ((was now : Memory) → old.disk ≡ Some was → new.disk ≡ Some now → IsCrashed was fill now.contents × (now ≡ all_synced now.contents was.failures)) → o ≡ outcome.Done None first 0 → IsCounted old.disk new.disk o
+crash_counted fill old new o first crashed told was now before after =
+    let is = crashed was now before after in
+    same_failures was now o is.0.size (ap (λ (m : Memory). m.failures) is.1) (done_quiet o None first 0 told)

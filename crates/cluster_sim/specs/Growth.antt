@@ -6,8 +6,8 @@ use Rattle.cluster_sim.specs.Step.{Step, world_after}
 use Rattle.cluster_sim.specs.Run.{IsAllowed, world_at}
 use Rattle.cluster_sim.specs.Acts.{IsStepOf, StepOfSlots, IsRunOf}
 use Rattle.cluster_sim.specs.Given.{groups_at}
-use Rattle.cluster_sim.specs.Marked.{step_marks}
-use Rattle.cluster_sim.specs.Report.{Moment, Report, moment_of, commands_in, mountings_in, own_commands, report_of}
+use Rattle.cluster_sim.specs.Tagged.{step_marks}
+use Rattle.cluster_sim.specs.Reporting.{Moment, Report, moment_of, commands_in, mountings_in, own_commands, report_of}
 use Rattle.cluster_sim.specs.Headline.{Headline, IsShortSchedule}
 
 -- the acts so far

@@ -17,7 +17,7 @@ use Rattle.cluster_sim.specs.Step.{Step}
 use Rattle.cluster_sim.specs.Run.{histories_of}
 use Rattle.cluster_sim.specs.Acts.{IsRunOf}
 use Rattle.cluster_sim.specs.Given.{groups_of, IsOnceEach}
-use Rattle.cluster_sim.specs.Report.{Moment, TriedAt, Report, own_commands, own_mountings, own_counts, commands_in, marks_of_run, report_of}
+use Rattle.cluster_sim.specs.Reporting.{Moment, TriedAt, Report, own_commands, own_mountings, own_counts, commands_in, marks_of_run, report_of}
 
 -- a state that the report shows: of a node's opening, or of the moment of an act
 abbrev pub IsShown : Report → ℕ → State → Type 0

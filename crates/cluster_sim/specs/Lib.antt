@@ -4,10 +4,13 @@ pub mod Run
 pub mod Acts
 pub mod Exact
 pub mod Given
-pub mod Marked
-pub mod Report
+pub mod Tagged
+pub mod Reporting
 pub mod Headline
 pub mod Growth
 pub mod Told
 pub mod Machine
 pub mod Events
+pub mod Recorded
+pub mod Numbered
+pub mod Strangers

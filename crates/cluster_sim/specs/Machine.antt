@@ -1,6 +1,7 @@
 -- What contracts see of a cluster, and what it stands for.
-use Rattle.std.specs.Prelude.{ℕ, ◌≡◌, ◌+◌, ◌*◌, ◌≤◌, List, length, slice_get, Option, Some}
+use Rattle.std.specs.Prelude.{ℕ, ◌≡◌, ◌≢◌, ◌+◌, ◌*◌, ◌≤◌, List, length, slice_get, Option, Some, None}
 use Rattle.group_task.specs.declared.node.TheConstants.{NODES}
+use Rattle.sector_disk.specs.Disk.{Counts}
 use Rattle.sector_disk.specs.Memory.{Memory, state_of}
 use Rattle.sim_net.specs.Network.{Network, after_all_sent}
 use Rattle.node_core.specs.declared.event.Event.{Event}
@@ -8,12 +9,13 @@ use Rattle.node_core.specs.declared.event.Event.TheVariants as on
 use Rattle.durable_node.specs.Node.{Node, Stands}
 use Rattle.durable_node.specs.NodeState.{NodeState, opening}
 use Rattle.durable_node.specs.What.{What, Did, Refused, Faulted, Rests, Crashed, Recovered, MountFailed, RaiseFailed, RaiseRefused}
-use Rattle.durable_node.specs.After.{after, sent_at}
+use Rattle.durable_node.specs.After.{after, sent_at, found_at}
 use Rattle.durable_node.specs.Possible.{IsPossible, IsOfSlots}
 use Rattle.schedule.specs.declared.act.Act.{Act}
 use Rattle.cluster_sim.specs.declared.outcome.Outcome.{Outcome}
+use Rattle.cluster_sim.specs.declared.outcome.Outcome.TheVariants as outcome
 use Rattle.cluster_sim.specs.World.{World}
-use Rattle.cluster_sim.specs.Step.{Step, world_after}
+use Rattle.cluster_sim.specs.Step.{Step, Takes, Loses, Cuts, Mends, Denies, world_after}
 use Rattle.cluster_sim.specs.Run.{IsAllowed}
 use Rattle.cluster_sim.specs.Acts.{StepOfSlots, what_outcome, outcome_of}
 use Rattle.cluster_sim.specs.Growth.{IsNext}
@@ -77,7 +79,12 @@ pub record Comes (slots id nodes : ℕ) (P : What → Type 0) (s : NodeState) (o
   pub of_slots : IsOfSlots slots id nodes s what
   pub is_told : outcome ≡ told (what_outcome id nodes (length net.sent) s what)
   pub sent : net' ≡ after_all_sent net (sent_at id nodes s what)
+  pub found : new.found ≡ found_at s what
   pub stands : Stands state_of new (after id nodes s what)
+
+-- a disk's failures rose in an act, or stand at their greatest count, exactly where the act faulted
+abbrev pub IsCounted : Option Memory → Option Memory → Outcome → Type 0
+IsCounted old new o = (was now : Memory) → old ≡ Some was → new ≡ Some now → Counts (state_of was) (state_of now) (o ≡ outcome.Faulted) (o ≢ outcome.Faulted)
 
 -- the node stays the one of its id, over a disk of its size
 pub record IsSame (old new : Node Memory) : Type 0 where
@@ -87,6 +94,14 @@ pub record IsSame (old new : Node Memory) : Type 0 where
 
 -- ---- the cluster
 
+-- the node of a step tells what it mounted in it, if it mounted anything
+abbrev pub Shows : World → Step → Machine → Type 0
+Shows w (Takes n number what) machine = (node : Node Memory) (s : NodeState) → slice_get machine.nodes n ≡ Some node → slice_get w.states n ≡ Some s → node.found ≡ found_at s what
+Shows w (Loses k) machine = Unit {0}
+Shows w (Cuts a b) machine = Unit {0}
+Shows w (Mends a b) machine = Unit {0}
+Shows w (Denies why) machine = Unit {0}
+
 -- a step of this kind led from what the cluster stood for to what it stands for now, and so it is told
 pub record Makes (Q : Step → Type 0) (w : World) (outcome : Outcome) (new : Machine) : Type 0 where
   pub step : Step
@@ -94,6 +109,7 @@ pub record Makes (Q : Step → Type 0) (w : World) (outcome : Outcome) (new : Ma
   pub allowed : IsAllowed (length w.states) w step
   pub of_slots : StepOfSlots new.slots (length w.states) w step
   pub is_told : outcome ≡ told (outcome_of (length w.states) w step)
+  pub shows : Shows w step new
   pub stands : StandsFor new (world_after (length w.states) w step)
 
 -- the act had one of its steps
@@ -101,4 +117,15 @@ pub record Acted (w : World) (act : Act) (outcome : Outcome) (new : Machine) : T
   pub step : Step
   pub next : IsNext (length w.states) new.slots w act step
   pub is_told : outcome ≡ told (outcome_of (length w.states) w step)
+  pub shows : Shows w step new
   pub stands : StandsFor new (world_after (length w.states) w step)
+
+-- the disk of a node, if there is such a node
+abbrev pub disk_of : Option (Node Memory) → Option Memory
+disk_of None = None
+disk_of (Some node) = node.disk
+
+-- an act faulted exactly where the disk of its node failed in it, and no other node changed
+pub record FaultsAt (at : ℕ) (old new : Machine) (o : Outcome) : Type 0 where
+  pub here : IsCounted (disk_of (slice_get old.nodes at)) (disk_of (slice_get new.nodes at)) o
+  pub elsewhere : (k : ℕ) → k ≢ at → slice_get new.nodes k ≡ slice_get old.nodes k

@@ -1,42 +1,49 @@
-// A cluster of nodes over disks in memory, and the network between them.
-ghost use Rattle.std.specs.Prelude.{◌≡◌, ◌≤◌, ◌<◌, ◌&&◌, length, nat_lt, slice_get, Some, None, IfOk, OnErr, ℕ};
+// A cluster that keeps a report of all its acts.
+ghost use Rattle.std.specs.Prelude.{◌≡◌, ◌≤◌, ◌<◌, ◌+◌, ◌&&◌, true, [], ◌++◌, map, length, replicate, slice_get, slice_set, Some, IfOk, OnErr, OnOk, ℕ};
 ghost use Rattle.group_task.specs.declared.node.TheConstants.{NODES};
-ghost use Rattle.durable_node.specs.What.{brought, AreAddressed};
-ghost use Rattle.schedule.specs.declared.act.Act.TheVariants as act;
-ghost use Rattle.cluster_sim.specs.Acts.{At};
-ghost use Rattle.cluster_sim.specs.Events.{event_at};
-ghost use Rattle.cluster_sim.specs.Machine.{AreOpened, StandsFor, CameOf, Makes, Acted};
-ghost use Rattle.cluster_sim.specs.Run.{IsBrought};
+ghost use Rattle.job_model.specs.Durable.{Durable};
+ghost use Rattle.node_core.specs.State.{is_down};
+ghost use Rattle.sector_disk.specs.Memory.{Memory};
+ghost use Rattle.durable_node.specs.Node.{Node};
+ghost use Rattle.cluster_sim.specs.Machine.{FaultsAt, Machine, StandsFor};
+ghost use Rattle.cluster_sim.specs.Recorded.{report_in, pending_room, recovers, Tells, GoesOn, HasRun, IsPromised, IsRecorded, ToldMoment};
+ghost use Rattle.cluster_sim.specs.Growth.{acts_in};
+ghost use Rattle.cluster_sim.specs.Reporting.{Report as RunReport, node_named, report_of};
 ghost use Rattle.cluster_sim.specs.World.{World, start};
 
-use crate::acts::event_at;
-use crate::member::{self, handle, nothing_sent};
-use crate::outcome::{Outcome, Refusal};
+use crate::aim::aim_of;
+use crate::outcome::Outcome;
+use crate::recording::{ones, opened, tell};
+use crate::report::Report;
+use crate::simulation::Simulation;
 use durable_node::DurableNode;
 use group_task::NodeId;
-use node_core::Event;
-use schedule::{Act, Fill};
+use schedule::Act;
 use sector_disk::MemDisk;
 use sim_net::Net;
 use std::alloc::{AllocError, Global};
 use std::marker::Model;
 
-/// The nodes of a cluster by their ids, each over its own disk in memory, and the network between them.
+/// A simulated cluster with a report of all that came of its acts.
+///
+/// The report takes memory for each act: the act, what its node knows after it, and what a mounting finds.
 #[derive(Drop)]
 pub struct Cluster {
-    slots: u64,
-    nodes: Vec<DurableNode<MemDisk>>,
-    net: Net,
+    alloc: Global,
+    simulation: Simulation,
+    report: Report,
+    // how many commands each node tried so far
+    counts: Vec<u64>,
 }
 
 impl Model for Cluster {
-    ghost use Rattle.cluster_sim.specs.Machine.{Machine, IsCluster};
+    ghost use Rattle.cluster_sim.specs.Recorded.{Recorded, IsRecorded, report_in};
 
-    ghost Value = { Machine };
+    ghost Value = { Recorded };
 
-    ghost view = { λ a. record { slots = a.slots; nodes = a.nodes.items; net = a.net.network } };
+    ghost view = { λ a. record { machine = a.simulation; report = report_in a.report } };
 
-    ghost invariant = { λ a. IsCluster a.slots a.nodes.items };
+    ghost invariant = { λ a. IsRecorded a.simulation (report_in a.report) a.counts.items };
 }
 
 impl Cluster {
@@ -48,178 +55,144 @@ impl Cluster {
         requires most { nodes ≤ NODES }
         requires least_slots { 4 ≤ slots }
         requires most_slots { slots ≤ 4096 }
-        ensures slots { IfOk result (λ cluster. cluster.slots ≡ slots) }
-        ensures starts { IfOk result (λ cluster. StandsFor cluster (start nodes)) }
+        ensures slots { IfOk result (λ cluster. cluster.machine.slots ≡ slots) }
+        ensures nodes { IfOk result (λ cluster. length cluster.machine.nodes ≡ nodes) }
+        ensures opens { IfOk result (λ cluster. Tells cluster (start nodes) (report_of nodes [] [])) }
     {
-        let members = opened(alloc, nodes, slots)?;
+        let simulation = Simulation::open(alloc, nodes, slots)?;
+        let report = opened(alloc, &simulation)?;
+        let counts = ones(alloc, nodes)?;
         Ok(Cluster {
-            slots,
-            nodes: members,
-            net: Net::new(alloc),
+            alloc,
+            simulation,
+            report,
+            counts,
         })
     }
 
     /// One act. It is refused where it names a node outside the cluster, and else as the node or the network refuses it:
-    /// then nothing changed. An error says that there was no memory for it, and nothing changed either.
-    pub fn step(&mut self, act: &Act) -> Result<Outcome, AllocError>
-        ensures slots { self.new.slots ≡ self.old.slots }
-        ensures acted { (w : World) → StandsFor self.old w → IfOk result (λ outcome. Acted w act.now outcome self.new) }
-        ensures memory { (w : World) → StandsFor self.old w → OnErr result (StandsFor self.new w) }
+    /// then nothing changed but the report, which tells it. An error says that there was no memory for it, and nothing
+    /// changed at all.
+    pub fn step(&mut self, act: Act) -> Result<Outcome, AllocError>
+        ensures slots { self.new.machine.slots ≡ self.old.machine.slots }
+        ensures goes_on { (w : World) (r : RunReport) → Tells self.old w r → IfOk result (λ outcome. GoesOn w r act outcome self.new) }
+        ensures faults { IfOk result (FaultsAt (node_named (length self.old.machine.nodes) self.old.machine.net.sent act) self.old.machine self.new.machine) }
+        ensures memory { (w : World) (r : RunReport) → Tells self.old w r → OnErr result (Tells self.new w r) }
     {
-        match event_at(act) {
-            Some(comes) => self.take(comes.0, comes.1),
-            None => self.apply(act),
+        advance(
+            self.alloc,
+            &mut self.simulation,
+            &mut self.report,
+            &mut self.counts,
+            act,
+        )
+    }
+
+    /// All of these acts, one after another.
+    fn step_all(&mut self, acts: Vec<Act>) -> Result<(), AllocError>
+        ensures slots { self.new.machine.slots ≡ self.old.machine.slots }
+        ensures run { (nodes : ℕ) (r : RunReport) → (w : World) → length w.states ≡ nodes → Tells self.old w r → OnOk result (HasRun nodes (acts_in r ++ acts.items) self.new) }
+    {
+        for act in acts {
+            if self.step(act).is_err() {
+                return Err(AllocError);
+            }
         }
+        Ok(())
+    }
+
+    /// The report, and the network with all that was ever sent.
+    fn into_parts(self) -> (Report, Net)
+        ensures report { report_in result.0 ≡ self.report }
+        ensures net { result.1.network ≡ self.machine.net }
+    {
+        let Cluster {
+            simulation,
+            report,
+            ..
+        } = self;
+        (report, simulation.into_net())
+    }
+
+    /// What came of all acts so far, from the opening on.
+    pub fn report(&self) -> &Report
+        ensures told { report_in result.now ≡ self.now.report }
+        ensures keeps { IsPromised (length self.now.machine.nodes) self.now.machine.slots (map (λ (m : ToldMoment). m.act) self.now.report.moments) (report_in result.now) self.now.machine.net.sent }
+    {
+        &self.report
     }
 
     /// The node of this id.
     pub fn node(&self, id: NodeId) -> &DurableNode<MemDisk>
-        requires { id < length self.now.nodes }
-        ensures { slice_get self.now.nodes id ≡ Some result.now }
+        requires { id < length self.now.machine.nodes }
+        ensures { slice_get self.now.machine.nodes id ≡ Some result.now }
     {
-        &self.nodes[usize::from(id.number())]
+        self.simulation.node(id)
     }
 
     /// The network, with all that was ever sent.
     pub fn net(&self) -> &Net
-        ensures { result.now.network ≡ self.now.net }
+        ensures { result.now.network ≡ self.now.machine.net }
     {
-        &self.net
+        self.simulation.net()
     }
 
     /// How many nodes there are.
     pub fn count(&self) -> u8
-        ensures value { result ≡ length self.now.nodes }
+        ensures value { result ≡ length self.now.machine.nodes }
         ensures most { result ≤ NODES }
     {
-        self.nodes.len() as u8
-    }
-
-    /// An event at a node, and what is sent of it.
-    fn take(&mut self, id: NodeId, event: Event) -> Result<Outcome, AllocError>
-        ensures slots { self.new.slots ≡ self.old.slots }
-        ensures acted { (w : World) (number : ℕ) → StandsFor self.old w → IsBrought w number (brought (Some event)) → AreAddressed id (brought (Some event))
-            → IfOk result (λ outcome. Makes (λ step. At (nat_lt id (length w.states)) id number (CameOf event) step) w outcome self.new) }
-        ensures memory { (w : World) → StandsFor self.old w → OnErr result (StandsFor self.new w) }
-    {
-        let count = self.nodes.len();
-        let place = usize::from(id.number());
-        if place >= count {
-            return Ok(Outcome::Refused(Refusal::Stranger));
-        }
-        handle(&mut self.nodes[place], &mut self.net, count, event)
-    }
-
-    /// Delivers the message of this number at its receiver.
-    fn deliver(&mut self, number: u64) -> Result<Outcome, AllocError>
-        ensures slots { self.new.slots ≡ self.old.slots }
-        ensures acted { (w : World) → StandsFor self.old w → IfOk result (λ outcome. Acted w (act.Deliver number) outcome self.new) }
-        ensures memory { (w : World) → StandsFor self.old w → OnErr result (StandsFor self.new w) }
-    {
-        match self.net.deliver(number) {
-            Ok(message) => self.take(message.receiver(), Event::Deliver(message)),
-            Err(fault) => Ok(Outcome::Refused(Refusal::Net(fault))),
-        }
-    }
-
-    /// Loses the message of this number.
-    fn lose(&mut self, number: u64) -> Outcome
-        ensures slots { self.new.slots ≡ self.old.slots }
-        ensures acted { (w : World) → StandsFor self.old w → Acted w (act.Lose number) result self.new }
-    {
-        match self.net.lose(number) {
-            Ok(()) => nothing_sent(&self.net),
-            Err(fault) => Outcome::Refused(Refusal::Net(fault)),
-        }
-    }
-
-    /// Cuts two nodes from one another.
-    fn cut(&mut self, a: NodeId, b: NodeId) -> Outcome
-        ensures slots { self.new.slots ≡ self.old.slots }
-        ensures acted { (w : World) → StandsFor self.old w → Acted w (act.Cut a b) result self.new }
-    {
-        if !self.has_both(a, b) {
-            return Outcome::Refused(Refusal::Stranger);
-        }
-        self.net.cut(a, b);
-        nothing_sent(&self.net)
-    }
-
-    /// Joins two nodes again.
-    fn mend(&mut self, a: NodeId, b: NodeId) -> Outcome
-        ensures slots { self.new.slots ≡ self.old.slots }
-        ensures acted { (w : World) → StandsFor self.old w → Acted w (act.Mend a b) result self.new }
-    {
-        if !self.has_both(a, b) {
-            return Outcome::Refused(Refusal::Stranger);
-        }
-        self.net.mend(a, b);
-        nothing_sent(&self.net)
-    }
-
-    /// Whether both nodes are in the cluster.
-    fn has_both(&self, a: NodeId, b: NodeId) -> bool
-        ensures { result ≡ (nat_lt a (length self.now.nodes) && nat_lt b (length self.now.nodes)) }
-    {
-        let count = self.nodes.len();
-        usize::from(a.number()) < count && usize::from(b.number()) < count
-    }
-
-    /// Arms the disk of a node.
-    fn arm(&mut self, id: NodeId, calls: u64) -> Outcome
-        ensures slots { self.new.slots ≡ self.old.slots }
-        ensures acted { (w : World) → StandsFor self.old w → Acted w (act.Arm id calls) result self.new }
-    {
-        let place = usize::from(id.number());
-        if place >= self.nodes.len() {
-            return Outcome::Refused(Refusal::Stranger);
-        }
-        member::arm(&mut self.nodes[place], &self.net, calls)
-    }
-
-    /// Crashes a node.
-    fn crash(&mut self, id: NodeId, fill: &Fill) -> Outcome
-        ensures slots { self.new.slots ≡ self.old.slots }
-        ensures acted { (w : World) → StandsFor self.old w → Acted w (act.Crash id fill.now) result self.new }
-    {
-        let place = usize::from(id.number());
-        if place >= self.nodes.len() {
-            return Outcome::Refused(Refusal::Stranger);
-        }
-        member::crash(&mut self.nodes[place], &self.net, fill)
-    }
-
-    /// An act that is no event of its own.
-    fn apply(&mut self, act: &Act) -> Result<Outcome, AllocError>
-        requires { event_at act.now ≡ None }
-        ensures slots { self.new.slots ≡ self.old.slots }
-        ensures acted { (w : World) → StandsFor self.old w → IfOk result (λ outcome. Acted w act.now outcome self.new) }
-        ensures memory { (w : World) → StandsFor self.old w → OnErr result (StandsFor self.new w) }
-    {
-        match act {
-            Act::Deliver(number) => self.deliver(*number),
-            Act::Lose(number) => Ok(self.lose(*number)),
-            Act::Cut(a, b) => Ok(self.cut(*a, *b)),
-            Act::Mend(a, b) => Ok(self.mend(*a, *b)),
-            Act::Arm(id, calls) => Ok(self.arm(*id, *calls)),
-            Act::Crash(id, fill) => Ok(self.crash(*id, fill)),
-            _ => unreachable!(),
-        }
+        self.simulation.count()
     }
 }
 
-/// So many nodes, each over a new disk of so many slots.
-fn opened(alloc: Global, nodes: u8, slots: u64) -> Result<Vec<DurableNode<MemDisk>>, AllocError>
+/// One act, over the parts of a cluster.
+fn advance(
+    alloc: Global,
+    simulation: &mut Simulation,
+    report: &mut Report,
+    counts: &mut Vec<u64>,
+    act: Act,
+) -> Result<Outcome, AllocError>
+    requires recorded { IsRecorded simulation.old (report_in report.old) counts.old.items }
+    ensures recorded { IsRecorded simulation.new (report_in report.new) counts.new.items }
+    ensures slots { simulation.new.slots ≡ simulation.old.slots }
+    ensures goes_on { (w : World) (r : RunReport) → Tells (record { machine = simulation.old; report = report_in report.old }) w r
+        → IfOk result (λ outcome. GoesOn w r act outcome (record { machine = simulation.new; report = report_in report.new })) }
+    ensures faults { IfOk result (FaultsAt (node_named (length simulation.old.nodes) simulation.old.net.sent act) simulation.old simulation.new) }
+    ensures memory { (w : World) (r : RunReport) → Tells (record { machine = simulation.old; report = report_in report.old }) w r
+        → OnErr result (Tells (record { machine = simulation.new; report = report_in report.new }) w r) }
+{
+    let aim = aim_of(simulation, &act)?;
+    let room = report.reserve(alloc, &aim)?;
+    let outcome = simulation.step(&act)?;
+    let place = aim.place();
+    let before = counts[place];
+    let told = tell(simulation, before, aim, act, &outcome, room);
+    if told.tried.is_some() {
+        counts[place] = before + 1;
+    }
+    report.add(told);
+    Ok(outcome)
+}
+
+/// Runs acts on a cluster that just opened, and gives its report, with the network that holds the messages. The numbers in an
+/// outcome are places in the network's list.
+///
+/// Refused where there is no memory.
+pub fn run(
+    alloc: Global,
+    nodes: u8,
+    slots: u64,
+    acts: Vec<Act>,
+) -> Result<(Report, Net), AllocError>
+    requires least { 1 ≤ nodes }
     requires most { nodes ≤ NODES }
     requires least_slots { 4 ≤ slots }
     requires most_slots { slots ≤ 4096 }
-    ensures { IfOk result (λ members. AreOpened slots nodes nodes members.items) }
+    ensures { IfOk result (λ ran. IsPromised nodes slots acts.items (report_in ran.0) ran.1.network.sent) }
 {
-    let mut members = Vec::new(alloc);
-    for number in 0..nodes {
-        let id = NodeId::numbered(number);
-        let node = DurableNode::open(alloc, id, nodes, slots)?;
-        members.push(node)?;
-    }
-    Ok(members)
+    let mut cluster = Cluster::open(alloc, nodes, slots)?;
+    cluster.step_all(acts)?;
+    Ok(cluster.into_parts())
 }

@@ -5,8 +5,9 @@ ghost use Rattle.cluster_sim.specs.Exact.{NoIdleDenial, OneOutcome, ActsRun, Run
 ghost use Rattle.cluster_sim.specs.Given.{GivenBefore, NoneTwice, RunGoesOn};
 ghost use Rattle.cluster_sim.specs.Growth.{RunsOpen, RunsGrow, LeftKeeps};
 ghost use Rattle.cluster_sim.specs.Headline.{EverySchedule};
-ghost use Rattle.cluster_sim.specs.Marked.{RunsAreKept};
+ghost use Rattle.cluster_sim.specs.Tagged.{RunsAreKept};
 ghost use Rattle.cluster_sim.specs.Run.{RunsAreBundles, RunBook};
+ghost use Rattle.cluster_sim.specs.Strangers.{NoStrangers};
 
 /// Groups and jobs are kept on every schedule: whatever run its acts have, each mounting of a node finds what a front of its
 /// commands gives, every acknowledged one included; no group number is given twice or named before it was given; and one
@@ -49,4 +50,10 @@ pub fn left_by_a_run()
     ensures opens { RunsOpen }
     ensures grows { RunsGrow }
     ensures keeps { LeftKeeps }
+{}
+
+/// No run sends a message to a node outside the cluster: what is delivered and names such a node is refused, and a vector
+/// names none.
+pub fn no_strangers()
+    ensures { NoStrangers }
 {}

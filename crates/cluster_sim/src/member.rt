@@ -6,7 +6,7 @@ ghost use Rattle.durable_node.specs.Node.{Stands};
 ghost use Rattle.durable_node.specs.NodeState.{NodeState};
 ghost use Rattle.durable_node.specs.Stepping.{most_by};
 ghost use Rattle.durable_node.specs.What.{Rests, Nothing, Crashed};
-ghost use Rattle.cluster_sim.specs.Machine.{IsOfSize, IsSame, CameOf, Comes};
+ghost use Rattle.cluster_sim.specs.Machine.{IsOfSize, IsSame, IsCounted, CameOf, Comes};
 ghost use Rattle.cluster_sim.specs.Told.{IsToldFault};
 ghost use Rattle.node_core.specs.declared.fault.CoreFault.TheVariants.{NoMemory};
 
@@ -34,6 +34,7 @@ pub(crate) fn handle(
         → IfOk result (λ outcome. Comes slots node.old.id node.old.nodes (CameOf event) s outcome node.new net.old.network net.new.network) }
     ensures memory { OnErr result ((s : NodeState) → Stands state_of node.old s → Stands state_of node.new s) }
     ensures unsent { OnErr result (net.new.network ≡ net.old.network) }
+    ensures counted { IfOk result (IsCounted node.old.disk node.new.disk) }
 {
     node.has_disk();
     let most = most_messages(node, nodes);
@@ -41,7 +42,7 @@ pub(crate) fn handle(
         return Err(AllocError);
     }
     let first = net.sent().len() as u64;
-    match node.step(event) {
+    match node.step(&event) {
         Ok(step) => {
             send_all(net, &step.sent);
             Ok(Outcome::Done {
@@ -83,7 +84,7 @@ fn send_all(net: &mut Net, messages: &[Message])
     ensures { net.new.network ≡ after_all_sent net.old.network messages.now }
 {
     for message in messages {
-        match net.send(*message) {
+        match net.send(message) {
             Ok(_) => {}
             Err(_) => unreachable!(),
         }
@@ -95,6 +96,7 @@ pub(crate) fn arm(node: &mut DurableNode<MemDisk>, net: &Net, calls: u64) -> Out
     ensures same { IsSame node.old node.new }
     ensures came { (slots : ℕ) (s : NodeState) → Stands state_of node.old s
         → Comes slots node.old.id node.old.nodes (λ what. what ≡ Rests Nothing) s result node.new net.now.network net.now.network }
+    ensures counted { IsCounted node.old.disk node.new.disk result }
 {
     node.arm(calls);
     nothing_sent(net)
@@ -105,6 +107,7 @@ pub(crate) fn crash(node: &mut DurableNode<MemDisk>, net: &Net, fill: &Fill) -> 
     ensures same { IsSame node.old node.new }
     ensures came { (slots : ℕ) (s : NodeState) → Stands state_of node.old s
         → Comes slots node.old.id node.old.nodes (λ what. what ≡ Crashed) s result node.new net.now.network net.now.network }
+    ensures counted { IsCounted node.old.disk node.new.disk result }
 {
     node.has_disk();
     node.crash(fill.as_slice());

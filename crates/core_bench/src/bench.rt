@@ -7,6 +7,7 @@ use group_task::{GroupNo, NODES, NodeId};
 use job_model::{Command, JobTable, Payload, Queue};
 use node_core::{Durable, Event, NodeCore};
 use std::alloc::Global;
+use std::mem;
 use wire_msg::{Body, Message};
 
 const QUEUES: u8 = 16;
@@ -14,28 +15,45 @@ const QUEUES: u8 = 16;
 /// A core with its counter and its table of jobs.
 #[derive(Drop)]
 struct Node {
+    alloc: Global,
     core: NodeCore,
     table: JobTable,
     count: u64,
+    // the list of the last answers to a message, which is kept for its room
+    room: Vec<Message>,
 }
 
 impl Node {
     /// Node 0 of the greatest cluster, alone in its group, with room for so many pending jobs.
     fn new(alloc: Global, jobs: usize) -> anyhow::Result<Node> {
         Ok(Node {
+            alloc,
             core: NodeCore::new(alloc, NodeId::numbered(0), NODES, 1),
             table: JobTable::with_room(alloc, jobs)?,
             count: 1,
+            room: Vec::new(alloc),
         })
     }
 
     /// One whole step. It answers how many messages were sent.
-    fn step(&mut self, event: Event) -> anyhow::Result<u64> {
+    fn step(&mut self, event: &Event) -> anyhow::Result<u64> {
         let Ok(plan) = self.core.plan_step(event, &self.table) else {
             bail!("a step was refused");
         };
         let answer = self.carry_out(plan.wants());
         Ok(self.core.commit_step(plan, answer).len() as u64)
+    }
+
+    /// One whole step for a message that is delivered.
+    fn deliver(&mut self, message: &Message) -> anyhow::Result<u64> {
+        let mut room = mem::replace(&mut self.room, Vec::new(self.alloc));
+        room.clear();
+        let Ok(plan) = self.core.plan_delivery(message, &self.table, room) else {
+            bail!("a message was refused");
+        };
+        let answer = self.carry_out(plan.wants());
+        self.room = self.core.commit_step(plan, answer);
+        Ok(self.room.len() as u64)
     }
 
     fn carry_out(&mut self, wants: Durable) -> u64
@@ -66,7 +84,7 @@ impl Node {
     /// Delivers this from each other node.
     fn hear_all(&mut self, body: Body) -> anyhow::Result<()> {
         for number in 1..NODES {
-            self.step(Event::Deliver(letter(number, body)?))?;
+            self.deliver(&letter(number, body)?)?;
         }
         Ok(())
     }
@@ -76,7 +94,7 @@ impl Node {
         let payload = Payload::new(b"a job").context("too long")?;
         for job in 0..jobs {
             let queue = Queue::new((job % u64::from(QUEUES)) as u8).context("no such queue")?;
-            self.step(Event::Submit(queue, payload))?;
+            self.step(&Event::Submit(queue, payload))?;
         }
         Ok(())
     }
@@ -85,7 +103,7 @@ impl Node {
     fn dispatch(&mut self, steps: u64) -> anyhow::Result<u64> {
         let mut sent = 0u64;
         for _step in 0..steps {
-            sent = sent.saturating_add(self.step(Event::DispatchTimer)?);
+            sent = sent.saturating_add(self.step(&Event::DispatchTimer)?);
         }
         Ok(sent)
     }
@@ -102,7 +120,16 @@ pub fn ask(alloc: Global, steps: u64) -> anyhow::Result<u64> {
     let question = letter(1, Body::AreYouCoordinator)?;
     let mut sent = 0u64;
     for _step in 0..steps {
-        sent = sent.saturating_add(node.step(Event::Deliver(question))?);
+        sent = sent.saturating_add(node.deliver(&question)?);
+    }
+    Ok(sent)
+}
+
+pub fn check(alloc: Global, steps: u64) -> anyhow::Result<u64> {
+    let mut node = Node::new(alloc, 0)?;
+    let mut sent = 0u64;
+    for _step in 0..steps {
+        sent = sent.saturating_add(node.step(&Event::CheckTimer)?);
     }
     Ok(sent)
 }
@@ -113,19 +140,19 @@ pub fn invite(alloc: Global, steps: u64) -> anyhow::Result<u64> {
     let mut sent = 0u64;
     for _step in 0..steps {
         let mut node = Node::new(alloc, 0)?;
-        sent = sent.saturating_add(node.step(Event::Deliver(invitation))?);
+        sent = sent.saturating_add(node.deliver(&invitation)?);
     }
     Ok(sent)
 }
 
 pub fn dispatch(alloc: Global, steps: u64) -> anyhow::Result<u64> {
     let mut node = Node::new(alloc, 4_096)?;
-    node.step(Event::CheckTimer)?;
+    node.step(&Event::CheckTimer)?;
     node.hear_all(Body::Coordinator(true))?;
-    node.step(Event::MergeTimer)?;
+    node.step(&Event::MergeTimer)?;
     let group = node.core.vector().group;
     node.hear_all(Body::Accept(group))?;
-    node.step(Event::AcceptTimer)?;
+    node.step(&Event::AcceptTimer)?;
     node.hear_all(Body::ReadyAck(group))?;
     node.submit(4_096)?;
     node.dispatch(steps)

@@ -2,6 +2,7 @@
 //! outside, as by `perf stat out/core_bench ask 1000000`.
 //!
 //! - `ask`: AreYouCoordinator is delivered.
+//! - `check`: CheckTimer at a node that is Normal and alone: 63 questions.
 //! - `invite`: an Invitation is delivered to a node that is Normal and alone.
 //! - `dispatch`: DispatchTimer at the coordinator of a group of 64, with 4,096 jobs pending. It owns one queue of sixteen.
 //! - `hand`: DispatchTimer at a node that is alone, with 2,048 jobs pending, all of them in hand.
@@ -10,19 +11,22 @@
 mod bench;
 
 use anyhow::{Context, bail};
-use bench::{ask, dispatch, hand, invite};
+use bench::{ask, check, dispatch, hand, invite};
 use std::env;
 
 fn main(rt: HostRuntime) -> anyhow::Result<()> {
     let mut words = env::args(&rt)?;
-    let kind = words.nth(1).context("ask, invite, dispatch or hand?")?;
+    let kind = words
+        .nth(1)
+        .context("ask, check, invite, dispatch or hand?")?;
     let steps: u64 = words.next().context("how many steps?")?.parse()?;
     let sent = match kind.as_str() {
         "ask" => ask(rt.alloc(), steps)?,
+        "check" => check(rt.alloc(), steps)?,
         "invite" => invite(rt.alloc(), steps)?,
         "dispatch" => dispatch(rt.alloc(), steps)?,
         "hand" => hand(rt.alloc(), steps)?,
-        _ => bail!("ask, invite, dispatch or hand?"),
+        _ => bail!("ask, check, invite, dispatch or hand?"),
     };
     println!(rt; "{sent}")?;
     Ok(())

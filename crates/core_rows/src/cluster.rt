@@ -55,7 +55,7 @@ impl Node {
     }
 
     /// One whole step: its plan, its command, and its commit. The answer of the command comes back too.
-    fn step(&mut self, event: Event) -> Result<(u64, Vec<Message>), CoreFault> {
+    fn step(&mut self, event: &Event) -> Result<(u64, Vec<Message>), CoreFault> {
         let plan = self.core.plan_step(event, &self.table)?;
         let answer = self.carry_out(plan.wants());
         Ok((answer, self.core.commit_step(plan, answer)))
@@ -177,7 +177,7 @@ impl Cluster {
     fn step(&mut self, node: u8, event: Event) -> Result<(), Fail> {
         let node = self.nodes.get_mut(usize::from(node)).ok_or("no such node")?;
         let puts = matches!(event, Event::Submit(_, _));
-        match node.step(event) {
+        match node.step(&event) {
             Ok((answer, messages)) => {
                 put(&mut self.text, "ok")?;
                 if puts {

@@ -174,15 +174,15 @@ same_on_fault A B d core core' (Err fault) failed refused = by_device (is_device
 
 -- what is counted of a disk under a store
 pub counts_under : {Disk : Type 0} (disks : Disk → DiskState) (disk : Option Disk) (store store' : StoreState Disk) (result : Result Step NodeFault) → IsPlaced disk (Some store)
-    → Counts (disks store.disk) (disks store'.disk) (IsErrOf result node.Device) (IsOk result) → CountsOf disks (disk_in disk (Some store)) (disk_in disk (Some store')) result
+    → Counts (disks store.disk) (disks store'.disk) (IsErrOf result node.Device) (IsErrOf result node.Device → ⊥) → CountsOf disks (disk_in disk (Some store)) (disk_in disk (Some store')) result
 counts_under {Disk} disks disk store store' result placed counts was now old new =
-    subst (λ (d : Disk). Counts (disks d) (disks now) (IsErrOf result node.Device) (IsOk result)) (under disk store was placed old)
-    (subst (λ (d : Disk). Counts (disks store.disk) (disks d) (IsErrOf result node.Device) (IsOk result)) (under disk store' now (placed_still disk store store' placed) new) counts)
+    subst (λ (d : Disk). Counts (disks d) (disks now) (IsErrOf result node.Device) (IsErrOf result node.Device → ⊥)) (under disk store was placed old)
+    (subst (λ (d : Disk). Counts (disks store.disk) (disks d) (IsErrOf result node.Device) (IsErrOf result node.Device → ⊥)) (under disk store' now (placed_still disk store store' placed) new) counts)
 
 -- a disk that isn't called
 pub counts_still : {Disk : Type 0} (disks : Disk → DiskState) (disk : Option Disk) (result : Result Step NodeFault) → (IsErrOf result node.Device → ⊥) → CountsOf disks disk disk result
 counts_still {Disk} disks disk result not_device was now old new =
-    subst (λ (d : Disk). Counts (disks was) (disks d) (IsErrOf result node.Device) (IsOk result)) (is_some was now (sym old ∙ new))
+    subst (λ (d : Disk). Counts (disks was) (disks d) (IsErrOf result node.Device) (IsErrOf result node.Device → ⊥)) (is_some was now (sym old ∙ new))
     (record { sectors = refl; honest = refl; later = omega arith; unchanged = λ _. refl; cause = λ device. absurd (not_device device) })
 
 pub few_ignored : (n : ℕ) (A : Type 0) (result : Result Step NodeFault) → IfOk result (λ step. A × (step.sent.items ≡ []) × (step.answer ≡ None)) → IfOk result (λ step. length step.sent.items ≤ n)

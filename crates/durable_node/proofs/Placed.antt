@@ -1,5 +1,5 @@
 -- A node has a disk.
-use Rattle.std.proofs.Common.{◌≡◌, Option, Some, None, refl}
+use Rattle.std.proofs.Common.{Option, Some, None, refl}
 use Rattle.std.specs.Prelude.{IsSome}
 use Rattle.node_store.specs.Store.{StoreState}
 use Rattle.durable_node.specs.Node.{IsPlaced, disk_in}

@@ -113,7 +113,7 @@ Steps {Disk} disks old new event result =
 -- the device's failures are told: `Device` only where their count rose, or stands at its greatest value
 abbrev pub CountsOf : {Disk : Type 0} → (Disk → DiskState) → Option Disk → Option Disk → Result Step NodeFault → Type 0
 CountsOf {Disk} disks old new result =
-    (was now : Disk) → old ≡ Some was → new ≡ Some now → Counts (disks was) (disks now) (IsErrOf result node.Device) (IsOk result)
+    (was now : Disk) → old ≡ Some was → new ≡ Some now → Counts (disks was) (disks now) (IsErrOf result node.Device) (IsErrOf result node.Device → ⊥)
 
 -- how many messages a call may hand out at most: none where the node is down
 abbrev pub most_by : ℕ → Option Durable → ℕ

@@ -27,16 +27,16 @@ pub(crate) fn advance<D: SectorDisk + Drop>(
     store: &mut Option<NodeStore<D>>,
     doubt: &mut Option<(Durable, u64)>,
     found: &mut Option<u64>,
-    event: Event,
+    event: &Event,
 ) -> Result<Step, NodeFault>
     requires node { IsNode D.state id nodes core.old disk.old store.old }
     ensures node { IsNode D.state id nodes core.new disk.new store.new }
     ensures step { result ≢ Err (NodeFault.Core NoMemory)
-        → Steps D.state (node_with id nodes core.old disk.old store.old doubt.old found.old) (node_with id nodes core.new disk.new store.new doubt.new found.new) event result }
+        → Steps D.state (node_with id nodes core.old disk.old store.old doubt.old found.old) (node_with id nodes core.new disk.new store.new doubt.new found.new) event.now result }
     ensures memory { result ≡ Err (NodeFault.Core NoMemory)
         → node_with id nodes core.new disk.new store.new doubt.new found.new ≡ node_with id nodes core.old disk.old store.old doubt.old None }
     ensures counts { CountsOf D.state (disk_in disk.old store.old) (disk_in disk.new store.new) result }
-    ensures mounting { is_down core.old.state.phase ≡ true → event ≡ Event.Recover
+    ensures mounting { is_down core.old.state.phase ≡ true → event.now ≡ Event.Recover
         → Remounted (node_with id nodes core.old disk.old store.old doubt.old found.old) (node_with id nodes core.new disk.new store.new doubt.new found.new) result (found_in found.new store.new) }
     ensures few { IfOk result (λ step. length step.sent.items ≤ most_by nodes (kept_in (is_down core.old.state.phase) store.old)) }
 {
@@ -44,7 +44,7 @@ pub(crate) fn advance<D: SectorDisk + Drop>(
     if is_down(core) {
         return match event {
             Event::Recover => remount(alloc, id, nodes, core, disk, store, doubt, found),
-            other => ignore(alloc, core, store, other),
+            _ => ignore(alloc, core, store, event),
         };
     }
     match store {

@@ -24,7 +24,7 @@ pub(crate) fn carry<D: SectorDisk>(
     requires whole { IsFalse store.old.broken }
     requires sound { IsSound store.old.journal.slots (D.state store.old.disk) }
     requires pending { (id : ℕ) → wanted_by wants.now ≡ Some (Done id) → is_pending (durable_of store.old).pending id ≡ true }
-    ensures counts { Counts (D.state store.old.disk) (D.state store.new.disk) (IsErrOf result NodeFault.Device) (IsOk result) }
+    ensures counts { Counts (D.state store.old.disk) (D.state store.new.disk) (IsErrOf result NodeFault.Device) (IsErrOf result NodeFault.Device → ⊥) }
     ensures ok { IfOk result (Carried store.old store.new (wanted_by wants.now)) }
     ensures taken { IsOk result → MayTake store.old.journal.slots (durable_of store.old) (wanted_by wants.now) }
     ensures failed { IsErrOf result NodeFault.Device → MayTake store.old.journal.slots (durable_of store.old) (wanted_by wants.now) × IsWanted (wanted_by wants.now) }

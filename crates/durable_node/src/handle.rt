@@ -34,7 +34,7 @@ pub(crate) fn handle<D: SectorDisk>(
     core: &mut NodeCore,
     store: &mut NodeStore<D>,
     doubt: &mut Option<(Durable, u64)>,
-    event: Event,
+    event: &Event,
 ) -> Result<Step, NodeFault>
     requires id { core.old.id ≡ id }
     requires nodes { core.old.nodes ≡ nodes }
@@ -44,26 +44,26 @@ pub(crate) fn handle<D: SectorDisk>(
     requires sound { IsSound store.old.journal.slots (D.state store.old.disk) }
     ensures id { core.new.id ≡ id }
     ensures nodes { core.new.nodes ≡ nodes }
-    ensures counts { Counts (D.state store.old.disk) (D.state store.new.disk) (IsErrOf result NodeFault.Device) (IsOk result) }
+    ensures counts { Counts (D.state store.old.disk) (D.state store.new.disk) (IsErrOf result NodeFault.Device) (IsErrOf result NodeFault.Device → ⊥) }
 
     // The event was handled.
-    ensures done { IfOk result (IsDone store.old.journal.slots nodes id core.old.state (durable_of store.old) event core.new.state (durable_of store.new)) }
+    ensures done { IfOk result (IsDone store.old.journal.slots nodes id core.old.state (durable_of store.old) event.now core.new.state (durable_of store.new)) }
     ensures few { IfOk result (λ step. length step.sent.items ≤ most_of nodes (durable_of store.old).pending) }
     ensures whole { IsOk result → IsFalse store.new.broken × (doubt.new ≡ doubt.old) }
 
     // The device failed in its command.
-    ensures failed { IsErrOf result NodeFault.Device → IsFailed store.old.journal.slots nodes id core.old.state (durable_of store.old) event }
-    ensures fallen { IsErrOf result NodeFault.Device → (core.new.state ≡ down id) × (doubt.new ≡ told_doubt (durable_of store.old) (wants_of id (durable_of store.old).pending event core.old.state)) }
+    ensures failed { IsErrOf result NodeFault.Device → IsFailed store.old.journal.slots nodes id core.old.state (durable_of store.old) event.now }
+    ensures fallen { IsErrOf result NodeFault.Device → (core.new.state ≡ down id) × (doubt.new ≡ told_doubt (durable_of store.old) (wants_of id (durable_of store.old).pending event.now core.old.state)) }
 
     // It was refused.
     ensures unchanged { IfErr result (λ fault. fault ≢ NodeFault.Device → (core.new.state ≡ core.old.state) × (store.new ≡ store.old) × (doubt.new ≡ doubt.old)) }
-    ensures refused { IfErr result (λ fault. fault ≢ NodeFault.Device → fault ≢ NodeFault.Core NoMemory → IsTurnedAway store.old.journal.slots nodes id core.old.state (durable_of store.old) event fault) }
+    ensures refused { IfErr result (λ fault. fault ≢ NodeFault.Device → fault ≢ NodeFault.Core NoMemory → IsTurnedAway store.old.journal.slots nodes id core.old.state (durable_of store.old) event.now fault) }
 
     ensures slots { store.new.journal.slots ≡ store.old.journal.slots }
     ensures sound { IsSound store.old.journal.slots (D.state store.new.disk) }
     ensures run { IsTrue (D.state store.old.disk).honest → Run (InStore store.old.journal.slots) (D.state store.old.disk) (D.state store.new.disk) }
     ensures images { IsTrue (D.state store.old.disk).honest → AllStandFor store.old.journal.slots (durable_of store.old) (D.state store.old.disk)
-        → Each (D.state store.old.disk) (D.state store.new.disk) (BeforeOrAfter store.old.journal.slots (durable_of store.old) (wants_of id (durable_of store.old).pending event core.old.state)) }
+        → Each (D.state store.old.disk) (D.state store.new.disk) (BeforeOrAfter store.old.journal.slots (durable_of store.old) (wants_of id (durable_of store.old).pending event.now core.old.state)) }
     ensures after { IsTrue (D.state store.old.disk).honest → AllStandFor store.old.journal.slots (durable_of store.old) (D.state store.old.disk)
         → IsOk result → AllStandFor store.old.journal.slots (durable_of store.new) (D.state store.new.disk) }
 {
@@ -72,12 +72,11 @@ pub(crate) fn handle<D: SectorDisk>(
         Err(fault) => return Err(NodeFault::Core(fault)),
     };
     let wants = plan.wants();
-    let in_doubt = doubted(store, wants);
     let answer = match carry(store, &wants) {
         Ok(answer) => answer,
         Err(fault) => {
             if fault.is_device() {
-                *doubt = in_doubt;
+                *doubt = doubted(store, wants);
                 *core = NodeCore::down(alloc, id, nodes);
             }
             return Err(fault);

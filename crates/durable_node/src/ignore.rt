@@ -16,14 +16,14 @@ pub(crate) fn ignore<D: SectorDisk>(
     alloc: Global,
     core: &mut NodeCore,
     store: &Option<NodeStore<D>>,
-    event: Event,
+    event: &Event,
 ) -> Result<Step, NodeFault>
     ensures kept { core.new.state ≡ core.old.state }
     ensures id { core.new.id ≡ core.old.id }
     ensures nodes { core.new.nodes ≡ core.old.nodes }
-    ensures done { IfOk result (λ step. (refusal_of core.old.nodes core.old.id event core.old.state ≡ None) × (step.sent.items ≡ []) × (step.answer ≡ None)) }
+    ensures done { IfOk result (λ step. (refusal_of core.old.nodes core.old.id event.now core.old.state ≡ None) × (step.sent.items ≡ []) × (step.answer ≡ None)) }
     ensures refused { IfErr result (λ fault. fault ≢ NodeFault.Core NoMemory
-        → (why : CoreFaultValue) × (fault ≡ NodeFault.Core why) × (refusal_of core.old.nodes core.old.id event core.old.state ≡ Some why)) }
+        → (why : CoreFaultValue) × (fault ≡ NodeFault.Core why) × (refusal_of core.old.nodes core.old.id event.now core.old.state ≡ Some why)) }
 {
     match plan_over(alloc, core, store, event) {
         Ok(()) => Ok(Step {
@@ -39,13 +39,13 @@ fn plan_over<D: SectorDisk>(
     alloc: Global,
     core: &mut NodeCore,
     store: &Option<NodeStore<D>>,
-    event: Event,
+    event: &Event,
 ) -> Result<(), CoreFault>
     ensures kept { core.new.state ≡ core.old.state }
     ensures id { core.new.id ≡ core.old.id }
     ensures nodes { core.new.nodes ≡ core.old.nodes }
-    ensures done { IfOk result (λ _. refusal_of core.old.nodes core.old.id event core.old.state ≡ None) }
-    ensures refused { IfErr result (λ fault. fault ≢ NoMemory → refusal_of core.old.nodes core.old.id event core.old.state ≡ Some fault) }
+    ensures done { IfOk result (λ _. refusal_of core.old.nodes core.old.id event.now core.old.state ≡ None) }
+    ensures refused { IfErr result (λ fault. fault ≢ NoMemory → refusal_of core.old.nodes core.old.id event.now core.old.state ≡ Some fault) }
 {
     match store {
         Some(store) => {

@@ -122,14 +122,14 @@ impl<D: SectorDisk + Drop> DurableNode<D> {
     ///
     /// Refused as the core refuses it, and then: `Full`, `Exhausted`, and where the node mounts its disk `NotFormatted`,
     /// `Damaged` and `TooSmall`. A refusal leaves the node as it was. After `Device` the node is Down.
-    pub fn step(&mut self, event: Event) -> Result<Step, NodeFault>
+    pub fn step(&mut self, event: &Event) -> Result<Step, NodeFault>
         ensures id { self.new.id ≡ self.old.id }
         ensures nodes { self.new.nodes ≡ self.old.nodes }
-        ensures step { result ≢ Err (NodeFault.Core NoMemory) → Steps D.state self.old self.new event result }
+        ensures step { result ≢ Err (NodeFault.Core NoMemory) → Steps D.state self.old self.new event.now result }
         ensures memory { result ≡ Err (NodeFault.Core NoMemory) → self.new ≡ record self.old { found = None } }
         ensures counts { CountsOf D.state self.old.disk self.new.disk result }
         // Over any disk, honest or not.
-        ensures mounting { is_down self.old.state.phase ≡ true → event ≡ Event.Recover → Remounted self.old self.new result self.new.found }
+        ensures mounting { is_down self.old.state.phase ≡ true → event.now ≡ Event.Recover → Remounted self.old self.new result self.new.found }
         ensures few { IfOk result (λ step. length step.sent.items ≤ most_by self.old.nodes self.old.kept) }
     {
         advance(
@@ -155,7 +155,7 @@ impl<D: SectorDisk + Drop> DurableNode<D> {
         ensures mounting { is_down self.old.state.phase ≡ true → Remounted self.old self.new result self.new.found }
         ensures few { IfOk result (λ step. length step.sent.items ≤ most_by self.old.nodes self.old.kept) }
     {
-        self.step(Event::Recover)
+        self.step(&Event::Recover)
     }
 
     /// The disk alone, as it is.

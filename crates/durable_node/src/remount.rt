@@ -92,7 +92,7 @@ fn rise<D: SectorDisk>(
     requires sound { IsSound store.old.journal.slots (D.state store.old.disk) }
     ensures id { core.new.id ≡ id }
     ensures nodes { core.new.nodes ≡ nodes }
-    ensures counts { Counts (D.state store.old.disk) (D.state store.new.disk) (IsErrOf result NodeFault.Device) (IsOk result) }
+    ensures counts { Counts (D.state store.old.disk) (D.state store.new.disk) (IsErrOf result NodeFault.Device) (IsErrOf result NodeFault.Device → ⊥) }
     ensures done { IfOk result (IsRisen id (durable_of store.old) (durable_of store.new) core.new doubt.new) }
     ensures whole { IsOk result → IsFalse store.new.broken }
     ensures failed { IsErrOf result NodeFault.Device → IsRiseFailed (durable_of store.old) (durable_of store.new) core.old core.new doubt.new }

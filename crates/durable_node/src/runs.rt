@@ -63,9 +63,9 @@ fn yes(from: u8) -> Event
 // Node 0 of three, which found both others.
 fn asked(rt: &impl Abort, alloc: Global) -> Result<DurableNode<MemDisk>, Fail> {
     let mut node = DurableNode::open(alloc, NodeId::numbered(0), 3, 8)?;
-    assert_eq!(rt; sent(node.step(Event::CheckTimer)), Some(2));
-    assert_eq!(rt; told(node.step(yes(1))), Ok(None));
-    assert_eq!(rt; told(node.step(yes(2))), Ok(None));
+    assert_eq!(rt; sent(node.step(&Event::CheckTimer)), Some(2));
+    assert_eq!(rt; told(node.step(&yes(1))), Ok(None));
+    assert_eq!(rt; told(node.step(&yes(2))), Ok(None));
     Ok(node)
 }
 
@@ -73,7 +73,7 @@ fn asked(rt: &impl Abort, alloc: Global) -> Result<DurableNode<MemDisk>, Fail> {
 fn cut(rt: &impl Abort, alloc: Global) -> Result<DurableNode<MemDisk>, Fail> {
     let mut node = asked(rt, alloc)?;
     node.arm(5);
-    assert_eq!(rt; told(node.step(Event::MergeTimer)), Err(NodeFault::Device));
+    assert_eq!(rt; told(node.step(&Event::MergeTimer)), Err(NodeFault::Device));
     assert_eq!(rt; place(&node), (Phase::Down, 1));
     assert_eq!(rt; kept(&node), None);
     assert_eq!(rt; node.doubt(), Some((Durable::Raise, 1)));
@@ -157,11 +157,11 @@ fn unsealed_slot_stays(rt: HostRuntime) -> Result<(), Fail> {
 
 fn submit(node: &mut DurableNode<MemDisk>, byte: u8) -> Option<Result<Option<u64>, NodeFault>> {
     let event = Event::Submit(Queue::new(0)?, Payload::new(&[byte])?);
-    Some(told(node.step(event)))
+    Some(told(node.step(&event)))
 }
 
 fn finish(node: &mut DurableNode<MemDisk>, id: u64) -> Result<Option<u64>, NodeFault> {
-    told(node.step(Event::Finish(NodeId::numbered(0), id)))
+    told(node.step(&Event::Finish(NodeId::numbered(0), id)))
 }
 
 // From the opening to jobs that are done, and a journal with no slot left.

@@ -96,14 +96,9 @@ fn task_in(matches: &ArgMatches<'_>) -> Option<Task> {
     }
 }
 
-/// The number that a word is, in decimal with no sign and no leading zeros.
+/// The number that a word is, as lines have it.
 fn number(word: &str) -> Option<u8> {
-    let is_plain = word == "0" || !(word.starts_with('0') || word.starts_with('+'));
-    if is_plain {
-        word.parse::<u8>().ok()
-    } else {
-        None
-    }
+    u8::try_from(line_words::number(word.as_bytes())?).ok()
 }
 
 /// Every command with its arguments.

@@ -14,7 +14,7 @@ use Rattle.cluster_sim.specs.declared.outcome.Outcome.{Outcome}
 use Rattle.cluster_sim.specs.World.{World, openings, start}
 use Rattle.cluster_sim.specs.Step.{Step, Takes, Loses, Cuts, Mends, Denies, OfNet, Stranger, state_after, world_after}
 use Rattle.cluster_sim.specs.Acts.{node_outcome, outcome_of}
-use Rattle.cluster_sim.specs.Report.{Moment, moment_of, step_sent, report_of}
+use Rattle.cluster_sim.specs.Reporting.{Moment, moment_of, step_sent, report_of}
 use Rattle.cluster_sim.specs.Growth.{grown, IsNext, RunsGrow, RunsOpen}
 use Rattle.cluster_sim.specs.Told.{told}
 use Rattle.cluster_sim.specs.Machine.{Machine, Acted, StandsFor}

@@ -16,7 +16,7 @@ use Rattle.cluster_sim.specs.declared.outcome.Outcome.TheVariants.{Done, Refused
 use Rattle.cluster_sim.specs.declared.outcome.Refusal.{Refusal}
 use Rattle.cluster_sim.specs.declared.outcome.Refusal.TheVariants.{Node, Net, Stranger}
 use Rattle.cluster_sim.specs.Told.{told}
-use Rattle.cluster_sim.specs.Report.{Moment}
+use Rattle.cluster_sim.specs.Reporting.{Moment}
 
 abbrev pub message_text : ℕ → Envelope → List ℕ
 message_text number m = codes " " ++ decimal number ++ codes ":" ++ encode_lower (spelling m)

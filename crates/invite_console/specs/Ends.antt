@@ -50,15 +50,19 @@ PrintsIt (Ok printout) old new ending = PrintsText printout.text.items old new (
 PrintsIt (Err trouble.NoMemory) old new ending = PrintsText (line (codes "no memory")) old new NoMemory ending
 PrintsIt (Err trouble.Unread) old new ending = (ending ≡ Unread) × Keeps old new
 
--- The text of a command for the bytes that were read, and nothing else, is written. Where the reader tells its bytes, they are these.
-abbrev pub Answered : (List ℕ → Outcome) → Option (List ℕ) → Option (List ℕ) → Option (List ℕ) → Ending → Type 0
-Answered outcome input old new ending =
-    (bytes : List ℕ) × IfSome input (λ known. known ≡ bytes) × (ending ≡ ending_of (outcome bytes).good) × Appends old new (outcome bytes).text
+-- the outcome is this one
+abbrev pub IsFixed : (List ℕ → Outcome) → List ℕ → Outcome → Type 0
+IsFixed fixed bytes outcome = outcome ≡ fixed bytes
+
+-- The text of an outcome for the bytes that were read, and nothing else, is written. Where the reader tells its bytes, they are these.
+abbrev pub Answered : (List ℕ → Outcome → Type 0) → Option (List ℕ) → Option (List ℕ) → Option (List ℕ) → Ending → Type 0
+Answered Is input old new ending =
+    (bytes : List ℕ) × (outcome : Outcome) × IfSome input (λ known. known ≡ bytes) × Is bytes outcome × (ending ≡ ending_of outcome.good) × Appends old new outcome.text
 
 -- What a command writes for what it reads, by how it ends. Nothing is said of a writer that failed.
-abbrev pub Prints : (List ℕ → Outcome) → Option (List ℕ) → Option (List ℕ) → Option (List ℕ) → Ending → Type 0
-Prints outcome input old new Done = Answered outcome input old new Done
-Prints outcome input old new Refused = Answered outcome input old new Refused
-Prints outcome input old new NoMemory = Appends old new (line (codes "no memory"))
-Prints outcome input old new Unread = Keeps old new
-Prints outcome input old new Unwritten = Unit {0}
+abbrev pub Prints : (List ℕ → Outcome → Type 0) → Option (List ℕ) → Option (List ℕ) → Option (List ℕ) → Ending → Type 0
+Prints Is input old new Done = Answered Is input old new Done
+Prints Is input old new Refused = Answered Is input old new Refused
+Prints Is input old new NoMemory = Appends old new (line (codes "no memory"))
+Prints Is input old new Unread = Keeps old new
+Prints Is input old new Unwritten = Unit {0}

@@ -1,7 +1,5 @@
 -- Hex lines, put together.
-use Rattle.std.specs.Prelude.{◌≡◌, ℕ, ◌+◌, List, [], ◌∷◌, ◌++◌, Option, Some, None, Result, Ok, Err, codes, decimal}
-use Rattle.line_words.specs.declared.lines.LineFault.{LineFault}
-use Rattle.line_words.specs.declared.lines.LineFault.TheVariants.{BadLine, NoMemory}
+use Rattle.std.specs.Prelude.{ℕ, ◌+◌, List, [], ◌∷◌, ◌++◌, Option, Some, None, Result, Ok, Err, codes, decimal}
 use Rattle.line_words.specs.Lines.{bytes_of, lines_of}
 use Rattle.invite_console.specs.Ends.{Outcome, refused}
 
@@ -23,11 +21,6 @@ hex_lines_from n (line ∷ lines) = joined n (line_bytes line) (hex_lines_from (
 
 abbrev pub hex_lines_of : List ℕ → Result (List ℕ) ℕ
 hex_lines_of input = hex_lines_from 1 (lines_of input)
-
--- the fault names the line of this number, which can't be read, or memory ran out
-abbrev pub IsFaultAt : ℕ → Option (List ℕ) → LineFault → Type 0
-IsFaultAt n read (BadLine m) = (m ≡ n) × (read ≡ None)
-IsFaultAt n read NoMemory = Unit {0}
 
 -- what a command prints for the bytes that its lines spell; nothing is run where a line can't be read
 abbrev pub over_read : (List ℕ → Outcome) → Result (List ℕ) ℕ → Outcome

@@ -1,17 +1,14 @@
 -- The text of the command `sim`.
-use Rattle.std.specs.Prelude.{◌≡◌, ℕ, ◌+◌, List, [], ◌∷◌, ◌++◌, codes, decimal, length, Bool, true, false, Option, IfSome, Result, Ok, Err}
-use Rattle.std.specs.Io.KnownBytes.{Appends, Keeps}
+use Rattle.std.specs.Prelude.{◌≡◌, ℕ, ◌+◌, List, [], ◌∷◌, ◌++◌, codes, decimal, length, Bool, true, false, Result, Ok, Err}
 use Rattle.node_core.specs.State.{is_down}
 use Rattle.durable_node.specs.NodeState.{NodeState}
 use Rattle.schedule.specs.declared.act.Act.{Act}
 use Rattle.schedule.specs.Text.{Plan, plan_of}
 use Rattle.cluster_sim.specs.World.{World}
-use Rattle.cluster_sim.specs.Report.{Report}
+use Rattle.cluster_sim.specs.Reporting.{Report}
 use Rattle.cluster_sim.specs.Growth.{IsLeft, acts_in}
 use Rattle.cluster_sim.specs.Machine.{Machine, StandsFor}
-use Rattle.invite_console.specs.declared.ends.Ending.{Ending}
-use Rattle.invite_console.specs.declared.ends.Ending.TheVariants.{Done, Refused, NoMemory, Unread, Unwritten}
-use Rattle.invite_console.specs.Ends.{Outcome, ending_of, line, refused}
+use Rattle.invite_console.specs.Ends.{Outcome, line, refused}
 use Rattle.invite_console.specs.Acts.{act_lines}
 use Rattle.invite_console.specs.Rows.{HasRow, down_row}
 
@@ -48,20 +45,6 @@ TellsPlan (Ok plan) outcome = (outcome.good ≡ true) × TellsRun plan.size.node
 -- what `sim` prints for an input
 abbrev pub IsSimulation : List ℕ → Outcome → Type 0
 IsSimulation input outcome = TellsPlan (plan_of input) outcome
-
--- ---- how a command ends whose text is one of several
-
--- one of the texts for the bytes that were read, and nothing else, is written
-abbrev pub AnsweredBy : (List ℕ → Outcome → Type 0) → Option (List ℕ) → Option (List ℕ) → Option (List ℕ) → Ending → Type 0
-AnsweredBy Is input old new ending =
-    (bytes : List ℕ) × (outcome : Outcome) × IfSome input (λ known. known ≡ bytes) × Is bytes outcome × (ending ≡ ending_of outcome.good) × Appends old new outcome.text
-
-abbrev pub PrintsBy : (List ℕ → Outcome → Type 0) → Option (List ℕ) → Option (List ℕ) → Option (List ℕ) → Ending → Type 0
-PrintsBy Is input old new Done = AnsweredBy Is input old new Done
-PrintsBy Is input old new Refused = AnsweredBy Is input old new Refused
-PrintsBy Is input old new NoMemory = Appends old new (line (codes "no memory"))
-PrintsBy Is input old new Unread = Keeps old new
-PrintsBy Is input old new Unwritten = Unit {0}
 
 -- ---- on the way
 

@@ -1,6 +1,6 @@
 //! The lines of a simulation: one for each act.
 
-ghost use Rattle.std.specs.Prelude.{◌≡◌, ◌++◌, ◌≤◌, IfOk, IsOk, OnOk, codes, decimal, drop, length};
+ghost use Rattle.std.specs.Prelude.{◌≡◌, ◌++◌, ◌<◌, ◌≤◌, IfOk, IfSome, IsOk, OnOk, codes, decimal, drop, length, slice_get};
 ghost use Rattle.invite_console.specs.Acts.{act_line, answer_text, core_name, fault_name, first_of, message_text, net_name, outcome_text, refusal_name, sent_text};
 
 use crate::words::{push_hex, push_number, push_text};
@@ -9,13 +9,12 @@ use durable_node::NodeFault;
 use node_core::CoreFault;
 use schedule::Act;
 use sim_net::{MessageList, NetFault};
-use std::alloc::{AllocError, Global};
-use wire_msg::{Message, encode};
+use std::alloc::AllocError;
 
 /// Adds the line of an act that was done or refused. Where there was no memory for it, that is handed on.
 pub(crate) fn push_done(
-    alloc: Global,
     text: &mut Vec<u8>,
+    bytes: &mut Vec<u8>,
     number: u64,
     act: &Act,
     outcome: Result<Outcome, AllocError>,
@@ -28,15 +27,15 @@ pub(crate) fn push_done(
     ensures line { IfOk outcome (λ came. OnOk result (text.new.items ≡ text.old.items ++ act_line number act.now came (drop place messages.now.messages))) }
 {
     match outcome {
-        Ok(outcome) => push_act(alloc, text, number, act, outcome, messages, place),
+        Ok(outcome) => push_act(text, bytes, number, act, outcome, messages, place),
         Err(error) => Err(error),
     }
 }
 
 /// Adds the line of an act, by its number from 0 on. The messages that were sent in it are the last ones, from this place on.
 fn push_act(
-    alloc: Global,
     text: &mut Vec<u8>,
+    bytes: &mut Vec<u8>,
     number: u64,
     act: &Act,
     outcome: Outcome,
@@ -49,13 +48,13 @@ fn push_act(
 {
     push_number(text, number)?;
     push_text(text, " ")?;
-    push_outcome(alloc, text, act, outcome, messages, place)?;
+    push_outcome(text, bytes, act, outcome, messages, place)?;
     push_text(text, "\n")
 }
 
 fn push_outcome(
-    alloc: Global,
     text: &mut Vec<u8>,
+    bytes: &mut Vec<u8>,
     act: &Act,
     outcome: Outcome,
     messages: &MessageList,
@@ -69,7 +68,7 @@ fn push_outcome(
         Outcome::Done { answer, .. } => {
             push_text(text, "ok")?;
             push_answer(text, act, answer)?;
-            push_sent(alloc, text, messages, place)
+            push_sent(text, bytes, messages, place)
         }
         Outcome::Refused(why) => {
             push_text(text, "refused ")?;
@@ -153,8 +152,8 @@ fn net_word(fault: NetFault) -> &'static str
 
 /// Adds the messages from a place on, each with its number, which is its place.
 fn push_sent(
-    alloc: Global,
     text: &mut Vec<u8>,
+    bytes: &mut Vec<u8>,
     messages: &MessageList,
     place: usize,
 ) -> Result<(), AllocError>
@@ -162,27 +161,24 @@ fn push_sent(
     ensures { OnOk result (text.new.items ≡ text.old.items ++ sent_text place (drop place messages.now.messages)) }
 {
     for at in place..messages.len() {
-        let Some(message) = messages.get(at) else {
-            unreachable!()
-        };
-        push_message(alloc, text, at as u64, &message)?;
+        push_message(text, bytes, messages, at)?;
     }
     Ok(())
 }
 
+/// Adds the message at a place. Its spelling is written in place of what `bytes` held.
 fn push_message(
-    alloc: Global,
     text: &mut Vec<u8>,
-    number: u64,
-    message: &Message,
+    bytes: &mut Vec<u8>,
+    messages: &MessageList,
+    place: usize,
 ) -> Result<(), AllocError>
-    ensures { OnOk result (text.new.items ≡ text.old.items ++ message_text number message.now) }
+    requires { place < length messages.now.messages }
+    ensures { IfSome (slice_get messages.now.messages place) (λ message. OnOk result (text.new.items ≡ text.old.items ++ message_text place message)) }
 {
     push_text(text, " ")?;
-    push_number(text, number)?;
+    push_number(text, place as u64)?;
     push_text(text, ":")?;
-    let Ok(bytes) = encode(alloc, message) else {
-        return Err(AllocError);
-    };
-    push_hex(text, &bytes)
+    messages.spell(place, bytes)?;
+    push_hex(text, bytes)
 }

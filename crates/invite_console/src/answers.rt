@@ -4,7 +4,7 @@ ghost use Rattle.wire_msg.specs.Envelope.{Envelope};
 ghost use Rattle.node_core.specs.declared.event.Event.TheVariants.{Deliver};
 ghost use Rattle.node_core.specs.Start.{alone};
 ghost use Rattle.node_core.specs.Wants.{wants_of};
-ghost use Rattle.invite_console.specs.Ends.{outcome_of, Prints};
+ghost use Rattle.invite_console.specs.Ends.{outcome_of, IsFixed, Prints};
 ghost use Rattle.invite_console.specs.Answer.{answer_text, answers_to, first_count, state_after};
 
 use crate::batches::{PIECE, next_batch};
@@ -30,7 +30,7 @@ pub fn answer<R: Read, W: Write>(
 ) -> Ending
     requires within { id < nodes }
     requires limit { nodes ≤ NODES }
-    ensures { Prints (answer_text id nodes) (R.remaining input.old) (W.contents output.old) (W.contents output.new) result }
+    ensures { Prints (IsFixed (answer_text id nodes)) (R.remaining input.old) (W.contents output.old) (W.contents output.new) result }
 {
     let outcome = match read_input(alloc, input) {
         Ok(bytes) => answer_to(alloc, id, nodes, &bytes).map_err(Trouble::from),

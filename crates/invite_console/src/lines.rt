@@ -1,8 +1,8 @@
 ghost use Rattle.std.specs.Prelude.{◌≡◌, ◌++◌, IfOk, IfErr, OnOk, MatchOption, Some, Ok, false, true, option_map, codes, decimal};
 ghost use Rattle.invite_console.specs.Digits.{AreValues};
 ghost use Rattle.invite_console.specs.Ends.{outcome_of, refused};
-ghost use Rattle.line_words.specs.Lines.{bytes_of, IsLineFault};
-ghost use Rattle.invite_console.specs.Lines.{line_bytes, hex_lines_of, IsFaultAt};
+ghost use Rattle.line_words.specs.Lines.{bytes_of, IsFaultAt, IsLineFault};
+ghost use Rattle.invite_console.specs.Lines.{line_bytes, hex_lines_of};
 
 use crate::digits::{decode_pairs, digit_values};
 use crate::ends::Printout;

@@ -12,9 +12,10 @@ use crate::ends::Printout;
 use crate::words::{push_hex, push_text};
 use group_task::NodeId;
 use job_model::JobTable;
-use node_core::{CoreFault, Event, NodeCore};
+use node_core::{CoreFault, NodeCore};
 use std::alloc::{AllocError, Global};
 use std::marker::Model;
+use std::mem;
 use wire_msg::{Message, encode_into};
 
 /// The count of the group in which the node begins, Normal and alone.
@@ -26,11 +27,14 @@ const NEXT_COUNT: u64 = 2;
 /// A node that only messages come to, and what it has printed so far. No job is pending, and no message needs the disk.
 #[derive(Drop)]
 pub(crate) struct Session {
+    alloc: Global,
     core: NodeCore,
     table: JobTable,
     text: Vec<u8>,
     // the spelling of the last answer, which is kept for its room
     bytes: Vec<u8>,
+    // the list of the last answers, which is kept for its room
+    room: Vec<Message>,
 }
 
 impl Model for Session {
@@ -42,7 +46,7 @@ impl Model for Session {
 
     ghost view = { λ a. record { id = a.core.id; nodes = a.core.nodes; state = a.core.state; text = a.text.items } };
 
-    ghost invariant = { λ a. (a.table.pending ≡ []) × IsQuiet a.core.state };
+    ghost invariant = { λ a. (a.table.pending ≡ []) × IsQuiet a.core.state × (a.room.items ≡ []) };
 }
 
 impl Session {
@@ -53,10 +57,12 @@ impl Session {
         ensures { IfOk result (λ session. session ≡ record { id = id; nodes = nodes; state = alone id FIRST_COUNT; text = [] }) }
     {
         Ok(Session {
+            alloc,
             core: NodeCore::new(alloc, id, nodes, FIRST_COUNT),
             table: JobTable::with_room(alloc, 0)?,
             text: Vec::new(alloc),
             bytes: Vec::new(alloc),
+            room: Vec::new(alloc),
         })
     }
 
@@ -66,10 +72,13 @@ impl Session {
         ensures stays { result ≡ Ok false → self.new ≡ self.old }
         ensures goes { result ≡ Ok true → self.new ≡ after_message self.old message.now }
     {
-        let Some(sent) = deliver(&mut self.core, &self.table, message)? else {
+        let room = mem::replace(&mut self.room, Vec::new(self.alloc));
+        let Some(mut sent) = deliver(&mut self.core, &self.table, message, room)? else {
             return Ok(false);
         };
         push_messages(&mut self.text, &mut self.bytes, &sent)?;
+        sent.clear();
+        self.room = sent;
         Ok(true)
     }
 
@@ -103,20 +112,23 @@ impl Session {
     }
 }
 
-/// Takes a message, and answers the messages that the node sends, or none where it is refused, as a stranger's.
+/// Takes a message, and answers the messages that the node sends, or none where it is refused, as a stranger's. They are
+/// written into `room`, an empty list.
 fn deliver(
     core: &mut NodeCore,
     table: &JobTable,
     message: &Message,
+    room: Vec<Message>,
 ) -> Result<Option<Vec<Message>>, AllocError>
     requires empty { table.now.pending ≡ [] }
+    requires room { room.items ≡ [] }
     requires quiet { IsQuiet core.old.state }
     ensures refused { IfOk result (λ sent. is_strange core.old.nodes core.old.id message.now core.old.state ≡ is_none sent) }
     ensures stays { result ≡ Ok None → SameButRoom core.old core.new }
     ensures sent { IfOk result (λ answers. IfSome answers (λ sent. Delivers core.old message.now core.new sent.items)) }
     ensures still_quiet { IsQuiet core.new.state }
 {
-    let plan = match core.plan_step(Event::Deliver(*message), table) {
+    let plan = match core.plan_delivery(message, table, room) {
         Ok(plan) => plan,
         Err(CoreFault::NoMemory) => return Err(AllocError),
         Err(_) => return Ok(None),

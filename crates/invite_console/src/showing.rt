@@ -1,5 +1,5 @@
 ghost use Rattle.std.specs.Prelude.{◌≡◌, ◌++◌, IfOk, OnOk, codes};
-ghost use Rattle.invite_console.specs.Ends.{line, outcome_of, Prints};
+ghost use Rattle.invite_console.specs.Ends.{line, outcome_of, IsFixed, Prints};
 ghost use Rattle.invite_console.specs.Show.{body_text, group_text, message_text, rest_text, shown, shown_of, show_text, task_text, truth_text, work_text};
 
 use crate::batches::{PIECE, next_batch};
@@ -18,7 +18,7 @@ use wire_msg::{Body, Message, Stream};
 /// Reads a stream of messages in hex lines, and prints them, a line of text for each. Bytes of an unfinished frame are counted
 /// behind the last.
 pub fn show<R: Read, W: Write>(alloc: Global, input: &mut R, output: &mut W) -> Ending
-    ensures { Prints show_text (R.remaining input.old) (W.contents output.old) (W.contents output.new) result }
+    ensures { Prints (IsFixed show_text) (R.remaining input.old) (W.contents output.old) (W.contents output.new) result }
 {
     let outcome = match read_input(alloc, input) {
         Ok(bytes) => show_to(alloc, &bytes).map_err(Trouble::from),

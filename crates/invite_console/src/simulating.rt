@@ -5,8 +5,8 @@ ghost use Rattle.group_task.specs.declared.node.TheConstants.{NODES};
 ghost use Rattle.schedule.specs.declared.act.Act.{Act as ActValue};
 ghost use Rattle.cluster_sim.specs.Machine.{StandsFor};
 ghost use Rattle.cluster_sim.specs.World.{World};
-ghost use Rattle.invite_console.specs.Ends.{outcome_of};
-ghost use Rattle.invite_console.specs.Sim.{AddsRows, HasWorld, IsSimulation, IsSoFar, PrintsBy, TellsRun};
+ghost use Rattle.invite_console.specs.Ends.{outcome_of, Prints};
+ghost use Rattle.invite_console.specs.Sim.{AddsRows, HasWorld, IsSimulation, IsSoFar, TellsRun};
 
 use crate::acts::push_done;
 use crate::ends::{Ending, Printout, Trouble};
@@ -14,7 +14,7 @@ use crate::input::read_input;
 use crate::lines::bad_line;
 use crate::printing::print;
 use crate::rows::push_row;
-use cluster_sim::{Cluster, left_by_a_run};
+use cluster_sim::{Simulation, left_by_a_run};
 use group_task::NodeId;
 use line_words::LineFault;
 use schedule::{Act, Schedule, read_schedule};
@@ -23,7 +23,7 @@ use std::io::{Read, Write};
 
 /// Reads a schedule, runs it on a simulated cluster, and prints a line for each act and then one for each node.
 pub fn sim<R: Read, W: Write>(alloc: Global, input: &mut R, output: &mut W) -> Ending
-    ensures { PrintsBy IsSimulation (R.remaining input.old) (W.contents output.old) (W.contents output.new) result }
+    ensures { Prints IsSimulation (R.remaining input.old) (W.contents output.old) (W.contents output.new) result }
 {
     let outcome = match read_input(alloc, input) {
         Ok(bytes) => sim_to(alloc, &bytes).map_err(Trouble::from),
@@ -55,7 +55,7 @@ fn simulate(alloc: Global, schedule: &Schedule) -> Result<Vec<u8>, AllocError>
     ensures { IfOk result (λ text. TellsRun schedule.now.size.nodes schedule.now.size.slots schedule.now.acts.items text.items) }
 {
     left_by_a_run();
-    let mut cluster = Cluster::open(alloc, schedule.size.nodes, schedule.size.slots)?;
+    let mut cluster = Simulation::open(alloc, schedule.size.nodes, schedule.size.slots)?;
     let mut text = Vec::new(alloc);
     push_acts(alloc, &mut text, &mut cluster, &schedule.acts)?;
     push_table(alloc, &mut text, &cluster)?;
@@ -66,25 +66,26 @@ fn simulate(alloc: Global, schedule: &Schedule) -> Result<Vec<u8>, AllocError>
 fn push_acts(
     alloc: Global,
     text: &mut Vec<u8>,
-    cluster: &mut Cluster,
+    cluster: &mut Simulation,
     acts: &[Act],
 ) -> Result<(), AllocError>
     requires { HasWorld cluster.old }
     ensures { (nodes slots : ℕ) → IsSoFar nodes slots cluster.old [] text.old.items → OnOk result (IsSoFar nodes slots cluster.new acts.now text.new.items) }
 {
+    let mut bytes = Vec::new(alloc);
     let mut number = 0u64;
     for act in acts {
-        push_step(alloc, text, cluster, act, number)?;
+        push_step(text, &mut bytes, cluster, act, number)?;
         number += 1;
     }
     Ok(())
 }
 
-/// Does one act, and adds its line.
+/// Does one act, and adds its line. The spellings of messages are written in place of what `bytes` held.
 fn push_step(
-    alloc: Global,
     text: &mut Vec<u8>,
-    cluster: &mut Cluster,
+    bytes: &mut Vec<u8>,
+    cluster: &mut Simulation,
     act: &Act,
     number: u64,
 ) -> Result<(), AllocError>
@@ -97,8 +98,8 @@ fn push_step(
     let place = cluster.net().sent().len();
     let outcome = cluster.step(act);
     push_done(
-        alloc,
         text,
+        bytes,
         number,
         act,
         outcome,
@@ -108,7 +109,7 @@ fn push_step(
 }
 
 /// Adds the line of each node.
-fn push_table(alloc: Global, text: &mut Vec<u8>, cluster: &Cluster) -> Result<(), AllocError>
+fn push_table(alloc: Global, text: &mut Vec<u8>, cluster: &Simulation) -> Result<(), AllocError>
     ensures { (w : World) → StandsFor cluster.now w → OnOk result (AddsRows 0 w.states text.old.items text.new.items) }
 {
     for number in 0..cluster.count() {

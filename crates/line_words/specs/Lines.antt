@@ -27,3 +27,8 @@ bytes_of (c ∷ rest) = if c == 45 && length rest == 0 then Some [] else result_
 abbrev pub IsLineFault : {A : Type 0} → Result A ℕ → LineFault → Type 0
 IsLineFault r (BadLine n) = r ≡ Err n
 IsLineFault r NoMemory = Unit {0}
+
+-- the fault names the line of this number, which can't be read, or memory ran out
+abbrev pub IsFaultAt : {A : Type 0} → ℕ → Option A → LineFault → Type 0
+IsFaultAt n read (BadLine m) = (m ≡ n) × (read ≡ None)
+IsFaultAt n read NoMemory = Unit {0}

@@ -1,5 +1,5 @@
 -- Words of a line, and the numbers that they spell.
-use Rattle.std.specs.Prelude.{ℕ, ◌+◌, ◌-◌, ◌*◌, ◌^◌, ◌==◌, ◌&&◌, nat_lt, nat_le, Bool, List, [], ◌∷◌, length, if◌then◌else◌, Option, Some, None}
+use Rattle.std.specs.Prelude.{◌≡◌, ℕ, ◌+◌, ◌-◌, ◌*◌, ◌^◌, ◌<◌, ◌==◌, ◌&&◌, nat_lt, nat_le, Bool, List, [], ◌∷◌, length, if◌then◌else◌, Option, Some, None}
 use Rattle.std.specs.List.{slice_split}
 
 abbrev pub is_space : ℕ → Bool
@@ -8,6 +8,11 @@ is_space b = b == 32
 -- the words of a line stand between single spaces; two spaces side by side have an empty word between them
 abbrev pub words_of : List ℕ → List (List ℕ)
 words_of line = slice_split is_space line
+
+-- the first word of a line, with what stands behind the space after it
+pub record CutsWord (line word behind : List ℕ) : Type 0 where
+  pub words : words_of line ≡ word ∷ words_of behind
+  pub some : 0 < length (words_of behind)
 
 abbrev pub is_digit : ℕ → Bool
 is_digit c = nat_le 48 c && nat_lt c 58

@@ -7,7 +7,7 @@ mod reading;
 
 pub use laws::numbers;
 pub use lines::{LineFault, bytes, cut_line};
-pub use reading::{number, words};
+pub use reading::{cut_word, number};
 
 #[cfg(test)]
 mod tests;

@@ -1,13 +1,15 @@
-ghost use Rattle.std.specs.Prelude.{◌≡◌, IfOk, map};
-ghost use Rattle.line_words.specs.Words.{number_of, value_from, with_digit, words_of};
+ghost use Rattle.std.specs.Prelude.{◌≡◌, MatchOption, ◌∷◌, []};
+ghost use Rattle.line_words.specs.Words.{number_of, value_from, with_digit, words_of, CutsWord};
 
-use std::alloc::{AllocError, Global};
+use memchr::memchr;
 
-/// The words of a line, which single spaces part. A space at an end, or a second one, has an empty word beside it.
-pub fn words<'a>(alloc: Global, line: &'a [u8]) -> Result<Vec<&'a [u8]>, AllocError>
-    ensures { IfOk result (λ words. map (λ word. word.now) words.items ≡ words_of line.entry.now) }
+/// The first word of a line and what stands behind the space after it, if there is one. Single spaces part words: a space at an end, or
+/// a second one, has an empty word beside it.
+pub fn cut_word(line: &[u8]) -> Option<(&[u8], &[u8])>
+    ensures { MatchOption result (words_of line.now ≡ line.now ∷ []) (λ cut. CutsWord line.now cut.0.now cut.1.now) }
 {
-    line.split(|byte| *byte == b' ').collect(alloc)
+    let end = memchr(b' ', line)?;
+    Some((&line[..end], &line[end + 1..]))
 }
 
 /// The number that a word spells in decimal, with no sign and no zero in front of other digits.

@@ -1,5 +1,5 @@
 -- Which sets and which work in hand stay within the cluster.
-use Rattle.std.proofs.Common.{◌≡◌, ◌≢◌, ℕ, suc, ◌+◌, ◌<◌, Bool, true, false, ◌&&◌, ◌||◌, List, [], ◌∷◌, ◌++◌, length, filter, ◌==◌, refl, sym, ◌∙◌, arith, eqb}
+use Rattle.std.proofs.Common.{◌≡◌, ◌≢◌, ℕ, suc, ◌+◌, ◌<◌, Bool, true, false, ◌&&◌, ◌||◌, List, [], ◌∷◌, ◌++◌, length, filter, ◌==◌, refl, sym, ap, ◌∙◌, arith, eqb}
 use Rattle.std.specs.Prelude.{nat_lt, if◌then◌else◌}
 use Rattle.std.specs.List.{list_all}
 use Rattle.std.proofs.lemmas.Bool.Decides.{nat_tests}
@@ -96,3 +96,16 @@ pub held_within : (nodes : ℕ) (hand : List InHand) (origin id : ℕ) → AreFr
 held_within nodes hand origin id h held = h.each origin id held
 
 pub ruleset other_sets = (none_others, all_others, with_has_same, none_within, alone_within, none_from)
+
+-- ---- the first of a set
+
+-- a set without a node begins with another one
+pub begins_other : (id first : ℕ) (ids rest : List ℕ) → ids ≡ first ∷ rest → has ids id ≡ false → id ≢ first
+begins_other id first ids rest whole absent same = tested (id == first) refl
+  where
+    without : (id == first || has rest id) ≡ false
+    without = sym (ap (λ (xs : List ℕ). has xs id) whole) ∙ absent
+
+    tested : (b : Bool) → (id == first) ≡ b → ⊥
+    tested true is = let all : (id == first || has rest id) ≡ true = ap (λ (c : Bool). c || has rest id) is in absurd cc
+    tested false is = grind (arith, nat_tests, is, same)

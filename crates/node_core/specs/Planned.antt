@@ -59,7 +59,7 @@ hand_after (Gain jobs) hand = hand ++ jobs.items
 -- what carrying out the plan makes of the state, where answer is the new count or the new id
 abbrev pub carried : ℕ → Act → ℕ → State → Effect → Effect
 carried self (Stay job) answer s ready = ready
-carried self (Settle standing change job) answer s ready = record ready { state = with_standing standing (hand_after change s.hand) }
+carried self (Settle change) answer s ready = record ready { state = with_standing change.value.standing (hand_after change.value.hand s.hand) }
 carried self (Invite receivers) answer s ready = record {
   state = record (regrouped self answer s) { phase = Election };
   sent = to_each self receivers (Invitation (own_group self answer));
@@ -76,12 +76,15 @@ carried self (Place to queue payload) answer s ready =
 abbrev pub planned_effect : ℕ → Plan → ℕ → State → Effect
 planned_effect self plan answer s = carried self plan.act answer s (record { state = s; sent = plan.messages.items })
 
+-- the command that marks a job as done, if there is one
+abbrev pub done_wanted : Option ℕ → Option Command
+done_wanted None = None
+done_wanted (Some id) = Some (Done id)
+
 -- the command that a plan with this act wants
 abbrev pub act_wants : Act → Option Command
-act_wants (Stay None) = None
-act_wants (Stay (Some id)) = Some (Done id)
-act_wants (Settle standing change None) = None
-act_wants (Settle standing change (Some id)) = Some (Done id)
+act_wants (Stay job) = done_wanted job
+act_wants (Settle change) = done_wanted change.value.done
 act_wants (Invite receivers) = Some Raise
 act_wants Recover = Some Raise
 act_wants (Place to queue payload) = Some (Put queue payload.value)
@@ -100,7 +103,7 @@ wanted_by (durable.Done id) = Some (Done id)
 -- how many messages carrying out the plan sends
 abbrev pub act_sends : ℕ → Act → List Envelope → ℕ
 act_sends self (Stay job) messages = length messages
-act_sends self (Settle standing change job) messages = length messages
+act_sends self (Settle change) messages = length messages
 act_sends self (Invite receivers) messages = length receivers
 act_sends self Recover messages = 0
 act_sends self (Place to queue payload) messages = if to == self then 0 else 1
@@ -109,12 +112,15 @@ abbrev pub plan_sends : ℕ → Plan → ℕ
 plan_sends self plan = act_sends self plan.act plan.messages.items
 
 -- by how many jobs the hand may grow
+abbrev pub hand_gain : HandChange → ℕ
+hand_gain Keep = 0
+hand_gain Clear = 0
+hand_gain (Lose origin id) = 0
+hand_gain (Gain jobs) = vec_len jobs
+
 abbrev pub gain_of : Act → ℕ
 gain_of (Stay job) = 0
-gain_of (Settle standing Keep job) = 0
-gain_of (Settle standing Clear job) = 0
-gain_of (Settle standing (Lose origin id) job) = 0
-gain_of (Settle standing (Gain jobs) job) = vec_len jobs
+gain_of (Settle change) = hand_gain change.value.hand
 gain_of (Invite receivers) = 0
 gain_of Recover = 0
 gain_of (Place to queue payload) = 1
@@ -122,7 +128,7 @@ gain_of (Place to queue payload) = 1
 -- the plan can be carried out without growth, and leaves a consistent state
 abbrev pub CanAct : ℕ → ℕ → State → Act → List Envelope → ℕ → Type 0
 CanAct nodes self s (Stay job) sent room = Unit {0}
-CanAct nodes self s (Settle standing change job) sent room = IsConsistent nodes self (with_standing standing (hand_after change s.hand))
+CanAct nodes self s (Settle change) sent room = IsConsistent nodes self (with_standing change.value.standing (hand_after change.value.hand s.hand))
 CanAct nodes self s (Invite receivers) sent room = (sent ≡ []) × (length receivers ≤ room) × AreOthers nodes self receivers
 CanAct nodes self s Recover sent room = sent ≡ []
 CanAct nodes self s (Place to queue payload) sent room = (sent ≡ []) × (1 ≤ room)

@@ -3,22 +3,23 @@ ghost use Rattle.node_core.specs.State.{state_of};
 ghost use Rattle.node_core.specs.Words.{own_group, regrouped, letter};
 ghost use Rattle.node_core.specs.Timers.{recovery};
 ghost use Rattle.node_core.specs.Consistent.{IsConsistent};
-ghost use Rattle.node_core.specs.Planned.{gain_of, with_standing, hand_after};
+ghost use Rattle.node_core.specs.Planned.{hand_gain, with_standing, hand_after};
 
 use crate::in_hand::InHand;
 use crate::phase::Phase;
-use crate::plan::{Act, HandChange, Standing};
+use crate::plan::{Change, HandChange};
 use crate::vector::Vector;
 use group_task::{GroupNo, Members, NodeId, share};
 use job_model::{Payload, Queue};
 use wire_msg::{Body, Message};
 
 /// Takes a new standing, and changes the work in hand within its room.
-pub fn settle(vector: &mut Vector, standing: Standing, change: HandChange)
-    requires { length vector.old.hand.jobs + gain_of (Act.Settle standing change None) ≤ vector.old.hand.room }
-    ensures { state_of vector.new ≡ with_standing standing (hand_after change vector.old.hand.jobs) }
+pub fn settle(vector: &mut Vector, change: Box<Change>)
+    requires { length vector.old.hand.jobs + hand_gain change.value.hand ≤ vector.old.hand.room }
+    ensures { state_of vector.new ≡ with_standing change.value.standing (hand_after change.value.hand vector.old.hand.jobs) }
 {
-    match change {
+    let Change { standing, hand, .. } = Box::into_inner(change);
+    match hand {
         HandChange::Keep => {}
         HandChange::Clear => vector.hand.clear(),
         HandChange::Lose(origin, id) => vector.hand.remove(origin, id),

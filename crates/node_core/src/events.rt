@@ -1,6 +1,7 @@
-ghost use Rattle.std.specs.Prelude.{◌≡◌, ◌≢◌, ◌<◌, ◌≤◌, nat_lt, true, None, Some, IfOk, IfErr, IfSome};
+ghost use Rattle.std.specs.Prelude.{◌≡◌, [], ◌≢◌, ◌<◌, ◌≤◌, nat_lt, true, None, Some, IfOk, IfErr, IfSome};
 ghost use Rattle.std.specs.List.{list_all};
 ghost use Rattle.group_task.specs.declared.node.TheConstants.{NODES};
+ghost use Rattle.node_core.specs.declared.event.Event.TheVariants.{Deliver};
 ghost use Rattle.node_core.specs.State.{state_of};
 ghost use Rattle.node_core.specs.Effects.{effect_of, delivered};
 ghost use Rattle.node_core.specs.Wants.{wants_of, delivered_wants};
@@ -11,7 +12,6 @@ ghost use Rattle.node_core.specs.Consistent.{IsConsistent};
 
 use crate::event::Event;
 use crate::fault::CoreFault;
-use crate::in_hand::InHand;
 use crate::known::is_known;
 use crate::phase::Phase;
 use crate::plan::Plan;
@@ -20,7 +20,7 @@ use crate::{messages, operator, timers};
 use group_task::NodeId;
 use job_model::JobTable;
 use std::alloc::{AllocError, Global};
-use wire_msg::Body;
+use wire_msg::{Body, Message};
 
 /// What an event makes of a node: the row of the event, where it is not refused.
 pub fn plan_event(
@@ -49,13 +49,9 @@ pub fn plan_event(
         Event::ReadyTimer => Ok(timers::ready_timer(alloc, nodes, id, vector)),
         Event::CoordTimer => Ok(timers::coord_timer(alloc, nodes, id, vector)?),
         Event::DispatchTimer => Ok(timers::dispatch_timer(alloc, nodes, id, vector, table)?),
-        Event::Recover => Ok(operator::recovery(alloc, nodes, id, vector)),
+        Event::Recover => Ok(operator::recovery(Vec::new(alloc), nodes, id, vector)),
         Event::Deliver(message) => {
-            if !is_known(nodes, id, message) {
-                return Err(CoreFault::Stranger);
-            }
-            let from = message.sender();
-            Ok(plan_message(alloc, nodes, id, from, message.body(), vector, table)?)
+            plan_delivery(alloc, Vec::new(alloc), nodes, id, vector, message, table)
         }
         Event::Submit(queue, payload) => {
             match vector.phase {
@@ -80,10 +76,39 @@ pub fn plan_event(
     }
 }
 
+/// What a message makes of a node: its row, where it is for this node and names none outside the cluster.
+pub fn plan_delivery(
+    alloc: Global,
+    room: Vec<Message>,
+    nodes: u8,
+    id: NodeId,
+    vector: &Vector,
+    message: &Message,
+    table: &JobTable,
+) -> Result<Plan, CoreFault>
+    requires room { room.items ≡ [] }
+    requires consistent { IsConsistent nodes id (state_of vector.now) }
+    ensures plan { IfOk result (λ plan. IsPlanOf nodes id (state_of vector.now) plan
+        (wants_of id table.now.pending (Deliver message.now) (state_of vector.now))
+        (λ answer. effect_of nodes id table.now.pending (Deliver message.now) answer (state_of vector.now))) }
+    ensures few { IfOk result (λ plan. plan_sends id plan < nodes) }
+    ensures done { IfOk result (λ _. refusal_of nodes id (Deliver message.now) (state_of vector.now) ≡ None) }
+    ensures refused { IfSome (refusal_of nodes id (Deliver message.now) (state_of vector.now)) (λ fault. result ≡ Err fault) }
+    ensures memory { IfErr result (λ fault. fault ≢ CoreFault.NoMemory
+        → refusal_of nodes id (Deliver message.now) (state_of vector.now) ≡ Some fault) }
+{
+    if !is_known(nodes, id, message) {
+        return Err(CoreFault::Stranger);
+    }
+    let from = message.sender();
+    Ok(plan_message(alloc, room, nodes, id, from, message.body(), vector, table)?)
+}
+
 /// What a message makes of a node, by what it says.
 #[tactic(auto, using(crate::proofs::Sets::tested_within))]
 fn plan_message(
     alloc: Global,
+    room: Vec<Message>,
     nodes: u8,
     id: NodeId,
     from: NodeId,
@@ -91,6 +116,7 @@ fn plan_message(
     vector: &Vector,
     table: &JobTable,
 ) -> Result<Plan, AllocError>
+    requires room { room.items ≡ [] }
     requires other { id ≢ from }
     requires known { from < nodes }
     requires names { list_all (λ id. nat_lt id nodes) (ids_in body.now) ≡ true }
@@ -101,32 +127,28 @@ fn plan_message(
     ensures few { IfOk result (λ plan. plan_sends id plan < nodes) }
 {
     match body {
-        Body::AreYouCoordinator => messages::asked_coordinator(alloc, nodes, id, from, vector),
-        Body::Coordinator(agreed) => Ok(messages::answered_coordinator(
-            alloc, nodes, id, from, *agreed, vector,
-        )),
-        Body::Invitation(group) => messages::invited(alloc, nodes, id, *group, vector),
-        Body::Accept(group) => Ok(messages::accepted(alloc, nodes, id, from, *group, vector)),
-        Body::Ready(task) => messages::told_ready(alloc, nodes, id, from, *task, vector),
-        Body::ReadyAck(group) => Ok(messages::acknowledged(alloc, nodes, id, from, *group, vector)),
-        Body::AreYouThere(group) => messages::asked_there(alloc, nodes, id, from, *group, vector),
-        Body::Here(group, agreed) => Ok(messages::answered_there(
-            alloc, nodes, id, from, *group, *agreed, vector,
-        )),
+        Body::AreYouCoordinator => messages::asked_coordinator(room, nodes, id, from, vector),
+        Body::Coordinator(agreed) => {
+            messages::answered_coordinator(alloc, room, nodes, id, from, *agreed, vector)
+        }
+        Body::Invitation(group) => messages::invited(alloc, room, nodes, id, *group, vector),
+        Body::Accept(group) => messages::accepted(alloc, room, nodes, id, from, *group, vector),
+        Body::Ready(task) => messages::told_ready(alloc, room, nodes, id, from, *task, vector),
+        Body::ReadyAck(group) => messages::acknowledged(
+            alloc, room, nodes, id, from, *group, vector,
+        ),
+        Body::AreYouThere(group) => messages::asked_there(room, nodes, id, from, *group, vector),
+        Body::Here(group, agreed) => {
+            messages::answered_there(alloc, room, nodes, id, from, *group, *agreed, vector)
+        }
         Body::Work {
             group,
             id: job,
             queue,
             payload,
-        } => {
-            let job = InHand {
-                origin: from,
-                id: *job,
-                queue: *queue,
-                payload: *payload,
-            };
-            messages::got_work(alloc, nodes, id, *group, job, vector)
-        }
-        Body::Done(job) => Ok(messages::told_done(alloc, nodes, id, *job, vector, table)),
+        } => messages::got_work(
+            alloc, room, nodes, id, from, *group, *job, *queue, payload, vector,
+        ),
+        Body::Done(job) => Ok(messages::told_done(room, nodes, id, *job, vector, table)),
     }
 }

@@ -1,4 +1,4 @@
-ghost use Rattle.std.specs.Prelude.{◌≡◌, ◌≢◌, ◌<◌, ◌&&◌, not, false, None, IfOk, IsTrue};
+ghost use Rattle.std.specs.Prelude.{◌≡◌, ◌≢◌, ◌<◌, ◌&&◌, [], not, false, None, IfOk, IsTrue};
 ghost use Rattle.group_task.specs.Ids.{has};
 ghost use Rattle.group_task.specs.Others.{AreOthers};
 ghost use Rattle.job_model.specs.Fold.{is_pending};
@@ -17,24 +17,25 @@ use crate::operator::recovery;
 use crate::others::{with_other, without_other};
 use crate::phase::Phase;
 use crate::plan::{
-    Act, HandChange, Plan, Standing, nothing, quietly, reply, settle_and_reply, standing_of,
+    Act, HandChange, Plan, Standing, changed, nothing, quietly, reply, standing_of, with_room,
     write_to_each,
 };
 use crate::vector::Vector;
 use group_task::{GroupNo, Members, NodeId, Task, owner};
-use job_model::JobTable;
+use job_model::{JobTable, Payload, Queue};
 use std::alloc::{AllocError, Global};
 use wire_msg::{Body, Message};
 
 /// AreYouCoordinator: every node that is up answers.
 #[tactic(auto, unfolding(crate::specs::Messages::asked_coordinator))]
 pub fn asked_coordinator(
-    alloc: Global,
+    room: Vec<Message>,
     nodes: u8,
     id: NodeId,
     from: NodeId,
     vector: &Vector,
 ) -> Result<Plan, AllocError>
+    requires room { room.items ≡ [] }
     requires other { id ≢ from }
     requires known { from < nodes }
     requires consistent { IsConsistent nodes id (state_of vector.now) }
@@ -43,48 +44,54 @@ pub fn asked_coordinator(
     ensures few { IfOk result (λ plan. plan_sends id plan < nodes) }
 {
     if matches!(vector.phase, Phase::Down) {
-        return Ok(nothing(alloc));
+        return Ok(nothing(room));
     }
-    let answer = Body::Coordinator(leads(id, vector));
-    reply(alloc, Message::between(id, from, answer))
+    let messages = with_room(room)?;
+    let answer = Message::between(id, from, Body::Coordinator(leads(id, vector)));
+    Ok(reply(Act::Stay(None), messages, answer))
 }
 
 /// Coordinator: a coordinator that checks notes the others.
 #[tactic(auto, unfolding(crate::specs::Messages::answered_coordinator))]
 pub fn answered_coordinator(
     alloc: Global,
+    room: Vec<Message>,
     nodes: u8,
     id: NodeId,
     from: NodeId,
     agreed: bool,
     vector: &Vector,
-) -> Plan
+) -> Result<Plan, AllocError>
+    requires room { room.items ≡ [] }
     requires other { id ≢ from }
     requires known { from < nodes }
     requires consistent { IsConsistent nodes id (state_of vector.now) }
-    ensures row { IsPlanOf nodes id (state_of vector.now) result None
-        (λ _. answered_coordinator id from agreed (state_of vector.now)) }
-    ensures none { plan_sends id result ≡ 0 }
+    ensures row { IfOk result (λ plan. IsPlanOf nodes id (state_of vector.now) plan None
+        (λ _. answered_coordinator id from agreed (state_of vector.now))) }
+    ensures none { IfOk result (λ plan. plan_sends id plan ≡ 0) }
 {
     if agreed && leads(id, vector) && vector.checking {
         let standing = Standing {
             found: with_other(nodes, id, vector.found, from),
             ..standing_of(vector)
         };
-        return quietly(alloc, standing);
+        let change = changed(alloc, standing, HandChange::Keep, None)?;
+        return Ok(quietly(room, change));
     }
-    nothing(alloc)
+    Ok(nothing(room))
 }
 
 /// Invitation: a Normal node stops its work and joins, and a coordinator passes the invitation on to its members.
 #[tactic(auto, using(crate::proofs::Sets::other_sets), unfolding(crate::specs::Messages::invited))]
 pub fn invited(
     alloc: Global,
+    room: Vec<Message>,
     nodes: u8,
     id: NodeId,
     group: GroupNo,
     vector: &Vector,
 ) -> Result<Plan, AllocError>
+    requires room { room.items ≡ [] }
     requires known { group.creator < nodes }
     requires consistent { IsConsistent nodes id (state_of vector.now) }
     ensures row { IfOk result (λ plan. IsPlanOf nodes id (state_of vector.now) plan None
@@ -92,7 +99,7 @@ pub fn invited(
     ensures few { IfOk result (λ plan. plan_sends id plan < nodes) }
 {
     if !takes_invitation(id, group, vector) {
-        return Ok(nothing(alloc));
+        return Ok(nothing(room));
     }
     let creator = group.creator();
     let members = passed_on(nodes, id, group, vector);
@@ -112,7 +119,7 @@ pub fn invited(
         probing: false,
     };
     Ok(Plan {
-        act: Act::Settle(standing, HandChange::Clear, None),
+        act: Act::Settle(changed(alloc, standing, HandChange::Clear, None)?),
         messages,
     })
 }
@@ -145,17 +152,19 @@ fn passed_on(nodes: u8, id: NodeId, group: GroupNo, vector: &Vector) -> Members
 #[tactic(auto, unfolding(crate::specs::Messages::accepted))]
 pub fn accepted(
     alloc: Global,
+    room: Vec<Message>,
     nodes: u8,
     id: NodeId,
     from: NodeId,
     group: GroupNo,
     vector: &Vector,
-) -> Plan
+) -> Result<Plan, AllocError>
+    requires room { room.items ≡ [] }
     requires other { id ≢ from }
     requires known { from < nodes }
     requires consistent { IsConsistent nodes id (state_of vector.now) }
-    ensures row { IsPlanOf nodes id (state_of vector.now) result None (λ _. accepted id from group (state_of vector.now)) }
-    ensures none { plan_sends id result ≡ 0 }
+    ensures row { IfOk result (λ plan. IsPlanOf nodes id (state_of vector.now) plan None (λ _. accepted id from group (state_of vector.now))) }
+    ensures none { IfOk result (λ plan. plan_sends id plan ≡ 0) }
 {
     if matches!(vector.phase, Phase::Election)
         && vector.coordinator.is(id)
@@ -165,21 +174,24 @@ pub fn accepted(
             up: with_other(nodes, id, vector.up, from),
             ..standing_of(vector)
         };
-        return quietly(alloc, standing);
+        let change = changed(alloc, standing, HandChange::Keep, None)?;
+        return Ok(quietly(room, change));
     }
-    nothing(alloc)
+    Ok(nothing(room))
 }
 
 /// Ready: a member takes the task from its coordinator, and says so each time that it is told.
 #[tactic(auto, unfolding(crate::specs::Messages::told_ready))]
 pub fn told_ready(
     alloc: Global,
+    room: Vec<Message>,
     nodes: u8,
     id: NodeId,
     from: NodeId,
     task: Task,
     vector: &Vector,
 ) -> Result<Plan, AllocError>
+    requires room { room.items ≡ [] }
     requires other { id ≢ from }
     requires known { from < nodes }
     requires members { AreWithin nodes task.members }
@@ -195,19 +207,17 @@ pub fn told_ready(
             phase: Phase::Normal,
             ..standing_of(vector)
         };
-        return settle_and_reply(
-            alloc,
-            standing,
-            Message::between(id, from, Body::ReadyAck(vector.group)),
-        );
+        let change = changed(alloc, standing, HandChange::Keep, None)?;
+        let messages = with_room(room)?;
+        let answer = Message::between(id, from, Body::ReadyAck(vector.group));
+        return Ok(reply(Act::Settle(change), messages, answer));
     }
     if told && matches!(vector.phase, Phase::Normal) {
-        return reply(
-            alloc,
-            Message::between(id, from, Body::ReadyAck(vector.group)),
-        );
+        let messages = with_room(room)?;
+        let answer = Message::between(id, from, Body::ReadyAck(vector.group));
+        return Ok(reply(Act::Stay(None), messages, answer));
     }
-    Ok(nothing(alloc))
+    Ok(nothing(room))
 }
 
 /// Whether the task is that of the node's group, told by its coordinator, and makes it a member.
@@ -224,19 +234,21 @@ fn is_told(id: NodeId, from: NodeId, task: Task, vector: &Vector) -> bool
 #[tactic(auto, unfolding(crate::specs::Messages::acknowledged))]
 pub fn acknowledged(
     alloc: Global,
+    room: Vec<Message>,
     nodes: u8,
     id: NodeId,
     from: NodeId,
     group: GroupNo,
     vector: &Vector,
-) -> Plan
-    requires { IsConsistent nodes id (state_of vector.now) }
-    ensures row { IsPlanOf nodes id (state_of vector.now) result None
-        (λ _. acknowledged id from group (state_of vector.now)) }
-    ensures none { plan_sends id result ≡ 0 }
+) -> Result<Plan, AllocError>
+    requires room { room.items ≡ [] }
+    requires consistent { IsConsistent nodes id (state_of vector.now) }
+    ensures row { IfOk result (λ plan. IsPlanOf nodes id (state_of vector.now) plan None
+        (λ _. acknowledged id from group (state_of vector.now))) }
+    ensures none { IfOk result (λ plan. plan_sends id plan ≡ 0) }
 {
     if !(awaits_ready(id, vector) && group.is(vector.group)) {
-        return nothing(alloc);
+        return Ok(nothing(room));
     }
     let unready = without_other(nodes, id, vector.unready, from);
     let phase = if unready.is_empty() {
@@ -244,26 +256,26 @@ pub fn acknowledged(
     } else {
         Phase::Reorganization
     };
-    quietly(
-        alloc,
-        Standing {
-            unready,
-            phase,
-            ..standing_of(vector)
-        },
-    )
+    let standing = Standing {
+        unready,
+        phase,
+        ..standing_of(vector)
+    };
+    let change = changed(alloc, standing, HandChange::Keep, None)?;
+    Ok(quietly(room, change))
 }
 
 /// AreYouThere: a node that is up says whether it coordinates that group, with the asking node among its members.
 #[tactic(auto, unfolding(crate::specs::Messages::asked_there))]
 pub fn asked_there(
-    alloc: Global,
+    room: Vec<Message>,
     nodes: u8,
     id: NodeId,
     from: NodeId,
     group: GroupNo,
     vector: &Vector,
 ) -> Result<Plan, AllocError>
+    requires room { room.items ≡ [] }
     requires other { id ≢ from }
     requires known { from < nodes }
     requires consistent { IsConsistent nodes id (state_of vector.now) }
@@ -272,88 +284,102 @@ pub fn asked_there(
     ensures few { IfOk result (λ plan. plan_sends id plan < nodes) }
 {
     if matches!(vector.phase, Phase::Down) {
-        return Ok(nothing(alloc));
+        return Ok(nothing(room));
     }
     let here = group.is(vector.group) && vector.coordinator.is(id) && vector.up.contains(from);
-    reply(alloc, Message::between(id, from, Body::Here(group, here)))
+    let messages = with_room(room)?;
+    let answer = Message::between(id, from, Body::Here(group, here));
+    Ok(reply(Act::Stay(None), messages, answer))
 }
 
 /// Here: a member whose coordinator is there waits on, and one whose coordinator is not recovers.
 #[tactic(auto, unfolding(crate::specs::Messages::answered_there))]
 pub fn answered_there(
     alloc: Global,
+    room: Vec<Message>,
     nodes: u8,
     id: NodeId,
     from: NodeId,
     group: GroupNo,
     agreed: bool,
     vector: &Vector,
-) -> Plan
-    requires { IsConsistent nodes id (state_of vector.now) }
-    ensures row { IsPlanOf nodes id (state_of vector.now) result
+) -> Result<Plan, AllocError>
+    requires room { room.items ≡ [] }
+    requires consistent { IsConsistent nodes id (state_of vector.now) }
+    ensures row { IfOk result (λ plan. IsPlanOf nodes id (state_of vector.now) plan
         (raise_if (was_probed from group (state_of vector.now) && not agreed))
-        (λ answer. answered_there id from group agreed answer (state_of vector.now)) }
-    ensures none { plan_sends id result ≡ 0 }
+        (λ answer. answered_there id from group agreed answer (state_of vector.now))) }
+    ensures none { IfOk result (λ plan. plan_sends id plan ≡ 0) }
 {
     if !(vector.probing && vector.coordinator.is(from) && group.is(vector.group)) {
-        return nothing(alloc);
+        return Ok(nothing(room));
     }
     if agreed {
         let standing = Standing {
             probing: false,
             ..standing_of(vector)
         };
-        return quietly(alloc, standing);
+        let change = changed(alloc, standing, HandChange::Keep, None)?;
+        return Ok(quietly(room, change));
     }
-    recovery(alloc, nodes, id, vector)
+    Ok(recovery(room, nodes, id, vector))
 }
 
 /// Work: a member takes a job of its group in hand, if the job's queue is its own.
 #[tactic(auto, using(crate::proofs::Sets::more_from, crate::proofs::Sets::one_from), unfolding(crate::specs::Messages::got_work))]
 pub fn got_work(
     alloc: Global,
+    room: Vec<Message>,
     nodes: u8,
     id: NodeId,
+    from: NodeId,
     group: GroupNo,
-    job: InHand,
+    job: u64,
+    queue: Queue,
+    payload: &Payload,
     vector: &Vector,
 ) -> Result<Plan, AllocError>
-    requires known { job.origin < nodes }
+    requires room { room.items ≡ [] }
+    requires known { from < nodes }
     requires consistent { IsConsistent nodes id (state_of vector.now) }
     ensures row { IfOk result (λ plan. IsPlanOf nodes id (state_of vector.now) plan None
-        (λ _. got_work id job.origin group job.id job.queue job.payload (state_of vector.now))) }
+        (λ _. got_work id from group job queue payload.now (state_of vector.now))) }
     ensures none { IfOk result (λ plan. plan_sends id plan ≡ 0) }
 {
     if !matches!(vector.phase, Phase::Normal) || !group.is(vector.group) {
-        return Ok(nothing(alloc));
+        return Ok(nothing(room));
     }
     let Some(task) = vector.task else {
-        return Ok(nothing(alloc));
+        return Ok(nothing(room));
     };
-    if !task.members().contains(job.origin)
-        || !owner(&task, job.queue).is(id)
-        || vector.hand.contains(job.origin, job.id)
+    if !task.members().contains(from)
+        || !owner(&task, queue).is(id)
+        || vector.hand.contains(from, job)
     {
-        return Ok(nothing(alloc));
+        return Ok(nothing(room));
     }
     let mut gains = Vec::new(alloc);
-    gains.push(job)?;
-    Ok(Plan {
-        act: Act::Settle(standing_of(vector), HandChange::Gain(gains), None),
-        messages: Vec::new(alloc),
-    })
+    gains.push(InHand {
+        origin: from,
+        id: job,
+        queue,
+        payload: *payload,
+    })?;
+    let change = changed(alloc, standing_of(vector), HandChange::Gain(gains), None)?;
+    Ok(quietly(room, change))
 }
 
 /// Done: the node that keeps a job marks it as done. The vector stays.
 pub fn told_done(
-    alloc: Global,
+    room: Vec<Message>,
     nodes: u8,
     id: NodeId,
     job: u64,
     vector: &Vector,
     table: &JobTable,
 ) -> Plan
-    requires { IsConsistent nodes id (state_of vector.now) }
+    requires room { room.items ≡ [] }
+    requires consistent { IsConsistent nodes id (state_of vector.now) }
     ensures row { IsPlanOf nodes id (state_of vector.now) result
         (done_if (not (is_down vector.now.phase) && is_pending table.now.pending job) job)
         (λ _. nothing (state_of vector.now)) }
@@ -362,8 +388,8 @@ pub fn told_done(
     if !matches!(vector.phase, Phase::Down) && table.contains(job) {
         return Plan {
             act: Act::Stay(Some(job)),
-            messages: Vec::new(alloc),
+            messages: room,
         };
     }
-    nothing(alloc)
+    nothing(room)
 }

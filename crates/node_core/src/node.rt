@@ -1,12 +1,13 @@
-ghost use Rattle.std.specs.Prelude.{◌≡◌, ◌≢◌, ◌≤◌, ◌<◌, ◌↔◌, List, length, IfOk, IfErr, IfSome, IsNone, OnErr, Some, None, []};
+ghost use Rattle.std.specs.Prelude.{◌≡◌, ◌≢◌, ◌+◌, ◌≤◌, ◌<◌, ◌↔◌, List, length, IfOk, IfErr, IfSome, IsNone, OnErr, OnOk, Some, None, []};
 ghost use Rattle.job_model.specs.Command.{Raise};
 ghost use Rattle.job_model.specs.declared.job.Job.{Job};
 ghost use Rattle.group_task.specs.declared.node.TheConstants.{NODES};
 ghost use Rattle.node_core.specs.declared.event.Event.{Event};
+ghost use Rattle.node_core.specs.declared.event.Event.TheVariants.{Deliver};
 ghost use Rattle.node_core.specs.State.{state_of};
 ghost use Rattle.node_core.specs.Effects.{effect_of};
 ghost use Rattle.node_core.specs.Refusals.{refusal_of};
-ghost use Rattle.node_core.specs.Planned.{plan_wants};
+ghost use Rattle.node_core.specs.Planned.{gain_of, plan_wants};
 ghost use Rattle.node_core.specs.Start.{alone, down};
 ghost use Rattle.node_core.specs.Most.{most_of};
 ghost use Rattle.node_core.specs.Wait.{IsGreatest, IsMergeWait};
@@ -14,14 +15,14 @@ ghost use Rattle.node_core.specs.Core.{IsPlanFor, CanCarry};
 
 use crate::commit::{place, recover, regroup, settle};
 use crate::event::Event;
-use crate::events::plan_event;
+use crate::events::{plan_delivery, plan_event};
 use crate::fault::CoreFault;
 use crate::phase::Phase;
 use crate::plan::{Act, Plan, write_to_each};
 use crate::vector::Vector;
 use group_task::{GroupNo, Members, NodeId};
 use job_model::JobTable;
-use std::alloc::Global;
+use std::alloc::{AllocError, Global};
 use std::marker::Model;
 use wire_msg::{Body, Message};
 
@@ -137,24 +138,66 @@ impl NodeCore {
 
     /// What an event will make of this node, over the table of the jobs that it keeps, with all memory that this takes.
     /// Nothing but room changes. NoMemory comes after all other refusals; the same call may be made again.
-    pub fn plan_step(&mut self, event: Event, table: &JobTable) -> Result<Plan, CoreFault>
+    pub fn plan_step(&mut self, event: &Event, table: &JobTable) -> Result<Plan, CoreFault>
         ensures kept { self.new ≡ record self.old { room = self.new.room } }
-        ensures plan { IfOk result (IsPlanFor self.new table.now.pending event) }
-        ensures done { IfOk result (λ _. refusal_of self.old.nodes self.old.id event self.old.state ≡ None) }
-        ensures refused { IfSome (refusal_of self.old.nodes self.old.id event self.old.state)
+        ensures plan { IfOk result (IsPlanFor self.new table.now.pending event.now) }
+        ensures done { IfOk result (λ _. refusal_of self.old.nodes self.old.id event.now self.old.state ≡ None) }
+        ensures refused { IfSome (refusal_of self.old.nodes self.old.id event.now self.old.state)
             (λ fault. result ≡ Err fault) }
         ensures memory { IfErr result (λ fault. fault ≢ CoreFault.NoMemory
-            → refusal_of self.old.nodes self.old.id event self.old.state ≡ Some fault) }
+            → refusal_of self.old.nodes self.old.id event.now self.old.state ≡ Some fault) }
         ensures unchanged { OnErr result (self.new ≡ self.old) }
     {
-        let plan = plan_event(self.alloc, self.nodes, self.id, &self.vector, &event, table)?;
-        self.vector.hand.reserve(plan.gain())?;
+        let plan = plan_event(self.alloc, self.nodes, self.id, &self.vector, event, table)?;
+        self.make_room(&plan)?;
         Ok(plan)
+    }
+
+    /// The plan of the event Deliver, for a message that stays where it is: it takes over 400 bytes, and isn't copied. The
+    /// answers are written into `room`, an empty list.
+    pub fn plan_delivery(
+        &mut self,
+        message: &Message,
+        table: &JobTable,
+        room: Vec<Message>,
+    ) -> Result<Plan, CoreFault>
+        requires { room.items ≡ [] }
+        ensures kept { self.new ≡ record self.old { room = self.new.room } }
+        ensures plan { IfOk result (IsPlanFor self.new table.now.pending (Deliver message.now)) }
+        ensures done { IfOk result (λ _. refusal_of self.old.nodes self.old.id (Deliver message.now) self.old.state ≡ None) }
+        ensures refused { IfSome (refusal_of self.old.nodes self.old.id (Deliver message.now) self.old.state)
+            (λ fault. result ≡ Err fault) }
+        ensures memory { IfErr result (λ fault. fault ≢ CoreFault.NoMemory
+            → refusal_of self.old.nodes self.old.id (Deliver message.now) self.old.state ≡ Some fault) }
+        ensures unchanged { OnErr result (self.new ≡ self.old) }
+    {
+        let plan = plan_delivery(
+            self.alloc,
+            room,
+            self.nodes,
+            self.id,
+            &self.vector,
+            message,
+            table,
+        )?;
+        self.make_room(&plan)?;
+        Ok(plan)
+    }
+
+    /// Makes room for the jobs that a plan takes in hand.
+    fn make_room(&mut self, plan: &Plan) -> Result<(), AllocError>
+        ensures kept { self.new ≡ record self.old { room = self.new.room } }
+        ensures grown { self.old.room ≤ self.new.room }
+        ensures room { OnOk result (length self.old.state.hand + gain_of plan.now.act ≤ self.new.room) }
+        ensures unchanged { OnErr result (self.new ≡ self.old) }
+    {
+        self.vector.hand.reserve(plan.gain())
     }
 
     /// Carries out the plan that was made last, and answers the messages to be sent, in their order. The answer is that of
     /// the command: the new count of a Raise, the new id of a Put, else any number.
     #[tactic(auto, using(crate::proofs::Sets::other_sets, crate::proofs::Sets::more_from, crate::proofs::Sets::one_from), unfolding(crate::specs::Timers::recovery))]
+    #[inline(always)]
     pub fn commit_step(&mut self, plan: Plan, answer: u64) -> Vec<Message>
         requires last { CanCarry self.old plan }
         requires count { plan_wants plan ≡ Some Raise → 1 ≤ answer }
@@ -168,7 +211,7 @@ impl NodeCore {
         let Plan { act, mut messages } = plan;
         match act {
             Act::Stay(_) => {}
-            Act::Settle(standing, change, _) => settle(&mut self.vector, standing, change),
+            Act::Settle(change) => settle(&mut self.vector, change),
             Act::Invite(receivers) => {
                 let group = GroupNo::numbered(self.id, answer);
                 regroup(&mut self.vector, self.id, group);

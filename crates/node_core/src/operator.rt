@@ -1,4 +1,4 @@
-ghost use Rattle.std.specs.Prelude.{◌≡◌, ◌<◌, ◌==◌, ◌&&◌, true, Some, IfOk};
+ghost use Rattle.std.specs.Prelude.{◌≡◌, [], ◌<◌, ◌==◌, ◌&&◌, true, Some, IfOk};
 ghost use Rattle.job_model.specs.Command.{Raise, Put};
 ghost use Rattle.job_model.specs.Fold.{is_pending};
 ghost use Rattle.node_core.specs.State.{state_of, is_normal};
@@ -10,7 +10,7 @@ ghost use Rattle.node_core.specs.Planned.{IsPlanOf, plan_sends};
 ghost use Rattle.node_core.specs.Consistent.{IsConsistent};
 
 use crate::guards::owner_in;
-use crate::plan::{Act, HandChange, Plan, standing_of};
+use crate::plan::{Act, HandChange, Plan, changed, standing_of};
 use crate::vector::Vector;
 use group_task::NodeId;
 use job_model::{JobTable, Payload, Queue};
@@ -19,15 +19,16 @@ use wire_msg::{Body, Message};
 
 /// The node recovers: it is alone in a new group.
 #[tactic(auto, unfolding(crate::specs::Timers::recovery))]
-pub fn recovery(alloc: Global, nodes: u8, id: NodeId, vector: &Vector) -> Plan
-    requires { IsConsistent nodes id (state_of vector.now) }
+pub fn recovery(room: Vec<Message>, nodes: u8, id: NodeId, vector: &Vector) -> Plan
+    requires room { room.items ≡ [] }
+    requires consistent { IsConsistent nodes id (state_of vector.now) }
     ensures row { IsPlanOf nodes id (state_of vector.now) result (Some Raise)
         (λ answer. recovery id answer (state_of vector.now)) }
     ensures none { plan_sends id result ≡ 0 }
 {
     Plan {
         act: Act::Recover,
-        messages: Vec::new(alloc),
+        messages: room,
     }
 }
 
@@ -82,8 +83,9 @@ pub fn finish(
     } else {
         messages.push(Message::between(id, origin, Body::Done(job)))?;
     }
+    let lost = HandChange::Lose(origin, job);
     Ok(Plan {
-        act: Act::Settle(standing_of(vector), HandChange::Lose(origin, job), done),
+        act: Act::Settle(changed(alloc, standing_of(vector), lost, done)?),
         messages,
     })
 }

@@ -2,7 +2,7 @@ ghost use Rattle.std.specs.Prelude.{◌≡◌, ◌+◌, ◌≤◌, ◌<◌, ◌+
 ghost use Rattle.group_task.specs.Ids.{has};
 ghost use Rattle.group_task.specs.Others.{AreOthers};
 ghost use Rattle.node_core.specs.Words.{to_each};
-ghost use Rattle.node_core.specs.Planned.{gain_of, plan_wants, wanted_by, standing_of};
+ghost use Rattle.node_core.specs.Planned.{gain_of, hand_gain, done_wanted, plan_wants, wanted_by, standing_of};
 
 use crate::durable::Durable;
 use crate::in_hand::InHand;
@@ -36,18 +36,27 @@ pub enum HandChange {
     Gain(Vec<InHand>),
 }
 
-/// What a plan does.
+/// What a step changes.
+#[derive(Drop)]
+pub struct Change {
+    pub standing: Standing,
+    pub hand: HandChange,
+    /// The job that is done on the disk.
+    pub done: Option<u64>,
+}
+
+/// What a plan does. What takes much room stands apart, since a plan is moved often.
 #[derive(Drop)]
 pub enum Act {
     /// Leaves the node as it is. Where there is an id, the job is done.
     Stay(Option<u64>),
-    /// Takes this standing. Where there is an id, the job is done.
-    Settle(Standing, HandChange, Option<u64>),
+    /// Makes this change.
+    Settle(Box<Change>),
     /// Makes a new group, and invites these nodes into it.
     Invite(Members),
     /// Makes a new group of this node alone.
     Recover,
-    /// Makes a job pending, and takes it in hand or sends it to its owner. The payload stands apart, since a plan is moved often.
+    /// Makes a job pending, and takes it in hand or sends it to its owner.
     Place(NodeId, Queue, Box<Payload>),
 }
 
@@ -64,8 +73,8 @@ impl Plan {
         ensures { wanted_by result ≡ plan_wants self.now }
     {
         match &self.act {
-            Act::Stay(None) | Act::Settle(_, _, None) => Durable::None,
-            Act::Stay(Some(id)) | Act::Settle(_, _, Some(id)) => Durable::Done(*id),
+            Act::Stay(done) => done_wanted(*done),
+            Act::Settle(change) => done_wanted(change.done),
             Act::Invite(_) | Act::Recover => Durable::Raise,
             Act::Place(_, queue, payload) => Durable::Put(*queue, **payload),
         }
@@ -76,10 +85,31 @@ impl Plan {
         ensures { result ≡ gain_of self.now.act }
     {
         match &self.act {
-            Act::Settle(_, HandChange::Gain(jobs), _) => jobs.len(),
+            Act::Settle(change) => change.hand.gain(),
             Act::Place(_, _, _) => 1,
-            _ => 0,
+            Act::Stay(_) | Act::Invite(_) | Act::Recover => 0,
         }
+    }
+}
+
+impl HandChange {
+    fn gain(&self) -> usize
+        ensures { result ≡ hand_gain self.now }
+    {
+        match self {
+            HandChange::Gain(jobs) => jobs.len(),
+            HandChange::Keep | HandChange::Clear | HandChange::Lose(_, _) => 0,
+        }
+    }
+}
+
+/// The command that marks this job as done, if there is one.
+fn done_wanted(done: Option<u64>) -> Durable
+    ensures { wanted_by result ≡ done_wanted done }
+{
+    match done {
+        Some(id) => Durable::Done(id),
+        None => Durable::None,
     }
 }
 
@@ -91,8 +121,13 @@ pub fn write_to_each(messages: &mut Vec<Message>, id: NodeId, receivers: Members
     ensures len { vec_len messages.new ≡ vec_len messages.old + length receivers }
     ensures capacity { vec_capacity messages.new ≡ vec_capacity messages.old }
 {
+    let Some(first) = receivers.first() else {
+        return;
+    };
+    let mut letter = Message::between(id, first, *body);
     for receiver in receivers.iter() {
-        messages.push_reserved(Message::between(id, receiver, *body));
+        letter.readdress(receiver);
+        messages.push_reserved(letter);
     }
 }
 
@@ -132,53 +167,62 @@ pub fn standing_of(vector: &Vector) -> Standing
 }
 
 /// Nothing changes, and nothing is sent.
-pub fn nothing(alloc: Global) -> Plan
+pub fn nothing(room: Vec<Message>) -> Plan
+    requires { room.items ≡ [] }
     ensures { (result.act ≡ Act.Stay None) × (result.messages.items ≡ []) }
 {
     Plan {
         act: Act::Stay(None),
-        messages: Vec::new(alloc),
+        messages: room,
     }
 }
 
-/// A new standing, and nothing is sent.
-pub fn quietly(alloc: Global, standing: Standing) -> Plan
-    ensures { (result.act ≡ Act.Settle standing HandChange.Keep None) × (result.messages.items ≡ []) }
-{
-    Plan {
-        act: Act::Settle(standing, HandChange::Keep, None),
-        messages: Vec::new(alloc),
-    }
-}
-
-/// Nothing changes, and one message is sent.
-pub fn reply(alloc: Global, message: Message) -> Result<Plan, AllocError>
-    ensures { IfOk result (λ plan. (plan.act ≡ Act.Stay None) × (plan.messages.items ≡ message ∷ [])) }
-{
-    Ok(Plan {
-        act: Act::Stay(None),
-        messages: one(alloc, message)?,
-    })
-}
-
-/// A new standing, and one message is sent.
-pub fn settle_and_reply(
+/// A new standing, the change of the work in hand, and the job that is done.
+pub fn changed(
     alloc: Global,
     standing: Standing,
-    message: Message,
-) -> Result<Plan, AllocError>
-    ensures { IfOk result (λ plan. (plan.act ≡ Act.Settle standing HandChange.Keep None) × (plan.messages.items ≡ message ∷ [])) }
+    hand: HandChange,
+    done: Option<u64>,
+) -> Result<Box<Change>, AllocError>
+    ensures { IfOk result (λ change. change.value ≡ record { standing = standing; hand = hand; done = done }) }
 {
-    Ok(Plan {
-        act: Act::Settle(standing, HandChange::Keep, None),
-        messages: one(alloc, message)?,
-    })
+    Ok(Box::new(
+        alloc,
+        Change {
+            standing,
+            hand,
+            done,
+        },
+    )?)
 }
 
-fn one(alloc: Global, message: Message) -> Result<Vec<Message>, AllocError>
-    ensures { IfOk result (λ messages. messages.items ≡ message ∷ []) }
+/// A change, and nothing is sent.
+pub fn quietly(room: Vec<Message>, change: Box<Change>) -> Plan
+    requires { room.items ≡ [] }
+    ensures { (result.act ≡ Act.Settle change) × (result.messages.items ≡ []) }
 {
-    let mut messages = Vec::with_capacity(alloc, 1)?;
+    Plan {
+        act: Act::Settle(change),
+        messages: room,
+    }
+}
+
+/// Room for one message, in an empty list.
+pub fn with_room(mut room: Vec<Message>) -> Result<Vec<Message>, AllocError>
+    requires { room.items ≡ [] }
+    ensures empty { IfOk result (λ messages. messages.items ≡ []) }
+    ensures room { IfOk result (λ messages. 1 ≤ vec_capacity messages) }
+{
+    room.reserve(1)?;
+    Ok(room)
+}
+
+/// One message is sent, in the room that is there.
+pub fn reply(act: Act, mut messages: Vec<Message>, message: Message) -> Plan
+    requires empty { messages.items ≡ [] }
+    requires room { 1 ≤ vec_capacity messages }
+    ensures { (result.act ≡ act) × (result.messages.items ≡ message ∷ []) }
+{
     messages.push_reserved(message);
-    Ok(messages)
+    Plan { act, messages }
 }

@@ -76,11 +76,15 @@ abbrev pub with_verb : {A : Type 0} → (Verb → Option A) → Option Verb → 
 with_verb read None = None
 with_verb read (Some verb) = read verb
 
+-- the act of a verb with these fields
+abbrev pub act_with : Verb → List (List ℕ) → Option Act
+act_with verb [] = None
+act_with verb (a ∷ []) = short_act verb a
+act_with verb (a ∷ b ∷ []) = middle_act verb a b
+act_with verb (a ∷ b ∷ c ∷ []) = long_act verb a b c
+act_with verb (a ∷ b ∷ c ∷ d ∷ rest) = None
+
 -- the act of these words
 abbrev pub act_of : List (List ℕ) → Option Act
 act_of [] = None
-act_of (name ∷ []) = None
-act_of (name ∷ a ∷ []) = with_verb (λ verb. short_act verb a) (verb_of name)
-act_of (name ∷ a ∷ b ∷ []) = with_verb (λ verb. middle_act verb a b) (verb_of name)
-act_of (name ∷ a ∷ b ∷ c ∷ []) = with_verb (λ verb. long_act verb a b c) (verb_of name)
-act_of (name ∷ a ∷ b ∷ c ∷ d ∷ rest) = None
+act_of (name ∷ fields) = with_verb (λ verb. act_with verb fields) (verb_of name)

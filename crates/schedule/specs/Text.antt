@@ -1,9 +1,7 @@
 -- A schedule as text.
-use Rattle.std.specs.Prelude.{ℕ, ◌+◌, nat_lt, List, [], ◌∷◌, ◌++◌, length, option_map, ◌≡◌, bytes_eq, codes, if◌then◌else◌, Option, Some, None, Result, Ok, Err}
+use Rattle.std.specs.Prelude.{ℕ, ◌+◌, nat_lt, List, [], ◌∷◌, ◌++◌, length, option_map, bytes_eq, codes, if◌then◌else◌, Option, Some, None, Result, Ok, Err}
 use Rattle.line_words.specs.Words.{words_of}
 use Rattle.line_words.specs.Lines.{lines_of}
-use Rattle.line_words.specs.declared.lines.LineFault.{LineFault}
-use Rattle.line_words.specs.declared.lines.LineFault.TheVariants.{BadLine, NoMemory}
 use Rattle.schedule.specs.declared.act.Act.{Act}
 use Rattle.group_task.specs.declared.node.TheConstants.{NODES}
 use Rattle.schedule.specs.declared.size.Size.{Size}
@@ -69,11 +67,6 @@ abbrev pub plan_of : List ℕ → Result Plan ℕ
 plan_of input = plan_from 0 (lines_of input)
 
 -- ---- for the code
-
--- the fault names the line of this number, which can't be read, or memory ran out
-abbrev pub IsFaultAt : {A : Type 0} → ℕ → Option A → LineFault → Type 0
-IsFaultAt n read (BadLine m) = (m ≡ n) × (read ≡ None)
-IsFaultAt n read NoMemory = Unit {0}
 
 -- acts, and the act of a line behind them; an empty line has none
 abbrev pub onto : List Act → List ℕ → Option (List Act)

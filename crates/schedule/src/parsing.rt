@@ -1,29 +1,42 @@
-ghost use Rattle.std.specs.Prelude.{◌≡◌, IfOk, map};
-ghost use Rattle.schedule.specs.Acts.{act_of, short_act, middle_act, long_act};
+ghost use Rattle.std.specs.Prelude.{◌≡◌, IfOk};
+ghost use Rattle.line_words.specs.Words.{words_of};
+ghost use Rattle.schedule.specs.Acts.{act_of, act_with, short_act, middle_act, long_act};
 ghost use Rattle.schedule.specs.declared.verb.Verb.TheVariants.{Cut, Mend, Arm, Crash, Submit, Finish};
 
 use crate::act::{Act, Fill};
 use crate::fields::{node, payload, queue};
 use crate::verb::Verb;
-use line_words::{bytes, number};
+use line_words::{bytes, cut_word, number};
 use std::alloc::{AllocError, Global};
 
-/// The act of these words.
-pub fn act(alloc: Global, words: &[&[u8]]) -> Result<Option<Act>, AllocError>
-    ensures { IfOk result (λ act. act ≡ act_of (map (λ word. word.now) words.now)) }
+/// The act of the words of a line.
+#[tactic(auto, using(crate::proofs::Counts::alone))]
+pub fn act(alloc: Global, line: &[u8]) -> Result<Option<Act>, AllocError>
+    ensures { IfOk result (λ act. act ≡ act_of (words_of line.now)) }
 {
-    let [name, fields @ ..] = words else {
+    let Some((name, fields)) = cut_word(line) else {
         return Ok(None);
     };
-    let Some(verb) = Verb::from_word(name) else {
-        return Ok(None);
+    match Verb::from_word(name) {
+        Some(verb) => act_with(alloc, verb, fields),
+        None => Ok(None),
+    }
+}
+
+/// The act of a verb with the fields that are the words of this text.
+#[tactic(auto, using(crate::proofs::Counts::too_many))]
+fn act_with(alloc: Global, verb: Verb, fields: &[u8]) -> Result<Option<Act>, AllocError>
+    ensures { IfOk result (λ act. act ≡ act_with verb (words_of fields.now)) }
+{
+    let Some((first, more)) = cut_word(fields) else {
+        return Ok(short(alloc, verb, fields));
     };
-    match fields {
-        [field] => Ok(short(alloc, verb, field)),
-        [first, second] => middle(alloc, verb, first, second),
-        [first, second, third] => long(alloc, verb, first, second, third),
-        [] => Ok(None),
-        [_, _, _, _, ..] => Ok(None),
+    let Some((second, third)) = cut_word(more) else {
+        return middle(alloc, verb, first, more);
+    };
+    match cut_word(third) {
+        None => long(alloc, verb, first, second, third),
+        Some(_) => Ok(None),
     }
 }
 

@@ -1,7 +1,7 @@
 ghost use Rattle.std.specs.Prelude.{◌≡◌, ◌+◌, ◌<◌, ◌^◌, IfOk, IfErr, OnOk, Ok, Err, Some, None, map, length, List, [], ◌∷◌, ◌++◌};
 ghost use Rattle.line_words.specs.Words.{words_of};
-ghost use Rattle.line_words.specs.Lines.{lines_of, IsLineFault};
-ghost use Rattle.schedule.specs.Text.{acts_from, named_size, onto, plan, plan_of, size_of, IsFaultAt};
+ghost use Rattle.line_words.specs.Lines.{lines_of, IsFaultAt, IsLineFault};
+ghost use Rattle.schedule.specs.Text.{acts_from, named_size, onto, plan, plan_of, size_of};
 ghost use Rattle.schedule.specs.Limits.{IsWithinLimits};
 
 use crate::act::Act;
@@ -9,7 +9,7 @@ use crate::fields::between;
 use crate::parsing::act;
 use crate::size::{LEAST_SLOTS, MOST_ACTS, MOST_SLOTS, Schedule, Size};
 use group_task::NODES;
-use line_words::{LineFault, cut_line, words};
+use line_words::{LineFault, cut_line, cut_word};
 use std::alloc::{AllocError, Global};
 
 /// Reads a schedule: its first line that isn't empty names the cluster, each later one an act. The fault names the first line
@@ -24,13 +24,13 @@ pub fn read_schedule(alloc: Global, input: &[u8]) -> Result<Schedule, LineFault>
     while let Some((line, behind)) = cut_line(left) {
         before += 1;
         if !line.is_empty() {
-            let size = read_size(alloc, before, line)?;
+            let size = read_size(before, line)?;
             let acts = read_acts(alloc, before, behind)?;
             return Ok(Schedule { size, acts });
         }
         left = behind;
     }
-    let size = read_size(alloc, before + 1, left)?;
+    let size = read_size(before + 1, left)?;
     Ok(Schedule {
         size,
         acts: Vec::new(alloc),
@@ -38,27 +38,26 @@ pub fn read_schedule(alloc: Global, input: &[u8]) -> Result<Schedule, LineFault>
 }
 
 /// The size that the line of this number names.
-fn read_size(alloc: Global, number: u64, line: &[u8]) -> Result<Size, LineFault>
+fn read_size(number: u64, line: &[u8]) -> Result<Size, LineFault>
     ensures ok { IfOk result (λ size. size_of (words_of line.now) ≡ Some size) }
     ensures err { IfErr result (IsFaultAt number (size_of (words_of line.now))) }
 {
-    let words = words(alloc, line)?;
-    match size(&words) {
+    match size(line) {
         Some(size) => Ok(size),
         None => Err(LineFault::BadLine(number)),
     }
 }
 
-/// The size that these words name.
-fn size(words: &[&[u8]]) -> Option<Size>
-    ensures { result ≡ size_of (map (λ word. word.now) words.now) }
+/// The size that the words of a line name.
+#[tactic(auto, using(crate::proofs::Counts::too_long))]
+fn size(line: &[u8]) -> Option<Size>
+    ensures { result ≡ size_of (words_of line.now) }
 {
-    match words {
-        [name, nodes, slots] => named_size(name, nodes, slots),
-        [] => None,
-        [_] => None,
-        [_, _] => None,
-        [_, _, _, _, ..] => None,
+    let (name, numbers) = cut_word(line)?;
+    let (nodes, slots) = cut_word(numbers)?;
+    match cut_word(slots) {
+        None => named_size(name, nodes, slots),
+        Some(_) => None,
     }
 }
 
@@ -104,8 +103,7 @@ fn read_act(alloc: Global, number: u64, line: &[u8], acts: &mut Vec<Act>) -> Res
     if acts.len() as u64 >= MOST_ACTS {
         return Err(LineFault::BadLine(number));
     }
-    let words = words(alloc, line)?;
-    match act(alloc, &words)? {
+    match act(alloc, line)? {
         Some(act) => Ok(push(acts, act)?),
         None => Err(LineFault::BadLine(number)),
     }

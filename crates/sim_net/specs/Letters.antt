@@ -1,5 +1,5 @@
 -- How messages are kept: a letter of fixed size for each, and what is longer in lists beside it.
-use Rattle.std.specs.Prelude.{ℕ, ◌≢◌, ◌+◌, ◌<◌, ◌≤◌, ⊤, List, [], ◌∷◌, length, take, drop, All, slice_index_or}
+use Rattle.std.specs.Prelude.{ℕ, ◌≢◌, ◌+◌, ◌<◌, ◌≤◌, ⊤, Bool, true, false, List, [], ◌∷◌, length, take, drop, All, slice_index_or}
 use Rattle.job_model.specs.declared.payload.TheConstants.{PAYLOAD_CAPACITY}
 use Rattle.group_task.specs.Group.{Group}
 use Rattle.group_task.specs.Assignment.{Assignment}
@@ -106,6 +106,19 @@ body_of tasks works payloads l = body_by tasks works payloads l.kind l.creator l
 -- the message that was kept
 abbrev pub message_of : List Assignment → List KeptWork → List ℕ → Letter → Envelope
 message_of tasks works payloads l = record { sender = l.sender; receiver = l.receiver; body = body_of tasks works payloads l }
+
+-- whether a letter alone says all that its message does
+abbrev pub is_whole : Kind → Bool
+is_whole kind.AreYouCoordinator = true
+is_whole (kind.Coordinator answer) = true
+is_whole kind.AreYouThere = true
+is_whole (kind.Here answer) = true
+is_whole kind.Invitation = true
+is_whole kind.Accept = true
+is_whole kind.Ready = false
+is_whole kind.ReadyAck = true
+is_whole kind.Work = false
+is_whole kind.Done = true
 
 -- ---- what can be read back
 

@@ -7,6 +7,7 @@ mod laws;
 mod letter;
 mod list;
 mod net;
+mod spelling;
 
 pub use fault::NetFault;
 pub use laws::delivered_by_changes;

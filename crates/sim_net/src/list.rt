@@ -1,7 +1,10 @@
-ghost use Rattle.std.specs.Prelude.{◌≡◌, ◌-◌, ◌+◌, ◌<◌, ◌≤◌, [], ◌∷◌, ◌++◌, length, max, slice_get, OnOk, OnErr};
+ghost use Rattle.std.specs.Prelude.{◌≡◌, ◌-◌, ◌+◌, ◌<◌, ◌≤◌, [], ◌∷◌, ◌++◌, length, max, option_map, slice_get, IfSome, OnOk, OnErr};
+ghost use Rattle.wire_msg.specs.Spelling.{spelling};
+ghost use Rattle.sim_net.specs.Network.{ends_of};
 
 use crate::letter::{KeptWork, Letter, body_of, keep_payload, keep_task, keep_work, letter_of};
-use group_task::Task;
+use crate::spelling::{spell_letter, spell_message};
+use group_task::{NodeId, Task};
 use job_model::PAYLOAD_CAPACITY;
 use std::alloc::{AllocError, Global};
 use std::marker::Model;
@@ -97,5 +100,41 @@ impl MessageList {
         let letter = self.letters.get(place)?;
         let body = body_of(&self.tasks, &self.works, &self.payloads, letter);
         Some(Message::between(letter.sender, letter.receiver, body))
+    }
+
+    /// The sender and the receiver of the message at a place, counted from 0.
+    pub fn ends(&self, place: usize) -> Option<(NodeId, NodeId)>
+        ensures { result ≡ option_map ends_of (slice_get self.now.messages place) }
+    {
+        let letter = self.letters.get(place)?;
+        Some((letter.sender, letter.receiver))
+    }
+
+    /// Writes the spelling of the message at a place, counted from 0, in place of what `bytes` held. A list that is used again and
+    /// again takes memory for the longest spelling alone.
+    pub fn spell(&self, place: usize, bytes: &mut Vec<u8>) -> Result<(), AllocError>
+        requires { place < length self.now.messages }
+        ensures { IfSome (slice_get self.now.messages place) (λ message. OnOk result (bytes.new.items ≡ spelling message)) }
+    {
+        let Some(letter) = self.letters.get(place) else {
+            unreachable!()
+        };
+        if spell_letter(bytes, letter)? {
+            return Ok(());
+        }
+        self.spell_kept(place, bytes)
+    }
+
+    /// The same for a message whose body is kept beside its letter. It stands apart, since each call of a function pays for the size of
+    /// its locals, and here a whole message is one.
+    #[inline(never)]
+    fn spell_kept(&self, place: usize, bytes: &mut Vec<u8>) -> Result<(), AllocError>
+        requires { place < length self.now.messages }
+        ensures { IfSome (slice_get self.now.messages place) (λ message. OnOk result (bytes.new.items ≡ spelling message)) }
+    {
+        match self.get(place) {
+            Some(message) => spell_message(bytes, &message),
+            None => unreachable!(),
+        }
     }
 }

@@ -62,9 +62,9 @@ impl Net {
     }
 
     /// Sends a message, and answers its number, counted from 0.
-    pub fn send(&mut self, message: Message) -> Result<u64, NetFault>
+    pub fn send(&mut self, message: &Message) -> Result<u64, NetFault>
         ensures number { IfOk result (λ number. number ≡ length self.old.network.sent) }
-        ensures sent { OnOk result (self.new.network ≡ after_sent self.old.network message) }
+        ensures sent { OnOk result (self.new.network ≡ after_sent self.old.network message.now) }
         ensures room { self.old.room ≤ self.new.room + 1 }
         ensures fault { IfErr result (λ e. e ≡ NetFault.NoMemory) }
         ensures refused { OnErr result ((self.old.room ≡ 0) × (self.new ≡ self.old)) }
@@ -72,7 +72,7 @@ impl Net {
         self.reserve(1)?;
         let number = self.sent.len() as u64;
         self.lost.push_reserved(false);
-        self.sent.push(&message);
+        self.sent.push(message);
         Ok(number)
     }
 
@@ -80,11 +80,20 @@ impl Net {
     pub fn deliver(&self, number: u64) -> Result<Message, NetFault>
         ensures { result ≡ delivery self.now.network number }
     {
-        let message = self.find(number)?;
-        if self.is_cut(message.sender(), message.receiver()) {
+        let place = number as usize;
+        let Some((sender, receiver)) = self.sent.ends(place) else {
+            return Err(NetFault::NoSuch);
+        };
+        if self.lost[place] {
+            return Err(NetFault::Lost);
+        }
+        if self.is_cut(sender, receiver) {
             return Err(NetFault::Cut);
         }
-        Ok(message)
+        match self.sent.get(place) {
+            Some(message) => Ok(message),
+            None => unreachable!(),
+        }
     }
 
     /// Loses the message of this number: from now on it never comes.
@@ -120,20 +129,6 @@ impl Net {
         let (lesser, greater) = in_order(a, b);
         let row = &mut self.cuts[usize::from(lesser.number())];
         row.remove(greater);
-    }
-
-    /// The message of this number, unless it is lost.
-    fn find(&self, number: u64) -> Result<Message, NetFault>
-        ensures { result ≡ found self.now.network number }
-    {
-        let place = number as usize;
-        let Some(message) = self.sent.get(place) else {
-            return Err(NetFault::NoSuch);
-        };
-        if self.lost[place] {
-            return Err(NetFault::Lost);
-        }
-        Ok(message)
     }
 
     /// Whether the pair of these two nodes is cut.

@@ -78,6 +78,16 @@ impl Message {
         }
     }
 
+    /// Makes this a message for another node than its sender.
+    #[inline]
+    pub fn readdress(&mut self, receiver: NodeId)
+        requires { self.old.sender ≢ receiver }
+        ensures { self.new ≡ record { sender = self.old.sender; receiver = receiver; body = self.old.body } }
+    {
+        let to = &mut self.receiver;
+        *to = receiver;
+    }
+
     /// Some message, in whose place another one is read.
     #[inline]
     pub(crate) fn blank() -> Message {

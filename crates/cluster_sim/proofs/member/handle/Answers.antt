@@ -4,9 +4,9 @@ use Rattle.sim_net.specs.Network.{Network, after_all_sent}
 use Rattle.sector_disk.specs.Memory.{state_of}
 use Rattle.durable_node.specs.declared.fault.NodeFault.{NodeFault}
 use Rattle.durable_node.specs.declared.step.Step.{Step}
-use Rattle.durable_node.specs.Stepping.{Steps}
+use Rattle.durable_node.specs.Stepping.{Steps, CountsOf}
 use Rattle.cluster_sim.specs.declared.outcome.Outcome.TheVariants as outcome
-use Rattle.cluster_sim.proofs.Coming.{same_by, comes_by, faults_by, done_told, not_err, fault_or}
+use Rattle.cluster_sim.proofs.Coming.{same_by, comes_by, faults_by, done_told, not_err, fault_or, counted_done, counted_fault}
 use Rattle.cluster_sim.proofs.member.handle.Goals as goal
 
 pub returns-in-Ok-clause-same : goal.returns-in-Ok-clause-same
@@ -34,3 +34,13 @@ returns-in-Err-clause-came c =
     faults_by c.args.event old c.step.new.self c.args.net.now.network c.reserve.new.self.network c.in-Err.fault c.fault_told.result c.has_disk.ensures
     (λ other. subst (λ (r : Result Step NodeFault). Steps state_of old c.step.new.self c.args.event r) c.in-Err.is (c.step.ensures.step (λ e. other (ap (λ (r : Result Step NodeFault). fault_or c.in-Err.fault r) (sym c.in-Err.is ∙ e)))))
     c.fault_told.ensures.outcome c.reserve.ensures.network
+
+pub returns-in-Ok-clause-counted : goal.returns-in-Ok-clause-counted
+returns-in-Ok-clause-counted c =
+    counted_done c.args.node.now.disk c.step.new.self.disk c.in-Ok.step c.in-Ok.step.answer c.len-first.result c.len.result
+    (subst (λ (r : Result Step NodeFault). CountsOf state_of c.args.node.now.disk c.step.new.self.disk r) c.in-Ok.is c.step.ensures.counts)
+
+pub returns-in-Err-clause-counted : goal.returns-in-Err-clause-counted
+returns-in-Err-clause-counted c =
+    counted_fault c.args.node.now.disk c.step.new.self.disk c.in-Err.fault c.fault_told.result c.fault_told.ensures.outcome
+    (subst (λ (r : Result Step NodeFault). CountsOf state_of c.args.node.now.disk c.step.new.self.disk r) c.in-Err.is c.step.ensures.counts)

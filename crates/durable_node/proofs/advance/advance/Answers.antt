@@ -17,7 +17,7 @@ returns-clause-node g c =
     let e = c.handle.ensures in
     let up = sym c.is_down.ensures ∙ c.if-is_down.false in
     let node = subst (λ (st : Option (StoreState _)). IsNode state c.args.id c.args.nodes c.args.core.now c.args.disk.now st) c.in-Some.is c.requires.node in
-    node_served state c.args.id c.args.nodes c.args.core.now c.handle.new.core c.args.disk.now c.in-Some.store c.handle.new.store c.args.doubt.now c.handle.new.doubt c.args.event node up
+    node_served state c.args.id c.args.nodes c.args.core.now c.handle.new.core c.args.disk.now c.in-Some.store c.handle.new.store c.args.doubt.now c.handle.new.doubt c.args.event.now node up
     e.id e.nodes e.slots e.counts.sectors e.sound c.handle.result e.done e.whole (λ d. (e.fallen d).0) e.unchanged
 
 pub returns-clause-step : goal.returns-clause-step
@@ -27,10 +27,10 @@ returns-clause-step g c = λ memory.
     let up = sym c.is_down.ensures ∙ c.if-is_down.false in
     let node = subst (λ (st : Option (StoreState _)). IsNode state c.args.id c.args.nodes c.args.core.now c.args.disk.now st) c.in-Some.is c.requires.node in
     subst (λ (st : Option (StoreState _)). Steps state (node_with c.args.id c.args.nodes c.args.core.now c.args.disk.now st c.args.doubt.now c.args.found.now)
-    (node_with c.args.id c.args.nodes c.handle.new.core c.args.disk.now (Some c.handle.new.store) c.handle.new.doubt None) c.args.event c.handle.result) (sym c.in-Some.is)
-    (serves_at state c.args.id c.args.nodes c.in-Some.store.journal.slots c.args.core.now c.handle.new.core c.args.disk.now c.in-Some.store c.handle.new.store c.args.doubt.now c.handle.new.doubt c.args.found.now c.args.event
+    (node_with c.args.id c.args.nodes c.handle.new.core c.args.disk.now (Some c.handle.new.store) c.handle.new.doubt None) c.args.event.now c.handle.result) (sym c.in-Some.is)
+    (serves_at state c.args.id c.args.nodes c.in-Some.store.journal.slots c.args.core.now c.handle.new.core c.args.disk.now c.in-Some.store c.handle.new.store c.args.doubt.now c.handle.new.doubt c.args.found.now c.args.event.now
     node.placed (node.slots c.in-Some.store refl) up c.handle.result
-    (up_on_ok c.in-Some.store.journal.slots c.args.nodes c.args.id c.args.core.now.state c.handle.new.core.state (durable_of c.in-Some.store) (durable_of c.handle.new.store) c.args.event up c.handle.result e.done)
+    (up_on_ok c.in-Some.store.journal.slots c.args.nodes c.args.id c.args.core.now.state c.handle.new.core.state (durable_of c.in-Some.store) (durable_of c.handle.new.store) c.args.event.now up c.handle.result e.done)
     e.counts.sectors e.counts.honest memory e.done e.whole e.failed e.fallen e.unchanged e.refused e.run e.images e.after e.sound)
 
 pub returns-clause-counts : goal.returns-clause-counts
@@ -51,11 +51,11 @@ pub returns-in_default : goal.returns-in_default
 returns-in_default g c =
     let state = g.D.SectorDisk.state in
     let e = c.ignore.ensures in
-    let refused = (λ (why : CoreFault). refusal_of c.args.core.now.nodes c.args.core.now.id c.args.event c.args.core.now.state ≡ Some why) in
+    let refused = (λ (why : CoreFault). refusal_of c.args.core.now.nodes c.args.core.now.id c.args.event.now c.args.core.now.state ≡ Some why) in
     let fallen = c.requires.node.fallen (sym c.is_down.ensures ∙ c.if-is_down.true) in
     record {
       node = node_ignored state c.args.id c.args.nodes c.args.core.now c.ignore.new.core c.args.disk.now c.args.store.now c.requires.node e.id e.nodes e.kept;
-      step = λ memory. ignores state c.args.id c.args.nodes c.args.core.now c.ignore.new.core c.args.disk.now c.args.store.now c.args.doubt.now c.args.found.now c.args.event
+      step = λ memory. ignores state c.args.id c.args.nodes c.args.core.now c.ignore.new.core c.args.disk.now c.args.store.now c.args.doubt.now c.args.found.now c.args.event.now
           fallen e.kept c.in_default.not-Recover c.ignore.result memory (rw (c.requires.node.core_nodes, c.requires.node.core_id) at e.done) (rw (c.requires.node.core_nodes, c.requires.node.core_id) at e.refused);
       mounting = λ down is. absurd (c.in_default.not-Recover is);
       memory = λ memory. same_node c.args.id c.args.nodes c.args.core.now c.ignore.new.core c.args.disk.now c.args.store.now c.args.store.now c.args.doubt.now c.args.doubt.now e.kept refl refl;

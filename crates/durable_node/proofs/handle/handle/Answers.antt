@@ -13,7 +13,7 @@ use Rattle.durable_node.proofs.handle.handle.Goals as goal
 
 pub returns-in-Err-clause-refused : goal.returns-in-Err-clause-refused
 returns-in-Err-clause-refused g c = λ not_device not_memory.
-    by_core c.args.store.now.journal.slots c.args.nodes c.args.id c.args.core.now.state (durable_of c.args.store.now) c.args.event c.in-Err.fault
+    by_core c.args.store.now.journal.slots c.args.nodes c.args.id c.args.core.now.state (durable_of c.args.store.now) c.args.event.now c.in-Err.fault
     (rw (c.requires.nodes, c.requires.id) at (c.in-Err.ensures.memory (λ e. not_memory (ap (λ f. node.Core f) e))))
 
 pub returns-in-Err-clause-images : goal.returns-in-Err-clause-images
@@ -24,11 +24,11 @@ pub returns-in-Err-carry-clause-refused : goal.returns-in-Err-carry-clause-refus
 returns-in-Err-carry-clause-refused g c = λ not_device not_memory.
     let slots = c.args.store.now.journal.slots in
     let d = durable_of c.args.store.now in
-    let wants : wanted_by c.wants-wants.result ≡ wants_of c.args.id d.pending c.args.event c.args.core.now.state =
+    let wants : wanted_by c.wants-wants.result ≡ wants_of c.args.id d.pending c.args.event.now c.args.core.now.state =
     c.wants-wants.ensures ∙ c.in-Ok.ensures.plan.wants_is
-    ∙ ap (λ (k : Core). wants_of k.id c.table.result.now.pending c.args.event k.state) c.plan_step.ensures.kept
-    ∙ ap (λ (n : ℕ). wants_of n c.table.result.now.pending c.args.event c.args.core.now.state) c.requires.id
-    ∙ ap (λ (t : Table). wants_of c.args.id t.pending c.args.event c.args.core.now.state) c.table.ensures in
-    by_store slots c.args.nodes c.args.id c.args.core.now.state d c.args.event c.in-Err-carry.fault
+    ∙ ap (λ (k : Core). wants_of k.id c.table.result.now.pending c.args.event.now k.state) c.plan_step.ensures.kept
+    ∙ ap (λ (n : ℕ). wants_of n c.table.result.now.pending c.args.event.now c.args.core.now.state) c.requires.id
+    ∙ ap (λ (t : Table). wants_of c.args.id t.pending c.args.event.now c.args.core.now.state) c.table.ensures in
+    by_store slots c.args.nodes c.args.id c.args.core.now.state d c.args.event.now c.in-Err-carry.fault
     (rw (c.requires.nodes, c.requires.id) at c.in-Ok.ensures.done)
     (subst (λ (w : Option Command). CantCarry slots d w c.in-Err-carry.fault) wants (c.in-Err-carry.ensures.refused not_device).1)

@@ -1,4 +1,4 @@
-use Rattle.std.proofs.Common.{subst, Option}
+use Rattle.std.proofs.Common.{subst}
 use Rattle.std.specs.Prelude.{IsSome}
 use Rattle.durable_node.specs.Node.{Node}
 use Rattle.durable_node.proofs.Placed.{some_disk}

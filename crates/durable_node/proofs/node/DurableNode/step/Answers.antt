@@ -9,11 +9,11 @@ use Rattle.durable_node.proofs.node.DurableNode.step.Goals as goal
 pub returns-clause-step : goal.returns-clause-step
 returns-clause-step g c = λ memory.
     let n = c.advance.new in
-    subst (λ (old : Node _). Steps g.D.SectorDisk.state old (node_with c.self.inside.id c.self.inside.nodes n.core n.disk n.store n.doubt n.found) c.args.event c.advance.result) c.self.view_is
+    subst (λ (old : Node _). Steps g.D.SectorDisk.state old (node_with c.self.inside.id c.self.inside.nodes n.core n.disk n.store n.doubt n.found) c.args.event.now c.advance.result) c.self.view_is
     (c.advance.ensures.step memory)
 
 pub returns-clause-mounting : goal.returns-clause-mounting
 returns-clause-mounting g c =
     let n = c.advance.new in
     let new = node_with c.self.inside.id c.self.inside.nodes n.core n.disk n.store n.doubt n.found in
-    subst (λ (old : Node _). is_down old.state.phase ≡ true → c.args.event ≡ Recover → Remounted old new c.advance.result new.found) c.self.view_is c.advance.ensures.mounting
+    subst (λ (old : Node _). is_down old.state.phase ≡ true → c.args.event.now ≡ Recover → Remounted old new c.advance.result new.found) c.self.view_is c.advance.ensures.mounting

@@ -1,0 +1,99 @@
+-- The failures of the disks in an act.
+use Rattle.std.proofs.Common.{◌≡◌, ◌≢◌, ℕ, ◌<◌, Bool, true, false, List, length, slice_get, refl, sym, ◌∙◌, ap, subst, arith, Option, Some, None, Result, Ok, Err}
+use Rattle.std.specs.Prelude.{slice_set, IfOk, if◌then◌else◌}
+use Rattle.std.proofs.lemmas.Option.{slice_get_within}
+use Rattle.sector_disk.specs.Disk.{Counts}
+use Rattle.sector_disk.specs.Memory.{Memory, state_of}
+use Rattle.wire_msg.specs.Envelope.{Envelope}
+use Rattle.sim_net.specs.declared.fault.NetFault.{NetFault}
+use Rattle.sim_net.specs.declared.fault.NetFault.TheVariants.{Cut}
+use Rattle.sim_net.specs.Network.{Network, is_cut, found_by, found, unless_cut, delivery}
+use Rattle.node_core.specs.declared.event.Event.{Event}
+use Rattle.durable_node.specs.Node.{Node}
+use Rattle.durable_node.proofs.Nodes.{is_some}
+use Rattle.schedule.specs.declared.act.Act.{Act}
+use Rattle.schedule.specs.declared.act.Act.TheVariants as act
+use Rattle.cluster_sim.specs.declared.outcome.Outcome.{Outcome}
+use Rattle.cluster_sim.specs.declared.outcome.Outcome.TheVariants as outcome
+use Rattle.cluster_sim.specs.Events.{event_at}
+use Rattle.cluster_sim.specs.Reporting.{node_named, node_or_first, receiver_or_first}
+use Rattle.cluster_sim.specs.Machine.{Machine, IsCounted, disk_of, FaultsAt}
+use Rattle.cluster_sim.proofs.Runs.{get_set_same, get_set_other}
+use Rattle.cluster_sim.proofs.Members.{true_within}
+
+-- a disk that isn't called
+still_counted : (disk : Option Memory) (o : Outcome) → (o ≡ outcome.Faulted → ⊥) → IsCounted disk disk o
+still_counted disk o quiet was now before after =
+    subst (λ (d : Memory). Counts (state_of was) (state_of d) (o ≡ outcome.Faulted) (o ≢ outcome.Faulted)) (is_some was now (sym before ∙ after))
+    (record { sectors = refl; honest = refl; later = omega arith; unchanged = λ _. refl; cause = λ is. absurd (quiet is) })
+
+-- no node changed
+pub faults_still : (at : ℕ) (old new : Machine) (o : Outcome) → new.nodes ≡ old.nodes → (o ≡ outcome.Faulted → ⊥) → FaultsAt at old new o
+faults_still at old new o same quiet = record {
+  here = subst (λ (ns : List (Node Memory)). IsCounted (disk_of (slice_get old.nodes at)) (disk_of (slice_get ns at)) o) (sym same) (still_counted (disk_of (slice_get old.nodes at)) o quiet);
+  elsewhere = λ k _. ap (λ (ns : List (Node Memory)). slice_get ns k) same;
+}
+
+pub first_is : (n count : ℕ) → n < count → node_or_first count n ≡ n
+first_is n count within = rw (true_within n count within) refl
+
+-- one node did
+pub faults_here : (slots n : ℕ) (nodes : List (Node Memory)) (old new : Node Memory) (net net' : Network) (o : Outcome) (now : Machine) → record { slots = slots; nodes = nodes; net = net } ≡ now → slice_get nodes n ≡ Some old
+    → IsCounted old.disk new.disk o → FaultsAt (node_or_first (length now.nodes) n) now (record { slots = slots; nodes = slice_set nodes n new; net = net' }) o
+faults_here slots n nodes old new net net' o now view at counted =
+    subst (λ (m : Machine). FaultsAt (node_or_first (length m.nodes) n) m (record { slots = slots; nodes = slice_set nodes n new; net = net' }) o) view
+    (subst (λ (k : ℕ). FaultsAt k (record { slots = slots; nodes = nodes; net = net }) (record { slots = slots; nodes = slice_set nodes n new; net = net' }) o) (sym (first_is n (length nodes) (slice_get_within nodes n old at)))
+    (record {
+      here = subst (λ (x : Option (Node Memory)). IsCounted (disk_of x) (disk_of (slice_get (slice_set nodes n new) n)) o) (sym at)
+          (subst (λ (x : Option (Node Memory)). IsCounted old.disk (disk_of x) o) (sym (get_set_same nodes n old new at)) counted);
+      elsewhere = λ k other. get_set_other nodes k n new other;
+    }))
+
+pub faults_if : {E : Type 0} (slots n : ℕ) (nodes : List (Node Memory)) (old new : Node Memory) (net net' : Network) (result : Result Outcome E) (now : Machine) → record { slots = slots; nodes = nodes; net = net } ≡ now
+    → slice_get nodes n ≡ Some old → IfOk result (IsCounted old.disk new.disk)
+    → IfOk result (FaultsAt (node_or_first (length now.nodes) n) now (record { slots = slots; nodes = slice_set nodes n new; net = net' }))
+faults_if slots n nodes old new net net' (Ok o) now view at counted = faults_here slots n nodes old new net net' o now view at counted
+faults_if slots n nodes old new net net' (Err e) now view at counted = tt
+
+-- ---- the node that an act names
+
+pub named_by_event : (a : Act) (n : ℕ) (event : Event) (nodes : ℕ) (sent : List Envelope) → event_at a ≡ Some (n, event) → node_named nodes sent a ≡ node_or_first nodes n
+named_by_event (act.Check k) n event nodes sent is = ap (λ (p : ℕ × Event). node_or_first nodes p.0) (is_some _ _ is)
+named_by_event (act.Merge k) n event nodes sent is = ap (λ (p : ℕ × Event). node_or_first nodes p.0) (is_some _ _ is)
+named_by_event (act.Accept k) n event nodes sent is = ap (λ (p : ℕ × Event). node_or_first nodes p.0) (is_some _ _ is)
+named_by_event (act.Ready k) n event nodes sent is = ap (λ (p : ℕ × Event). node_or_first nodes p.0) (is_some _ _ is)
+named_by_event (act.Coord k) n event nodes sent is = ap (λ (p : ℕ × Event). node_or_first nodes p.0) (is_some _ _ is)
+named_by_event (act.Dispatch k) n event nodes sent is = ap (λ (p : ℕ × Event). node_or_first nodes p.0) (is_some _ _ is)
+named_by_event (act.Deliver k) n event nodes sent is = absurd (let bad = is in cc)
+named_by_event (act.Lose k) n event nodes sent is = absurd (let bad = is in cc)
+named_by_event (act.Cut a b) n event nodes sent is = absurd (let bad = is in cc)
+named_by_event (act.Mend a b) n event nodes sent is = absurd (let bad = is in cc)
+named_by_event (act.Submit k queue payload) n event nodes sent is = ap (λ (p : ℕ × Event). node_or_first nodes p.0) (is_some _ _ is)
+named_by_event (act.Finish k origin id) n event nodes sent is = ap (λ (p : ℕ × Event). node_or_first nodes p.0) (is_some _ _ is)
+named_by_event (act.Arm k calls) n event nodes sent is = absurd (let bad = is in cc)
+named_by_event (act.Crash k fill) n event nodes sent is = absurd (let bad = is in cc)
+named_by_event (act.Recover k) n event nodes sent is = ap (λ (p : ℕ × Event). node_or_first nodes p.0) (is_some _ _ is)
+
+found_there : (m : Option Envelope) (lost : Option Bool) (e : Envelope) → found_by m lost ≡ Ok e → m ≡ Some e
+found_there None lost e is = absurd (let bad = is in cc)
+found_there (Some m) None e is = cc is
+found_there (Some m) (Some true) e is = absurd (let bad = is in cc)
+found_there (Some m) (Some false) e is = cc is
+
+chosen : (b : Bool) (r : Result Envelope NetFault) (e : Envelope) → (if b then Err Cut else r) ≡ Ok e → r ≡ Ok e
+chosen true r e is = absurd (let bad = is in cc)
+chosen false r e is = is
+
+uncut_there : (cuts : List (List ℕ)) (r : Result Envelope NetFault) (e : Envelope) → unless_cut cuts r ≡ Ok e → r ≡ Ok e
+uncut_there cuts (Err fault) e is = absurd (let bad = is in cc)
+uncut_there cuts (Ok m) e is = chosen (is_cut cuts m.sender m.receiver) (Ok m) e is
+
+-- what is delivered was sent under its number
+pub delivered_there : (net : Network) (k : ℕ) (e : Envelope) → delivery net k ≡ Ok e → slice_get net.sent k ≡ Some e
+delivered_there net k e is = found_there (slice_get net.sent k) (slice_get net.lost k) e (uncut_there net.cuts (found net k) e is)
+
+pub faults_received : {E : Type 0} (nodes : ℕ) (sent : List Envelope) (k receiver : ℕ) (m : Envelope) (old new : Machine) (result : Result Outcome E) → slice_get sent k ≡ Some m → receiver ≡ m.receiver
+    → IfOk result (FaultsAt (node_or_first nodes receiver) old new) → IfOk result (FaultsAt (receiver_or_first nodes (slice_get sent k)) old new)
+faults_received nodes sent k receiver m old new result there is faults =
+    subst (λ (x : Option Envelope). IfOk result (FaultsAt (receiver_or_first nodes x) old new)) (sym there)
+    (subst (λ (r : ℕ). IfOk result (FaultsAt (node_or_first nodes r) old new)) is faults)

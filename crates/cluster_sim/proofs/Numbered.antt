@@ -1,0 +1,82 @@
+-- The messages of a moment are those under its numbers, also when more were sent after it.
+use Rattle.std.proofs.Common.{◌≡◌, ℕ, zero, suc, List, [], ◌∷◌, ◌++◌, length, take, drop, slice_get, refl, sym, ◌∙◌, ap, subst, Option, Some, None, append_assoc}
+use Rattle.std.proofs.lemmas.List.{append-nil}
+use Rattle.std.proofs.Math.Seq.{drop-append_seam, take-append_seam}
+use Rattle.wire_msg.specs.Envelope.{Envelope}
+use Rattle.durable_node.specs.NodeState.{NodeState}
+use Rattle.durable_node.specs.What.{What, Did, Refused, Faulted, Rests, Crashed, Recovered, MountFailed, RaiseFailed, RaiseRefused}
+use Rattle.durable_node.specs.After.{sent_at}
+use Rattle.schedule.specs.declared.act.Act.{Act}
+use Rattle.cluster_sim.specs.World.{World, start}
+use Rattle.cluster_sim.specs.Step.{Step, Takes, Loses, Cuts, Mends, Denies, sent_after, world_after}
+use Rattle.cluster_sim.specs.Run.{world_at}
+use Rattle.cluster_sim.specs.Acts.{what_outcome, node_outcome, outcome_of}
+use Rattle.cluster_sim.specs.Reporting.{Moment, Report, moment_of, moments_from, step_sent}
+use Rattle.cluster_sim.specs.Growth.{IsLeft, acts_in}
+use Rattle.cluster_sim.specs.Numbered.{sent_under}
+
+-- what stands behind the first ones, as many as it is
+part_between : (first part rest : List Envelope) → take (length part) (drop (length first) ((first ++ part) ++ rest)) ≡ part
+part_between first part rest = rw (append_assoc first part rest, drop-append_seam first (part ++ rest)) (take-append_seam part rest)
+
+what_numbered : (n nodes : ℕ) (before rest : List Envelope) (s : NodeState) (what : What)
+    → sent_at n nodes s what ≡ sent_under ((before ++ sent_at n nodes s what) ++ rest) (what_outcome n nodes (length before) s what)
+what_numbered n nodes before rest s (Did event) = sym (part_between before (sent_at n nodes s (Did event)) rest)
+what_numbered n nodes before rest s (Refused event fault) = refl
+what_numbered n nodes before rest s (Faulted event) = refl
+what_numbered n nodes before rest s (Rests why) = refl
+what_numbered n nodes before rest s Crashed = refl
+what_numbered n nodes before rest s (Recovered kept) = refl
+what_numbered n nodes before rest s MountFailed = refl
+what_numbered n nodes before rest s (RaiseFailed kept) = refl
+what_numbered n nodes before rest s (RaiseRefused kept) = refl
+
+node_numbered : (n nodes : ℕ) (before rest : List Envelope) (o : Option NodeState) (what : What)
+    → sent_after n nodes o what ≡ sent_under ((before ++ sent_after n nodes o what) ++ rest) (node_outcome n nodes (length before) o what)
+node_numbered n nodes before rest None what = refl
+node_numbered n nodes before rest (Some s) what = what_numbered n nodes before rest s what
+
+step_numbered : (nodes : ℕ) (w : World) (step : Step) (rest : List Envelope)
+    → step_sent nodes w step ≡ sent_under ((world_after nodes w step).net.sent ++ rest) (outcome_of nodes w step)
+step_numbered nodes w (Takes n number what) rest = node_numbered n nodes w.net.sent rest (slice_get w.states n) what
+step_numbered nodes w (Loses k) rest = refl
+step_numbered nodes w (Cuts a b) rest = refl
+step_numbered nodes w (Mends a b) rest = refl
+step_numbered nodes w (Denies why) rest = refl
+
+-- ---- messages are only added, at the end
+
+step_adds : (nodes : ℕ) (w : World) (step : Step) → (world_after nodes w step).net.sent ≡ w.net.sent ++ step_sent nodes w step
+step_adds nodes w (Takes n number what) = refl
+step_adds nodes w (Loses k) = sym (append-nil w.net.sent)
+step_adds nodes w (Cuts a b) = sym (append-nil w.net.sent)
+step_adds nodes w (Mends a b) = sym (append-nil w.net.sent)
+step_adds nodes w (Denies why) = sym (append-nil w.net.sent)
+
+pub run_adds : (nodes : ℕ) (steps : List Step) (w : World) → (more : List Envelope) × ((world_at nodes w steps).net.sent ≡ w.net.sent ++ more)
+run_adds nodes [] w = ([], sym (append-nil w.net.sent))
+run_adds nodes (step ∷ steps) w =
+    let rest = run_adds nodes steps (world_after nodes w step) in (
+      step_sent nodes w step ++ rest.0,
+      rest.1 ∙ (ap (λ (ms : List Envelope). ms ++ rest.0) (step_adds nodes w step) ∙ append_assoc w.net.sent (step_sent nodes w step) rest.0),
+    )
+
+-- ---- moments
+
+-- whatever steps there are
+pub moment_numbered : (k nodes : ℕ) (acts : List Act) (steps : List Step) (w : World) (m : Moment) → slice_get (moments_from nodes w acts steps) k ≡ Some m
+    → m.sent ≡ sent_under (world_at nodes w steps).net.sent m.outcome
+moment_numbered k nodes [] steps w m at = absurd cc
+moment_numbered k nodes (a ∷ acts) [] w m at = absurd cc
+moment_numbered zero nodes (a ∷ acts) (step ∷ steps) w m at =
+    let it : moment_of nodes w a step ≡ m = cc at in
+    let grown = run_adds nodes steps (world_after nodes w step) in
+    subst (λ (x : Moment). x.sent ≡ sent_under (world_at nodes (world_after nodes w step) steps).net.sent x.outcome) it
+    (subst (λ (all : List Envelope). step_sent nodes w step ≡ sent_under all (outcome_of nodes w step)) (sym grown.1) (step_numbered nodes w step grown.0))
+moment_numbered (suc k) nodes (a ∷ acts) (step ∷ steps) w m at = moment_numbered k nodes acts steps (world_after nodes w step) m at
+
+-- of a cluster that a run left, and its report
+pub left_numbered : (nodes slots : ℕ) (w : World) (r : Report) → IsLeft nodes slots w r → (k : ℕ) (m : Moment) → slice_get r.moments k ≡ Some m → m.sent ≡ sent_under w.net.sent m.outcome
+left_numbered nodes slots w r left k m at =
+    let shown : slice_get (moments_from nodes (start nodes) (acts_in r) left.steps) k ≡ Some m = subst (λ (x : Report). slice_get x.moments k ≡ Some m) left.reported at in
+    subst (λ (x : World). m.sent ≡ sent_under x.net.sent m.outcome) (sym left.world) (moment_numbered k nodes (acts_in r) left.steps (start nodes) m shown)

@@ -1,0 +1,19 @@
+use Rattle.std.proofs.Common.{◌≡◌, ◌+◌, ◌<◌, ◌≤◌, ◌^◌, length, map, subst, arith}
+use Rattle.std.proofs.lemmas.List.{length-map}
+use Rattle.cluster_sim.specs.Recorded.{Recorded, ToldMoment, IsPromised, moment_in, report_in}
+use Rattle.cluster_sim.proofs.Promised.{acts_shown, promised}
+use Rattle.cluster_sim.proofs.cluster.Cluster.report.Goals as goal
+
+pub returns-clause-keeps : goal.returns-clause-keeps
+returns-clause-keeps c =
+    let inv = c.self.invariant in
+    let was = c.self.inside in
+    let whole : Recorded = record { machine = was.simulation; report = report_in was.report } in
+    let ms = was.report.moments in
+    let many : length whole.report.moments ≡ length ms.items = length-map ms.items moment_in in
+    let len : ms.len ≡ length ms.items = ms.ok.0 in
+    let room : ms.len ≤ ms.cap = ms.ok.1 in
+    let small = ms.small in
+    let short : length whole.report.moments + 1 < 2 ^ 64 = omega (arith, many, len, room, small) in
+    subst (λ (x : Recorded). IsPromised (length x.machine.nodes) x.machine.slots (map (λ (m : ToldMoment). m.act) x.report.moments) (report_in was.report) x.machine.net.sent) c.self.view_is
+    (promised whole inv.world inv.run (map (λ (m : ToldMoment). m.act) whole.report.moments) inv.tells (acts_shown whole inv.world inv.run inv.tells) short)

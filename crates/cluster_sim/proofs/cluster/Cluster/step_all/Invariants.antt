@@ -1,0 +1,13 @@
+use Rattle.std.proofs.Common.{◌≡◌, ◌++◌, ℕ, length}
+use Rattle.cluster_sim.specs.Recorded.{Tells, HasRun}
+use Rattle.cluster_sim.specs.Growth.{acts_in}
+use Rattle.cluster_sim.specs.Reporting.{Report}
+use Rattle.cluster_sim.specs.World.{World}
+use Rattle.cluster_sim.proofs.cluster.Cluster.step_all.Given as goal
+
+abbrev pub invariant-loop-act : goal.invariant-loop-act
+invariant-loop-act l = record {
+  slots : l.self.machine.slots ≡ l.fn.self.machine.slots;
+  rest : l.yielded ++ l.act-iterator.rest.items ≡ l.fn.acts.items;
+  run : (nodes : ℕ) (r : Report) (w : World) → length w.states ≡ nodes → Tells l.fn.self w r → HasRun nodes (acts_in r ++ l.yielded) l.self;
+}

@@ -1,0 +1,11 @@
+-- The messages that an act sent, by their numbers.
+use Rattle.std.specs.Prelude.{List, [], take, drop}
+use Rattle.wire_msg.specs.Envelope.{Envelope}
+use Rattle.cluster_sim.specs.Acts.{ActOutcome, Done, DeniedAct, RefusedAct, FaultedAct}
+
+-- of all messages, those under the numbers that are told of an act
+abbrev pub sent_under : List Envelope → ActOutcome → List Envelope
+sent_under all (Done answer first many) = take many (drop first all)
+sent_under all (DeniedAct why) = []
+sent_under all (RefusedAct fault) = []
+sent_under all FaultedAct = []

@@ -1,0 +1,323 @@
+-- A cluster with its report, as code keeps it.
+use Rattle.std.specs.Prelude.{ℕ, ◌≡◌, ◌≤◌, ◌<◌, ◌&&◌, nat_lt, Bool, true, false, List, [], ◌∷◌, ◌++◌, map, length, slice_get, Option, Some, None, vec_len, vec_capacity}
+use Rattle.group_task.specs.Group.{Group}
+use Rattle.job_model.specs.Command.{Command, Raise, Put, Done as JobDone}
+use Rattle.job_model.specs.Durable.{Durable, formatted}
+use Rattle.wire_msg.specs.Envelope.{Envelope}
+use Rattle.wire_msg.specs.declared.body.Body.{Body}
+use Rattle.wire_msg.specs.declared.body.Body.TheVariants as says
+use Rattle.node_core.specs.State.{State, state_of}
+use Rattle.node_core.specs.Words.{own_group}
+use Rattle.sector_disk.specs.Memory.{Memory}
+use Rattle.durable_node.specs.Node.{Node}
+use Rattle.durable_node.specs.Kept.{Tried}
+use Rattle.schedule.specs.declared.act.Act.{Act}
+use Rattle.schedule.specs.declared.act.Act.TheVariants as act
+use Rattle.cluster_sim.specs.declared.outcome.Outcome.{Outcome}
+use Rattle.cluster_sim.specs.declared.outcome.Outcome.TheVariants as outcome
+use Rattle.cluster_sim.specs.declared.aim.Aim.{Aim}
+use Rattle.cluster_sim.specs.declared.recording.Told.{Told}
+use Rattle.cluster_sim.specs.declared.report.Command.{Command as KeptCommand}
+use Rattle.cluster_sim.specs.declared.report.Command.TheVariants as kept
+use Rattle.cluster_sim.specs.declared.report.Moment.{Moment as KeptMoment}
+use Rattle.cluster_sim.specs.declared.report.Marked.{Marked}
+use Rattle.cluster_sim.specs.declared.report.Mounted.{Mounted}
+use Rattle.cluster_sim.specs.declared.report.Report.{Report as KeptReport}
+use Rattle.cluster_sim.specs.World.{World}
+use Rattle.cluster_sim.specs.Step.{Step, world_after}
+use Rattle.cluster_sim.specs.Acts.{outcome_of}
+use Rattle.cluster_sim.specs.Reporting.{Moment, TriedAt, MountedAt, Report, own_commands}
+use Rattle.cluster_sim.specs.Growth.{acts_in, grown, IsLeft, IsNext}
+use Rattle.cluster_sim.specs.Headline.{Headline}
+use Rattle.cluster_sim.specs.Told.{told}
+use Rattle.cluster_sim.specs.Numbered.{sent_under}
+use Rattle.cluster_sim.specs.Machine.{Machine, StandsFor}
+
+-- ---- a report, told
+
+-- an act, the node that it is told of, what is told of it, and the state of that node after it
+pub record ToldMoment : Type 0 where
+  pub act : Act
+  pub node : ℕ
+  pub outcome : Outcome
+  pub state : State
+
+pub record ToldReport : Type 0 where
+  pub opening : List State
+  pub moments : List ToldMoment
+  pub groups : List Group
+  pub commands : List TriedAt
+  pub mounted : List MountedAt
+
+-- an outcome is told: the reasons for which a journal is full are told as one. The messages of a moment are those of the
+-- numbers in its outcome
+abbrev pub told_moment : Moment → ToldMoment
+told_moment m = record { act = m.act; node = m.node; outcome = told m.outcome; state = m.state }
+
+abbrev pub told_report : Report → ToldReport
+told_report r = record { opening = r.opening; moments = map told_moment r.moments; groups = r.groups; commands = r.commands; mounted = r.mounted }
+
+-- ---- what code keeps
+
+abbrev pub command_of : KeptCommand → Command
+command_of kept.Raise = Raise
+command_of (kept.Put queue payload) = Put queue payload
+command_of (kept.Done id) = JobDone id
+
+abbrev pub tried_of : Marked → TriedAt
+tried_of m = record { node = m.node; tried = record { command = command_of m.command; acked = m.acked } }
+
+abbrev pub mounted_of : Mounted → MountedAt
+mounted_of m = record { node = m.node; mounting = record { before = m.before; state = record { counter = m.count; next = m.next; pending = m.pending.items } } }
+
+abbrev pub moment_in : KeptMoment → ToldMoment
+moment_in m = record { act = m.act; node = m.node; outcome = m.outcome; state = state_of m.vector }
+
+abbrev pub report_in : KeptReport → ToldReport
+report_in r = record {
+  opening = map state_of r.opening.items;
+  moments = map moment_in r.moments.items;
+  groups = r.groups.items;
+  commands = map tried_of r.commands.items;
+  mounted = map mounted_of r.mounted.items;
+}
+
+-- there is room for what is told of one act
+pub record HasRoom (r : KeptReport) : Type 0 where
+  pub moments : vec_len r.moments < vec_capacity r.moments
+  pub groups : vec_len r.groups < vec_capacity r.groups
+  pub commands : vec_len r.commands < vec_capacity r.commands
+  pub mounted : vec_len r.mounted < vec_capacity r.mounted
+
+-- ---- what an act adds
+
+-- the command that a message makes a node try, if it makes it try one
+abbrev pub command_said : Body → Option Command
+command_said says.AreYouCoordinator = None
+command_said (says.Coordinator agreed) = None
+command_said (says.AreYouThere group) = None
+command_said (says.Here group agreed) = Some Raise
+command_said (says.Invitation group) = None
+command_said (says.Accept group) = None
+command_said (says.Ready task) = None
+command_said (says.ReadyAck group) = None
+command_said (says.Work group id queue payload) = None
+command_said (says.Done id) = Some (JobDone id)
+
+abbrev pub command_brought : Option Envelope → Option Command
+command_brought None = None
+command_brought (Some m) = command_said m.body
+
+-- the command that an act makes its node try, if it makes it try one, where these messages were sent
+abbrev pub command_by : List Envelope → Act → Option Command
+command_by sent (act.Check n) = None
+command_by sent (act.Merge n) = Some Raise
+command_by sent (act.Accept n) = None
+command_by sent (act.Ready n) = Some Raise
+command_by sent (act.Coord n) = Some Raise
+command_by sent (act.Dispatch n) = None
+command_by sent (act.Deliver k) = command_brought (slice_get sent k)
+command_by sent (act.Lose k) = None
+command_by sent (act.Cut a b) = None
+command_by sent (act.Mend a b) = None
+command_by sent (act.Submit n queue payload) = Some (Put queue payload)
+command_by sent (act.Finish n origin id) = Some (JobDone id)
+command_by sent (act.Arm n calls) = None
+command_by sent (act.Crash n fill) = None
+command_by sent (act.Recover n) = Some Raise
+
+-- the message that an act delivers, if there is one of its number
+abbrev pub message_named : List Envelope → Act → Option Envelope
+message_named sent (act.Check n) = None
+message_named sent (act.Merge n) = None
+message_named sent (act.Accept n) = None
+message_named sent (act.Ready n) = None
+message_named sent (act.Coord n) = None
+message_named sent (act.Dispatch n) = None
+message_named sent (act.Deliver k) = slice_get sent k
+message_named sent (act.Lose k) = None
+message_named sent (act.Cut a b) = None
+message_named sent (act.Mend a b) = None
+message_named sent (act.Submit n queue payload) = None
+message_named sent (act.Finish n origin id) = None
+message_named sent (act.Arm n calls) = None
+message_named sent (act.Crash n fill) = None
+message_named sent (act.Recover n) = None
+
+-- the act is the recovery of a node of the cluster
+abbrev pub recovers : ℕ → Act → Bool
+recovers nodes (act.Check n) = false
+recovers nodes (act.Merge n) = false
+recovers nodes (act.Accept n) = false
+recovers nodes (act.Ready n) = false
+recovers nodes (act.Coord n) = false
+recovers nodes (act.Dispatch n) = false
+recovers nodes (act.Deliver k) = false
+recovers nodes (act.Lose k) = false
+recovers nodes (act.Cut a b) = false
+recovers nodes (act.Mend a b) = false
+recovers nodes (act.Submit n queue payload) = false
+recovers nodes (act.Finish n origin id) = false
+recovers nodes (act.Arm n calls) = false
+recovers nodes (act.Crash n fill) = false
+recovers nodes (act.Recover n) = nat_lt n nodes
+
+-- what was mounted, where the act mounts
+abbrev pub mounted_now : Bool → Option Durable → Option Durable
+mounted_now true found = found
+mounted_now false found = None
+
+abbrev pub is_unmounted : Option Durable → Bool
+is_unmounted None = true
+is_unmounted (Some d) = false
+
+abbrev pub acknowledged : Option Command → ℕ → Option Tried
+acknowledged None answer = None
+acknowledged (Some c) answer = Some (record { command = c; acked = Some answer })
+
+-- a disk that couldn't be mounted was given no command
+abbrev pub unanswered : Bool → Option Command → Option Tried
+unanswered true command = None
+unanswered false None = None
+unanswered false (Some c) = Some (record { command = c; acked = None })
+
+-- the command that was tried, where an act that was to mount the disk may not have come to do so: one that was
+-- acknowledged has its answer
+abbrev pub tried_in : Bool → Option Command → Outcome → Option Tried
+tried_in unmounted command (outcome.Done None first many) = None
+tried_in unmounted command (outcome.Done (Some answer) first many) = acknowledged command answer
+tried_in unmounted command (outcome.Refused why) = None
+tried_in unmounted command outcome.Faulted = unanswered unmounted command
+
+abbrev pub tried_at : ℕ → Option Tried → Option TriedAt
+tried_at n None = None
+tried_at n (Some t) = Some (record { node = n; tried = t })
+
+abbrev pub mounted_at : ℕ → ℕ → Option Durable → Option MountedAt
+mounted_at n before None = None
+mounted_at n before (Some d) = Some (record { node = n; mounting = record { before = before; state = d } })
+
+-- the group of a new count
+abbrev pub given_for : ℕ → Command → Option ℕ → List Group
+given_for n Raise None = []
+given_for n Raise (Some count) = own_group n count ∷ []
+given_for n (Put queue payload) acked = []
+given_for n (JobDone id) acked = []
+
+abbrev pub given_in : Option TriedAt → List Group
+given_in None = []
+given_in (Some t) = given_for t.node t.tried.command t.tried.acked
+
+abbrev pub listed : {A : Type 0} → Option A → List A
+listed None = []
+listed (Some a) = a ∷ []
+
+-- a report with one act more
+abbrev pub with_act : ToldMoment → Option TriedAt → Option MountedAt → ToldReport → ToldReport
+with_act m tried mounted r = record {
+  opening = r.opening;
+  moments = r.moments ++ m ∷ [];
+  groups = r.groups ++ given_in tried;
+  commands = r.commands ++ listed tried;
+  mounted = r.mounted ++ listed mounted;
+}
+
+abbrev pub map_option : {A B : Type 0} → (A → B) → Option A → Option B
+map_option f None = None
+map_option f (Some a) = Some (f a)
+
+-- what is known of an act before it is done
+pub record AimTold : Type 0 where
+  pub node : ℕ
+  pub command : Option Command
+  pub mounts : Bool
+
+abbrev pub aim_told : Aim → AimTold
+aim_told a = record { node = a.id; command = map_option command_of a.command; mounts = a.mounts }
+
+-- the command that was tried in an act with this aim
+abbrev pub tried_by : AimTold → Outcome → Option Durable → Option Tried
+tried_by aim o found = tried_in (aim.mounts && is_unmounted (mounted_now aim.mounts found)) aim.command o
+
+-- this is told of an act that was done: its node is as it is now, and had tried so many commands before
+pub record IsToldOf (a : Act) (aim : AimTold) (o : Outcome) (node : Node Memory) (before : ℕ) (t : Told) : Type 0 where
+  pub moment : moment_in t.moment ≡ record { act = a; node = aim.node; outcome = o; state = node.state }
+  pub tried : map_option tried_of t.tried ≡ tried_at aim.node (tried_by aim o node.found)
+  pub mounted : map_option mounted_of t.mounted ≡ mounted_at aim.node before (mounted_now aim.mounts node.found)
+
+-- a raise that was acknowledged answers a count
+abbrev pub IsAnswered : Option Command → Outcome → Type 0
+IsAnswered command (outcome.Done answer first many) = (count : ℕ) → command ≡ Some Raise → answer ≡ Some count → 1 ≤ count
+IsAnswered command (outcome.Refused why) = Unit {0}
+IsAnswered command outcome.Faulted = Unit {0}
+
+-- a report with one more node that opened
+abbrev pub with_opening : ℕ → State → ToldReport → ToldReport
+with_opening n s r = record {
+  opening = r.opening ++ s ∷ [];
+  moments = r.moments;
+  groups = r.groups ++ own_group n 1 ∷ [];
+  commands = r.commands ++ record { node = n; tried = record { command = Raise; acked = Some 1 } } ∷ [];
+  mounted = r.mounted ++ record { node = n; mounting = record { before = 0; state = formatted } } ∷ [];
+}
+
+-- a new count is no smaller than 1
+abbrev pub IsCount : Option Marked → Type 0
+IsCount None = Unit {0}
+IsCount (Some m) = (count : ℕ) → m.command ≡ kept.Raise → m.acked ≡ Some count → 1 ≤ count
+
+-- ---- a cluster with its report
+
+pub record Recorded : Type 0 where
+  pub machine : Machine
+  pub report : ToldReport
+
+-- a run of the acts so far, of which this is the report, left the cluster as it is
+pub record Tells (c : Recorded) (w : World) (r : Report) : Type 0 where
+  pub stands : StandsFor c.machine w
+  pub left : IsLeft (length c.machine.nodes) c.machine.slots w r
+  pub is_told : c.report ≡ told_report r
+
+-- the act had one of its steps, and run and report went on by it
+pub record GoesOn (w : World) (r : Report) (act : Act) (outcome : Outcome) (new : Recorded) : Type 0 where
+  pub step : Step
+  pub next : IsNext (length w.states) new.machine.slots w act step
+  pub is_told : outcome ≡ told (outcome_of (length w.states) w step)
+  pub tells : Tells new (world_after (length w.states) w step) (grown (length w.states) w act step r)
+
+-- so many commands each node tried
+pub record AreCounted (nodes : ℕ) (commands : List TriedAt) (counts : List ℕ) : Type 0 where
+  pub as_many : length counts ≡ nodes
+  pub each : (n k : ℕ) → slice_get counts n ≡ Some k → k ≡ length (own_commands n commands)
+
+-- what is true of every cluster that keeps a report
+pub record IsRecorded (machine : Machine) (report : ToldReport) (counts : List ℕ) : Type 0 where
+  pub world : World
+  pub run : Report
+  pub tells : Tells (record { machine = machine; report = report }) world run
+  pub counted : AreCounted (length machine.nodes) report.commands counts
+
+-- how many jobs a node may take in hand in one step, where its disk has so many slots
+abbrev pub pending_room : ℕ → Bool → Option Durable → ℕ
+pending_room slots true kept = slots
+pending_room slots false None = slots
+pending_room slots false (Some d) = length d.pending
+
+-- ---- what is promised of a report and of all messages that were sent
+
+pub record IsPromised (nodes slots : ℕ) (acts : List Act) (report : ToldReport) (sent : List Envelope) : Type 0 where
+  pub run : Report
+  pub is_told : report ≡ told_report run
+  pub of_acts : acts_in run ≡ acts
+  -- the messages of a moment are those of its numbers
+  pub numbered : (k : ℕ) (m : Moment) → slice_get run.moments k ≡ Some m → m.sent ≡ sent_under sent m.outcome
+  -- and it is the report of a run, that keeps groups and jobs
+  pub keeps : Headline nodes slots acts run
+
+-- some run of these acts, on a cluster of so many nodes that just opened, is the one that is told
+pub record HasRun (nodes : ℕ) (acts : List Act) (c : Recorded) : Type 0 where
+  pub world : World
+  pub run : Report
+  pub tells : Tells c world run
+  pub as_many : length c.machine.nodes ≡ nodes
+  pub of_acts : acts_in run ≡ acts

@@ -1,0 +1,69 @@
+// What is told of a run of a cluster.
+use crate::outcome::Outcome;
+use group_task::{GroupNo, NodeId};
+use job_model::{Job, Payload, Queue};
+use node_core::Vector;
+use schedule::Act;
+
+/// What came of the acts of a cluster, from its opening on.
+#[derive(Drop)]
+pub struct Report {
+    /// The vector of each node by its id, as it opened.
+    pub opening: Vec<Vector>,
+    /// One for each act, in their order.
+    pub moments: Vec<Moment>,
+    /// The groups that nodes started, each once its count was on their disk. Those of the openings come first.
+    pub groups: Vec<GroupNo>,
+    /// The commands that nodes tried on their disks. The raises of the openings come first.
+    pub commands: Vec<Marked>,
+    /// The mountings that succeeded. Those of the openings come first.
+    pub mounted: Vec<Mounted>,
+}
+
+/// One act, and what came of it.
+#[derive(Drop)]
+pub struct Moment {
+    pub act: Act,
+    /// The node that the act names, or the receiver of the message; node 0 where that is no node of the cluster, and for an act of the
+    /// network alone.
+    pub node: NodeId,
+    /// The messages that were sent have the numbers that are told here, in the network's list.
+    pub outcome: Outcome,
+    /// What that node knows after the act.
+    pub vector: Vector,
+}
+
+/// A command that a node tried on its disk.
+#[derive(Clone, Copy, Debug, PartialEq, Eq)]
+pub struct Marked {
+    pub node: NodeId,
+    pub command: Command,
+    /// The new count, the new id, or the id that is done. None where the device failed: whether the disk keeps the command is
+    /// open until it is mounted.
+    pub acked: Option<u64>,
+}
+
+/// What a node asks of its disk.
+#[derive(Clone, Copy, Debug, PartialEq, Eq)]
+pub enum Command {
+    /// The counter of groups rises by one.
+    Raise,
+    /// A job becomes pending.
+    Put(Queue, Payload),
+    /// The job of this id, which is pending, is done.
+    Done(u64),
+}
+
+/// What a node found when it mounted its disk.
+#[derive(Drop)]
+pub struct Mounted {
+    pub node: NodeId,
+    /// How many commands that node had tried before.
+    pub before: u64,
+    /// The counter of groups, from before the raise that follows.
+    pub count: u64,
+    /// The id of the next job.
+    pub next: u64,
+    /// The jobs that aren't done, in order of id.
+    pub pending: Vec<Job>,
+}

@@ -1,0 +1,251 @@
+// A cluster of nodes over disks in memory, and the network between them.
+ghost use Rattle.std.specs.Prelude.{◌≡◌, ◌≤◌, ◌<◌, ◌&&◌, length, nat_lt, slice_get, Some, None, IfOk, OnErr, ℕ};
+ghost use Rattle.group_task.specs.declared.node.TheConstants.{NODES};
+ghost use Rattle.durable_node.specs.What.{brought, AreAddressed};
+ghost use Rattle.schedule.specs.declared.act.Act.TheVariants as act;
+ghost use Rattle.cluster_sim.specs.Acts.{At};
+ghost use Rattle.cluster_sim.specs.Events.{event_at};
+ghost use Rattle.cluster_sim.specs.Machine.{AreOpened, StandsFor, CameOf, Makes, Acted, FaultsAt};
+ghost use Rattle.cluster_sim.specs.Reporting.{node_named, node_or_first, receiver_or_first};
+ghost use Rattle.cluster_sim.specs.Run.{IsBrought};
+ghost use Rattle.cluster_sim.specs.World.{World, start};
+
+use crate::acts::event_at;
+use crate::member::{self, handle, nothing_sent};
+use crate::outcome::{Outcome, Refusal};
+use durable_node::DurableNode;
+use group_task::NodeId;
+use node_core::Event;
+use schedule::{Act, Fill};
+use sector_disk::MemDisk;
+use sim_net::Net;
+use std::alloc::{AllocError, Global};
+use std::marker::Model;
+
+/// The nodes of a cluster by their ids, each over its own disk in memory, and the network between them.
+#[derive(Drop)]
+pub struct Simulation {
+    slots: u64,
+    nodes: Vec<DurableNode<MemDisk>>,
+    net: Net,
+}
+
+impl Model for Simulation {
+    ghost use Rattle.cluster_sim.specs.Machine.{Machine, IsCluster};
+
+    ghost Value = { Machine };
+
+    ghost view = { λ a. record { slots = a.slots; nodes = a.nodes.items; net = a.net.network } };
+
+    ghost invariant = { λ a. IsCluster a.slots a.nodes.items };
+}
+
+impl Simulation {
+    /// Nodes over new disks of so many slots, each of which was formatted, mounted and recovered. Nothing is sent.
+    ///
+    /// Refused where there is no memory.
+    pub fn open(alloc: Global, nodes: u8, slots: u64) -> Result<Simulation, AllocError>
+        requires least { 1 ≤ nodes }
+        requires most { nodes ≤ NODES }
+        requires least_slots { 4 ≤ slots }
+        requires most_slots { slots ≤ 4096 }
+        ensures slots { IfOk result (λ simulation. simulation.slots ≡ slots) }
+        ensures starts { IfOk result (λ simulation. StandsFor simulation (start nodes)) }
+    {
+        let members = opened(alloc, nodes, slots)?;
+        Ok(Simulation {
+            slots,
+            nodes: members,
+            net: Net::new(alloc),
+        })
+    }
+
+    /// One act. It is refused where it names a node outside the cluster, and else as the node or the network refuses it:
+    /// then nothing changed. An error says that there was no memory for it, and nothing changed either.
+    pub fn step(&mut self, act: &Act) -> Result<Outcome, AllocError>
+        ensures slots { self.new.slots ≡ self.old.slots }
+        ensures acted { (w : World) → StandsFor self.old w → IfOk result (λ outcome. Acted w act.now outcome self.new) }
+        ensures memory { (w : World) → StandsFor self.old w → OnErr result (StandsFor self.new w) }
+        ensures faults { IfOk result (FaultsAt (node_named (length self.old.nodes) self.old.net.sent act.now) self.old self.new) }
+    {
+        match event_at(act) {
+            Some(comes) => self.take(comes.0, comes.1),
+            None => self.apply(act),
+        }
+    }
+
+    /// The node of this id.
+    pub fn node(&self, id: NodeId) -> &DurableNode<MemDisk>
+        requires { id < length self.now.nodes }
+        ensures { slice_get self.now.nodes id ≡ Some result.now }
+    {
+        &self.nodes[usize::from(id.number())]
+    }
+
+    /// The network, with all that was ever sent.
+    pub fn net(&self) -> &Net
+        ensures { result.now.network ≡ self.now.net }
+    {
+        &self.net
+    }
+
+    /// The network alone, with all that was ever sent.
+    pub fn into_net(self) -> Net
+        ensures { result.network ≡ self.net }
+    {
+        self.net
+    }
+
+    /// How many slots an area of each disk has.
+    pub fn slots(&self) -> u64
+        ensures value { result ≡ self.now.slots }
+        ensures most { result ≤ 4096 }
+    {
+        self.slots
+    }
+
+    /// How many nodes there are.
+    pub fn count(&self) -> u8
+        ensures value { result ≡ length self.now.nodes }
+        ensures least { 1 ≤ result }
+        ensures most { result ≤ NODES }
+    {
+        self.nodes.len() as u8
+    }
+
+    /// An event at a node, and what is sent of it.
+    fn take(&mut self, id: NodeId, event: Event) -> Result<Outcome, AllocError>
+        ensures slots { self.new.slots ≡ self.old.slots }
+        ensures acted { (w : World) (number : ℕ) → StandsFor self.old w → IsBrought w number (brought (Some event)) → AreAddressed id (brought (Some event))
+            → IfOk result (λ outcome. Makes (λ step. At (nat_lt id (length w.states)) id number (CameOf event) step) w outcome self.new) }
+        ensures memory { (w : World) → StandsFor self.old w → OnErr result (StandsFor self.new w) }
+        ensures faults { IfOk result (FaultsAt (node_or_first (length self.old.nodes) id) self.old self.new) }
+    {
+        let count = self.nodes.len();
+        let place = usize::from(id.number());
+        if place >= count {
+            return Ok(Outcome::Refused(Refusal::Stranger));
+        }
+        handle(&mut self.nodes[place], &mut self.net, count, event)
+    }
+
+    /// Delivers the message of this number at its receiver.
+    fn deliver(&mut self, number: u64) -> Result<Outcome, AllocError>
+        ensures slots { self.new.slots ≡ self.old.slots }
+        ensures acted { (w : World) → StandsFor self.old w → IfOk result (λ outcome. Acted w (act.Deliver number) outcome self.new) }
+        ensures memory { (w : World) → StandsFor self.old w → OnErr result (StandsFor self.new w) }
+        ensures faults { IfOk result (FaultsAt (receiver_or_first (length self.old.nodes) (slice_get self.old.net.sent number)) self.old self.new) }
+    {
+        match self.net.deliver(number) {
+            Ok(message) => self.take(message.receiver(), Event::Deliver(message)),
+            Err(fault) => Ok(Outcome::Refused(Refusal::Net(fault))),
+        }
+    }
+
+    /// Loses the message of this number.
+    fn lose(&mut self, number: u64) -> Outcome
+        ensures slots { self.new.slots ≡ self.old.slots }
+        ensures acted { (w : World) → StandsFor self.old w → Acted w (act.Lose number) result self.new }
+        ensures faults { FaultsAt 0 self.old self.new result }
+    {
+        match self.net.lose(number) {
+            Ok(()) => nothing_sent(&self.net),
+            Err(fault) => Outcome::Refused(Refusal::Net(fault)),
+        }
+    }
+
+    /// Cuts two nodes from one another.
+    fn cut(&mut self, a: NodeId, b: NodeId) -> Outcome
+        ensures slots { self.new.slots ≡ self.old.slots }
+        ensures acted { (w : World) → StandsFor self.old w → Acted w (act.Cut a b) result self.new }
+        ensures faults { FaultsAt 0 self.old self.new result }
+    {
+        if !self.has_both(a, b) {
+            return Outcome::Refused(Refusal::Stranger);
+        }
+        self.net.cut(a, b);
+        nothing_sent(&self.net)
+    }
+
+    /// Joins two nodes again.
+    fn mend(&mut self, a: NodeId, b: NodeId) -> Outcome
+        ensures slots { self.new.slots ≡ self.old.slots }
+        ensures acted { (w : World) → StandsFor self.old w → Acted w (act.Mend a b) result self.new }
+        ensures faults { FaultsAt 0 self.old self.new result }
+    {
+        if !self.has_both(a, b) {
+            return Outcome::Refused(Refusal::Stranger);
+        }
+        self.net.mend(a, b);
+        nothing_sent(&self.net)
+    }
+
+    /// Whether both nodes are in the cluster.
+    fn has_both(&self, a: NodeId, b: NodeId) -> bool
+        ensures { result ≡ (nat_lt a (length self.now.nodes) && nat_lt b (length self.now.nodes)) }
+    {
+        let count = self.nodes.len();
+        usize::from(a.number()) < count && usize::from(b.number()) < count
+    }
+
+    /// Arms the disk of a node.
+    fn arm(&mut self, id: NodeId, calls: u64) -> Outcome
+        ensures slots { self.new.slots ≡ self.old.slots }
+        ensures acted { (w : World) → StandsFor self.old w → Acted w (act.Arm id calls) result self.new }
+        ensures faults { FaultsAt (node_or_first (length self.old.nodes) id) self.old self.new result }
+    {
+        let place = usize::from(id.number());
+        if place >= self.nodes.len() {
+            return Outcome::Refused(Refusal::Stranger);
+        }
+        member::arm(&mut self.nodes[place], &self.net, calls)
+    }
+
+    /// Crashes a node.
+    fn crash(&mut self, id: NodeId, fill: &Fill) -> Outcome
+        ensures slots { self.new.slots ≡ self.old.slots }
+        ensures acted { (w : World) → StandsFor self.old w → Acted w (act.Crash id fill.now) result self.new }
+        ensures faults { FaultsAt (node_or_first (length self.old.nodes) id) self.old self.new result }
+    {
+        let place = usize::from(id.number());
+        if place >= self.nodes.len() {
+            return Outcome::Refused(Refusal::Stranger);
+        }
+        member::crash(&mut self.nodes[place], &self.net, fill)
+    }
+
+    /// An act that is no event of its own.
+    fn apply(&mut self, act: &Act) -> Result<Outcome, AllocError>
+        requires { event_at act.now ≡ None }
+        ensures slots { self.new.slots ≡ self.old.slots }
+        ensures acted { (w : World) → StandsFor self.old w → IfOk result (λ outcome. Acted w act.now outcome self.new) }
+        ensures memory { (w : World) → StandsFor self.old w → OnErr result (StandsFor self.new w) }
+        ensures faults { IfOk result (FaultsAt (node_named (length self.old.nodes) self.old.net.sent act.now) self.old self.new) }
+    {
+        match act {
+            Act::Deliver(number) => self.deliver(*number),
+            Act::Lose(number) => Ok(self.lose(*number)),
+            Act::Cut(a, b) => Ok(self.cut(*a, *b)),
+            Act::Mend(a, b) => Ok(self.mend(*a, *b)),
+            Act::Arm(id, calls) => Ok(self.arm(*id, *calls)),
+            Act::Crash(id, fill) => Ok(self.crash(*id, fill)),
+            _ => unreachable!(),
+        }
+    }
+}
+
+/// So many nodes, each over a new disk of so many slots.
+fn opened(alloc: Global, nodes: u8, slots: u64) -> Result<Vec<DurableNode<MemDisk>>, AllocError>
+    requires most { nodes ≤ NODES }
+    requires least_slots { 4 ≤ slots }
+    requires most_slots { slots ≤ 4096 }
+    ensures { IfOk result (λ members. AreOpened slots nodes nodes members.items) }
+{
+    let mut members = Vec::new(alloc);
+    for number in 0..nodes {
+        let id = NodeId::numbered(number);
+        let node = DurableNode::open(alloc, id, nodes, slots)?;
+        members.push(node)?;
+    }
+    Ok(members)
+}

@@ -1,0 +1,92 @@
+//! Spellings of messages as they are kept. A letter tells its message, but for a Ready and a Work, whose bodies are kept beside it.
+
+ghost use Rattle.std.specs.Prelude.{◌≡◌, ◌∷◌, ◌++◌, [], ℕ, List, true, IfOk, OnOk};
+ghost use Rattle.std.specs.Int.{w64, to_be_bytes};
+ghost use Rattle.group_task.specs.Assignment.{Assignment};
+ghost use Rattle.wire_msg.specs.Spelling.{spelling, truth};
+ghost use Rattle.sim_net.specs.declared.letter.KeptWork.{KeptWork as Kept};
+ghost use Rattle.sim_net.specs.Letters.{is_whole, message_of};
+
+use crate::letter::{Kind, Letter};
+use std::alloc::AllocError;
+use wire_msg::{Message, encode_into};
+
+/// Writes the spelling of a letter's message in place of what `bytes` held. False says that the letter isn't the whole message.
+pub fn spell_letter(bytes: &mut Vec<u8>, letter: &Letter) -> Result<bool, AllocError>
+    ensures whole { IfOk result (λ whole. whole ≡ is_whole letter.now.kind) }
+    ensures spelled { IfOk result (λ whole. whole ≡ true → (tasks : List Assignment) (works : List Kept) (payloads : List ℕ)
+        → bytes.new.items ≡ spelling (message_of tasks works payloads letter.now)) }
+{
+    match letter.kind {
+        Kind::AreYouCoordinator => begin(bytes, letter, 1, 0)?,
+        Kind::Coordinator(answer) => {
+            begin(bytes, letter, 2, 1)?;
+            push_truth(bytes, answer)?;
+        }
+        Kind::AreYouThere => spell_group(bytes, letter, 3)?,
+        Kind::Here(answer) => {
+            begin(bytes, letter, 4, 10)?;
+            push_group(bytes, letter)?;
+            push_truth(bytes, answer)?;
+        }
+        Kind::Invitation => spell_group(bytes, letter, 5)?,
+        Kind::Accept => spell_group(bytes, letter, 6)?,
+        Kind::ReadyAck => spell_group(bytes, letter, 8)?,
+        Kind::Done => {
+            begin(bytes, letter, 10, 8)?;
+            bytes.extend_from_slice(&letter.number.to_be_bytes())?;
+        }
+        Kind::Ready | Kind::Work => return Ok(false),
+    }
+    Ok(true)
+}
+
+/// Writes the spelling of a message in place of what `bytes` held.
+pub fn spell_message(bytes: &mut Vec<u8>, message: &Message) -> Result<(), AllocError>
+    ensures { OnOk result (bytes.new.items ≡ spelling message.now) }
+{
+    if encode_into(bytes, message).is_err() {
+        return Err(AllocError);
+    }
+    Ok(())
+}
+
+/// A spelling up to its body: version, kind, sender, receiver, and how many bytes the body has.
+fn begin(bytes: &mut Vec<u8>, letter: &Letter, kind: u8, len: u8) -> Result<(), AllocError>
+    ensures { OnOk result (bytes.new.items ≡ 1 ∷ kind ∷ letter.now.sender ∷ letter.now.receiver ∷ 0 ∷ len ∷ []) }
+{
+    let head = [
+        1,
+        kind,
+        letter.sender.number(),
+        letter.receiver.number(),
+        0,
+        len,
+    ];
+    bytes.clear();
+    bytes.extend_from_slice(&head)
+}
+
+/// The spelling of a message that says a group alone.
+fn spell_group(bytes: &mut Vec<u8>, letter: &Letter, kind: u8) -> Result<(), AllocError>
+    ensures { OnOk result (bytes.new.items
+        ≡ 1 ∷ kind ∷ letter.now.sender ∷ letter.now.receiver ∷ 0 ∷ 9 ∷ letter.now.creator ∷ to_be_bytes w64 letter.now.number) }
+{
+    begin(bytes, letter, kind, 9)?;
+    push_group(bytes, letter)
+}
+
+/// Adds the group that a letter names.
+fn push_group(bytes: &mut Vec<u8>, letter: &Letter) -> Result<(), AllocError>
+    ensures { OnOk result (bytes.new.items ≡ bytes.old.items ++ letter.now.creator ∷ to_be_bytes w64 letter.now.number) }
+{
+    let number = letter.number.to_be_bytes();
+    bytes.push(letter.creator.number())?;
+    bytes.extend_from_slice(&number)
+}
+
+fn push_truth(bytes: &mut Vec<u8>, answer: bool) -> Result<(), AllocError>
+    ensures { OnOk result (bytes.new.items ≡ bytes.old.items ++ truth answer) }
+{
+    Ok(bytes.push(u8::from(answer))?)
+}
