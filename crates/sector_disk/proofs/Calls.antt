@@ -1,5 +1,5 @@
 -- The value of a disk in memory after each call.
-use Rattle.std.proofs.Common.{◌≡◌, ◌<◌, ◌+◌, ◌*◌, ⊎_elim, ℕ, List, [], ◌∷◌, ◌++◌, ◌==◌, Bool, true, false, if◌then◌else◌, IsTrue, IsFalse, Vec, Global, Option, None, length, get_or, set, take, drop, count_by, replicate, sym, ◌∙◌, ap, subst, refl, arith}
+use Rattle.std.proofs.Common.{◌≡◌, ◌<◌, ◌+◌, ◌*◌, ⊎_elim, ℕ, List, [], ◌∷◌, ◌++◌, ◌==◌, Bool, true, false, if◌then◌else◌, IsTrue, IsFalse, Option, None, length, get_or, set, take, drop, count_by, replicate, sym, ◌∙◌, ap, subst, refl, arith}
 use Rattle.std.proofs.lemmas.List.{length-set, get_or-set_other, get_or-replicate, get_or_past, length-replicate, drop-drop}
 use Rattle.std.proofs.lemmas.List.Sums.{count_by_more_yes, count_by_more_no}
 use Rattle.std.proofs.lemmas.Bool.Decides.{eqb_tells}
@@ -10,10 +10,10 @@ use Rattle.sector_disk.specs.Crash.{IsCrashed, fill_at, filled, torn_at}
 use Rattle.sector_disk.specs.Undo.{AddsNote, EndsTime, EndsNothing, IsNoted, undone, spans_of, touched, has_touched}
 use Rattle.sector_disk.specs.Moments.{writes, syncs, stays}
 use Rattle.sector_disk.specs.declared.overwritten.Overwritten.{Overwritten}
-use Rattle.sector_disk.proofs.Notes.{all_false, eqb_same, undone-written, undone_elsewhere, length-undone, spans_of-append}
+use Rattle.sector_disk.proofs.Undoing.{all_false, eqb_same, undone-written, undone_elsewhere, length-undone, spans_of-append}
 
 -- what contracts see of these fields
-abbrev pub seen : Image → List Bool → List Overwritten → List (Vec Overwritten Global) → ℕ → Option ℕ → Memory
+abbrev pub seen : Image → List Bool → List Overwritten → List (List Overwritten) → ℕ → Option ℕ → Memory
 seen sectors unsynced notes spans failures left = record {
   contents = sectors;
   synced = undone notes sectors;
@@ -23,7 +23,7 @@ seen sectors unsynced notes spans failures left = record {
   left = left;
 }
 
-pub written : (sectors : Image) (unsynced : List Bool) (old new : List Overwritten) (spans : List (Vec Overwritten Global)) (failures at : ℕ) (bytes : List ℕ) (left more : Option ℕ)
+pub written : (sectors : Image) (unsynced : List Bool) (old new : List Overwritten) (spans : List (List Overwritten)) (failures at : ℕ) (bytes : List ℕ) (left more : Option ℕ)
     → AddsNote sectors at old new → more ≡ spent left
     → seen (set sectors at bytes) (set unsynced at true) new spans failures more
     ≡ record (seen sectors unsynced old spans failures left) { contents = set sectors at bytes; unsynced = set unsynced at true; left = spent left }
@@ -53,17 +53,17 @@ none_unsynced n at = ⊎_elim
     (λ off. get_or_past (replicate n false) at false (simp length-replicate off))
     (cases_lt at n)
 
-pub sync_touches : (sectors : Image) (unsynced now : List Bool) (old new : List Overwritten) (spans more : List (Vec Overwritten Global)) (failures : ℕ) (left after : Option ℕ) (n : ℕ)
+pub sync_touches : (sectors : Image) (unsynced now : List Bool) (old new : List Overwritten) (spans more : List (List Overwritten)) (failures : ℕ) (left after : Option ℕ) (n : ℕ)
     → EndsTime sectors unsynced old spans more → new ≡ [] → now ≡ replicate n false
     → Touches nothing (state_of (seen sectors unsynced old spans failures left)) (state_of (seen sectors now new more failures after))
 sync_touches sectors unsynced now old new spans more failures left after n ends begun settled =
-    syncs (seen sectors unsynced old spans failures left) (seen sectors now new more failures after) (record { contents = sectors; written = touched ends.ended.items })
+    syncs (seen sectors unsynced old spans failures left) (seen sectors now new more failures after) (record { contents = sectors; written = touched ends.ended })
     refl
     (λ at. ap (λ l. get_or l at false) settled ∙ none_unsynced n at)
     (ap (λ l. spans_of more (undone l sectors)) begun
     ∙ ap (λ l. spans_of l sectors) ends.added
     ∙ spans_of-append spans ends.ended sectors
-    ∙ ap (λ s. spans_of spans s ++ (record { contents = sectors; written = touched ends.ended.items }) ∷ []) ends.back)
+    ∙ ap (λ s. spans_of spans s ++ (record { contents = sectors; written = touched ends.ended }) ∷ []) ends.back)
     refl
     (λ at. ends.took at)
 
@@ -91,7 +91,7 @@ none_flagged sectors unsynced notes is_torn noted untorn none at =
     unless (get_or unsynced at false) (λ yes. false≢true (subst (λ l. IsTrue (has_touched l at)) none (noted.noted untorn at yes)))
 
 -- a sync where nothing was unsynced
-pub idle_touches : (sectors : Image) (unsynced now : List Bool) (old new : List Overwritten) (spans more : List (Vec Overwritten Global)) (failures : ℕ) (left after : Option ℕ) (is_torn : Bool)
+pub idle_touches : (sectors : Image) (unsynced now : List Bool) (old new : List Overwritten) (spans more : List (List Overwritten)) (failures : ℕ) (left after : Option ℕ) (is_torn : Bool)
     → IsNoted sectors unsynced old is_torn → EndsNothing unsynced spans more → new ≡ [] → now ≡ replicate (length unsynced) false
     → Touches nothing (state_of (seen sectors unsynced old spans failures left)) (state_of (seen sectors now new more failures after))
 idle_touches sectors unsynced now old new spans more failures left after is_torn noted ends begun settled =
@@ -119,7 +119,7 @@ pub torn_no : (unsynced : List Bool) (fill sector : List ℕ) (at : ℕ) → IsF
 torn_no unsynced fill sector at is = ap (λ b. if b then filled (fill_at unsynced at fill) sector else sector) is
 
 -- the sectors before the unsynced writes, with the fill over those that were written
-pub crashed : (sectors filled_in : Image) (unsynced : List Bool) (notes : List Overwritten) (spans : List (Vec Overwritten Global)) (failures : ℕ) (left : Option ℕ) (is_torn : Bool) (fill : List ℕ)
+pub crashed : (sectors filled_in : Image) (unsynced : List Bool) (notes : List Overwritten) (spans : List (List Overwritten)) (failures : ℕ) (left : Option ℕ) (is_torn : Bool) (fill : List ℕ)
     → IsNoted sectors unsynced notes is_torn → length filled_in ≡ length sectors
     → ((at : ℕ) → at < length (undone notes sectors) → sector_at filled_in at ≡ torn_at unsynced fill at (sector_at (undone notes sectors) at))
     → IsCrashed (seen sectors unsynced notes spans failures left) fill filled_in
@@ -138,7 +138,7 @@ crashed sectors filled_in unsynced notes spans failures left is_torn fill noted 
 pub crash_left : (m : Memory) (fill : List ℕ) (image : Image) → IsCrashed m fill image → IsImage (state_of m) image
 crash_left m fill image is = record { size = is.size; same = is.settled }
 
-pub begun_anew : (sectors : Image) (unsynced : List Bool) (notes : List Overwritten) (spans : List (Vec Overwritten Global)) (failures n : ℕ)
+pub begun_anew : (sectors : Image) (unsynced : List Bool) (notes : List Overwritten) (spans : List (List Overwritten)) (failures n : ℕ)
     → notes ≡ [] → spans ≡ [] → unsynced ≡ replicate n false → n ≡ length sectors → seen sectors unsynced notes spans failures None ≡ all_synced sectors failures
 begun_anew sectors unsynced notes spans failures n no_notes no_spans settled size =
     ap (λ l. seen sectors unsynced l spans failures None) no_notes

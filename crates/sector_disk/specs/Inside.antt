@@ -5,13 +5,13 @@ use Rattle.sector_disk.specs.declared.memory.MemDisk.TheInside.{Inside}
 
 abbrev pub memory_of : Inside → Memory
 memory_of disk = record {
-  contents = disk.sectors.items;
-  synced = undone disk.notes.items disk.sectors.items;
+  contents = disk.sectors;
+  synced = undone disk.notes.since disk.sectors;
   unsynced = disk.unsynced.items;
-  spans = spans_of disk.spans.items (undone disk.notes.items disk.sectors.items);
+  spans = spans_of disk.notes.times (undone disk.notes.since disk.sectors);
   failures = disk.failures;
   left = disk.left;
 }
 
 abbrev pub HasNotes : Inside → Type 0
-HasNotes disk = IsNoted disk.sectors.items disk.unsynced.items disk.notes.items disk.torn
+HasNotes disk = IsNoted disk.sectors disk.unsynced.items disk.notes.since disk.torn

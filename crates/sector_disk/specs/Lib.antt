@@ -5,4 +5,7 @@ pub mod Crash
 pub mod Undo
 pub mod Moments
 pub mod Inside
+pub mod Kept
+pub mod Noted
+pub mod Times
 pub mod Blank

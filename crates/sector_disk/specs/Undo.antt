@@ -1,6 +1,5 @@
 -- How the notes of a disk in memory lead back to what it held.
-use Rattle.std.specs.Prelude.{◌≡◌, ℕ, ◌-◌, List, [], ◌∷◌, ◌++◌, length, set, get_or, take, replicate, Bool, false, IsTrue, IsFalse, Vec}
-use Rattle.std.specs.declared.alloc.Global.{Global}
+use Rattle.std.specs.Prelude.{◌≡◌, ℕ, ◌-◌, List, [], ◌∷◌, ◌++◌, length, set, get_or, take, replicate, Bool, false, IsTrue, IsFalse}
 use Rattle.sector_disk.specs.Disk.{Image, sector_at}
 use Rattle.sector_disk.specs.Memory.{Span, was_written}
 use Rattle.sector_disk.specs.declared.overwritten.Overwritten.{Overwritten}
@@ -23,14 +22,14 @@ abbrev pub has_touched : List Overwritten → ℕ → Bool
 has_touched notes at = was_written (touched notes) at
 
 -- the sectors before the writes of these times, the first of them first
-abbrev pub before : List (Vec Overwritten Global) → Image → Image
+abbrev pub before : List (List Overwritten) → Image → Image
 before [] sectors = sectors
-before (notes ∷ more) sectors = undone notes.items (before more sectors)
+before (notes ∷ more) sectors = undone notes (before more sectors)
 
 -- the times that ended where these sectors stand: each ended where the next one began
-abbrev pub spans_of : List (Vec Overwritten Global) → Image → List Span
+abbrev pub spans_of : List (List Overwritten) → Image → List Span
 spans_of [] sectors = []
-spans_of (notes ∷ more) sectors = record { contents = before more sectors; written = touched notes.items } ∷ spans_of more sectors
+spans_of (notes ∷ more) sectors = record { contents = before more sectors; written = touched notes } ∷ spans_of more sectors
 
 -- A note is added: what a sector holds, so that a write to it can be undone.
 pub record AddsNote (sectors : Image) (at : ℕ) (old new : List Overwritten) : Type 0 where
@@ -46,13 +45,13 @@ pub record IsNoted (sectors : Image) (unsynced : List Bool) (notes : List Overwr
   pub noted : IsFalse torn → (at : ℕ) → IsTrue (get_or unsynced at false) → IsTrue (has_touched notes at)
 
 -- A time has ended: its notes tell the same sectors, and back to the same contents, as those of before.
-pub record EndsTime (sectors : Image) (unsynced : List Bool) (notes : List Overwritten) (old new : List (Vec Overwritten Global)) : Type 0 where
-  pub ended : Vec Overwritten Global
+pub record EndsTime (sectors : Image) (unsynced : List Bool) (notes : List Overwritten) (old new : List (List Overwritten)) : Type 0 where
+  pub ended : List Overwritten
   pub added : new ≡ old ++ ended ∷ []
-  pub back : undone ended.items sectors ≡ undone notes sectors
-  pub took : (at : ℕ) → has_touched ended.items at ≡ get_or unsynced at false
+  pub back : undone ended sectors ≡ undone notes sectors
+  pub took : (at : ℕ) → has_touched ended at ≡ get_or unsynced at false
 
 -- Nothing was unsynced, so no time has ended.
-pub record EndsNothing (unsynced : List Bool) (old new : List (Vec Overwritten Global)) : Type 0 where
+pub record EndsNothing (unsynced : List Bool) (old new : List (List Overwritten)) : Type 0 where
   pub none : (at : ℕ) → IsFalse (get_or unsynced at false)
   pub same : new ≡ old

@@ -5,8 +5,10 @@
 mod disk;
 mod fault;
 mod memory;
+mod notes;
 mod overwritten;
 mod sector;
+mod sectors;
 #[cfg(test)]
 mod tests;
 

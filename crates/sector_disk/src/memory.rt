@@ -9,11 +9,12 @@ ghost use Rattle.sector_disk.specs.declared.fault.DiskFault.TheVariants.{Device,
 
 use crate::disk::SectorDisk;
 use crate::fault::DiskFault;
-use crate::overwritten::{Overwritten, clear_noted, note, note_unsynced, undo};
-use crate::sector::{Sector, fill_from};
+use crate::notes::Notes;
+use crate::overwritten::{note, note_unsynced, undo};
+use crate::sector::Sector;
+use crate::sectors::Sectors;
 use std::alloc::{AllocError, Global};
 use std::marker::Model;
-use std::mem;
 
 /// A disk in memory. It is always honest.
 ///
@@ -23,15 +24,13 @@ use std::mem;
 #[derive(Drop)]
 pub struct MemDisk {
     alloc: Global,
-    sectors: Vec<Sector>,
+    sectors: Sectors,
     // Which sectors a write took since the last sync, done or failed.
     unsynced: Vec<bool>,
-    // What the writes since the last sync took the place of.
-    notes: Vec<Overwritten>,
+    // What the writes took the place of, since it was made or last crashed.
+    notes: Notes,
     // Whether a write since the last sync failed: then not every unsynced sector has a note.
     torn: bool,
-    // The notes of the times from one sync to the next that are over.
-    spans: Vec<Vec<Overwritten>>,
     failures: u64,
     // How many calls still pass, where it is armed.
     left: Option<u64>,
@@ -55,15 +54,14 @@ impl MemDisk {
         ensures { IfOk result (λ disk. disk ≡ blank sectors) }
     {
         let count = sectors as usize;
-        let contents = vec![in alloc; [0; 512]; count]?;
+        let contents = Sectors::zeros(alloc, count)?;
         let unsynced = vec![in alloc; false; count]?;
         Ok(MemDisk {
             alloc,
             sectors: contents,
             unsynced,
-            notes: Vec::new(alloc),
+            notes: Notes::new(alloc),
             torn: false,
-            spans: Vec::new(alloc),
             failures: 0,
             left: None,
         })
@@ -89,7 +87,7 @@ impl MemDisk {
         undo(&mut self.sectors, &mut self.notes);
         tear(&mut self.sectors, &self.unsynced, fill);
         self.unsynced.fill(false);
-        self.spans.clear();
+        self.notes.clear();
         self.torn = false;
         self.left = None;
     }
@@ -127,7 +125,7 @@ impl SectorDisk for MemDisk {
         if !spend(&mut self.left) {
             return failed(&mut self.failures);
         }
-        *into = self.sectors[at as usize];
+        self.sectors.read(at as usize, into);
         Ok(())
     }
 
@@ -168,7 +166,7 @@ impl SectorDisk for MemDisk {
             self.torn = true;
             return failed(&mut self.failures);
         }
-        self.sectors[at] = *from;
+        self.sectors.write(at, from);
         Ok(())
     }
 
@@ -201,7 +199,6 @@ impl SectorDisk for MemDisk {
             &mut self.unsynced,
             &mut self.notes,
             &mut self.torn,
-            &mut self.spans,
         )
         .is_err()
         {
@@ -239,15 +236,16 @@ fn failed(failures: &mut u64) -> Result<(), DiskFault>
 fn may_write(
     left: &mut Option<u64>,
     alloc: Global,
-    sectors: &[Sector],
-    notes: &mut Vec<Overwritten>,
+    sectors: &Sectors,
+    notes: &mut Notes,
     at: usize,
 ) -> bool
     requires { at < length sectors.now }
     ensures spent { left.new ≡ spent left.old }
     ensures passes { IsTrue result → IsTrue (passes left.old) }
-    ensures noted { IsTrue result → AddsNote sectors.now at notes.old.items notes.new.items }
-    ensures refused { IsFalse result → notes.new.items ≡ notes.old.items }
+    ensures noted { IsTrue result → AddsNote sectors.now at notes.old.since notes.new.since }
+    ensures refused { IsFalse result → notes.new.since ≡ notes.old.since }
+    ensures times { notes.new.times ≡ notes.old.times }
 {
     if !spend(left) {
         return false;
@@ -258,43 +256,41 @@ fn may_write(
 // Ends the time since the last sync, if there is memory for it.
 fn end_time(
     alloc: Global,
-    sectors: &[Sector],
+    sectors: &Sectors,
     unsynced: &mut [bool],
-    notes: &mut Vec<Overwritten>,
+    notes: &mut Notes,
     torn: &mut bool,
-    spans: &mut Vec<Vec<Overwritten>>,
 ) -> Result<(), AllocError>
-    requires { IsNoted sectors.now unsynced.old notes.old.items torn.old }
-    ensures noted { IsNoted sectors.now unsynced.new notes.new.items torn.new }
+    requires { IsNoted sectors.now unsynced.old notes.old.since torn.old }
+    ensures noted { IsNoted sectors.now unsynced.new notes.new.since torn.new }
     ensures settled { IsOk result → unsynced.new ≡ replicate (length unsynced.old) false }
-    ensures begun { IsOk result → notes.new.items ≡ [] }
-    ensures ended { IsOk result → EndsTime sectors.now unsynced.old notes.old.items spans.old.items spans.new.items
-        ⊎ EndsNothing unsynced.old spans.old.items spans.new.items }
+    ensures begun { IsOk result → notes.new.since ≡ [] }
+    ensures ended { IsOk result → EndsTime sectors.now unsynced.old notes.old.since notes.old.times notes.new.times
+        ⊎ EndsNothing unsynced.old notes.old.times notes.new.times }
     ensures unsynced { OnErr result (unsynced.new ≡ unsynced.old) }
-    ensures spans { OnErr result (spans.new.items ≡ spans.old.items) }
-    ensures back { OnErr result (undone notes.new.items sectors.now ≡ undone notes.old.items sectors.now) }
+    ensures spans { OnErr result (notes.new.times ≡ notes.old.times) }
+    ensures back { OnErr result (undone notes.new.since sectors.now ≡ undone notes.old.since sectors.now) }
 {
     note_torn(alloc, sectors, unsynced, notes, torn)?;
-    if notes.is_empty() {
+    if notes.since().is_empty() {
         return Ok(());
     }
-    file(alloc, notes, spans)?;
-    clear_noted(unsynced, &spans[spans.len() - 1]);
-    Ok(())
+    notes.end(unsynced)
 }
 
 // Sees to it that each unsynced sector has a note.
 fn note_torn(
     alloc: Global,
-    sectors: &[Sector],
+    sectors: &Sectors,
     unsynced: &[bool],
-    notes: &mut Vec<Overwritten>,
+    notes: &mut Notes,
     torn: &mut bool,
 ) -> Result<(), AllocError>
-    requires { IsNoted sectors.now unsynced.now notes.old.items torn.old }
-    ensures noted { IsNoted sectors.now unsynced.now notes.new.items torn.new }
-    ensures back { undone notes.new.items sectors.now ≡ undone notes.old.items sectors.now }
+    requires { IsNoted sectors.now unsynced.now notes.old.since torn.old }
+    ensures noted { IsNoted sectors.now unsynced.now notes.new.since torn.new }
+    ensures back { undone notes.new.since sectors.now ≡ undone notes.old.since sectors.now }
     ensures untorn { IsOk result → IsFalse torn.new }
+    ensures times { notes.new.times ≡ notes.old.times }
 {
     if !*torn {
         return Ok(());
@@ -304,30 +300,11 @@ fn note_torn(
     Ok(())
 }
 
-// Puts the notes with those of earlier times.
-fn file(
-    alloc: Global,
-    notes: &mut Vec<Overwritten>,
-    spans: &mut Vec<Vec<Overwritten>>,
-) -> Result<(), AllocError>
-    ensures filed { IsOk result → spans.new.items ≡ spans.old.items ++ notes.old ∷ [] }
-    ensures begun { IsOk result → notes.new.items ≡ [] }
-    ensures notes { OnErr result (notes.new.items ≡ notes.old.items) }
-    ensures spans { OnErr result (spans.new.items ≡ spans.old.items) }
-{
-    match spans.push(mem::replace(notes, Vec::new(alloc))) {
-        Ok(()) => Ok(()),
-        Err(failed) => {
-            *notes = failed.value;
-            Err(AllocError)
-        }
-    }
-}
-
 // Writes a fill over the unsynced sectors, in rising order.
-fn tear(sectors: &mut [Sector], unsynced: &[bool], fill: &[u8])
+fn tear(sectors: &mut Sectors, unsynced: &[bool], fill: &[u8])
     requires { length unsynced.now ≡ length sectors.old }
-    ensures { (at : ℕ) → at < length sectors.old
+    ensures size { length sectors.new ≡ length sectors.old }
+    ensures torn { (at : ℕ) → at < length sectors.old
         → sector_at sectors.new at ≡ torn_at unsynced.now fill.now at (sector_at sectors.old at) }
 {
     let mut rest = fill;
@@ -335,6 +312,6 @@ fn tear(sectors: &mut [Sector], unsynced: &[bool], fill: &[u8])
         if !unsynced[at] {
             continue;
         }
-        rest = fill_from(&mut sectors[at], rest);
+        rest = sectors.fill_from(at, rest);
     }
 }

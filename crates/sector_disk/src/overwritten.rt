@@ -2,7 +2,8 @@
 ghost use Rattle.std.specs.Prelude.{◌≡◌, ◌<◌, ◌⊎◌, ℕ, [], length, set, get_or, replicate, false, IsOk, IsTrue, OnErr};
 ghost use Rattle.sector_disk.specs.Undo.{AddsNote, undone, whole, has_touched};
 
-use crate::sector::{Sector, restore, trimmed};
+use crate::notes::Notes;
+use crate::sectors::Sectors;
 use std::alloc::{AllocError, Global};
 
 /// A sector that a write took, and the bytes that it held before, without the zeros at its end.
@@ -12,46 +13,36 @@ pub struct Overwritten {
     pub was: Vec<u8>,
 }
 
-// Room for one note where there is none yet: most syncs come after a single write.
-fn reserve_first(notes: &mut Vec<Overwritten>) -> Result<(), AllocError>
-    ensures { notes.new.items ≡ notes.old.items }
-{
-    if notes.is_empty() {
-        notes.reserve_exact(1)?;
-    }
-    Ok(())
-}
-
 // Notes what a sector holds, so that a write to it can be undone.
 pub fn note(
     alloc: Global,
-    sectors: &[Sector],
-    notes: &mut Vec<Overwritten>,
+    sectors: &Sectors,
+    notes: &mut Notes,
     at: usize,
 ) -> Result<(), AllocError>
     requires { at < length sectors.now }
-    ensures ok { IsOk result → AddsNote sectors.now at notes.old.items notes.new.items }
-    ensures err { OnErr result (notes.new.items ≡ notes.old.items) }
+    ensures ok { IsOk result → AddsNote sectors.now at notes.old.since notes.new.since }
+    ensures err { OnErr result (notes.new ≡ notes.old) }
+    ensures times { notes.new.times ≡ notes.old.times }
 {
-    let was = trimmed(&sectors[at]).to_vec(alloc)?;
-    reserve_first(notes)?;
-    notes.push(Overwritten { at, was })?;
-    Ok(())
+    let was = sectors.trimmed(at).to_vec(alloc)?;
+    notes.add(Overwritten { at, was })
 }
 
 // Notes each unsynced sector as it stands.
 pub fn note_unsynced(
     alloc: Global,
-    sectors: &[Sector],
+    sectors: &Sectors,
     unsynced: &[bool],
-    notes: &mut Vec<Overwritten>,
+    notes: &mut Notes,
 ) -> Result<(), AllocError>
     requires { length unsynced.now ≡ length sectors.now }
-    ensures same { undone notes.new.items sectors.now ≡ undone notes.old.items sectors.now }
-    ensures unsynced { (at : ℕ) → IsTrue (has_touched notes.new.items at)
-        → IsTrue (has_touched notes.old.items at) ⊎ IsTrue (get_or unsynced.now at false) }
-    ensures kept { (at : ℕ) → IsTrue (has_touched notes.old.items at) → IsTrue (has_touched notes.new.items at) }
-    ensures all { IsOk result → (at : ℕ) → IsTrue (get_or unsynced.now at false) → IsTrue (has_touched notes.new.items at) }
+    ensures same { undone notes.new.since sectors.now ≡ undone notes.old.since sectors.now }
+    ensures unsynced { (at : ℕ) → IsTrue (has_touched notes.new.since at)
+        → IsTrue (has_touched notes.old.since at) ⊎ IsTrue (get_or unsynced.now at false) }
+    ensures kept { (at : ℕ) → IsTrue (has_touched notes.old.since at) → IsTrue (has_touched notes.new.since at) }
+    ensures times { notes.new.times ≡ notes.old.times }
+    ensures all { IsOk result → (at : ℕ) → IsTrue (get_or unsynced.now at false) → IsTrue (has_touched notes.new.since at) }
 {
     for at in 0..unsynced.len() {
         if !unsynced[at] {
@@ -76,19 +67,19 @@ pub fn clear_noted(unsynced: &mut [bool], notes: &[Overwritten])
 }
 
 // Takes a noted write back.
-fn undo_one(sectors: &mut Vec<Sector>, note: &Overwritten)
-    ensures { sectors.new.items ≡ set sectors.old.items note.now.at (whole note.now.was.items) }
+fn undo_one(sectors: &mut Sectors, note: &Overwritten)
+    ensures { sectors.new ≡ set sectors.old note.now.at (whole note.now.was.items) }
 {
     if note.at >= sectors.len() {
         return;
     }
-    restore(&mut sectors[note.at], &note.was);
+    sectors.restore(note.at, &note.was);
 }
 
 // Takes the noted writes back, the last one first.
-pub fn undo(sectors: &mut Vec<Sector>, notes: &mut Vec<Overwritten>)
-    ensures back { sectors.new.items ≡ undone notes.old.items sectors.old.items }
-    ensures none { notes.new.items ≡ [] }
+pub fn undo(sectors: &mut Sectors, notes: &mut Notes)
+    ensures back { sectors.new ≡ undone notes.old.since sectors.old }
+    ensures none { notes.new.since ≡ [] }
 {
     while let Some(note) = notes.pop() {
         undo_one(sectors, &note);

@@ -1,5 +1,5 @@
 // A sector, and its bytes without the zeros at its end.
-ghost use Rattle.std.specs.Prelude.{◌≡◌, ◌≤◌, drop};
+ghost use Rattle.std.specs.Prelude.{◌≡◌, ◌≤◌, ◌↔◌, IsTrue, drop, replicate};
 ghost use Rattle.sector_disk.specs.Blank.{is_blank};
 ghost use Rattle.sector_disk.specs.Crash.{filled};
 ghost use Rattle.sector_disk.specs.Undo.{whole};
@@ -13,6 +13,13 @@ pub fn is_blank(sector: &Sector, from: usize) -> bool
     ensures { result ≡ is_blank (drop from sector.now) }
 {
     sector[from..].iter().filter(|byte| **byte != 0).count() == 0
+}
+
+// Whether a sector is all zeros.
+pub fn is_zero(sector: &Sector) -> bool
+    ensures { IsTrue result ↔ (sector.now ≡ replicate 512 0) }
+{
+    *sector == [0; 512]
 }
 
 pub fn trimmed(sector: &Sector) -> &[u8]

@@ -2,7 +2,7 @@ use Rattle.std.proofs.Common.{◌≡◌, ◌∙◌, ap, subst, replicate, false,
 use Rattle.std.proofs.lemmas.List.{drop_all}
 use Rattle.std.proofs.lemmas.Bool.{false≢true}
 use Rattle.sector_disk.specs.Undo.{has_touched}
-use Rattle.sector_disk.proofs.Notes.{all_false}
+use Rattle.sector_disk.proofs.Undoing.{all_false}
 use Rattle.sector_disk.proofs.overwritten.clear_noted.Goals as goal
 
 pub returns : goal.returns

@@ -1,4 +1,5 @@
-use Rattle.std.proofs.Common.{◌≡◌, ◌∙◌, ◌++◌, ◌∷◌, [], List, ap, refl, rules}
+use Rattle.std.proofs.Common.{◌≡◌, ◌∙◌, ap, refl, rules}
+use Rattle.sector_disk.specs.Noted.{Noted}
 use Rattle.sector_disk.specs.Undo.{whole}
 use Rattle.sector_disk.specs.declared.overwritten.Overwritten.{Overwritten}
 use Rattle.sector_disk.proofs.overwritten.note.Goals as goal
@@ -9,7 +10,7 @@ returns-clause-ok c = λ ok.
     let note : Overwritten = record { at = c.args.at; was = c.in_ok-was.was' } in
     record {
       note = note;
-      added = c.in_ok-push.ensures.items ∙ ap (λ (l : List Overwritten). l ++ note ∷ []) c.reserve_first.ensures;
+      added = ap (λ (n : Noted). n.since) (c.add.ensures.ok ok);
       here = refl;
       was = ap whole same ∙ c.trimmed.ensures ∙ search rules;
     }

@@ -1,18 +1,19 @@
 use Rattle.std.proofs.Common.{refl, ◌≡◌, ⊎_elim, inr, ◌∙◌, sym, subst, get_or, IsTrue, false, arith, rules}
 use Rattle.std.proofs.lemmas.Bool.{cases_lt}
 use Rattle.sector_disk.specs.Undo.{has_touched}
-use Rattle.sector_disk.proofs.Notes.{undone-noted, touched_here, touched_before, touched_either}
+use Rattle.sector_disk.proofs.Undoing.{undone-noted, touched_here, touched_before, touched_either}
 use Rattle.sector_disk.proofs.overwritten.note_unsynced.Goals as goal
 
 pub loop-at-preserved : goal.loop-at-preserved
 loop-at-preserved c =
     let sectors = c.args.sectors.now in
     let at = c.loop-at.at in
-    let old = c.loop-at.notes.items in
-    let new = c.note.new.notes.items in
+    let old = c.loop-at.notes.since in
+    let new = c.note.new.notes.since in
     let adds = c.in_ok-note.ensures.ok refl in
     let so_far = c.loop-at.invariant in
     record {
+      times = c.note.ensures.times ∙ so_far.times;
       same = undone-noted sectors at old new adds ∙ so_far.same;
       unsynced = λ k touched. ⊎_elim
           (λ before. so_far.unsynced k before)

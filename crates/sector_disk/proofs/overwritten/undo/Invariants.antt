@@ -1,9 +1,9 @@
-use Rattle.std.proofs.Common.{◌≡◌}
+use Rattle.std.proofs.Common.{◌≡◌, length}
 use Rattle.sector_disk.specs.Undo.{undone}
 use Rattle.sector_disk.proofs.overwritten.undo.Given as goal
 
 abbrev pub invariant-loop-note : goal.invariant-loop-note
-invariant-loop-note l = undone l.notes.items l.sectors.items ≡ undone l.initial.notes.items l.initial.sectors.items
+invariant-loop-note l = undone l.notes.since l.sectors ≡ undone l.initial.notes.since l.initial.sectors
 
 abbrev pub decreases-loop-note : goal.decreases-loop-note
-decreases-loop-note l = goal.left-loop-note l
+decreases-loop-note l = length l.notes.since

@@ -10,14 +10,13 @@ use Rattle.sector_disk.proofs.memory.MemDiskSectorDisk.sync.Goals as goal
 done : (c : goal.Else-is_err) → IsOk c.end_time.result
 done c = c.is_err.ensures.negation ∙ ap not c.if-is_err.false
 
-ends : (c : goal.Else-is_err) → EndsTime c.self.inside.sectors.items c.self.inside.unsynced.items c.self.inside.notes.items c.self.inside.spans.items c.end_time.new.spans.items
-    ⊎ EndsNothing c.self.inside.unsynced.items c.self.inside.spans.items c.end_time.new.spans.items
+ends : (c : goal.Else-is_err) → EndsTime c.self.inside.sectors c.self.inside.unsynced.items c.self.inside.notes.since c.self.inside.notes.times c.end_time.new.notes.times
+    ⊎ EndsNothing c.self.inside.unsynced.items c.self.inside.notes.times c.end_time.new.notes.times
 ends c =
     let i = c.self.inside in
     let new = c.end_time.new in
-    subst (λ u. EndsTime i.sectors.items u i.notes.items i.spans.items new.spans.items ⊎ EndsNothing u i.spans.items new.spans.items) c.deref_mut.ensures.value
-    (subst (λ s. EndsTime s c.deref_mut.result.now i.notes.items i.spans.items new.spans.items ⊎ EndsNothing c.deref_mut.result.now i.spans.items new.spans.items) c.deref.ensures.value
-    (c.end_time.ensures.ended (done c)))
+    subst (λ u. EndsTime i.sectors u i.notes.since i.notes.times new.notes.times ⊎ EndsNothing u i.notes.times new.notes.times) c.deref_mut.ensures.value
+    (c.end_time.ensures.ended (done c))
 
 pub returns-clause-touches : goal.returns-clause-touches
 returns-clause-touches c = λ honest.
@@ -26,12 +25,12 @@ returns-clause-touches c = λ honest.
     let flags = with_items i.unsynced new.unsynced in
     let size : length new.unsynced ≡ i.unsynced.len = search rules in
     let settled = with_items_is i.unsynced new.unsynced size ∙ c.end_time.ensures.settled (done c) in
-    let after = seen i.sectors.items flags.items new.notes.items new.spans.items i.failures c.spend-passes.new.left in
+    let after = seen i.sectors flags.items new.notes.since new.notes.times i.failures c.spend-passes.new.left in
     let begun = c.end_time.ensures.begun (done c) in
     subst (λ (m : Memory). Touches nothing (state_of m) (state_of after)) c.self.view_is
     (⊎_elim
-    (λ ended. sync_touches i.sectors.items i.unsynced.items flags.items i.notes.items new.notes.items i.spans.items new.spans.items i.failures i.left c.spend-passes.new.left
+    (λ ended. sync_touches i.sectors i.unsynced.items flags.items i.notes.since new.notes.since i.notes.times new.notes.times i.failures i.left c.spend-passes.new.left
     (length c.deref_mut.result.now) ended begun settled)
-    (λ nothing_ended. idle_touches i.sectors.items i.unsynced.items flags.items i.notes.items new.notes.items i.spans.items new.spans.items i.failures i.left c.spend-passes.new.left
+    (λ nothing_ended. idle_touches i.sectors i.unsynced.items flags.items i.notes.since new.notes.since i.notes.times new.notes.times i.failures i.left c.spend-passes.new.left
     i.torn c.self.invariant nothing_ended begun (settled ∙ ap (λ u. replicate (length u) false) c.deref_mut.ensures.value))
     (ends c))

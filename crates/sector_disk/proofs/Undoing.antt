@@ -1,5 +1,5 @@
 -- How notes lead back to what was there before.
-use Rattle.std.proofs.Common.{◌≡◌, ◌≢◌, ◌<◌, ◌⊎◌, ⊎_elim, inl, inr, ℕ, List, [], ◌∷◌, ◌++◌, Bool, true, false, ◌==◌, ◌||◌, IsTrue, IsFalse, Vec, Global, length, get_or, set, replicate, suc, sym, ◌∙◌, ap, subst, refl, arith}
+use Rattle.std.proofs.Common.{◌≡◌, ◌≢◌, ◌<◌, ◌⊎◌, ⊎_elim, inl, inr, ℕ, List, [], ◌∷◌, ◌++◌, Bool, true, false, ◌==◌, ◌||◌, IsTrue, IsFalse, length, get_or, set, replicate, suc, sym, ◌∙◌, ap, subst, refl, arith}
 use Rattle.std.proofs.lemmas.List.{set-set, set-get_or, get_or-set_same, get_or-set_other, length-set}
 use Rattle.std.proofs.lemmas.Bool.Decides.{eqb_tells}
 use Rattle.std.proofs.lemmas.Bool.{false≢true, or_left, or_right}
@@ -106,10 +106,10 @@ same_test false true to from = absurd (false≢true (from refl))
 same_test false false to from = refl
 
 -- the notes of a time that ends
-pub ends_time : (sectors : Image) (unsynced : List Bool) (notes : List Overwritten) (ended : Vec Overwritten Global) (old new : List (Vec Overwritten Global))
-    → new ≡ old ++ ended ∷ [] → undone ended.items sectors ≡ undone notes sectors
-    → ((at : ℕ) → IsTrue (has_touched ended.items at) → IsTrue (get_or unsynced at false))
-    → ((at : ℕ) → IsTrue (get_or unsynced at false) → IsTrue (has_touched ended.items at))
+pub ends_time : (sectors : Image) (unsynced : List Bool) (notes : List Overwritten) (ended : List Overwritten) (old new : List (List Overwritten))
+    → new ≡ old ++ ended ∷ [] → undone ended sectors ≡ undone notes sectors
+    → ((at : ℕ) → IsTrue (has_touched ended at) → IsTrue (get_or unsynced at false))
+    → ((at : ℕ) → IsTrue (get_or unsynced at false) → IsTrue (has_touched ended at))
     → EndsTime sectors unsynced notes old new
 ends_time sectors unsynced notes ended old new added back no_other all =
     record { ended = ended; added = added; back = back; took = λ at. same_test _ _ (no_other at) (all at) }
@@ -135,17 +135,17 @@ noted_and_written sectors written unsynced torn at bytes old new on is adds was 
     flag_here : (k : ℕ) → k ≡ at → IsTrue (get_or (set unsynced at true) k false)
     flag_here k here = ap (λ j. get_or (set unsynced at true) j false) here ∙ get_or-set_same unsynced at true false (omega (arith, on, was.size))
 
-before-append : (spans : List (Vec Overwritten Global)) (ended : Vec Overwritten Global) (sectors : Image) → before (spans ++ ended ∷ []) sectors ≡ before spans (undone ended.items sectors)
+before-append : (spans : List (List Overwritten)) (ended : List Overwritten) (sectors : Image) → before (spans ++ ended ∷ []) sectors ≡ before spans (undone ended sectors)
 before-append [] ended sectors = refl
-before-append (notes ∷ spans) ended sectors = ap (undone notes.items) (before-append spans ended sectors)
+before-append (notes ∷ spans) ended sectors = ap (undone notes) (before-append spans ended sectors)
 
 -- the time that ended last ended where the sectors stand now
-pub spans_of-append : (spans : List (Vec Overwritten Global)) (ended : Vec Overwritten Global) (sectors : Image)
-    → spans_of (spans ++ ended ∷ []) sectors ≡ spans_of spans (undone ended.items sectors) ++ (record { contents = sectors; written = touched ended.items }) ∷ []
+pub spans_of-append : (spans : List (List Overwritten)) (ended : List Overwritten) (sectors : Image)
+    → spans_of (spans ++ ended ∷ []) sectors ≡ spans_of spans (undone ended sectors) ++ (record { contents = sectors; written = touched ended }) ∷ []
 spans_of-append [] ended sectors = refl
 spans_of-append (notes ∷ spans) ended sectors =
     ap (λ s. span_of s ∷ spans_of (spans ++ ended ∷ []) sectors) (before-append spans ended sectors)
-    ∙ ap (λ (l : List Span). span_of (before spans (undone ended.items sectors)) ∷ l) (spans_of-append spans ended sectors)
+    ∙ ap (λ (l : List Span). span_of (before spans (undone ended sectors)) ∷ l) (spans_of-append spans ended sectors)
   where
     span_of : Image → Span
-    span_of s = record { contents = s; written = touched notes.items }
+    span_of s = record { contents = s; written = touched notes }

@@ -1,0 +1,11 @@
+-- The sectors of a disk in memory seen from their fields.
+use Rattle.std.specs.Prelude.{◌≤◌, ◌-◌, ◌++◌, length, replicate, vec_capacity}
+use Rattle.sector_disk.specs.Disk.{Image}
+use Rattle.sector_disk.specs.declared.sectors.Sectors.TheInside.{Inside}
+
+-- the sectors that are kept, and zeros after them
+abbrev pub sectors_of : Inside → Image
+sectors_of sectors = sectors.kept.items ++ replicate (sectors.count - length sectors.kept.items) (replicate 512 0)
+
+abbrev pub HasRoom : Inside → Type 0
+HasRoom sectors = (length sectors.kept.items ≤ sectors.count) × (sectors.count ≤ vec_capacity sectors.kept)
