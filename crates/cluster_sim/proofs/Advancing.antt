@@ -1,11 +1,15 @@
 -- An act that is recorded: the room for it, and the report after it.
-use Rattle.std.proofs.Common.{◌≡◌, ◌≢◌, ℕ, zero, suc, ◌+◌, ◌<◌, ◌≤◌, Bool, true, false, List, [], ◌∷◌, ◌++◌, length, map, slice_get, nat_lt, refl, sym, ◌∙◌, ap, subst, arith, Option, Some, None}
-use Rattle.std.specs.Prelude.{◌&&◌, ◌==◌, slice_set, slice_index_or, if◌then◌else◌, is_some as is_some_option}
-use Rattle.std.proofs.lemmas.List.{append-nil, map-append, length-append}
+use Rattle.std.proofs.Common.{◌≡◌, ◌≢◌, ℕ, zero, suc, ◌+◌, ◌<◌, ◌≤◌, Bool, true, false, List, [], ◌∷◌, ◌++◌, length, map, slice_get, nat_lt, refl, sym, ◌∙◌, ap, subst, arith, Option, Some, None, option_map}
+use Rattle.std.specs.Prelude.{◌&&◌, ◌==◌, slice_set, if◌then◌else◌, is_some as is_some_option}
+use Rattle.std.proofs.lemmas.List.{append-nil, length-set, map-append, length-append}
 use Rattle.std.proofs.lemmas.Option.{slice_get_within}
 use Rattle.std.proofs.lemmas.Bool.Decides.{nat_tests}
+use Rattle.job_model.specs.Command.{Command}
 use Rattle.job_model.specs.Durable.{Durable}
 use Rattle.sector_disk.specs.Memory.{Memory, state_of}
+use Rattle.wire_msg.specs.Envelope.{Envelope}
+use Rattle.sim_net.specs.declared.fault.NetFault.TheVariants.{NoSuch}
+use Rattle.sim_net.specs.Network.{Network, delivery}
 use Rattle.node_core.specs.State.{State, is_down}
 use Rattle.durable_node.specs.Node.{Node, Stands}
 use Rattle.durable_node.specs.NodeState.{NodeState, settled}
@@ -19,28 +23,22 @@ use Rattle.schedule.specs.declared.act.Act.TheVariants as act
 use Rattle.cluster_sim.specs.declared.outcome.Outcome.{Outcome}
 use Rattle.cluster_sim.specs.declared.report.Marked.{Marked}
 use Rattle.cluster_sim.specs.World.{World}
-use Rattle.cluster_sim.specs.Step.{Step, Takes, Loses, Cuts, Mends, Denies, world_after}
-use Rattle.cluster_sim.specs.Acts.{At, IsRecovery, IsStepOf, outcome_of}
+use Rattle.cluster_sim.specs.Step.{Step, Takes, Loses, Cuts, Mends, Denies, OfNet, world_after}
+use Rattle.cluster_sim.specs.Acts.{At, Brings, IsRecovery, IsStepOf, outcome_of}
 use Rattle.cluster_sim.specs.Given.{groups_at}
 use Rattle.cluster_sim.specs.Tagged.{step_marks}
-use Rattle.cluster_sim.specs.Reporting.{TriedAt, Report, commands_in, mountings_in, own_commands, node_named, moment_of, state_at, state_or_down}
+use Rattle.cluster_sim.specs.Reporting.{TriedAt, Report, commands_in, mountings_in, own_commands, node_named, moment_of, state_at, state_or_down, step_sent}
 use Rattle.cluster_sim.specs.Growth.{grown, tried_so_far, IsLeft}
 use Rattle.cluster_sim.specs.Told.{told}
 use Rattle.cluster_sim.specs.Machine.{Machine, StandsFor, Shows, Acted}
-use Rattle.cluster_sim.specs.Recorded.{AimTold, AreCounted, IsAnswered, ToldReport, Tells, GoesOn, command_by, recovers, pending_room, tried_by, tried_at, mounted_at, mounted_now, given_in, listed, map_option, tried_of, told_moment, told_report, with_act}
+use Rattle.cluster_sim.specs.Recorded.{AimTold, AreCounted, IsAnswered, ToldReport, Tells, GoesOn, command_brought, command_by, recovers, pending_room, tried_by, tried_at, mounted_at, mounted_now, given_in, listed, tried_of, told_moment, told_report, with_act}
 use Rattle.cluster_sim.proofs.Grown.{runs_grow, step_length}
 use Rattle.cluster_sim.proofs.Hands.{step_gains}
 use Rattle.cluster_sim.proofs.Keeping.{AllStates, states_keep}
+use Rattle.cluster_sim.proofs.Numbered.{step_adds}
 use Rattle.cluster_sim.proofs.Rooms.{left_few}
-use Rattle.cluster_sim.proofs.Runs.{get_set_same, get_set_other}
+use Rattle.cluster_sim.proofs.Runs.{at_place, get_set_same, get_set_other}
 use Rattle.cluster_sim.proofs.Telling.{StepTold, Mounts, aim_at, act_told}
-
--- ---- places
-
-pub at_place : {A : Type 0} (xs : List A) (n : ℕ) → n < length xs → (x : A) × (slice_get xs n ≡ Some x)
-at_place [] n within = absurd (let bad : n < 0 = within in omega (arith, bad))
-at_place (x ∷ xs) zero within = (x, refl)
-at_place (x ∷ xs) (suc n) within = at_place xs n (omega (arith, within))
 
 -- ---- the hand after a step
 
@@ -203,6 +201,42 @@ step_is_told old new w a o aim counts node stands acted is at =
     subst (λ (x : AimTold). StepTold (length w.states) w counts acted.step x node.found) (sym same)
     (act_told (length w.states) w counts a acted.step node.found m.s acted.next.of_act acted.next.allowed was mounts)
 
+-- ---- the command of an act, once the act is done
+
+at_left : {A : Type 0} (xs ys : List A) (k : ℕ) (x : A) → slice_get xs k ≡ Some x → slice_get (xs ++ ys) k ≡ Some x
+at_left [] ys k x at = absurd (let bad = at in cc)
+at_left (y ∷ xs) ys zero x at = at
+at_left (y ∷ xs) ys (suc k) x at = at_left xs ys k x at
+
+-- the message of an act stays at its place, and where there is none, none is sent
+message_still : (nodes : ℕ) (w : World) (k : ℕ) (step : Step) (m : Option Envelope) → slice_get w.net.sent k ≡ m → Brings nodes k (delivery w.net k) step → slice_get (world_after nodes w step).net.sent k ≡ m
+message_still nodes w k step None none is =
+    let denied : step ≡ Denies (OfNet NoSuch) = rw none at is in
+    subst (λ (x : Step). slice_get (world_after nodes w x).net.sent k ≡ None) (sym denied) none
+message_still nodes w k step (Some m) there is = ap (λ (ms : List Envelope). slice_get ms k) (step_adds nodes w step) ∙ at_left w.net.sent (step_sent nodes w step) k m there
+
+command_still : (nodes : ℕ) (w : World) (a : Act) (step : Step) → IsStepOf nodes w a step → command_by (world_after nodes w step).net.sent a ≡ command_by w.net.sent a
+command_still nodes w (act.Check n) step is = refl
+command_still nodes w (act.Merge n) step is = refl
+command_still nodes w (act.Accept n) step is = refl
+command_still nodes w (act.Ready n) step is = refl
+command_still nodes w (act.Coord n) step is = refl
+command_still nodes w (act.Dispatch n) step is = refl
+command_still nodes w (act.Deliver k) step is = ap command_brought (message_still nodes w k step _ refl is)
+command_still nodes w (act.Lose k) step is = refl
+command_still nodes w (act.Cut x y) step is = refl
+command_still nodes w (act.Mend x y) step is = refl
+command_still nodes w (act.Submit n queue payload) step is = refl
+command_still nodes w (act.Finish n origin id) step is = refl
+command_still nodes w (act.Arm n calls) step is = refl
+command_still nodes w (act.Crash n fill) step is = refl
+command_still nodes w (act.Recover n) step is = refl
+
+pub same_command : (old new : Machine) (w : World) (a : Act) (o : Outcome) → StandsFor old w → Acted w a o new → command_by new.net.sent a ≡ command_by old.net.sent a
+same_command old new w a o stands acted =
+    let said : Network → Option Command = λ net. command_by net.sent a in
+    ap said acted.stands.net ∙ (command_still (length w.states) w a acted.step acted.next.of_act ∙ sym (ap said stands.net))
+
 pub answered_by : (old new : Machine) (w : World) (a : Act) (o : Outcome) (aim : AimTold) → StandsFor old w → Acted w a o new → IsAim old a aim → aim.node < length new.nodes → IsAnswered aim.command o
 answered_by old new w a o aim stands acted is within =
     let node = at_place new.nodes aim.node within in
@@ -279,14 +313,9 @@ one_more n k xs t is = ap (λ (ts : List Tried). length ts) (own_append k xs (t 
     by_node true at = rw (is, at) refl
     by_node false at = rw (is, at) refl
 
-length_set : {A : Type 0} (xs : List A) (n : ℕ) (x : A) → length (slice_set xs n x) ≡ length xs
-length_set [] n x = refl
-length_set (y ∷ xs) zero x = refl
-length_set (y ∷ xs) (suc n) x = ap suc (length_set xs n x)
-
 pub counted_more : (nodes n before : ℕ) (commands : List TriedAt) (counts : List ℕ) (t : TriedAt) → AreCounted nodes commands counts → slice_get counts n ≡ Some before → t.node ≡ n
     → AreCounted nodes (commands ++ t ∷ []) (slice_set counts n (before + 1))
-counted_more nodes n before commands counts t counted at is = record { as_many = length_set counts n (before + 1) ∙ counted.as_many; each = λ k m at_k. by_place k m (n == k) refl at_k }
+counted_more nodes n before commands counts t counted at is = record { as_many = length-set counts n (before + 1) ∙ counted.as_many; each = λ k m at_k. by_place k m (n == k) refl at_k }
   where
     by_place : (k m : ℕ) (b : Bool) → (n == k) ≡ b → slice_get (slice_set counts n (before + 1)) k ≡ Some m → m ≡ length (own_commands k (commands ++ t ∷ []))
     by_place k m true eq at_k =
@@ -304,20 +333,15 @@ counted_more nodes n before commands counts t counted at is = record { as_many =
 pub counted_same : (nodes : ℕ) (commands : List TriedAt) (counts : List ℕ) → AreCounted nodes commands counts → AreCounted nodes (commands ++ []) counts
 counted_same nodes commands counts counted = subst (λ (ts : List TriedAt). AreCounted nodes ts counts) (sym (append-nil commands)) counted
 
-pub index_at : (xs : List ℕ) (n other k : ℕ) → slice_get xs n ≡ Some k → slice_index_or xs n other ≡ k
-index_at [] n other k at = absurd (let bad = at in cc)
-index_at (x ∷ xs) zero other k at = is_some x k at
-index_at (x ∷ xs) (suc n) other k at = index_at xs n other k at
-
 tried_node : (n : ℕ) (x : Option Tried) (t : TriedAt) → tried_at n x ≡ Some t → t.node ≡ n
 tried_node n None t is = absurd (let bad = is in cc)
 tried_node n (Some x) t is = ap (λ (y : TriedAt). y.node) (sym (is_some (record { node = n; tried = x }) t is))
 
 pub counted_some : (nodes n before : ℕ) (commands : List TriedAt) (counts : List ℕ) (o : Option Marked) (x : Option Tried) → AreCounted nodes commands counts → slice_get counts n ≡ Some before → is_some_option o ≡ true
-    → map_option tried_of o ≡ tried_at n x → AreCounted nodes (commands ++ listed (map_option tried_of o)) (slice_set counts n (before + 1))
+    → option_map tried_of o ≡ tried_at n x → AreCounted nodes (commands ++ listed (option_map tried_of o)) (slice_set counts n (before + 1))
 counted_some nodes n before commands counts None x counted at some is = absurd (let bad = some in cc)
 counted_some nodes n before commands counts (Some m) x counted at some is = counted_more nodes n before commands counts (tried_of m) counted at (tried_node n x (tried_of m) (sym is))
 
-pub counted_none : (nodes : ℕ) (commands : List TriedAt) (counts : List ℕ) (o : Option Marked) → AreCounted nodes commands counts → is_some_option o ≡ false → AreCounted nodes (commands ++ listed (map_option tried_of o)) counts
+pub counted_none : (nodes : ℕ) (commands : List TriedAt) (counts : List ℕ) (o : Option Marked) → AreCounted nodes commands counts → is_some_option o ≡ false → AreCounted nodes (commands ++ listed (option_map tried_of o)) counts
 counted_none nodes commands counts None counted none = counted_same nodes commands counts counted
 counted_none nodes commands counts (Some m) counted none = absurd (let bad = none in cc)

@@ -1,7 +1,6 @@
 -- A run and its report grow by one act.
-use Rattle.std.proofs.Common.{◌≡◌, ℕ, zero, suc, ◌+◌, ◌<◌, List, [], ◌∷◌, ◌++◌, length, map, slice_get, refl, sym, ◌∙◌, ap, subst, arith, Option, Some, None, add-zero, append_assoc}
-use Rattle.std.specs.Prelude.{slice_set}
-use Rattle.std.proofs.lemmas.List.{append-nil, map-append, length-append}
+use Rattle.std.proofs.Common.{◌≡◌, ℕ, suc, ◌+◌, ◌<◌, List, [], ◌∷◌, ◌++◌, length, map, slice_get, refl, sym, ◌∙◌, ap, subst, arith, Option, Some, None, add-zero, append_assoc}
+use Rattle.std.proofs.lemmas.List.{append-nil, length-set, map-append, length-append}
 use Rattle.std.proofs.lemmas.Option.{slice_get_within}
 use Rattle.durable_node.specs.NodeState.{NodeState}
 use Rattle.durable_node.specs.What.{What}
@@ -10,7 +9,7 @@ use Rattle.durable_node.specs.Kept.{Tried}
 use Rattle.durable_node.specs.Marks.{Mark, Acknowledged, Unanswered, Mounted, commands_of, opening_marks}
 use Rattle.group_task.specs.Group.{Group}
 use Rattle.schedule.specs.declared.act.Act.{Act}
-use Rattle.cluster_sim.specs.World.{World, openings, start}
+use Rattle.cluster_sim.specs.World.{World, start}
 use Rattle.cluster_sim.specs.Step.{Step, Takes, Loses, Cuts, Mends, Denies, state_after, world_after}
 use Rattle.cluster_sim.specs.Run.{world_at}
 use Rattle.cluster_sim.specs.Acts.{IsRunOf}
@@ -19,6 +18,7 @@ use Rattle.cluster_sim.specs.Tagged.{own, marks_for, step_marks, counts_after, r
 use Rattle.cluster_sim.specs.Reporting.{Moment, TriedAt, MountedAt, Report, moment_of, moments_from, opening_marks_from, marks_of_run, commands_in, mountings_in, own_commands, report_of}
 use Rattle.cluster_sim.specs.Headline.{Headline}
 use Rattle.cluster_sim.specs.Growth.{acts_in, tried_so_far, grown, IsNext, RunsOpen, RunsGrow, LeftKeeps}
+use Rattle.cluster_sim.proofs.Opened.{length_openings}
 use Rattle.cluster_sim.proofs.Picked.{own_tried, own_append, own_marks}
 use Rattle.cluster_sim.proofs.Headlines.{every_schedule}
 
@@ -98,11 +98,6 @@ marks_same nodes w f g (Mends a b) same = refl
 marks_same nodes w f g (Denies why) same = refl
 
 -- there are as many nodes as there were
-length-set : {A : Type 0} (xs : List A) (n : ℕ) (x : A) → length (slice_set xs n x) ≡ length xs
-length-set [] n x = refl
-length-set (y ∷ xs) zero x = refl
-length-set (y ∷ xs) (suc n) x = ap suc (length-set xs n x)
-
 state_length : (n nodes : ℕ) (o : Option NodeState) (what : What) (states : List NodeState) → length (state_after n nodes o what states) ≡ length states
 state_length n nodes None what states = refl
 state_length n nodes (Some s) what states = length-set states n (after n nodes s what)
@@ -117,10 +112,6 @@ step_length nodes w (Denies why) = refl
 run_length : (nodes : ℕ) (steps : List Step) (w : World) → length (world_at nodes w steps).states ≡ length w.states
 run_length nodes [] w = refl
 run_length nodes (step ∷ steps) w = run_length nodes steps (world_after nodes w step) ∙ step_length nodes w step
-
-openings_length : (k i : ℕ) → length (openings i k) ≡ k
-openings_length zero i = refl
-openings_length (suc k) i = ap suc (openings_length k (suc i))
 
 -- the number that the run's marks count is the one that the report shows
 pub counts_shown : (nodes : ℕ) (steps : List Step) (n : ℕ) → n < nodes
@@ -152,7 +143,7 @@ all_marks_go_on nodes steps step =
     let f : ℕ → ℕ = counts_at nodes (start nodes) (λ (k : ℕ). 1) steps in
     let g : ℕ → ℕ = λ n. length (own_commands n (commands_in (marks_of_run nodes steps))) in
     let same : step_marks nodes w f step ≡ step_marks nodes w g step =
-    marks_same nodes w f g step (λ n s at. counts_shown nodes steps n (omega (arith, slice_get_within w.states n s at, run_length nodes steps (start nodes), openings_length nodes 0))) in
+    marks_same nodes w f g step (λ n s at. counts_shown nodes steps n (omega (arith, slice_get_within w.states n s at, run_length nodes steps (start nodes), length_openings 0 nodes))) in
     ap (λ (xs : List (ℕ × Mark)). opening_marks_from 0 nodes ++ xs) (marks_go_on nodes steps (start nodes) (λ (k : ℕ). 1) step)
     ∙ ap (λ (xs : List (ℕ × Mark)). opening_marks_from 0 nodes ++ (ms ++ xs)) same
     ∙ sym (append_assoc (opening_marks_from 0 nodes) ms (step_marks nodes w g step))

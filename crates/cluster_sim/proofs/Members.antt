@@ -1,11 +1,12 @@
 -- A cluster of which one node took a step, or the network alone, or nothing.
-use Rattle.std.proofs.Common.{◌≡◌, ◌≢◌, ℕ, zero, suc, ◌<◌, ◌≤◌, Bool, true, false, List, [], ◌∷◌, length, slice_get, get_or, nat_lt, refl, sym, ◌∙◌, ap, subst, arith, Option, Some, Result, Ok, Err}
+use Rattle.std.proofs.Common.{◌≡◌, ◌≢◌, ℕ, ◌<◌, ◌≤◌, Bool, true, false, List, length, slice_get, get_or, nat_lt, refl, sym, ◌∙◌, ap, subst, arith, Option, Some, Result, Ok, Err}
 use Rattle.std.specs.Prelude.{◌==◌, slice_set, IfOk, OnErr}
-use Rattle.std.proofs.lemmas.Option.{slice_get_within, slice_get-get_or, slice_get_read}
+use Rattle.std.proofs.lemmas.List.{length-set}
+use Rattle.std.proofs.lemmas.Option.{slice_get_within, slice_get_read}
 use Rattle.sector_disk.specs.Memory.{Memory, state_of}
 use Rattle.sim_net.specs.Network.{Network, after_all_sent}
 use Rattle.durable_node.specs.Node.{Node, Stands}
-use Rattle.durable_node.specs.NodeState.{NodeState, opening}
+use Rattle.durable_node.specs.NodeState.{NodeState}
 use Rattle.durable_node.specs.What.{What, event_of, brought, AreAddressed}
 use Rattle.durable_node.specs.After.{after, found_at}
 use Rattle.durable_node.proofs.Nodes.{is_some}
@@ -18,14 +19,9 @@ use Rattle.cluster_sim.specs.Run.{IsBrought}
 use Rattle.cluster_sim.specs.Acts.{At, IsOfSlotsAt, what_outcome, node_outcome}
 use Rattle.cluster_sim.specs.Told.{told}
 use Rattle.cluster_sim.specs.Machine.{Machine, IsMember, IsCluster, StandsFor, IsSame, Comes, Makes}
-use Rattle.cluster_sim.proofs.Runs.{get_set_same, get_set_other}
+use Rattle.cluster_sim.proofs.Runs.{at_place, get_set_same, get_set_other}
 use Rattle.durable_node.proofs.Tests.{eq_nat}
 use Rattle.std.proofs.lemmas.Bool.Decides.{nat_tests}
-
-pub length_set : {A : Type 0} (xs : List A) (n : ℕ) (x : A) → length (slice_set xs n x) ≡ length xs
-length_set [] n x = refl
-length_set (y ∷ xs) zero x = refl
-length_set (y ∷ xs) (suc n) x = ap suc (length_set xs n x)
 
 -- ---- one place is written
 
@@ -54,9 +50,9 @@ pub still_cluster : (slots n : ℕ) (nodes : List (Node Memory)) (old new : Node
 still_cluster slots n nodes old new cluster at same = record {
   least_slots = cluster.least_slots;
   most_slots = cluster.most_slots;
-  least = rw (length_set nodes n new) cluster.least;
-  most = rw (length_set nodes n new) cluster.most;
-  members = rw (length_set nodes n new)
+  least = rw (length-set nodes n new) cluster.least;
+  most = rw (length-set nodes n new) cluster.most;
+  members = rw (length-set nodes n new)
       (at_each (λ (k : ℕ) (x : Node Memory). IsMember slots (length nodes) k x) nodes n old new at (same_member slots (length nodes) n old new (cluster.members n old at) same) (λ k x _. cluster.members k x));
 }
 
@@ -67,7 +63,7 @@ pub moves : (slots n : ℕ) (nodes : List (Node Memory)) (old new : Node Memory)
     → StandsFor (record { slots = slots; nodes = nodes; net = net }) w → slice_get w.states n ≡ Some s → Stands state_of new s' → net' ≡ net''
     → StandsFor (record { slots = slots; nodes = slice_set nodes n new; net = net' }) (record { states = slice_set w.states n s'; net = net'' })
 moves slots n nodes old new net net' net'' w s s' at stands was is same_net = record {
-  count = length_set nodes n new ∙ stands.count ∙ sym (length_set w.states n s');
+  count = length-set nodes n new ∙ stands.count ∙ sym (length-set w.states n s');
   net = same_net;
   each = λ k node t at_k was_k. at_each (λ (j : ℕ) (x : Node Memory). (t : NodeState) → slice_get (slice_set w.states n s') j ≡ Some t → Stands state_of x t) nodes n old new at
       (λ t' was_n. subst (λ (z : NodeState). Stands state_of new z) (is_some s' t' (sym (get_set_same w.states n s s' was) ∙ was_n)) is)
@@ -75,9 +71,6 @@ moves slots n nodes old new net net' net'' w s s' at stands was is same_net = re
 }
 
 -- ---- a node takes a step
-
-state_of_place : (states : List NodeState) (n : ℕ) → n < length states → (s : NodeState) × (slice_get states n ≡ Some s)
-state_of_place states n within = (_, slice_get-get_or states n (opening 0) within)
 
 pub true_within : (n count : ℕ) → n < count → nat_lt n count ≡ true
 true_within n count within = grind (arith, nat_tests)
@@ -90,7 +83,7 @@ pub takes : (slots n number : ℕ) (P : What → Type 0) (nodes : List (Node Mem
 takes slots n number P nodes old new net net' outcome w cluster at stands brings comes =
     let member = cluster.members n old at in
     let within : n < length w.states = subst (λ (k : ℕ). n < k) stands.count (slice_get_within nodes n old at) in
-    let was = state_of_place w.states n within in
+    let was = at_place w.states n within in
     let came : Comes slots n (length w.states) P was.0 outcome new net net' =
     subst (λ (k : ℕ). Comes slots n k P was.0 outcome new net net') (member.nodes_is ∙ stands.count)
     (subst (λ (k : ℕ). Comes slots k old.nodes P was.0 outcome new net net') member.id_is (comes was.0 (stands.each n old was.0 at was.1))) in
@@ -125,7 +118,7 @@ pub rests : (slots n : ℕ) (nodes : List (Node Memory)) (old new : Node Memory)
     → StandsFor (record { slots = slots; nodes = nodes; net = net }) w → ((s : NodeState) → Stands state_of old s → Stands state_of new s) → net' ≡ net
     → StandsFor (record { slots = slots; nodes = slice_set nodes n new; net = net' }) w
 rests slots n nodes old new net net' w at stands keeps same_net = record {
-  count = length_set nodes n new ∙ stands.count;
+  count = length-set nodes n new ∙ stands.count;
   net = same_net ∙ stands.net;
   each = λ k node t at_k was_k. at_each (λ (j : ℕ) (x : Node Memory). (t : NodeState) → slice_get w.states j ≡ Some t → Stands state_of x t) nodes n old new at
       (λ t' was_n. keeps t' (stands.each n old t' at was_n))

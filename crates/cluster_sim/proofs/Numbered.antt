@@ -46,7 +46,7 @@ step_numbered nodes w (Denies why) rest = refl
 
 -- ---- messages are only added, at the end
 
-step_adds : (nodes : ℕ) (w : World) (step : Step) → (world_after nodes w step).net.sent ≡ w.net.sent ++ step_sent nodes w step
+pub step_adds : (nodes : ℕ) (w : World) (step : Step) → (world_after nodes w step).net.sent ≡ w.net.sent ++ step_sent nodes w step
 step_adds nodes w (Takes n number what) = refl
 step_adds nodes w (Loses k) = sym (append-nil w.net.sent)
 step_adds nodes w (Cuts a b) = sym (append-nil w.net.sent)

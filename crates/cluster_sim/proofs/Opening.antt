@@ -19,7 +19,7 @@ use Rattle.cluster_sim.specs.Growth.{IsLeft}
 use Rattle.cluster_sim.specs.Recorded.{ToldReport, told_report, with_opening, AreCounted, Tells}
 use Rattle.cluster_sim.proofs.Grown.{in_append, mounted_append, counts_shown, runs_open}
 use Rattle.cluster_sim.proofs.Opened.{opening_at, length_openings}
-use Rattle.cluster_sim.proofs.Advancing.{at_place}
+use Rattle.cluster_sim.proofs.Runs.{at_place}
 
 openings_more : (k n : ℕ) → openings n (suc k) ≡ openings n k ++ opening (n + k) ∷ []
 openings_more zero n = ap (λ (m : ℕ). opening m ∷ []) (sym (add-zero n))

@@ -15,7 +15,7 @@ use Rattle.durable_node.specs.After.{after}
 use Rattle.durable_node.specs.Possible.{IsPossible, IsOfSlots}
 use Rattle.durable_node.specs.Marks.{IsNone}
 use Rattle.durable_node.proofs.Downs.{at_down}
-use Rattle.durable_node.proofs.Kepts.{DoubtIsDown}
+use Rattle.durable_node.proofs.Kepts.{DoubtIsDown, doubt_after}
 use Rattle.schedule.specs.declared.act.Act.{Act}
 use Rattle.cluster_sim.specs.World.{World, start}
 use Rattle.cluster_sim.specs.Step.{Step, Takes, Loses, Cuts, Mends, Denies, world_after}
@@ -63,25 +63,25 @@ record HasRoom (slots self : ℕ) (s : NodeState) : Type 0 where
   few : length s.durable.pending + gain s.doubt ≤ slots
   doubt : DoubtIsDown self s
 
-room_kept : (slots self nodes : ℕ) (s : NodeState) (what : What) → IsPossible self nodes s what → IsOfSlots slots self nodes s what → HasRoom slots self s → HasRoom slots self (after self nodes s what)
-room_kept slots self nodes s (Did event) may fits h =
+few_kept : (slots self nodes : ℕ) (s : NodeState) (what : What) → IsPossible self nodes s what → IsOfSlots slots self nodes s what → HasRoom slots self s
+    → length (after self nodes s what).durable.pending + gain (after self nodes s what).doubt ≤ slots
+few_kept slots self nodes s (Did event) may fits h =
     let wanted = wanted_few s.durable (wants_at self nodes s event) in
     elim h.doubt [
-      | inl none ↦ record {
-        few = omega (arith, wanted, leaves_room slots s.durable (wants_at self nodes s event) fits (omega (arith, h.few)), no_gain s.doubt none);
-        doubt = inl none;
-      }
-      | inr is ↦ (let still = at_down self nodes s event is may.0 may.1.by_core in
-          record { few = omega (arith, wanted, ap gain still.wants, h.few); doubt = inr still.state })
+      | inl none ↦ omega (arith, wanted, leaves_room slots s.durable (wants_at self nodes s event) fits (omega (arith, h.few)), no_gain s.doubt none)
+      | inr is ↦ omega (arith, wanted, ap gain (at_down self nodes s event is may.0 may.1.by_core).wants, h.few)
     ]
-room_kept slots self nodes s (Refused event fault) may fits h = h
-room_kept slots self nodes s (Faulted event) may fits h = record { few = leaves_room slots s.durable (wants_at self nodes s event) fits (omega (arith, h.few)); doubt = inr refl }
-room_kept slots self nodes s (Rests rest) may fits h = h
-room_kept slots self nodes s Crashed may fits h = record { few = h.few; doubt = inr refl }
-room_kept slots self nodes s (Recovered kept) may fits h = record { few = omega (arith, settled_few kept s, h.few); doubt = inl tt }
-room_kept slots self nodes s MountFailed may fits h = h
-room_kept slots self nodes s (RaiseFailed kept) may fits h = record { few = omega (arith, settled_few kept s, h.few); doubt = inr refl }
-room_kept slots self nodes s (RaiseRefused kept) may fits h = h
+few_kept slots self nodes s (Refused event fault) may fits h = h.few
+few_kept slots self nodes s (Faulted event) may fits h = leaves_room slots s.durable (wants_at self nodes s event) fits (omega (arith, h.few))
+few_kept slots self nodes s (Rests rest) may fits h = h.few
+few_kept slots self nodes s Crashed may fits h = h.few
+few_kept slots self nodes s (Recovered kept) may fits h = omega (arith, settled_few kept s, h.few)
+few_kept slots self nodes s MountFailed may fits h = h.few
+few_kept slots self nodes s (RaiseFailed kept) may fits h = omega (arith, settled_few kept s, h.few)
+few_kept slots self nodes s (RaiseRefused kept) may fits h = h.few
+
+room_kept : (slots self nodes : ℕ) (s : NodeState) (what : What) → IsPossible self nodes s what → IsOfSlots slots self nodes s what → HasRoom slots self s → HasRoom slots self (after self nodes s what)
+room_kept slots self nodes s what may fits h = record { few = few_kept slots self nodes s what may fits h; doubt = doubt_after self nodes s what may h.doubt }
 
 room_opened : (slots self : ℕ) → HasRoom slots self (opening self)
 room_opened slots self = record { few = omega arith; doubt = inl tt }

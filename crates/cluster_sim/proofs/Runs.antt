@@ -1,5 +1,5 @@
 -- A run of a cluster, seen from each node, is a bundle of histories.
-use Rattle.std.proofs.Common.{◌≡◌, ◌≢◌, ◌⊎◌, ℕ, zero, suc, ◌+◌, Bool, true, false, List, [], ◌∷◌, ◌++◌, length, slice_get, refl, sym, ◌∙◌, ap, subst, inl, inr, arith, Option, Some, None}
+use Rattle.std.proofs.Common.{◌≡◌, ◌≢◌, ◌⊎◌, ℕ, zero, suc, ◌+◌, ◌<◌, Bool, true, false, List, [], ◌∷◌, ◌++◌, length, slice_get, refl, sym, ◌∙◌, ap, subst, inl, inr, arith, Option, Some, None}
 use Rattle.std.specs.Prelude.{if◌then◌else◌, ◌==◌, slice_set, Result, Ok, Err}
 use Rattle.std.proofs.lemmas.Bool.Decides.{nat_tests}
 use Rattle.wire_msg.specs.Envelope.{Envelope}
@@ -17,6 +17,12 @@ use Rattle.sim_net.specs.Network.{Network, is_cut, found_by, found, unless_cut, 
 use Rattle.cluster_sim.specs.World.{World, openings, start}
 use Rattle.cluster_sim.specs.Step.{Step, Takes, Loses, Cuts, Mends, Denies, state_after, sent_after, world_after}
 use Rattle.cluster_sim.specs.Run.{IsBrought, RunFrom, world_at, history_in, histories_from, histories_of, RunsAreBundles}
+
+-- what stands at a place
+pub at_place : {A : Type 0} (xs : List A) (n : ℕ) → n < length xs → (x : A) × (slice_get xs n ≡ Some x)
+at_place [] n within = absurd (let bad : n < 0 = within in omega (arith, bad))
+at_place (x ∷ xs) zero within = (x, refl)
+at_place (x ∷ xs) (suc n) within = at_place xs n (omega (arith, within))
 
 -- a cell that is set, and the others
 pub get_set_same : {A : Type 0} (xs : List A) (n : ℕ) (x y : A) → slice_get xs n ≡ Some x → slice_get (slice_set xs n y) n ≡ Some y

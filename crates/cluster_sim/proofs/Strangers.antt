@@ -13,7 +13,6 @@ use Rattle.wire_msg.specs.declared.body.Body.{Body}
 use Rattle.wire_msg.specs.declared.body.Body.TheVariants.{AreYouCoordinator, Coordinator, AreYouThere, Here, Invitation, Accept, Ready, ReadyAck, Work as WorkMessage, Done as DoneMessage}
 use Rattle.node_core.specs.declared.event.Event.{Event}
 use Rattle.node_core.specs.declared.event.Event.TheVariants.{CheckTimer, MergeTimer, AcceptTimer, ReadyTimer, CoordTimer, DispatchTimer, Deliver, Submit, Finish, Recover}
-use Rattle.node_core.specs.declared.fault.CoreFault.{CoreFault}
 use Rattle.node_core.specs.declared.in_hand.InHand.{InHand}
 use Rattle.node_core.specs.State.{State, is_down, is_election, is_reorganization, is_normal}
 use Rattle.node_core.specs.Start.{alone, down}
@@ -31,13 +30,14 @@ use Rattle.durable_node.specs.After.{after, sent_at}
 use Rattle.durable_node.specs.Possible.{IsPossible}
 use Rattle.durable_node.proofs.Tests.{and_left, and_right, eq_nat}
 use Rattle.durable_node.proofs.Among.{each_append, each_map, each_left}
-use Rattle.durable_node.proofs.Entries.{held_finish}
+use Rattle.durable_node.proofs.Entries.{held_finish, unless}
 use Rattle.cluster_sim.specs.World.{World, openings, start}
 use Rattle.cluster_sim.specs.Step.{Step, Takes, Loses, Cuts, Mends, Denies, sent_after, world_after}
 use Rattle.cluster_sim.specs.Run.{IsAllowed, RunFrom, world_at}
 use Rattle.cluster_sim.specs.Reporting.{Report}
 use Rattle.cluster_sim.specs.Growth.{IsLeft, acts_in}
 use Rattle.cluster_sim.specs.Strangers.{AreToNodes, NoStrangers}
+use Rattle.cluster_sim.proofs.Opened.{length_openings}
 use Rattle.cluster_sim.proofs.Runs.{opened}
 use Rattle.cluster_sim.proofs.Exact.{all_acts_run}
 use Rattle.cluster_sim.proofs.Keeping.{AllStates, states_keep}
@@ -235,10 +235,6 @@ module _ (nodes self : ℕ) (s : State) (lt : self < nodes) (h : NamesNodes node
     sent = told_done (origin == self) origin id (held_of_node nodes s.hand origin id h.hand is);
   }
 
-  unless_known : (b : Bool) (x : CoreFault) → (if b then None else Some x) ≡ None → b ≡ true
-  unless_known true x e = refl
-  unless_known false x e = absurd cc
-
   event_inside : (pending : List Job) (event : Event) (answer : ℕ) → refusal_of nodes self event s ≡ None → StaysInside nodes (effect_of nodes self pending event answer s)
   unfolding check_timer merge_timer accept_timer ready_timer coord_timer
   event_inside pending CheckTimer answer taken = inside_if nodes (leads self s) _ _
@@ -265,7 +261,7 @@ module _ (nodes self : ℕ) (s : State) (lt : self < nodes) (h : NamesNodes node
       stays
   event_inside pending DispatchTimer answer taken = dispatch_inside pending
   event_inside pending (Deliver m) answer taken =
-      let known : AreNodes nodes (m.sender ∷ ids_in m.body) = tested_nodes nodes (m.sender ∷ ids_in m.body) (and_right _ _ (unless_known (is_known nodes self m) _ taken)) in
+      let known : AreNodes nodes (m.sender ∷ ids_in m.body) = tested_nodes nodes (m.sender ∷ ids_in m.body) (and_right _ _ (unless (is_known nodes self m) _ taken)) in
       body_inside m.sender m.body answer known.0 known.1
   event_inside pending (Submit queue payload) answer taken = submit_inside queue payload answer
   event_inside pending (Finish origin id) answer taken = finish_inside origin id (held_finish nodes self origin id s taken).1
@@ -327,15 +323,11 @@ run_inside : (nodes : ℕ) (steps : List Step) (w : World) → RunFrom nodes w s
 run_inside nodes [] w run all = all
 run_inside nodes (step ∷ steps) w run all = run_inside nodes steps (world_after nodes w step) run.1 (step_inside nodes w step run.0 all)
 
-so_many : (k i : ℕ) → length (openings i k) ≡ k
-so_many zero i = refl
-so_many (suc k) i = (let rest = so_many k (suc i) in omega (arith, rest))
-
 start_inside : (nodes : ℕ) → AllInside nodes (start nodes)
 start_inside nodes = record {
   states = λ n s at.
       (let first : s ≡ opening n = opened nodes 0 n s n (omega arith) at in
-      let lt : n < nodes = omega (arith, slice_get_within (openings 0 nodes) n s at, so_many nodes 0) in
+      let lt : n < nodes = omega (arith, slice_get_within (openings 0 nodes) n s at, length_openings 0 nodes) in
       subst (λ (x : NodeState). IsInside nodes n x) (sym first) (record { node = lt; names = alone_inside nodes n 1 lt }));
   sent = tt;
 }

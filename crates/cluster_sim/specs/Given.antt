@@ -27,10 +27,12 @@ groups_at nodes w (Cuts a b) = []
 groups_at nodes w (Mends a b) = []
 groups_at nodes w (Denies why) = []
 
+-- those of a run, from w on
 abbrev pub groups_from : ℕ → World → List Step → List Group
 groups_from nodes w [] = []
 groups_from nodes w (step ∷ steps) = groups_at nodes w step ++ groups_from nodes (world_after nodes w step) steps
 
+-- those of the openings: each node gives the group of its first count
 abbrev pub opening_groups : ℕ → ℕ → List Group
 opening_groups n zero = []
 opening_groups n (suc k) = own_group n 1 ∷ opening_groups (suc n) k

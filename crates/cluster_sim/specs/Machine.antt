@@ -82,7 +82,7 @@ pub record Comes (slots id nodes : ℕ) (P : What → Type 0) (s : NodeState) (o
   pub found : new.found ≡ found_at s what
   pub stands : Stands state_of new (after id nodes s what)
 
--- a disk's failures rose in an act, or stand at their greatest count, exactly where the act faulted
+-- an act that didn't fault left a disk's count of failures as it was; in one that faulted it rose, or stands at its greatest value
 abbrev pub IsCounted : Option Memory → Option Memory → Outcome → Type 0
 IsCounted old new o = (was now : Memory) → old ≡ Some was → new ≡ Some now → Counts (state_of was) (state_of now) (o ≡ outcome.Faulted) (o ≢ outcome.Faulted)
 

@@ -1,5 +1,5 @@
 -- A cluster with its report, as code keeps it.
-use Rattle.std.specs.Prelude.{ℕ, ◌≡◌, ◌≤◌, ◌<◌, ◌&&◌, nat_lt, Bool, true, false, List, [], ◌∷◌, ◌++◌, map, length, slice_get, Option, Some, None, vec_len, vec_capacity}
+use Rattle.std.specs.Prelude.{ℕ, ◌≡◌, ◌≤◌, ◌<◌, ◌&&◌, nat_lt, Bool, true, false, List, [], ◌∷◌, ◌++◌, map, length, slice_get, Option, Some, None, option_map, vec_len, vec_capacity}
 use Rattle.group_task.specs.Group.{Group}
 use Rattle.job_model.specs.Command.{Command, Raise, Put, Done as JobDone}
 use Rattle.job_model.specs.Durable.{Durable, formatted}
@@ -126,24 +126,6 @@ command_by sent (act.Arm n calls) = None
 command_by sent (act.Crash n fill) = None
 command_by sent (act.Recover n) = Some Raise
 
--- the message that an act delivers, if there is one of its number
-abbrev pub message_named : List Envelope → Act → Option Envelope
-message_named sent (act.Check n) = None
-message_named sent (act.Merge n) = None
-message_named sent (act.Accept n) = None
-message_named sent (act.Ready n) = None
-message_named sent (act.Coord n) = None
-message_named sent (act.Dispatch n) = None
-message_named sent (act.Deliver k) = slice_get sent k
-message_named sent (act.Lose k) = None
-message_named sent (act.Cut a b) = None
-message_named sent (act.Mend a b) = None
-message_named sent (act.Submit n queue payload) = None
-message_named sent (act.Finish n origin id) = None
-message_named sent (act.Arm n calls) = None
-message_named sent (act.Crash n fill) = None
-message_named sent (act.Recover n) = None
-
 -- the act is the recovery of a node of the cluster
 abbrev pub recovers : ℕ → Act → Bool
 recovers nodes (act.Check n) = false
@@ -222,18 +204,15 @@ with_act m tried mounted r = record {
   mounted = r.mounted ++ listed mounted;
 }
 
-abbrev pub map_option : {A B : Type 0} → (A → B) → Option A → Option B
-map_option f None = None
-map_option f (Some a) = Some (f a)
-
 -- what is known of an act before it is done
 pub record AimTold : Type 0 where
   pub node : ℕ
   pub command : Option Command
   pub mounts : Bool
 
-abbrev pub aim_told : Aim → AimTold
-aim_told a = record { node = a.id; command = map_option command_of a.command; mounts = a.mounts }
+-- with the command that the act makes its node try, where these messages were sent
+abbrev pub aim_told : List Envelope → Act → Aim → AimTold
+aim_told sent a aim = record { node = aim.id; command = command_by sent a; mounts = aim.mounts }
 
 -- the command that was tried in an act with this aim
 abbrev pub tried_by : AimTold → Outcome → Option Durable → Option Tried
@@ -242,8 +221,8 @@ tried_by aim o found = tried_in (aim.mounts && is_unmounted (mounted_now aim.mou
 -- this is told of an act that was done: its node is as it is now, and had tried so many commands before
 pub record IsToldOf (a : Act) (aim : AimTold) (o : Outcome) (node : Node Memory) (before : ℕ) (t : Told) : Type 0 where
   pub moment : moment_in t.moment ≡ record { act = a; node = aim.node; outcome = o; state = node.state }
-  pub tried : map_option tried_of t.tried ≡ tried_at aim.node (tried_by aim o node.found)
-  pub mounted : map_option mounted_of t.mounted ≡ mounted_at aim.node before (mounted_now aim.mounts node.found)
+  pub tried : option_map tried_of t.tried ≡ tried_at aim.node (tried_by aim o node.found)
+  pub mounted : option_map mounted_of t.mounted ≡ mounted_at aim.node before (mounted_now aim.mounts node.found)
 
 -- a raise that was acknowledged answers a count
 abbrev pub IsAnswered : Option Command → Outcome → Type 0

@@ -16,6 +16,7 @@ abbrev pub IsBrought : World → ℕ → List Envelope → Type 0
 IsBrought w number [] = Unit {0}
 IsBrought w number (m ∷ ms) = (delivery w.net number ≡ Ok m) × IsBrought w number ms
 
+-- the step may happen: it is possible at its node, which is brought what comes under its number; and what is lost is there
 abbrev pub IsAllowed : ℕ → World → Step → Type 0
 IsAllowed nodes w (Takes n number what) =
     (s : NodeState) × (slice_get w.states n ≡ Some s) × IsPossible n nodes s what × IsBrought w number (brought (event_of what)) × AreAddressed n (brought (event_of what))
@@ -29,6 +30,7 @@ abbrev pub RunFrom : ℕ → World → List Step → Type 0
 RunFrom nodes w [] = Unit {0}
 RunFrom nodes w (step ∷ steps) = IsAllowed nodes w step × RunFrom nodes (world_after nodes w step) steps
 
+-- the cluster after a run, from w on
 abbrev pub world_at : ℕ → World → List Step → World
 world_at nodes w [] = w
 world_at nodes w (step ∷ steps) = world_at nodes (world_after nodes w step) steps

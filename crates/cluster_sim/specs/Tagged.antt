@@ -16,6 +16,7 @@ abbrev pub own : ℕ → List (ℕ × Mark) → List Mark
 own n [] = []
 own n (p ∷ ps) = if p.0 == n then p.1 ∷ own n ps else own n ps
 
+-- what comes at node n leaves these marks, if there is such a node: it gave so many commands before
 abbrev pub marks_for : ℕ → ℕ → Option NodeState → ℕ → What → List Mark
 marks_for n nodes None count what = []
 marks_for n nodes (Some s) count what = marks_at n nodes s count what
@@ -28,9 +29,11 @@ step_marks nodes w counts (Cuts a b) = []
 step_marks nodes w counts (Mends a b) = []
 step_marks nodes w counts (Denies why) = []
 
+-- how many commands each node gave, once these marks came too
 abbrev pub counts_after : (ℕ → ℕ) → List (ℕ × Mark) → ℕ → ℕ
 counts_after counts marks n = counts n + length (commands_of (own n marks))
 
+-- the marks of a run, from w on
 abbrev pub run_marks : ℕ → World → (ℕ → ℕ) → List Step → List (ℕ × Mark)
 run_marks nodes w counts [] = []
 run_marks nodes w counts (step ∷ steps) = step_marks nodes w counts step ++ run_marks nodes (world_after nodes w step) (counts_after counts (step_marks nodes w counts step)) steps

@@ -7,6 +7,7 @@ pub record World : Type 0 where
   pub states : List NodeState
   pub net : Network
 
+-- so many nodes, from n on, each as it opens
 abbrev pub openings : ℕ → ℕ → List NodeState
 openings n zero = []
 openings n (suc k) = opening n ∷ openings (suc n) k

@@ -1,11 +1,10 @@
-// What an act aims at, before it is done.
-ghost use Rattle.std.specs.Prelude.{◌≡◌, ◌<◌, ◌≤◌, ◌+◌, ◌&&◌, List, IfOk, Some, true, length, slice_get};
+// What an act aims at: the node that it is told of, and the command that it makes that node try.
+ghost use Rattle.std.specs.Prelude.{◌≡◌, ◌<◌, ◌≤◌, ◌+◌, ◌&&◌, IfOk, Some, true, length, option_map, slice_get};
 ghost use Rattle.node_core.specs.State.{is_down};
 ghost use Rattle.sector_disk.specs.Memory.{Memory};
 ghost use Rattle.durable_node.specs.Node.{Node};
-ghost use Rattle.wire_msg.specs.Envelope.{Envelope};
 ghost use Rattle.cluster_sim.specs.Reporting.{node_named, node_or_first};
-ghost use Rattle.cluster_sim.specs.Recorded.{command_by, command_of, command_said, map_option, message_named, pending_room, recovers};
+ghost use Rattle.cluster_sim.specs.Recorded.{command_by, command_of, command_said, pending_room, recovers};
 
 use crate::report::Command;
 use crate::simulation::Simulation;
@@ -14,16 +13,15 @@ use group_task::NodeId;
 use node_core::Phase;
 use schedule::Act;
 use sector_disk::MemDisk;
+use sim_net::Net;
 use std::alloc::AllocError;
-use wire_msg::{Body, Message};
+use wire_msg::Body;
 
 /// What is known of an act before it is done.
 #[derive(Drop)]
 pub(crate) struct Aim {
     /// The node that the act is told of.
     pub id: NodeId,
-    /// The command that the act makes the node try on its disk, if it makes it try one.
-    pub command: Option<Command>,
     /// Whether the node is to mount its disk.
     pub mounts: bool,
     /// So many jobs at most the node has in hand after the act.
@@ -45,19 +43,16 @@ impl Aim {
 pub(crate) fn aim_of(simulation: &Simulation, act: &Act) -> Result<Aim, AllocError>
     ensures id { IfOk result (λ aim. aim.id ≡ node_named (length simulation.now.nodes) simulation.now.net.sent act.now) }
     ensures within { IfOk result (λ aim. aim.id < length simulation.now.nodes) }
-    ensures command { IfOk result (λ aim. map_option command_of aim.command ≡ command_by simulation.now.net.sent act.now) }
     ensures mounts { (node : Node Memory) → IfOk result (λ aim. slice_get simulation.now.nodes aim.id ≡ Some node → aim.mounts ≡ (recovers (length simulation.now.nodes) act.now && is_down node.state.phase)) }
     ensures hand { (node : Node Memory) → IfOk result (λ aim. slice_get simulation.now.nodes aim.id ≡ Some node → length node.state.hand + pending_room simulation.now.slots (is_down node.state.phase) node.kept + 1 ≤ aim.hand) }
     ensures jobs { IfOk result (λ aim. aim.mounts ≡ true → simulation.now.slots ≤ aim.jobs) }
 {
-    let message = message_named(simulation, act);
     let nodes = simulation.count();
-    let id = node_named(nodes, &message, act);
+    let id = node_named(nodes, simulation.net(), act);
     let node = simulation.node(id);
     let mounts = recovers(nodes, act) && matches!(node.vector().phase, Phase::Down);
     Ok(Aim {
         id,
-        command: command_by(&message, act),
         mounts,
         hand: hand_room(node, simulation.slots())?,
         jobs: if mounts {
@@ -86,25 +81,15 @@ fn hand_room(node: &DurableNode<MemDisk>, slots: u64) -> Result<usize, AllocErro
     room.ok_or(AllocError)
 }
 
-/// The message that an act delivers, if there is one of its number.
-pub(crate) fn message_named(simulation: &Simulation, act: &Act) -> Option<Message>
-    ensures { result ≡ message_named simulation.now.net.sent act.now }
-{
-    match act {
-        Act::Deliver(number) => simulation.net().sent().get(*number as usize),
-        _ => None,
-    }
-}
-
-/// The node that an act is told of, where this is the message that it delivers.
-pub(crate) fn node_named(nodes: u8, message: &Option<Message>, act: &Act) -> NodeId
+/// The node that an act is told of.
+fn node_named(nodes: u8, net: &Net, act: &Act) -> NodeId
     requires { 1 ≤ nodes }
-    ensures named { (sent : List Envelope) → message.now ≡ message_named sent act.now → result ≡ node_named nodes sent act.now }
+    ensures named { result ≡ node_named nodes net.now.network.sent act.now }
     ensures within { result < nodes }
 {
     match act {
-        Act::Deliver(_) => match message {
-            Some(message) => node_or_first(nodes, message.receiver()),
+        Act::Deliver(number) => match net.sent().ends(*number as usize) {
+            Some(ends) => node_or_first(nodes, ends.1),
             None => NodeId::numbered(0),
         },
         Act::Check(id)
@@ -135,25 +120,22 @@ fn node_or_first(nodes: u8, id: NodeId) -> NodeId
     }
 }
 
-/// The command that an act makes its node try on its disk, if it makes it try one, where this is the message that it delivers.
-pub(crate) fn command_by(message: &Option<Message>, act: &Act) -> Option<Command>
-    ensures { (sent : List Envelope) → message.now ≡ message_named sent act.now → map_option command_of result ≡ command_by sent act.now }
+/// The command that an act makes its node try on its disk, if it makes it try one. It is the same before the act and after it.
+pub(crate) fn command_by(net: &Net, act: &Act) -> Option<Command>
+    ensures { option_map command_of result ≡ command_by net.now.network.sent act.now }
 {
     match act {
         Act::Merge(_) | Act::Ready(_) | Act::Coord(_) | Act::Recover(_) => Some(Command::Raise),
-        Act::Submit(_, queue, payload) => Some(Command::Put(*queue, *payload)),
+        Act::Submit(_, queue, job) => Some(Command::Put(*queue, *job.payload())),
         Act::Finish(_, _, id) => Some(Command::Done(*id)),
-        Act::Deliver(_) => match message {
-            Some(message) => command_said(message.body()),
-            None => None,
-        },
+        Act::Deliver(number) => command_said(net.sent().get(*number as usize)?.body()),
         _ => None,
     }
 }
 
 /// The command that a message makes a node try, if it makes it try one.
 fn command_said(body: &Body) -> Option<Command>
-    ensures { map_option command_of result ≡ command_said body.now }
+    ensures { option_map command_of result ≡ command_said body.now }
 {
     match body {
         Body::Here(_, _) => Some(Command::Raise),
@@ -163,7 +145,7 @@ fn command_said(body: &Body) -> Option<Command>
 }
 
 /// Whether an act is the recovery of one of so many nodes.
-pub(crate) fn recovers(nodes: u8, act: &Act) -> bool
+fn recovers(nodes: u8, act: &Act) -> bool
     ensures { result ≡ recovers nodes act.now }
 {
     match act {

@@ -1,12 +1,8 @@
 // A cluster that keeps a report of all its acts.
-ghost use Rattle.std.specs.Prelude.{◌≡◌, ◌≤◌, ◌<◌, ◌+◌, ◌&&◌, true, [], ◌++◌, map, length, replicate, slice_get, slice_set, Some, IfOk, OnErr, OnOk, ℕ};
+ghost use Rattle.std.specs.Prelude.{◌≡◌, ◌≤◌, ◌<◌, ◌+◌, [], ◌++◌, map, length, slice_get, Some, IfOk, OnErr, OnOk, ℕ};
 ghost use Rattle.group_task.specs.declared.node.TheConstants.{NODES};
-ghost use Rattle.job_model.specs.Durable.{Durable};
-ghost use Rattle.node_core.specs.State.{is_down};
-ghost use Rattle.sector_disk.specs.Memory.{Memory};
-ghost use Rattle.durable_node.specs.Node.{Node};
-ghost use Rattle.cluster_sim.specs.Machine.{FaultsAt, Machine, StandsFor};
-ghost use Rattle.cluster_sim.specs.Recorded.{report_in, pending_room, recovers, Tells, GoesOn, HasRun, IsPromised, IsRecorded, ToldMoment};
+ghost use Rattle.cluster_sim.specs.Machine.{FaultsAt};
+ghost use Rattle.cluster_sim.specs.Recorded.{report_in, Tells, GoesOn, HasRun, IsPromised, IsRecorded, ToldMoment};
 ghost use Rattle.cluster_sim.specs.Growth.{acts_in};
 ghost use Rattle.cluster_sim.specs.Reporting.{Report as RunReport, node_named, report_of};
 ghost use Rattle.cluster_sim.specs.World.{World, start};

@@ -1,5 +1,5 @@
 // How a report grows by one act. All memory is taken before the act is done.
-ghost use Rattle.std.specs.Prelude.{◌≡◌, ◌≤◌, ◌<◌, ◌+◌, ◌++◌, ◌∷◌, [], ℕ, true, length, replicate, slice_get, IfOk, IfSome, OnOk, Some, vec_len, vec_capacity};
+ghost use Rattle.std.specs.Prelude.{◌≡◌, ◌≤◌, ◌<◌, ◌+◌, ◌++◌, [], ℕ, true, length, replicate, slice_get, option_map, IfOk, IfSome, OnOk, Some, vec_len, vec_capacity};
 ghost use Rattle.job_model.specs.Durable.{Durable};
 ghost use Rattle.sector_disk.specs.Memory.{Memory};
 ghost use Rattle.durable_node.specs.Node.{Node};
@@ -7,18 +7,19 @@ ghost use Rattle.node_core.specs.State.{state_of};
 ghost use Rattle.cluster_sim.specs.Machine.{StandsFor};
 ghost use Rattle.cluster_sim.specs.Reporting.{report_of};
 ghost use Rattle.cluster_sim.specs.World.{start};
-ghost use Rattle.cluster_sim.specs.Recorded.{report_in, moment_in, tried_of, mounted_of, command_of, map_option, HasRoom, IsAnswered, IsCount, IsToldOf, aim_told, listed, with_act, with_opening, given_in, mounted_at, told_report, tried_at, tried_in};
+ghost use Rattle.cluster_sim.specs.Recorded.{report_in, moment_in, tried_of, mounted_of, command_by, command_of, HasRoom, IsAnswered, IsCount, IsToldOf, aim_told, listed, with_act, with_opening, given_in, mounted_at, told_report, tried_at, tried_in};
 
-use crate::aim::Aim;
+use crate::aim::{Aim, command_by};
 use crate::outcome::Outcome;
 use crate::report::{Command, Marked, Moment, Mounted, Report};
 use crate::simulation::Simulation;
 use durable_node::DurableNode;
 use group_task::{GroupNo, NodeId};
 use job_model::Job;
-use node_core::{CoreFault, Vector};
+use node_core::Vector;
 use schedule::Act;
 use sector_disk::MemDisk;
+use sim_net::Net;
 use std::alloc::{AllocError, Global};
 
 /// Room for what is told of one act.
@@ -73,7 +74,7 @@ impl Report {
     pub(crate) fn add(&mut self, told: Told)
         requires room { HasRoom self.old }
         requires count { IsCount told.tried }
-        ensures { report_in self.new ≡ with_act (moment_in told.moment) (map_option tried_of told.tried) (map_option mounted_of told.mounted) (report_in self.old) }
+        ensures { report_in self.new ≡ with_act (moment_in told.moment) (option_map tried_of told.tried) (option_map mounted_of told.mounted) (report_in self.old) }
     {
         let group = given_by(&told.tried);
         self.moments.push_reserved(told.moment);
@@ -112,7 +113,7 @@ impl Report {
 /// The group of a raise that was acknowledged.
 fn given_by(tried: &Option<Marked>) -> Option<GroupNo>
     requires { IsCount tried.now }
-    ensures { listed result ≡ given_in (map_option tried_of tried.now) }
+    ensures { listed result ≡ given_in (option_map tried_of tried.now) }
 {
     match tried {
         Some(
@@ -155,7 +156,7 @@ pub(crate) fn mounted_by(
 ) -> Option<Mounted>
     requires empty { pending.items ≡ [] }
     requires room { (found : Durable) → node.now.found ≡ Some found → length found.pending ≤ vec_capacity pending }
-    ensures { map_option mounted_of result ≡ mounted_at id before node.now.found }
+    ensures { option_map mounted_of result ≡ mounted_at id before node.now.found }
 {
     let (count, table) = node.mounted()?;
     copy_jobs(&mut pending, table.pending());
@@ -181,14 +182,15 @@ fn copy_jobs(jobs: &mut Vec<Job>, more: &[Job])
 }
 
 /// The command that was tried in an act, by what came of it.
-pub(crate) fn tried_by(
+pub(crate) fn marked_by(
     id: NodeId,
-    command: Option<Command>,
+    net: &Net,
+    act: &Act,
     unmounted: bool,
     outcome: &Outcome,
 ) -> Option<Marked>
-    ensures value { map_option tried_of result ≡ tried_at id (tried_in unmounted (map_option command_of command) outcome.now) }
-    ensures same { IfSome result (λ tried. Some tried.command ≡ command) }
+    ensures value { option_map tried_of result ≡ tried_at id (tried_in unmounted (command_by net.now.network.sent act.now) outcome.now) }
+    ensures same { IfSome result (λ tried. Some (command_of tried.command) ≡ command_by net.now.network.sent act.now) }
 {
     let acked = match outcome {
         Outcome::Done { answer, .. } => Some((*answer)?),
@@ -197,7 +199,7 @@ pub(crate) fn tried_by(
     };
     Some(Marked {
         node: id,
-        command: command?,
+        command: command_by(net, act)?,
         acked,
     })
 }
@@ -215,16 +217,18 @@ pub(crate) fn tell(
     requires hand { (node : Node Memory) → slice_get simulation.now.nodes aim.id ≡ Some node → length node.state.hand ≤ room.vector.hand.room }
     requires empty { room.pending.items ≡ [] }
     requires jobs { (node : Node Memory) (found : Durable) → slice_get simulation.now.nodes aim.id ≡ Some node → aim.mounts ≡ true → node.found ≡ Some found → length found.pending ≤ vec_capacity room.pending }
-    requires answered { IsAnswered (map_option command_of aim.command) outcome.now }
+    requires answered { IsAnswered (command_by simulation.now.net.sent act) outcome.now }
     ensures count { IsCount result.tried }
-    ensures told { (node : Node Memory) → slice_get simulation.now.nodes aim.id ≡ Some node → IsToldOf act (aim_told aim) outcome.now node before result }
+    ensures told { (node : Node Memory) → slice_get simulation.now.nodes aim.id ≡ Some node → IsToldOf act (aim_told simulation.now.net.sent act aim) outcome.now node before result }
 {
-    tell_of(simulation.node(aim.id), before, aim, act, outcome, room)
+    let node = simulation.node(aim.id);
+    tell_of(node, simulation.net(), before, aim, act, outcome, room)
 }
 
 /// The same, of the node that the act is told of.
 fn tell_of(
     node: &DurableNode<MemDisk>,
+    net: &Net,
     before: u64,
     aim: Aim,
     act: Act,
@@ -234,9 +238,9 @@ fn tell_of(
     requires hand { length node.now.state.hand ≤ room.vector.hand.room }
     requires empty { room.pending.items ≡ [] }
     requires jobs { (found : Durable) → aim.mounts ≡ true → node.now.found ≡ Some found → length found.pending ≤ vec_capacity room.pending }
-    requires answered { IsAnswered (map_option command_of aim.command) outcome.now }
+    requires answered { IsAnswered (command_by net.now.network.sent act) outcome.now }
     ensures count { IsCount result.tried }
-    ensures told { IsToldOf act (aim_told aim) outcome.now node.now before result }
+    ensures told { IsToldOf act (aim_told net.now.network.sent act aim) outcome.now node.now before result }
 {
     let Room {
         vector: mut copy,
@@ -248,7 +252,7 @@ fn tell_of(
         None
     };
     let unmounted = aim.mounts && mounted.is_none();
-    let tried = tried_by(aim.id, aim.command, unmounted, outcome);
+    let tried = marked_by(aim.id, net, &act, unmounted, outcome);
     copy.set(node.vector());
     copy.fit();
     Told {

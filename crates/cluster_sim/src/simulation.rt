@@ -93,7 +93,8 @@ impl Simulation {
     pub fn into_net(self) -> Net
         ensures { result.network ≡ self.net }
     {
-        self.net
+        let Simulation { net, .. } = self;
+        net
     }
 
     /// How many slots an area of each disk has.

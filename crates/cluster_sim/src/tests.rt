@@ -1,10 +1,8 @@
 use super::*;
 use group_task::{GroupNo, NodeId};
 use job_model::{Payload, Queue};
-use node_core::{CoreFault, Phase};
-use schedule::{Act, Fill};
-use std::alloc::Global;
-use std::process::Abort;
+use node_core::Phase;
+use schedule::{Act, Fill, Submitted};
 use std::test::Fail;
 
 /// The phases of nodes, and the counts of their groups.
@@ -42,7 +40,8 @@ fn a_job_outlives_a_crash(rt: HostRuntime) -> Result<(), Fail> {
     let queue = Queue::new(0).ok_or("queue 0")?;
     let payload = Payload::new(b"a").ok_or("a payload")?;
     let mut acts = Vec::new(rt.alloc());
-    acts.push(Act::Submit(zero, queue, payload))?;
+    let submitted = Submitted::new(rt.alloc(), payload)?;
+    acts.push(Act::Submit(zero, queue, submitted))?;
     acts.push(Act::Crash(zero, Fill::new(Vec::new(rt.alloc()))))?;
     acts.push(Act::Recover(zero))?;
     let (report, _) = run(rt.alloc(), 1, 4, acts)?;

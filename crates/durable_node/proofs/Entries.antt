@@ -92,7 +92,7 @@ causes self pending Recover s id e = absurd cc
 
 -- ---- what isn't refused
 
-unless : (b : Bool) (x : CoreFault) → (if b then None else Some x) ≡ None → b ≡ true
+pub unless : (b : Bool) (x : CoreFault) → (if b then None else Some x) ≡ None → b ≡ true
 unless true x h = refl
 unless false x h = absurd cc
 

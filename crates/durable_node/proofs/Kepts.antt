@@ -153,7 +153,7 @@ step_by_step ms kept =
 abbrev pub DoubtIsDown : ℕ → NodeState → Type 0
 DoubtIsDown self s = IsNone s.doubt ⊎ (s.state ≡ down self)
 
-doubt_after : (self nodes : ℕ) (s : NodeState) (what : What) → IsPossible self nodes s what → DoubtIsDown self s → DoubtIsDown self (after self nodes s what)
+pub doubt_after : (self nodes : ℕ) (s : NodeState) (what : What) → IsPossible self nodes s what → DoubtIsDown self s → DoubtIsDown self (after self nodes s what)
 doubt_after self nodes s (Did event) may h = elim h [ inl none ↦ inl none | inr is ↦ inr (at_down self nodes s event is may.0 may.1.by_core).state ]
 doubt_after self nodes s (Refused event fault) may h = h
 doubt_after self nodes s (Faulted event) may h = inr refl

@@ -110,7 +110,8 @@ Steps {Disk} disks old new event result =
     (disk : Disk) (s : NodeState) → old.disk ≡ Some disk → Stands disks old s → (IsMounting old.state event → IsTrue (disks disk).honest) →
     (what : What) × Does (slots_for (disks disk).sectors) old.id old.nodes s event result new.found what × Stands disks new (after old.id old.nodes s what)
 
--- the device's failures are told: `Device` only where their count rose, or stands at its greatest value
+-- the count of the device's failures: every answer but `Device` leaves it as it is, and `Device` is told only where it rose, or
+-- stands at its greatest value
 abbrev pub CountsOf : {Disk : Type 0} → (Disk → DiskState) → Option Disk → Option Disk → Result Step NodeFault → Type 0
 CountsOf {Disk} disks old new result =
     (was now : Disk) → old ≡ Some was → new ≡ Some now → Counts (disks was) (disks now) (IsErrOf result node.Device) (IsErrOf result node.Device → ⊥)

@@ -1,5 +1,6 @@
 use group_task::NodeId;
 use job_model::{Payload, Queue};
+use std::alloc::{AllocError, Global};
 use std::marker::Model;
 
 /// What a crash leaves in the sectors that weren't synced, in their order.
@@ -16,7 +17,7 @@ impl Model for Fill {
     ghost view = { λ a. a.bytes.items };
 }
 
-ghost use Rattle.std.specs.Prelude.{◌≡◌};
+ghost use Rattle.std.specs.Prelude.{◌≡◌, IfOk};
 
 impl Fill {
     pub fn new(bytes: Vec<u8>) -> Fill
@@ -29,6 +30,37 @@ impl Fill {
         ensures { result.now ≡ self.now }
     {
         &self.bytes
+    }
+}
+
+/// The payload of a job that is submitted, kept apart from its act: a schedule is a long list of
+/// acts, most of which have none.
+#[derive(Drop)]
+pub struct Submitted {
+    payload: Box<Payload>,
+}
+
+impl Model for Submitted {
+    ghost use Rattle.job_model.specs.declared.payload.Payload.{Payload};
+
+    ghost Value = { Payload };
+
+    ghost view = { λ a. a.payload.value };
+}
+
+impl Submitted {
+    pub fn new(alloc: Global, payload: Payload) -> Result<Submitted, AllocError>
+        ensures { IfOk result (λ submitted. submitted ≡ payload) }
+    {
+        Ok(Submitted {
+            payload: Box::new(alloc, payload)?,
+        })
+    }
+
+    pub fn payload(&self) -> &Payload
+        ensures { result.now ≡ self.now }
+    {
+        &self.payload
     }
 }
 
@@ -45,7 +77,7 @@ pub enum Act {
     Lose(u64),
     Cut(NodeId, NodeId),
     Mend(NodeId, NodeId),
-    Submit(NodeId, Queue, Payload),
+    Submit(NodeId, Queue, Submitted),
     Finish(NodeId, NodeId, u64),
     Arm(NodeId, u64),
     Crash(NodeId, Fill),

@@ -8,7 +8,7 @@ mod reading;
 mod size;
 mod verb;
 
-pub use act::{Act, Fill};
+pub use act::{Act, Fill, Submitted};
 pub use reading::read_schedule;
 pub use size::{LEAST_SLOTS, MOST_ACTS, MOST_SLOTS, Schedule, Size};
 

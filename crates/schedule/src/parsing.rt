@@ -3,7 +3,7 @@ ghost use Rattle.line_words.specs.Words.{words_of};
 ghost use Rattle.schedule.specs.Acts.{act_of, act_with, short_act, middle_act, long_act};
 ghost use Rattle.schedule.specs.declared.verb.Verb.TheVariants.{Cut, Mend, Arm, Crash, Submit, Finish};
 
-use crate::act::{Act, Fill};
+use crate::act::{Act, Fill, Submitted};
 use crate::fields::{node, payload, queue};
 use crate::verb::Verb;
 use line_words::{bytes, cut_word, number};
@@ -131,7 +131,7 @@ fn submit(
         return Ok(None);
     };
     match payload(alloc, third)? {
-        Some(payload) => Ok(Some(Act::Submit(node, queue, payload))),
+        Some(payload) => Ok(Some(Act::Submit(node, queue, Submitted::new(alloc, payload)?))),
         None => Ok(None),
     }
 }

@@ -24,7 +24,7 @@ fn told(act: &Act) -> (&'static str, [u64; 3], &[u8]) {
             (
                 "submit",
                 ends(node.number(), queue.number()),
-                payload.as_slice(),
+                payload.payload().as_slice(),
             )
         }
         Act::Finish(node, origin, id) => {

@@ -1,6 +1,7 @@
 ghost use Rattle.std.specs.Prelude.{◌≡◌, ◌≢◌, option_map};
 ghost use Rattle.wire_msg.specs.Envelope.{envelope};
 ghost use Rattle.wire_msg.specs.Reading.{whole_at};
+ghost use Rattle.wire_msg.specs.declared.body.Body.TheVariants.{AreYouCoordinator};
 
 use crate::body::Body;
 use crate::reading::read;
@@ -90,7 +91,9 @@ impl Message {
 
     /// Some message, in whose place another one is read.
     #[inline]
-    pub(crate) fn blank() -> Message {
+    pub(crate) fn blank() -> Message
+        ensures { result ≡ record { sender = 0; receiver = 1; body = AreYouCoordinator } }
+    {
         Message::between(
             NodeId::numbered(0),
             NodeId::numbered(1),

@@ -1,0 +1,36 @@
+#!/usr/bin/env bash
+# The schedules of the folder schedules, and the table of tests that runs them, hold the same texts: a test can't read a
+# file, so each text stands twice. Called at the top of the repository; it needs nothing but bash.
+table=crates/invite_console/src/schedules.rt
+failed=0
+found=0
+
+# same NAME TEXT: the file holds these bytes, of which the table has the line feeds as \n
+same() {
+    local have want
+    IFS= read -r -d '' have <"schedules/$1"
+    printf -v want '%b' "$2"
+    if [ "$have" != "$want" ]; then
+        echo "schedules/$1 and $table differ"
+        failed=1
+    fi
+}
+
+while IFS= read -r line; do
+    case $line in
+        '    // '*) name=${line#    // } ending=txt ;;
+        '        "'*'",')
+            text=${line#        \"}
+            same "$name.$ending" "${text%\",}"
+            ending=out
+            found=$((found + 1))
+            ;;
+    esac
+done <"$table"
+
+files=(schedules/*)
+if [ "$found" -eq 0 ] || [ "$found" -ne "${#files[@]}" ]; then
+    echo "$table has $found texts, and the folder schedules ${#files[@]} files"
+    failed=1
+fi
+exit "$failed"
