@@ -10,6 +10,7 @@ pub mod Headline
 pub mod Growth
 pub mod Told
 pub mod Machine
+pub mod Operated
 pub mod Events
 pub mod Recorded
 pub mod Numbered

@@ -2,6 +2,7 @@
 ghost use Rattle.std.specs.Prelude.{◌≡◌, ◌≤◌, ◌<◌, ◌+◌, [], ◌++◌, map, length, slice_get, Some, IfOk, OnErr, OnOk, ℕ};
 ghost use Rattle.group_task.specs.declared.node.TheConstants.{NODES};
 ghost use Rattle.cluster_sim.specs.Machine.{FaultsAt};
+ghost use Rattle.cluster_sim.specs.Operated.{Operates};
 ghost use Rattle.cluster_sim.specs.Recorded.{report_in, Tells, GoesOn, HasRun, IsPromised, IsRecorded, ToldMoment};
 ghost use Rattle.cluster_sim.specs.Growth.{acts_in};
 ghost use Rattle.cluster_sim.specs.Reporting.{Report as RunReport, node_named, report_of};
@@ -73,6 +74,7 @@ impl Cluster {
         ensures slots { self.new.machine.slots ≡ self.old.machine.slots }
         ensures goes_on { (w : World) (r : RunReport) → Tells self.old w r → IfOk result (λ outcome. GoesOn w r act outcome self.new) }
         ensures faults { IfOk result (FaultsAt (node_named (length self.old.machine.nodes) self.old.machine.net.sent act) self.old.machine self.new.machine) }
+        ensures disk { OnOk result (Operates act self.old.machine self.new.machine) }
         ensures memory { (w : World) (r : RunReport) → Tells self.old w r → OnErr result (Tells self.new w r) }
     {
         advance(
@@ -156,6 +158,7 @@ fn advance(
     ensures goes_on { (w : World) (r : RunReport) → Tells (record { machine = simulation.old; report = report_in report.old }) w r
         → IfOk result (λ outcome. GoesOn w r act outcome (record { machine = simulation.new; report = report_in report.new })) }
     ensures faults { IfOk result (FaultsAt (node_named (length simulation.old.nodes) simulation.old.net.sent act) simulation.old simulation.new) }
+    ensures disk { OnOk result (Operates act simulation.old simulation.new) }
     ensures memory { (w : World) (r : RunReport) → Tells (record { machine = simulation.old; report = report_in report.old }) w r
         → OnErr result (Tells (record { machine = simulation.new; report = report_in report.new }) w r) }
 {

@@ -2,11 +2,13 @@
 ghost use Rattle.std.specs.Prelude.{◌≡◌, ◌≤◌, length, IfOk, OnErr, ℕ, None};
 ghost use Rattle.sector_disk.specs.Memory.{state_of};
 ghost use Rattle.sim_net.specs.Network.{after_all_sent};
+ghost use Rattle.durable_node.specs.Arming.{armed_disk};
 ghost use Rattle.durable_node.specs.Node.{Stands};
 ghost use Rattle.durable_node.specs.NodeState.{NodeState};
 ghost use Rattle.durable_node.specs.Stepping.{most_by};
 ghost use Rattle.durable_node.specs.What.{Rests, Nothing, Crashed};
 ghost use Rattle.cluster_sim.specs.Machine.{IsOfSize, IsSame, IsCounted, CameOf, Comes};
+ghost use Rattle.cluster_sim.specs.Operated.{IsLeftWith};
 ghost use Rattle.cluster_sim.specs.Told.{IsToldFault};
 ghost use Rattle.node_core.specs.declared.fault.CoreFault.TheVariants.{NoMemory};
 
@@ -97,6 +99,7 @@ pub(crate) fn arm(node: &mut DurableNode<MemDisk>, net: &Net, calls: u64) -> Out
     ensures came { (slots : ℕ) (s : NodeState) → Stands state_of node.old s
         → Comes slots node.old.id node.old.nodes (λ what. what ≡ Rests Nothing) s result node.new net.now.network net.now.network }
     ensures counted { IsCounted node.old.disk node.new.disk result }
+    ensures armed { node.new.disk ≡ armed_disk calls node.old.disk }
 {
     node.arm(calls);
     nothing_sent(net)
@@ -108,6 +111,7 @@ pub(crate) fn crash(node: &mut DurableNode<MemDisk>, net: &Net, fill: &Fill) -> 
     ensures came { (slots : ℕ) (s : NodeState) → Stands state_of node.old s
         → Comes slots node.old.id node.old.nodes (λ what. what ≡ Crashed) s result node.new net.now.network net.now.network }
     ensures counted { IsCounted node.old.disk node.new.disk result }
+    ensures left { IsLeftWith fill.now node.old.disk node.new.disk }
 {
     node.has_disk();
     node.crash(fill.as_slice());

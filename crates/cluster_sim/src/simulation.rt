@@ -1,11 +1,13 @@
 // A cluster of nodes over disks in memory, and the network between them.
-ghost use Rattle.std.specs.Prelude.{◌≡◌, ◌≤◌, ◌<◌, ◌&&◌, length, nat_lt, slice_get, Some, None, IfOk, OnErr, ℕ};
+ghost use Rattle.std.specs.Prelude.{◌≡◌, ◌≤◌, ◌<◌, ◌&&◌, length, nat_lt, slice_get, Some, None, IfOk, OnOk, OnErr, ℕ};
 ghost use Rattle.group_task.specs.declared.node.TheConstants.{NODES};
+ghost use Rattle.durable_node.specs.Arming.{armed_disk};
 ghost use Rattle.durable_node.specs.What.{brought, AreAddressed};
 ghost use Rattle.schedule.specs.declared.act.Act.TheVariants as act;
 ghost use Rattle.cluster_sim.specs.Acts.{At};
 ghost use Rattle.cluster_sim.specs.Events.{event_at};
 ghost use Rattle.cluster_sim.specs.Machine.{AreOpened, StandsFor, CameOf, Makes, Acted, FaultsAt};
+ghost use Rattle.cluster_sim.specs.Operated.{Operates, IsLeftWith, disk_at};
 ghost use Rattle.cluster_sim.specs.Reporting.{node_named, node_or_first, receiver_or_first};
 ghost use Rattle.cluster_sim.specs.Run.{IsBrought};
 ghost use Rattle.cluster_sim.specs.World.{World, start};
@@ -67,6 +69,7 @@ impl Simulation {
         ensures acted { (w : World) → StandsFor self.old w → IfOk result (λ outcome. Acted w act.now outcome self.new) }
         ensures memory { (w : World) → StandsFor self.old w → OnErr result (StandsFor self.new w) }
         ensures faults { IfOk result (FaultsAt (node_named (length self.old.nodes) self.old.net.sent act.now) self.old self.new) }
+        ensures disk { OnOk result (Operates act.now self.old self.new) }
     {
         match event_at(act) {
             Some(comes) => self.take(comes.0, comes.1),
@@ -194,6 +197,7 @@ impl Simulation {
         ensures slots { self.new.slots ≡ self.old.slots }
         ensures acted { (w : World) → StandsFor self.old w → Acted w (act.Arm id calls) result self.new }
         ensures faults { FaultsAt (node_or_first (length self.old.nodes) id) self.old self.new result }
+        ensures disk { disk_at self.new id ≡ armed_disk calls (disk_at self.old id) }
     {
         let place = usize::from(id.number());
         if place >= self.nodes.len() {
@@ -207,6 +211,7 @@ impl Simulation {
         ensures slots { self.new.slots ≡ self.old.slots }
         ensures acted { (w : World) → StandsFor self.old w → Acted w (act.Crash id fill.now) result self.new }
         ensures faults { FaultsAt (node_or_first (length self.old.nodes) id) self.old self.new result }
+        ensures disk { IsLeftWith fill.now (disk_at self.old id) (disk_at self.new id) }
     {
         let place = usize::from(id.number());
         if place >= self.nodes.len() {
@@ -222,6 +227,7 @@ impl Simulation {
         ensures acted { (w : World) → StandsFor self.old w → IfOk result (λ outcome. Acted w act.now outcome self.new) }
         ensures memory { (w : World) → StandsFor self.old w → OnErr result (StandsFor self.new w) }
         ensures faults { IfOk result (FaultsAt (node_named (length self.old.nodes) self.old.net.sent act.now) self.old self.new) }
+        ensures disk { OnOk result (Operates act.now self.old self.new) }
     {
         match act {
             Act::Deliver(number) => self.deliver(*number),

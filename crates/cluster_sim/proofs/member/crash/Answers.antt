@@ -1,6 +1,7 @@
-use Rattle.std.proofs.Common.{length, ap}
+use Rattle.std.proofs.Common.{ℕ, List, length, ap, subst}
 use Rattle.sector_disk.specs.Memory.{Memory}
 use Rattle.durable_node.specs.Node.{Node}
+use Rattle.cluster_sim.specs.Operated.{IsLeftWith}
 use Rattle.cluster_sim.proofs.Quiet.{crash_same, crashed_comes, crash_counted}
 use Rattle.cluster_sim.proofs.member.crash.Goals as goal
 
@@ -13,3 +14,6 @@ returns-clause-came c = λ slots s stands.
 
 pub returns-clause-counted : goal.returns-clause-counted
 returns-clause-counted c = crash_counted c.as_slice.result.now c.args.node.now c.crash.new.self c.nothing_sent.result (length c.args.net.now.network.sent) c.crash.ensures.disk c.nothing_sent.ensures
+
+pub returns-clause-left : goal.returns-clause-left
+returns-clause-left c = subst (λ (fill : List ℕ). IsLeftWith fill c.args.node.now.disk c.crash.new.self.disk) c.as_slice.ensures c.crash.ensures.disk

@@ -1,12 +1,14 @@
 use Rattle.std.proofs.Common.{◌≡◌, ℕ, ◌<◌, ◌≤◌, length, nat_lt, refl, sym, ◌∙◌, ap, subst, arith}
-use Rattle.std.specs.Prelude.{slice_set}
+use Rattle.std.specs.Prelude.{slice_get, slice_set}
 use Rattle.durable_node.specs.What.{What, Crashed}
 use Rattle.schedule.specs.declared.act.Act.TheVariants as act
 use Rattle.cluster_sim.specs.Acts.{At}
 use Rattle.cluster_sim.specs.Step.{Step}
-use Rattle.cluster_sim.specs.Machine.{Machine, IsCluster, StandsFor, Acted, FaultsAt}
+use Rattle.cluster_sim.specs.Machine.{Machine, IsCluster, StandsFor, Acted, FaultsAt, disk_of}
+use Rattle.cluster_sim.specs.Operated.{disk_at}
 use Rattle.cluster_sim.specs.Reporting.{node_or_first}
 use Rattle.cluster_sim.proofs.Members.{place_at, denied_at, still_cluster, takes}
+use Rattle.cluster_sim.proofs.Runs.{get_set_same}
 use Rattle.cluster_sim.proofs.Doings.{quietly, acted_by}
 use Rattle.cluster_sim.proofs.Faulting.{faults_still, faults_here}
 use Rattle.cluster_sim.proofs.simulation.Simulation.crash.Goals as goal
@@ -57,3 +59,14 @@ returns-clause-faults c =
     let at = place_at was.nodes.items c.len.result c.from-place.result c.args.id c.index_mut.result.now len within place c.index_mut.ensures.value in
     subst (λ (k : ℕ). FaultsAt (node_or_first (length c.args.self.now.nodes) c.args.id) c.args.self.now (record { slots = was.slots; nodes = slice_set was.nodes.items k c.crash.new.node; net = was.net.network }) c.crash.result) (sym place)
     (faults_here was.slots c.args.id was.nodes.items c.index_mut.result.now c.crash.new.node was.net.network was.net.network c.crash.result c.args.self.now c.self.view_is at c.crash.ensures.counted)
+
+pub returns-clause-disk : goal.returns-clause-disk
+returns-clause-disk c = λ was now before after.
+    let i = c.self.inside in
+    let place : c.from-place.result ≡ c.args.id = c.from-place.ensures ∙ c.number.ensures.value in
+    let len : c.len.result ≡ length i.nodes.items = grind (arith) in
+    let within : c.from-place.result < c.len.result = grind (arith) in
+    let at = place_at i.nodes.items c.len.result c.from-place.result c.args.id c.index_mut.result.now len within place c.index_mut.ensures.value in
+    let changed = ap (λ (k : ℕ). disk_of (slice_get (slice_set i.nodes.items k c.crash.new.node) c.args.id)) place
+    ∙ ap disk_of (get_set_same i.nodes.items c.args.id c.index_mut.result.now c.crash.new.node at) in
+    c.crash.ensures.left was now (sym (ap disk_of at) ∙ ap (λ (m : Machine). disk_at m c.args.id) c.self.view_is ∙ before) (sym changed ∙ after)

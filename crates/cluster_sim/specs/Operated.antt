@@ -1,0 +1,33 @@
+-- What an act of the operator does to the disk of the node that it names.
+use Rattle.std.specs.Prelude.{ℕ, ◌≡◌, List, slice_get, Option, Some}
+use Rattle.sector_disk.specs.Memory.{Memory, all_synced}
+use Rattle.sector_disk.specs.Crash.{IsCrashed}
+use Rattle.durable_node.specs.Arming.{armed_disk}
+use Rattle.schedule.specs.declared.act.Act.{Act}
+use Rattle.schedule.specs.declared.act.Act.TheVariants as act
+use Rattle.cluster_sim.specs.Machine.{Machine, disk_of}
+
+abbrev pub disk_at : Machine → ℕ → Option Memory
+disk_at machine n = disk_of (slice_get machine.nodes n)
+
+-- a crash with these bytes leaves this of a disk
+abbrev pub IsLeftWith : List ℕ → Option Memory → Option Memory → Type 0
+IsLeftWith fill old new = (was now : Memory) → old ≡ Some was → new ≡ Some now → IsCrashed was fill now.contents × (now ≡ all_synced now.contents was.failures)
+
+-- it is armed with so many calls, or a crash leaves what it leaves with these bytes
+abbrev pub Operates : Act → Machine → Machine → Type 0
+Operates (act.Check n) old new = Unit {0}
+Operates (act.Merge n) old new = Unit {0}
+Operates (act.Accept n) old new = Unit {0}
+Operates (act.Ready n) old new = Unit {0}
+Operates (act.Coord n) old new = Unit {0}
+Operates (act.Dispatch n) old new = Unit {0}
+Operates (act.Deliver k) old new = Unit {0}
+Operates (act.Lose k) old new = Unit {0}
+Operates (act.Cut a b) old new = Unit {0}
+Operates (act.Mend a b) old new = Unit {0}
+Operates (act.Submit n queue payload) old new = Unit {0}
+Operates (act.Finish n origin id) old new = Unit {0}
+Operates (act.Arm n calls) old new = disk_at new n ≡ armed_disk calls (disk_at old n)
+Operates (act.Crash n fill) old new = IsLeftWith fill (disk_at old n) (disk_at new n)
+Operates (act.Recover n) old new = Unit {0}
