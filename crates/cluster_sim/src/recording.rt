@@ -92,7 +92,7 @@ impl Report {
     ) -> Result<(), AllocError>
         ensures { OnOk result (report_in self.new ≡ with_opening id (state_of vector.now) (report_in self.old)) }
     {
-        self.opening.push(copied(alloc, id, vector)?)?;
+        self.opening.push(copied(alloc, vector)?)?;
         self.groups.push(GroupNo::numbered(id, 1))?;
         self.commands.push(Marked {
             node: id,
@@ -138,10 +138,10 @@ fn push_some<T>(list: &mut Vec<T>, item: Option<T>)
 }
 
 /// A vector once more.
-fn copied(alloc: Global, id: NodeId, vector: &Vector) -> Result<Vector, AllocError>
+fn copied(alloc: Global, vector: &Vector) -> Result<Vector, AllocError>
     ensures { IfOk result (λ copy. state_of copy ≡ state_of vector.now) }
 {
-    let mut copy = Vector::down(alloc, id);
+    let mut copy = Vector::down(alloc, vector.coordinator);
     copy.room(vector.hand.jobs().len())?;
     copy.set(vector);
     Ok(copy)

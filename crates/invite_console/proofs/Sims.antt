@@ -1,6 +1,5 @@
 -- A simulation told one act further.
 use Rattle.std.proofs.Common.{◌≡◌, ℕ, zero, suc, ◌+◌, List, [], ◌∷◌, ◌++◌, ◌<◌, ◌≤◌, length, map, drop, Option, Some, None, Result, Ok, Err, IfOk, OnOk, IsOk, slice_get, refl, sym, ap, subst, ◌∙◌, append_assoc, add-one, add-zero, arith}
-use Rattle.std.specs.Prelude.{slice_set}
 use Rattle.std.proofs.lemmas.List.{append-nil, drop_all, map-append, length-map, length-append}
 use Rattle.std.proofs.Math.Seq.{drop-append_seam}
 use Rattle.wire_msg.specs.Envelope.{Envelope}
@@ -12,7 +11,9 @@ use Rattle.durable_node.specs.What.{What, Did, Refused, Faulted, Rests, Crashed,
 use Rattle.schedule.specs.declared.act.Act.{Act}
 use Rattle.cluster_sim.specs.declared.outcome.Outcome.{Outcome}
 use Rattle.cluster_sim.specs.World.{World, openings, start}
-use Rattle.cluster_sim.specs.Step.{Step, Takes, Loses, Cuts, Mends, Denies, OfNet, Stranger, state_after, world_after}
+use Rattle.cluster_sim.proofs.Grown.{step_length}
+use Rattle.cluster_sim.proofs.Numbered.{step_adds}
+use Rattle.cluster_sim.specs.Step.{Step, Takes, Loses, Cuts, Mends, Denies, OfNet, Stranger, world_after}
 use Rattle.cluster_sim.specs.Acts.{node_outcome, outcome_of}
 use Rattle.cluster_sim.specs.Reporting.{Moment, moment_of, step_sent, report_of}
 use Rattle.cluster_sim.specs.Growth.{grown, IsNext, RunsGrow, RunsOpen}
@@ -54,35 +55,10 @@ first_sent nodes w (Mends a b) = refl
 first_sent nodes w (Denies (OfNet fault)) = refl
 first_sent nodes w (Denies Stranger) = refl
 
-sent_after_step : (nodes : ℕ) (w : World) (step : Step) → (world_after nodes w step).net.sent ≡ w.net.sent ++ step_sent nodes w step
-sent_after_step nodes w (Takes n number what) = refl
-sent_after_step nodes w (Loses k) = sym (append-nil w.net.sent)
-sent_after_step nodes w (Cuts a b) = sym (append-nil w.net.sent)
-sent_after_step nodes w (Mends a b) = sym (append-nil w.net.sent)
-sent_after_step nodes w (Denies why) = sym (append-nil w.net.sent)
-
 -- the messages of a step are the last ones
 pub last_sent : (nodes : ℕ) (w : World) (step : Step) → drop (length w.net.sent) (world_after nodes w step).net.sent ≡ step_sent nodes w step
 last_sent nodes w step =
-    ap (λ (sent : List Envelope). drop (length w.net.sent) sent) (sent_after_step nodes w step) ∙ drop-append_seam w.net.sent (step_sent nodes w step)
-
--- ---- how many nodes there are
-
-length_set : (xs : List NodeState) (k : ℕ) (x : NodeState) → length (slice_set xs k x) ≡ length xs
-length_set [] k x = refl
-length_set (y ∷ xs) zero x = refl
-length_set (y ∷ xs) (suc k) x = ap (λ (n : ℕ). suc n) (length_set xs k x)
-
-states_set : (n nodes : ℕ) (s : Option NodeState) (what : What) (states : List NodeState) → length (state_after n nodes s what states) ≡ length states
-states_set n nodes None what states = refl
-states_set n nodes (Some s) what states = length_set states n _
-
-states_kept : (nodes : ℕ) (w : World) (step : Step) → length (world_after nodes w step).states ≡ length w.states
-states_kept nodes w (Takes n number what) = states_set n nodes (slice_get w.states n) what w.states
-states_kept nodes w (Loses k) = refl
-states_kept nodes w (Cuts a b) = refl
-states_kept nodes w (Mends a b) = refl
-states_kept nodes w (Denies why) = refl
+    ap (λ (sent : List Envelope). drop (length w.net.sent) sent) (step_adds nodes w step) ∙ drop-append_seam w.net.sent (step_sent nodes w step)
 
 -- ---- one act further
 
@@ -128,7 +104,7 @@ further grow nodes slots old new acts a outcome text behind so acted same added 
       world = world_after nodes w act.step;
       report = grown nodes w a act.step so.report;
       left = grow nodes slots w so.report a act.step so.left next;
-      count = states_kept nodes w act.step ∙ so.count;
+      count = step_length nodes w act.step ∙ so.count;
       slots_are = same ∙ so.slots_are;
       stands = stands;
       acts_are = map-append (λ (m : Moment). m.act) so.report.moments (moment_of nodes w a act.step ∷ []) ∙ ap (λ (xs : List Act). xs ++ a ∷ []) so.acts_are;
@@ -145,7 +121,7 @@ pub sent_stays : (old new : Machine) (w : World) (a : Act) (outcome : Outcome) �
 sent_stays old new w a outcome stands acted =
     let n = length w.states in
     let now : length new.net.sent ≡ length (w.net.sent ++ step_sent n w acted.step) =
-    ap (λ (net : Network). length net.sent) acted.stands.net ∙ ap (λ (sent : List Envelope). length sent) (sent_after_step n w acted.step) in
+    ap (λ (net : Network). length net.sent) acted.stands.net ∙ ap (λ (sent : List Envelope). length sent) (step_adds n w acted.step) in
     let more = length-append w.net.sent (step_sent n w acted.step) in
     omega (arith, now, more, sent_before old w stands)
 

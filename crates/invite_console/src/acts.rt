@@ -6,9 +6,10 @@ ghost use Rattle.invite_console.specs.Acts.{act_line, answer_text, core_name, fa
 use crate::words::{push_hex, push_number, push_text};
 use cluster_sim::{Outcome, Refusal};
 use durable_node::NodeFault;
+use message_list::MessageList;
 use node_core::CoreFault;
 use schedule::Act;
-use sim_net::{MessageList, NetFault};
+use sim_net::NetFault;
 use std::alloc::AllocError;
 
 /// Adds the line of an act that was done or refused. Where there was no memory for it, that is handed on.

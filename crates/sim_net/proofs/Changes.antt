@@ -1,7 +1,7 @@
 -- Delivery by what is kept is delivery by what was done.
 use Rattle.std.proofs.Common.{◌≡◌, ℕ, zero, suc, Bool, true, false, List, [], ◌∷◌, ◌++◌, length, slice_get, refl, sym, ◌∙◌, ap, arith, slice_index_or, append_assoc, Option, Some, None}
-use Rattle.std.specs.Prelude.{◌==◌, ◌&&◌, ◌||◌, not, nat_lt, if◌then◌else◌, slice_set, replicate, unwrap_or, Ok, Err}
-use Rattle.std.proofs.lemmas.List.{append-nil, length-append}
+use Rattle.std.specs.Prelude.{◌==◌, ◌&&◌, ◌||◌, not, nat_lt, if◌then◌else◌, replicate, unwrap_or, Ok, Err}
+use Rattle.std.proofs.lemmas.List.{append-nil, length-append, length-set}
 use Rattle.std.proofs.lemmas.Option.{unwrap_or-slice_get}
 use Rattle.group_task.specs.declared.node.TheConstants.{NODES}
 use Rattle.group_task.specs.Ids.{has}
@@ -10,11 +10,6 @@ use Rattle.sim_net.specs.declared.fault.NetFault.TheVariants.{Lost, Cut}
 use Rattle.sim_net.specs.Network.{Network, silent, lesser, greater, is_cut, found_by, unless_cut}
 use Rattle.sim_net.specs.Changes.{Change, Sends, Loses, Cuts, Mends, after_change, after_changes, sent_by, was_lost, same_pair, was_cut, told_of, AreOfNodes, DeliveredByChanges}
 use Rattle.sim_net.proofs.Cuts.{cut_now, mended_now, not_lost_yet, lost_now}
-
-length-set : {A : Type 0} (xs : List A) (n : ℕ) (x : A) → length (slice_set xs n x) ≡ length xs
-length-set [] n x = refl
-length-set (y ∷ xs) zero x = refl
-length-set (y ∷ xs) (suc n) x = ap suc (length-set xs n x)
 
 all_sent : (cs : List Change) (net : Network) → (after_changes net cs).sent ≡ net.sent ++ sent_by cs
 all_sent [] net = sym (append-nil net.sent)

@@ -1,5 +1,3 @@
-pub mod Letters
-pub mod Rooms
 pub mod Network
 pub mod Changes
 pub use Rattle.wire_msg.specs.Envelope

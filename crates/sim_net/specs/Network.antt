@@ -43,10 +43,6 @@ with_cut cuts a b = slice_set cuts (lesser a b) (with_id (row cuts (lesser a b))
 abbrev pub without_cut : List (List ℕ) → ℕ → ℕ → List (List ℕ)
 without_cut cuts a b = slice_set cuts (lesser a b) (without_id (row cuts (lesser a b)) (greater a b))
 
--- the sender and the receiver
-abbrev pub ends_of : Envelope → ℕ × ℕ
-ends_of m = (m.sender, m.receiver)
-
 -- ---- what comes of an act
 
 -- the message of this number, if it was sent and isn't lost

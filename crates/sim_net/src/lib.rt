@@ -4,14 +4,10 @@
 
 mod fault;
 mod laws;
-mod letter;
-mod list;
 mod net;
-mod spelling;
 
 pub use fault::NetFault;
 pub use laws::delivered_by_changes;
-pub use list::MessageList;
 pub use net::Net;
 
 #[cfg(test)]

@@ -2,8 +2,8 @@ ghost use Rattle.std.specs.Prelude.{◌≡◌, ◌↔◌, ◌+◌, ◌<◌, ◌�
 ghost use Rattle.sim_net.specs.Network.{silent, lesser, greater, is_cut, found, delivery, after_sent, after_lost, after_cut, after_mend};
 
 use crate::fault::NetFault;
-use crate::list::MessageList;
 use group_task::{Members, NODES, NodeId};
+use message_list::MessageList;
 use std::alloc::Global;
 use std::marker::Model;
 use wire_msg::Message;

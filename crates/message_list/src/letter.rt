@@ -1,7 +1,7 @@
 //! Messages as they are kept: 16 bytes for each, and what is longer in lists beside it.
 
 ghost use Rattle.std.specs.Prelude.{◌≡◌, ◌+◌, ◌<◌, ◌≤◌, ◌^◌, ◌++◌, length, vec_len, vec_capacity, All};
-ghost use Rattle.sim_net.specs.Letters.{letter_of, noted, task_kept, work_kept, payload_kept, body_of, HasNumber, CanBeRead, HasPayload, work_said};
+ghost use Rattle.message_list.specs.Letters.{letter_of, noted, task_kept, work_kept, payload_kept, body_of, HasNumber, CanBeRead, HasPayload, work_said};
 ghost use Rattle.job_model.specs.declared.payload.TheConstants.{PAYLOAD_CAPACITY};
 
 use group_task::{GroupNo, NodeId, Task};

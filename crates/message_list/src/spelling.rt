@@ -4,8 +4,8 @@ ghost use Rattle.std.specs.Prelude.{◌≡◌, ◌∷◌, ◌++◌, [], ℕ, Lis
 ghost use Rattle.std.specs.Int.{w64, to_be_bytes};
 ghost use Rattle.group_task.specs.Assignment.{Assignment};
 ghost use Rattle.wire_msg.specs.Spelling.{spelling, truth};
-ghost use Rattle.sim_net.specs.declared.letter.KeptWork.{KeptWork as Kept};
-ghost use Rattle.sim_net.specs.Letters.{is_whole, message_of};
+ghost use Rattle.message_list.specs.declared.letter.KeptWork.{KeptWork as Kept};
+ghost use Rattle.message_list.specs.Letters.{is_whole, message_of};
 
 use crate::letter::{Kind, Letter};
 use std::alloc::AllocError;

@@ -1,6 +1,6 @@
 ghost use Rattle.std.specs.Prelude.{◌≡◌, ◌-◌, ◌+◌, ◌<◌, ◌≤◌, [], ◌∷◌, ◌++◌, length, max, option_map, slice_get, IfSome, OnOk, OnErr};
 ghost use Rattle.wire_msg.specs.Spelling.{spelling};
-ghost use Rattle.sim_net.specs.Network.{ends_of};
+ghost use Rattle.message_list.specs.Letters.{ends_of};
 
 use crate::letter::{KeptWork, Letter, body_of, keep_payload, keep_task, keep_work, letter_of};
 use crate::spelling::{spell_letter, spell_message};
@@ -26,11 +26,11 @@ pub struct MessageList {
 
 impl Model for MessageList {
     ghost use Rattle.std.specs.Prelude.{map};
-    ghost use Rattle.sim_net.specs.Letters.{Kept, message_of};
+    ghost use Rattle.message_list.specs.Letters.{Kept, message_of};
 
     ghost Value = { Kept };
 
-    ghost use Rattle.sim_net.specs.Rooms.{IsKept};
+    ghost use Rattle.message_list.specs.Rooms.{IsKept};
 
     ghost view = { λ a. record { messages = map (message_of a.tasks.items a.works.items a.payloads.items) a.letters.items; room = a.room } };
 

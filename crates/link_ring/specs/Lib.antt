@@ -1,0 +1,2 @@
+pub mod Sides
+pub use Rattle.wire_msg.specs.Envelope

@@ -1,0 +1,72 @@
+//! What went through a link, once both ends are back in one thread.
+
+ghost use Rattle.std.specs.Prelude.{◌≡◌, ◌↔◌, IsOk, IsTrue, IfOk, slice_get};
+ghost use mathlib.Core.List.{IsPrefix};
+ghost use Rattle.link_ring.specs.Sides.{Paired};
+
+use crate::put_end::PutEnd;
+use crate::take_end::TakeEnd;
+use group_task::NodeId;
+use message_list::MessageList;
+use thiserror::Error;
+
+/// What went through a link: all that was put and all that was taken, each in its order.
+#[derive(Drop)]
+pub struct LinkEnd {
+    pub sender: NodeId,
+    pub receiver: NodeId,
+    pub put: MessageList,
+    pub taken: MessageList,
+}
+
+/// Two ends that can't be those of one link.
+#[derive(Clone, Copy, Debug, PartialEq, Eq, Error)]
+#[error("Unpaired")]
+pub struct Unpaired;
+
+/// What went through a link, by its two ends, which are given up either way. An end doesn't know which ring it belongs to, so
+/// this compares what the ends tell: their nodes, and what went through them. What is still in the ring was put and not taken.
+pub fn gather(put_end: PutEnd, take_end: TakeEnd) -> Result<LinkEnd, Unpaired>
+    ensures paired { IsOk result ↔ Paired put_end take_end }
+    ensures nodes { IfOk result (λ link. (link.sender ≡ put_end.sender) × (link.receiver ≡ put_end.receiver)) }
+    ensures messages { IfOk result (λ link. (link.put.messages ≡ put_end.messages) × (link.taken.messages ≡ take_end.messages)) }
+{
+    if !are_paired(&put_end, &take_end) {
+        return Err(Unpaired);
+    }
+    Ok(LinkEnd {
+        sender: put_end.sender(),
+        receiver: put_end.receiver(),
+        put: put_end.into_messages(),
+        taken: take_end.into_messages(),
+    })
+}
+
+/// Whether the two ends have the same nodes, and what was taken is the front of what was put.
+fn are_paired(put_end: &PutEnd, take_end: &TakeEnd) -> bool
+    ensures { IsTrue result ↔ Paired put_end.now take_end.now }
+{
+    put_end.sender() == take_end.sender()
+        && put_end.receiver() == take_end.receiver()
+        && begins(take_end.messages(), put_end.messages())
+}
+
+/// Whether what was taken is the front of what was put.
+#[tactic(auto, using(crate::proofs::Fronts::front_of_places))]
+fn begins(taken: &MessageList, put: &MessageList) -> bool
+    ensures { IsTrue result ↔ IsPrefix taken.now.messages put.now.messages }
+{
+    for place in 0..taken.len() {
+        if !is_same_at(taken, put, place) {
+            return false;
+        }
+    }
+    true
+}
+
+/// Whether both lists have one and the same message at this place, or neither has any.
+fn is_same_at(taken: &MessageList, put: &MessageList, place: usize) -> bool
+    ensures { IsTrue result ↔ (slice_get taken.now.messages place ≡ slice_get put.now.messages place) }
+{
+    taken.get(place) == put.get(place)
+}

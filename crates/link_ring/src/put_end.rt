@@ -1,0 +1,103 @@
+ghost use Rattle.std.specs.Prelude.{◌≡◌, ◌<◌, [], length, max, IfSome, IfNone, IsNone, OnOk, OnErr};
+ghost use Rattle.rtrb.specs.Ring.{sent, known_free, producer_capacity};
+ghost use Rattle.link_ring.specs.Sides.{unused, with_message, with_room};
+
+use group_task::NodeId;
+use message_list::MessageList;
+use rtrb::Producer;
+use std::alloc::{AllocError, Global};
+use std::marker::Model;
+use wire_msg::Message;
+
+/// The end of a link that its sender holds.
+#[derive(Drop)]
+pub struct PutEnd {
+    sender: NodeId,
+    receiver: NodeId,
+    producer: Producer<Message>,
+    put: MessageList,
+}
+
+impl Model for PutEnd {
+    ghost use Rattle.std.specs.Prelude.{◌≡◌, ◌≤◌, ◌+◌, length};
+    ghost use Rattle.rtrb.specs.Ring.{sent, known_free, producer_capacity};
+    ghost use Rattle.link_ring.specs.Sides.{Side};
+
+    ghost Value = { Side };
+
+    ghost view = { λ a. record { sender = a.sender; receiver = a.receiver; capacity = producer_capacity a.producer; messages = a.put.messages; room = a.put.room } };
+
+    // a slot that no message went through is known to be free
+    ghost invariant = { λ a. (a.put.messages ≡ sent a.producer) × (producer_capacity a.producer ≤ known_free a.producer + length (sent a.producer)) };
+}
+
+impl PutEnd {
+    /// The end over a ring that nothing was put into.
+    pub(crate) fn new(
+        alloc: Global,
+        sender: NodeId,
+        receiver: NodeId,
+        producer: Producer<Message>,
+    ) -> PutEnd
+        requires { (sent producer ≡ []) × (known_free producer ≡ producer_capacity producer) }
+        ensures { result ≡ unused sender receiver (producer_capacity producer) }
+    {
+        PutEnd {
+            sender,
+            receiver,
+            producer,
+            put: MessageList::new(alloc),
+        }
+    }
+
+    /// The node that puts.
+    pub fn sender(&self) -> NodeId
+        ensures { result ≡ self.now.sender }
+    {
+        self.sender
+    }
+
+    /// The node that takes.
+    pub fn receiver(&self) -> NodeId
+        ensures { result ≡ self.now.receiver }
+    {
+        self.receiver
+    }
+
+    /// All that was put, in order.
+    pub fn messages(&self) -> &MessageList
+        ensures { result.now.messages ≡ self.now.messages }
+    {
+        &self.put
+    }
+
+    /// Makes room for so many more messages, whatever they say. It is room in the list of what was put, not in the ring.
+    pub fn reserve(&mut self, more: usize) -> Result<(), AllocError>
+        ensures reserved { OnOk result (self.new ≡ with_room self.old (max self.old.room more)) }
+        ensures refused { OnErr result ((self.old.room < more) × (self.new ≡ self.old)) }
+    {
+        self.put.reserve(more)
+    }
+
+    /// Puts a message on the link, or hands it back where the ring is full: it is lost then, unless it is put again once the
+    /// receiver has taken some. It takes no memory and waits for nobody.
+    pub fn put(&mut self, message: Message) -> Option<Message>
+        requires { 0 < self.old.room }
+        ensures put { IfNone result (self.new ≡ with_message self.old message) }
+        ensures full { IfSome result (λ back. (back ≡ message) × (self.new ≡ self.old)) }
+        ensures first { length self.old.messages < self.old.capacity → IsNone result }
+    {
+        if self.producer.push(message).is_err() {
+            return Some(message);
+        }
+        self.put.push(&message);
+        None
+    }
+
+    /// All that was put, in order, once the end is given up.
+    pub(crate) fn into_messages(self) -> MessageList
+        ensures { result.messages ≡ self.messages }
+    {
+        self.put
+    }
+}

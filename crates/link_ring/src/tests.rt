@@ -1,0 +1,182 @@
+use super::*;
+use group_task::NodeId;
+use message_list::MessageList;
+use std::alloc::{AllocError, Global};
+use std::process::Abort;
+use std::test::Fail;
+use std::thread;
+use wire_msg::{Body, Message};
+
+/// The message of node 0 to node 1 that the job of this id is done.
+fn done(id: u64) -> Message {
+    Message::between(NodeId::numbered(0), NodeId::numbered(1), Body::Done(id))
+}
+
+/// A link from node 0 to node 1.
+fn link_of(alloc: Global, capacity: usize) -> Result<(PutEnd, TakeEnd), Fail> {
+    Ok(link(alloc, NodeId::numbered(0), NodeId::numbered(1), capacity)?)
+}
+
+/// Puts the message of this job, and answers what was handed back.
+fn put(end: &mut PutEnd, id: u64) -> Result<Option<Message>, Fail> {
+    end.reserve(1)?;
+    Ok(end.put(done(id)))
+}
+
+fn take(end: &mut TakeEnd) -> Result<Option<Message>, Fail> {
+    end.reserve(1)?;
+    Ok(end.take())
+}
+
+/// Expects the messages of these jobs, in this order.
+fn expect_done(rt: &impl Abort, messages: &MessageList, ids: &[u64]) {
+    assert_eq!(rt; messages.len(), ids.len());
+    for (place, id) in ids.iter().enumerate() {
+        assert!(rt; messages.get(place) == Some(done(*id)), "message {place}");
+    }
+}
+
+#[test]
+fn taken_in_the_order_of_putting(rt: HostRuntime) -> Result<(), Fail> {
+    let (mut put_end, mut take_end) = link_of(rt.alloc(), 3)?;
+    assert!(rt; take(&mut take_end)?.is_none());
+    for id in [5, 7, 5] {
+        assert!(rt; put(&mut put_end, id)?.is_none());
+    }
+    for id in [5, 7, 5] {
+        assert!(rt; take(&mut take_end)? == Some(done(id)));
+    }
+    assert!(rt; take(&mut take_end)?.is_none());
+    Ok(())
+}
+
+#[test]
+fn full_link_hands_the_message_back(rt: HostRuntime) -> Result<(), Fail> {
+    let (mut put_end, mut take_end) = link_of(rt.alloc(), 2)?;
+    assert!(rt; put(&mut put_end, 1)?.is_none());
+    assert!(rt; put(&mut put_end, 2)?.is_none());
+    assert!(rt; put(&mut put_end, 3)? == Some(done(3)));
+    expect_done(&rt, put_end.messages(), &[1, 2]);
+    assert!(rt; take(&mut take_end)? == Some(done(1)));
+    assert!(rt; put(&mut put_end, 3)?.is_none());
+    assert!(rt; take(&mut take_end)? == Some(done(2)));
+    assert!(rt; take(&mut take_end)? == Some(done(3)));
+    expect_done(&rt, put_end.messages(), &[1, 2, 3]);
+    expect_done(&rt, take_end.messages(), &[1, 2, 3]);
+    Ok(())
+}
+
+#[test]
+fn gathered_with_messages_in_the_ring(rt: HostRuntime) -> Result<(), Fail> {
+    let (mut put_end, mut take_end) = link_of(rt.alloc(), 3)?;
+    for id in 1..4 {
+        assert!(rt; put(&mut put_end, id)?.is_none());
+    }
+    assert!(rt; take(&mut take_end)? == Some(done(1)));
+    let gathered = gather(put_end, take_end).ok().ok_or("a pair")?;
+    assert_eq!(rt; gathered.sender.number(), 0);
+    assert_eq!(rt; gathered.receiver.number(), 1);
+    expect_done(&rt, &gathered.put, &[1, 2, 3]);
+    expect_done(&rt, &gathered.taken, &[1]);
+    Ok(())
+}
+
+#[test]
+fn ends_of_two_links(rt: HostRuntime) -> Result<(), Fail> {
+    let (mut first_put, first_take) = link_of(rt.alloc(), 3)?;
+    let (mut second_put, mut second_take) = link_of(rt.alloc(), 3)?;
+    assert!(rt; put(&mut first_put, 1)?.is_none());
+    assert!(rt; put(&mut second_put, 2)?.is_none());
+    assert!(rt; take(&mut second_take)? == Some(done(2)));
+    assert!(rt; gather(first_put, second_take).err() == Some(Unpaired));
+    let gathered = gather(second_put, first_take)
+        .ok()
+        .ok_or("nothing was taken")?;
+    expect_done(&rt, &gathered.put, &[2]);
+    expect_done(&rt, &gathered.taken, &[]);
+    Ok(())
+}
+
+#[test]
+fn ends_of_other_nodes(rt: HostRuntime) -> Result<(), Fail> {
+    // the nodes of the taking end, and whether it is paired with a putting end from node 0 to node 1
+    for (sender, receiver, paired) in [(0, 1, true), (0, 2, false), (2, 1, false), (1, 0, false)] {
+        let (put_end, _) = link_of(rt.alloc(), 1)?;
+        let sender = NodeId::new(sender).ok_or("an id")?;
+        let receiver = NodeId::new(receiver).ok_or("an id")?;
+        let (_, take_end) = link(rt.alloc(), sender, receiver, 1)?;
+        assert!(rt; gather(put_end, take_end).is_ok() == paired);
+    }
+    Ok(())
+}
+
+/// Puts the messages of 100 jobs.
+fn put_all(mut end: PutEnd) -> Result<PutEnd, AllocError> {
+    for id in 0..100 {
+        end.reserve(1)?;
+        let _ = end.put(done(id));
+    }
+    Ok(end)
+}
+
+/// Looks for a message again and again, whether or not one is there.
+fn take_some(mut end: TakeEnd) -> Result<TakeEnd, AllocError> {
+    for _ in 0..1000 {
+        end.reserve(1)?;
+        let _ = end.take();
+    }
+    Ok(end)
+}
+
+#[test]
+fn ends_in_two_threads(rt: HostRuntime) -> Result<(), Fail> {
+    let (put_end, take_end) = link_of(rt.alloc(), 100)?;
+    let (put_end, take_end) = thread::join(
+        &rt,
+        move || put_all(put_end),
+        move || take_some(take_end),
+    );
+    // what the other thread didn't find yet is found now
+    let gathered = gather(put_end?, take_some(take_end?)?)
+        .ok()
+        .ok_or("a pair")?;
+    for list in [&gathered.put, &gathered.taken] {
+        assert_eq!(rt; list.len(), 100);
+        for place in 0..100 {
+            assert!(rt;
+                list.get(place) == Some(done(place as u64)),
+                "message {place}"
+            );
+        }
+    }
+    Ok(())
+}
+
+#[test]
+fn want_of_memory_changes_nothing(rt: HostRuntime) -> Result<(), Fail> {
+    assert!(rt;
+        link(
+            rt.alloc(),
+            NodeId::numbered(0),
+            NodeId::numbered(1),
+            usize::MAX
+        )
+        .is_err()
+    );
+    let (mut put_end, mut take_end) = link_of(rt.alloc(), 2)?;
+    assert!(rt; put(&mut put_end, 1)?.is_none());
+    assert!(rt; put_end.reserve(usize::MAX).is_err());
+    assert!(rt; take_end.reserve(usize::MAX).is_err());
+    assert!(rt; put(&mut put_end, 2)?.is_none());
+    assert!(rt; take(&mut take_end)? == Some(done(1)));
+    expect_done(&rt, put_end.messages(), &[1, 2]);
+    expect_done(&rt, take_end.messages(), &[1]);
+    Ok(())
+}
+
+#[test]
+fn name_of_the_fault(rt: HostRuntime) -> Result<(), Fail> {
+    let text = format!(in rt.alloc(); "{}", Unpaired)?;
+    assert_eq!(rt; text.as_str(), "Unpaired");
+    Ok(())
+}
