@@ -1,13 +1,11 @@
 -- The failures of the disks in an act.
-use Rattle.std.proofs.Common.{◌≡◌, ◌≢◌, ℕ, ◌<◌, Bool, true, false, List, length, slice_get, refl, sym, ◌∙◌, ap, subst, arith, Option, Some, None, Result, Ok, Err}
-use Rattle.std.specs.Prelude.{slice_set, IfOk, if◌then◌else◌}
+use Rattle.std.proofs.Common.{◌≡◌, ◌≢◌, ℕ, ◌<◌, List, length, slice_get, refl, sym, ◌∙◌, ap, subst, arith, Option, Some, Result, Ok, Err}
+use Rattle.std.specs.Prelude.{slice_set, IfOk}
 use Rattle.std.proofs.lemmas.Option.{slice_get_within}
 use Rattle.sector_disk.specs.Disk.{Counts}
 use Rattle.sector_disk.specs.Memory.{Memory, state_of}
 use Rattle.wire_msg.specs.Envelope.{Envelope}
-use Rattle.sim_net.specs.declared.fault.NetFault.{NetFault}
-use Rattle.sim_net.specs.declared.fault.NetFault.TheVariants.{Cut}
-use Rattle.sim_net.specs.Network.{Network, is_cut, found_by, found, unless_cut, delivery}
+use Rattle.sim_net.specs.Network.{Network}
 use Rattle.node_core.specs.declared.event.Event.{Event}
 use Rattle.durable_node.specs.Node.{Node}
 use Rattle.durable_node.proofs.Nodes.{is_some}
@@ -73,24 +71,6 @@ named_by_event (act.Finish k origin id) n event nodes sent is = ap (λ (p : ℕ 
 named_by_event (act.Arm k calls) n event nodes sent is = absurd (let bad = is in cc)
 named_by_event (act.Crash k fill) n event nodes sent is = absurd (let bad = is in cc)
 named_by_event (act.Recover k) n event nodes sent is = ap (λ (p : ℕ × Event). node_or_first nodes p.0) (is_some _ _ is)
-
-found_there : (m : Option Envelope) (lost : Option Bool) (e : Envelope) → found_by m lost ≡ Ok e → m ≡ Some e
-found_there None lost e is = absurd (let bad = is in cc)
-found_there (Some m) None e is = cc is
-found_there (Some m) (Some true) e is = absurd (let bad = is in cc)
-found_there (Some m) (Some false) e is = cc is
-
-chosen : (b : Bool) (r : Result Envelope NetFault) (e : Envelope) → (if b then Err Cut else r) ≡ Ok e → r ≡ Ok e
-chosen true r e is = absurd (let bad = is in cc)
-chosen false r e is = is
-
-uncut_there : (cuts : List (List ℕ)) (r : Result Envelope NetFault) (e : Envelope) → unless_cut cuts r ≡ Ok e → r ≡ Ok e
-uncut_there cuts (Err fault) e is = absurd (let bad = is in cc)
-uncut_there cuts (Ok m) e is = chosen (is_cut cuts m.sender m.receiver) (Ok m) e is
-
--- what is delivered was sent under its number
-pub delivered_there : (net : Network) (k : ℕ) (e : Envelope) → delivery net k ≡ Ok e → slice_get net.sent k ≡ Some e
-delivered_there net k e is = found_there (slice_get net.sent k) (slice_get net.lost k) e (uncut_there net.cuts (found net k) e is)
 
 pub faults_received : {E : Type 0} (nodes : ℕ) (sent : List Envelope) (k receiver : ℕ) (m : Envelope) (old new : Machine) (result : Result Outcome E) → slice_get sent k ≡ Some m → receiver ≡ m.receiver
     → IfOk result (FaultsAt (node_or_first nodes receiver) old new) → IfOk result (FaultsAt (receiver_or_first nodes (slice_get sent k)) old new)

@@ -21,6 +21,7 @@ use Rattle.cluster_sim.specs.Growth.{acts_in, tried_so_far, grown, IsNext, RunsO
 use Rattle.cluster_sim.proofs.Opened.{length_openings}
 use Rattle.cluster_sim.proofs.Picked.{own_tried, own_append, own_marks}
 use Rattle.cluster_sim.proofs.Headlines.{every_schedule}
+use Rattle.durable_node.proofs.Owners.{commands_append}
 
 -- ---- the run
 
@@ -60,12 +61,6 @@ marks_go_on nodes (x ∷ steps) w counts step =
     ap (λ (ms : List (ℕ × Mark)). step_marks nodes w counts x ++ ms) (marks_go_on nodes steps (world_after nodes w x) next step)
     ∙ sym (append_assoc (step_marks nodes w counts x) (run_marks nodes (world_after nodes w x) next steps)
     (step_marks nodes (world_at nodes (world_after nodes w x) steps) (counts_at nodes (world_after nodes w x) next steps) step))
-
-commands_append : (xs ys : List Mark) → commands_of (xs ++ ys) ≡ commands_of xs ++ commands_of ys
-commands_append [] ys = refl
-commands_append (Acknowledged c a ∷ xs) ys = ap (λ (ts : List Tried). record { command = c; acked = Some a } ∷ ts) (commands_append xs ys)
-commands_append (Unanswered c ∷ xs) ys = ap (λ (ts : List Tried). record { command = c; acked = None } ∷ ts) (commands_append xs ys)
-commands_append (Mounted w ∷ xs) ys = commands_append xs ys
 
 -- the number of a node's commands in marks
 abbrev so_many : ℕ → List (ℕ × Mark) → ℕ

@@ -6,7 +6,7 @@ use Rattle.group_task.specs.Group.{Group}
 use Rattle.group_task.specs.Assignment.{Assignment}
 use Rattle.wire_msg.specs.Envelope.{Envelope}
 use Rattle.node_core.specs.declared.phase.Phase.{Phase}
-use Rattle.node_core.specs.declared.phase.Phase.TheVariants.{Down, Election, Reorganization, Normal}
+use Rattle.node_core.specs.declared.phase.Phase.TheVariants.{Normal}
 use Rattle.node_core.specs.State.{State}
 use Rattle.durable_node.specs.Lists.{IsAmong}
 use Rattle.durable_node.specs.NodeState.{NodeState, opening}
@@ -34,6 +34,7 @@ use Rattle.cluster_sim.proofs.Tagged.{runs_are_kept}
 use Rattle.cluster_sim.proofs.Exact.{all_acts_run}
 use Rattle.cluster_sim.proofs.Picked.{own_tried, own_mounted, own_marks, own_history, starts_opened, among_own, own_counts_of}
 use Rattle.cluster_sim.proofs.Moments.{run_front, as_many, moment_state, moment_says, opening_shown}
+use Rattle.durable_node.proofs.OneBooks.{agreed_coordinator, same_task}
 
 -- ---- 2
 
@@ -92,20 +93,6 @@ its_book nodes acts steps run =
     }
 
 -- ---- 5
-
-agreed_coordinator : (phase : Phase) (book : List Assignment) (n : ℕ) (v : State) → IsInGroup phase → AgreesIn phase book n v → v.coordinator ≡ v.group.creator
-agreed_coordinator Down book n v h a = absurd h
-agreed_coordinator Election book n v h a = absurd h
-agreed_coordinator Reorganization book n v h a = a
-agreed_coordinator Normal book n v h a = a.0
-
-same_task : (book : List Assignment) (n m : ℕ) (group : Group) (t u : Option Assignment) → IsTaskOf book n group t → IsTaskOf book m group u → t ≡ u
-same_task book n m group None u h k = absurd h
-same_task book n m group (Some t) None h k = absurd k
-same_task book n m group (Some t) (Some u) h k =
-    let members : t.members ≡ u.members = cc (h.1, k.1) in
-    let groups : t.group ≡ u.group = h.0 ∙ sym k.0 in
-    λ i. Some (record { group = groups i; members = members i })
 
 coordinator_of_two : (book : List Assignment) (n m : ℕ) (s t : State) → AgreesAt book n s → AgreesAt book m t → IsInGroup s.phase → IsInGroup t.phase → s.group ≡ t.group → s.coordinator ≡ t.coordinator
 coordinator_of_two book n m s t a b in_s in_t same =

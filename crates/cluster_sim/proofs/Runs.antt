@@ -89,7 +89,7 @@ uncut_found : (cuts : List (List ℕ)) (r : Result Envelope NetFault) (m : Envel
 uncut_found cuts (Err fault) m h = absurd cc
 uncut_found cuts (Ok x) m h = uncut_by (is_cut cuts x.sender x.receiver) (Err Cut) (Ok x) m refl h
 
-comes_sent : (net : Network) (k : ℕ) (m : Envelope) → delivery net k ≡ Ok m → slice_get net.sent k ≡ Some m
+pub comes_sent : (net : Network) (k : ℕ) (m : Envelope) → delivery net k ≡ Ok m → slice_get net.sent k ≡ Some m
 comes_sent net k m h = found_sent (slice_get net.sent k) (slice_get net.lost k) m (uncut_found net.cuts (found net k) m h)
 
 get_among : {A : Type 0} (xs : List A) (k : ℕ) (x : A) → slice_get xs k ≡ Some x → IsAmong x xs

@@ -34,7 +34,7 @@ use Rattle.cluster_sim.specs.Tagged.{tagged, marks_for, step_marks}
 use Rattle.cluster_sim.specs.Reporting.{commands_in, mountings_in, node_named, node_or_first, receiver_or_first}
 use Rattle.cluster_sim.specs.Told.{told}
 use Rattle.cluster_sim.specs.Recorded.{AimTold, tried_by, tried_at, mounted_at, mounted_now, given_in, listed, command_said, command_brought, command_by, recovers, IsAnswered}
-use Rattle.cluster_sim.proofs.Faulting.{delivered_there}
+use Rattle.cluster_sim.proofs.Runs.{comes_sent}
 
 -- these marks and groups of a node are the ones that are told of an act with this aim
 record PartsTold (n count : ℕ) (marks : List Mark) (groups : List Group) (aim : AimTold) (o : Outcome) (found : Option Durable) : Type 0 where
@@ -236,7 +236,7 @@ delivered_told : (nodes k : ℕ) (w : World) (counts : ℕ → ℕ) (step : Step
     → slice_get w.states (receiver_or_first nodes (slice_get w.net.sent k)) ≡ Some s
     → StepTold nodes w counts step (aims (receiver_or_first nodes (slice_get w.net.sent k)) (command_brought (slice_get w.net.sent k)) false) found
 delivered_told nodes k w counts step (Ok m) found s comes brings may at =
-    let there : slice_get w.net.sent k ≡ Some m = delivered_there w.net k m comes in
+    let there : slice_get w.net.sent k ≡ Some m = comes_sent w.net k m comes in
     let at_m : slice_get w.states (node_or_first nodes m.receiver) ≡ Some s = subst (λ (x : Option Envelope). slice_get w.states (receiver_or_first nodes x) ≡ Some s) there at in
     subst (λ (x : Option Envelope). StepTold nodes w counts step (aims (receiver_or_first nodes x) (command_brought x) false) found) (sym there)
     (event_told m.receiver nodes k (on.Deliver m) w counts step (command_said m.body) found s brings may at_m (λ c wants. said_is m.sender s.durable.pending m.body s.state c wants))

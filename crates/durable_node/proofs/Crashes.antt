@@ -1,6 +1,5 @@
 -- What a crash, and an arming, leave of a node over a disk in memory.
-use Rattle.std.proofs.Common.{◌≡◌, ◌+◌, ◌*◌, ℕ, true, false, Bool, Option, Some, None, sym, ◌∙◌, ap, subst, refl, arith, length, get_or, replicate}
-use Rattle.std.proofs.lemmas.Grind.{common_steps}
+use Rattle.std.proofs.Common.{◌≡◌, ◌+◌, ◌*◌, ℕ, true, false, Bool, Option, Some, None, sym, ◌∙◌, ap, subst, refl, arith, length}
 use Rattle.sector_disk.specs.Disk.{Image, IsImage, SameBut, nothing}
 use Rattle.sector_disk.specs.Memory.{Memory, is_unsynced, all_synced, state_of}
 use Rattle.job_model.specs.Durable.{Durable}
@@ -19,9 +18,7 @@ use Rattle.durable_node.specs.What.{Crashed}
 use Rattle.durable_node.proofs.Ignores.{not_up}
 use Rattle.durable_node.proofs.Mounts.{stands_same, quiet_same}
 use Rattle.durable_node.proofs.Nodes.{is_some}
-
-none_unsynced : (n at : ℕ) → get_or (replicate n false) at false ≡ false
-none_unsynced n at = grind (arith, common_steps)
+use Rattle.sector_disk.proofs.Calls.{none_unsynced}
 
 -- what a crash leaves has one image
 one_image : (now : Memory) (failures : ℕ) (image : Image) → now ≡ all_synced now.contents failures → IsImage (state_of now) image → SameBut nothing now.contents image

@@ -13,7 +13,7 @@ use Rattle.node_core.specs.State.{State, is_down}
 use Rattle.node_core.specs.Words.{is_empty, holds}
 use Rattle.node_core.specs.Timers.{merges, awaits_ready, follows}
 use Rattle.node_core.specs.Messages.{was_probed}
-use Rattle.node_core.specs.Wants.{raise_if, done_if, delivered_wants, wants_of}
+use Rattle.node_core.specs.Wants.{done_if, delivered_wants, wants_of}
 use Rattle.node_core.specs.Refusals.{refusal_of, is_known}
 use Rattle.node_core.specs.declared.fault.CoreFault.{CoreFault}
 use Rattle.job_model.specs.Fold.{is_pending}
@@ -24,6 +24,7 @@ use Rattle.durable_node.specs.Possible.{IsPossible}
 use Rattle.durable_node.proofs.Tests.{and_left, eq_nat}
 use Rattle.durable_node.proofs.Moves.{stays, falls, starts_alone, Enters}
 use Rattle.durable_node.proofs.Rows.{event_does}
+use Rattle.durable_node.proofs.Wanted.{no_raise}
 
 pub entry_does : (P : Group → Type 0) (J Q : ℕ → ℕ → ℕ → Type 0) (self nodes : ℕ) (s : NodeState) (what : What) → IsPossible self nodes s what → Enters P J Q self nodes s what
 entry_does P J Q self nodes s (Did event) may =
@@ -55,16 +56,12 @@ entry_does P J Q self nodes s (RaiseRefused kept) may = record { made = []; move
 abbrev pub Cause : ℕ → Event → ℕ → Type 0
 Cause self event id = (event ≡ Finish self id) ⊎ ((m : Envelope) × (event ≡ Deliver m) × (m.body ≡ DoneMessage id))
 
-raise_is : (b : Bool) (id : ℕ) → raise_if b ≡ Some (Done id) → ⊥
-raise_is true id e = absurd cc
-raise_is false id e = absurd cc
-
 done_is : (b : Bool) (i id : ℕ) → done_if b i ≡ Some (Done id) → (b ≡ true) × (i ≡ id)
 done_is true i id e = (refl, cc)
 done_is false i id e = absurd cc
 
 body_causes : (self : ℕ) (pending : List Job) (m : Envelope) (body : Body) (s : State) (id : ℕ) → m.body ≡ body → delivered_wants m.sender pending body s ≡ Some (Done id) → Cause self (Deliver m) id
-body_causes self pending m (Here group agreed) s id is e = absurd (raise_is (was_probed m.sender group s && not agreed) id e)
+body_causes self pending m (Here group agreed) s id is e = absurd (no_raise (was_probed m.sender group s && not agreed) id e)
 body_causes self pending m (DoneMessage i) s id is e = let done = done_is (not (is_down s.phase) && is_pending pending i) i id e in inr (m, refl, rw is (λ k. DoneMessage (done.1 k)))
 body_causes self pending m AreYouCoordinator s id is e = absurd cc
 body_causes self pending m (Coordinator agreed) s id is e = absurd cc
@@ -77,10 +74,10 @@ body_causes self pending m (WorkMessage group i queue payload) s id is e = absur
 
 pub causes : (self : ℕ) (pending : List Job) (event : Event) (s : State) (id : ℕ) → wants_of self pending event s ≡ Some (Done id) → Cause self event id
 causes self pending CheckTimer s id e = absurd cc
-causes self pending MergeTimer s id e = absurd (raise_is (merges self s && not (is_empty s.found)) id e)
+causes self pending MergeTimer s id e = absurd (no_raise (merges self s && not (is_empty s.found)) id e)
 causes self pending AcceptTimer s id e = absurd cc
-causes self pending ReadyTimer s id e = absurd (raise_is (awaits_ready self s) id e)
-causes self pending CoordTimer s id e = absurd (raise_is (follows self s && s.probing) id e)
+causes self pending ReadyTimer s id e = absurd (no_raise (awaits_ready self s) id e)
+causes self pending CoordTimer s id e = absurd (no_raise (follows self s && s.probing) id e)
 causes self pending DispatchTimer s id e = absurd cc
 causes self pending (Deliver m) s id e = body_causes self pending m m.body s id refl e
 causes self pending (Submit queue payload) s id e = absurd cc

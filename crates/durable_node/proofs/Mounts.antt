@@ -6,12 +6,13 @@ use Rattle.safe_cell.specs.Cell.{cell_at}
 use Rattle.job_model.specs.Command.{Command}
 use Rattle.job_model.specs.Durable.{Durable}
 use Rattle.job_journal.specs.Journal.{jobs_by, jobs_in, IsSound, IsSoundImage}
-use Rattle.job_journal.proofs.Frames.{SameFrom, cell_same_from, found_same_from, sound_same_from}
+use Rattle.job_journal.proofs.Frames.{SameFrom, cell_same_from, found_same_from}
 use Rattle.node_store.specs.Store.{durable_by, stands_for, slots_for, AllStandFor}
 use Rattle.durable_node.specs.NodeState.{NodeState, settled}
 use Rattle.durable_node.specs.Possible.{IsWanted, IsSettling}
 use Rattle.durable_node.specs.Carrying.{BeforeOrAfter}
 use Rattle.durable_node.specs.Node.{IsLeft}
+use Rattle.node_store.proofs.Mountings.{sound_kept}
 
 pub was_honest : (old new : DiskState) → new.honest ≡ old.honest → IsTrue new.honest → IsTrue old.honest
 was_honest old new same honest = subst (λ (b : Bool). IsTrue b) same honest
@@ -31,12 +32,6 @@ pub sound_after : (slots : ℕ) (touched : ℕ → Type 0) (old new : DiskState)
 sound_after slots touched old new same run each honest image is =
     let was = was_honest old new same honest in each was image ((run was).ends image is)
 
-pub sound_quiet : (slots : ℕ) (old new : DiskState) → new.honest ≡ old.honest → (IsTrue old.honest → Run nothing old new) → IsSound slots old → IsSound slots new
-sound_quiet slots old new same run sound honest image is =
-    let was = was_honest old new same honest in
-    let from = (run was).follows image ((run was).ends image is) in
-    sound_same_from slots from.0 image (quiet_same 4 (4 + 4 * slots) from.0 image from.2) (sound was from.0 from.1)
-
 -- calls that wrote nothing leave what was left
 pub left_quiet : (old new : DiskState) (s : NodeState) → new.sectors ≡ old.sectors → new.honest ≡ old.honest → (IsTrue old.honest → Run nothing old new) → IsLeft old s → IsLeft new s
 left_quiet old new s sectors same run left = record {
@@ -48,7 +43,7 @@ left_quiet old new s sectors same run left = record {
         found.1,
         ap (λ (n : ℕ). stands_for (slots_for n) image) sectors ∙ stands_same (slots_for old.sectors) from.0 image from.2 ∙ found.2,
       ));
-  sound = subst (λ (n : ℕ). IsSound (slots_for n) new) (sym sectors) (sound_quiet (slots_for old.sectors) old new same run left.sound);
+  sound = subst (λ (n : ℕ). IsSound (slots_for n) new) (sym sectors) (sound_kept (slots_for old.sectors) old new same run left.sound);
 }
 
 some_same : (d e : Durable) → Some d ≡ Some e → d ≡ e

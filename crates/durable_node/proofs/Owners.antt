@@ -194,7 +194,7 @@ entry_because self nodes s n MountFailed sent es t id owned may i c = absurd i
 entry_because self nodes s n (RaiseFailed kept) sent es t id owned may i c = elim i [ inl e ↦ absurd (raise_only t _ id refl e c) | inr none ↦ absurd none ]
 entry_because self nodes s n (RaiseRefused kept) sent es t id owned may i c = absurd i
 
-commands_append : (ms ns : List Mark) → commands_of (ms ++ ns) ≡ commands_of ms ++ commands_of ns
+pub commands_append : (ms ns : List Mark) → commands_of (ms ++ ns) ≡ commands_of ms ++ commands_of ns
 commands_append [] ns = refl
 commands_append (Acknowledged c a ∷ ms) ns = ap (λ (ts : List Tried). record { command = c; acked = Some a } ∷ ts) (commands_append ms ns)
 commands_append (Unanswered c ∷ ms) ns = ap (λ (ts : List Tried). record { command = c; acked = None } ∷ ts) (commands_append ms ns)

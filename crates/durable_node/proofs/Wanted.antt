@@ -11,7 +11,7 @@ use Rattle.node_core.specs.State.{State}
 use Rattle.node_core.specs.Wants.{raise_if, done_if, delivered_wants, wants_of}
 use Rattle.durable_node.proofs.Tests.{and_right}
 
-no_raise : (b : Bool) (id : ℕ) → raise_if b ≡ Some (Done id) → ⊥
+pub no_raise : (b : Bool) (id : ℕ) → raise_if b ≡ Some (Done id) → ⊥
 no_raise true id h = cc
 no_raise false id h = cc
 

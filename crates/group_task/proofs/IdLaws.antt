@@ -85,7 +85,7 @@ narrow low high limit [] r h = tt
 narrow low high limit (x ∷ xs) r h =
     (r.0, h x (grind (arith, nat_tests)), narrow (x + 1) high limit xs r.2 (λ id i. h id (grind (arith, nat_tests, i))))
 
-length_with_id : (ids : List ℕ) (id : ℕ) → has ids id ≡ false → length (with_id ids id) ≡ suc (length ids)
+pub length_with_id : (ids : List ℕ) (id : ℕ) → has ids id ≡ false → length (with_id ids id) ≡ suc (length ids)
 length_with_id [] id h = refl
 length_with_id (x ∷ xs) id h = grind (arith, nat_tests, length_with_id xs id)
 

@@ -10,7 +10,7 @@ use Rattle.durable_node.specs.NodeState.{NodeState}
 use Rattle.durable_node.specs.What.{What, Did, Refused, Faulted, Rests, Crashed, Recovered, MountFailed, RaiseFailed, RaiseRefused}
 use Rattle.schedule.specs.declared.act.Act.{Act}
 use Rattle.cluster_sim.specs.declared.outcome.Outcome.{Outcome}
-use Rattle.cluster_sim.specs.World.{World, openings, start}
+use Rattle.cluster_sim.specs.World.{World, start}
 use Rattle.cluster_sim.proofs.Grown.{step_length}
 use Rattle.cluster_sim.proofs.Numbered.{step_adds}
 use Rattle.cluster_sim.specs.Step.{Step, Takes, Loses, Cuts, Mends, Denies, OfNet, Stranger, world_after}
@@ -21,6 +21,7 @@ use Rattle.cluster_sim.specs.Told.{told}
 use Rattle.cluster_sim.specs.Machine.{Machine, Acted, StandsFor}
 use Rattle.invite_console.specs.Acts.{act_line, act_lines, first_of}
 use Rattle.invite_console.specs.Sim.{AddsRow, AddsRows, HasWorld, IsSoFar, TellsRun}
+use Rattle.cluster_sim.proofs.Opened.{length_openings}
 
 -- ---- the lines
 
@@ -137,17 +138,13 @@ world_kept old new w a outcome acted = (world_after (length w.states) w acted.st
 
 -- ---- the beginning, and the end
 
-count_openings : (n k : ℕ) → length (openings n k) ≡ k
-count_openings n zero = refl
-count_openings n (suc k) = ap (λ (m : ℕ). suc m) (count_openings (suc n) k)
-
 -- a cluster that was opened has told nothing
 pub begins : RunsOpen → (nodes slots : ℕ) (machine : Machine) → machine.slots ≡ slots → StandsFor machine (start nodes) → IsSoFar nodes slots machine [] []
 begins opens nodes slots machine same stands = record {
   world = start nodes;
   report = report_of nodes [] [];
   left = opens nodes slots;
-  count = count_openings 0 nodes;
+  count = length_openings 0 nodes;
   slots_are = same;
   stands = stands;
   acts_are = refl;

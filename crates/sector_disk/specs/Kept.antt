@@ -7,5 +7,6 @@ use Rattle.sector_disk.specs.declared.sectors.Sectors.TheInside.{Inside}
 abbrev pub sectors_of : Inside → Image
 sectors_of sectors = sectors.kept.items ++ replicate (sectors.count - length sectors.kept.items) (replicate 512 0)
 
+-- no more are kept than there are, and all of them find room without new memory
 abbrev pub HasRoom : Inside → Type 0
 HasRoom sectors = (length sectors.kept.items ≤ sectors.count) × (sectors.count ≤ vec_capacity sectors.kept)

@@ -19,9 +19,11 @@ abbrev pub FollowFrom : ℕ → List ℕ → ℕ → Type 0
 FollowFrom start [] count = start ≤ count
 FollowFrom start (end ∷ ends) count = (start ≤ end) × FollowFrom end ends count
 
+-- the times that are over, and the notes behind the last of them
 abbrev pub noted_of : Inside → Noted
 noted_of it = record { times = times_from 0 it.ends.items it.notes.items; since = drop it.closed it.notes.items }
 
+-- Times end one after another within the notes, and the last of them where it is noted.
 pub record HasEnds (it : Inside) : Type 0 where
   pub closed : it.closed ≡ last_from 0 it.ends.items
   pub follow : FollowFrom 0 it.ends.items (length it.notes.items)

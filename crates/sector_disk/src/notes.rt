@@ -8,8 +8,9 @@ use std::marker::Model;
 
 /// The notes of the times from one sync to the next that are over, and those of the time since.
 ///
-/// They stand in one list, the first first, so a write takes no memory of its own but for the
-/// growth of that list, nor does a sync but for the place where its time ended.
+/// They stand in one list, the first first. So a write takes memory for the bytes that it
+/// overwrites, if there are any but zeros, and for the growth of the list, and a sync for the
+/// place where its time ended.
 #[derive(Drop)]
 pub struct Notes {
     notes: Vec<Overwritten>,

@@ -1,4 +1,4 @@
-use Rattle.std.proofs.Common.{◌≡◌, ℕ, Bool, true, false, not, List, ◌++◌, ◌∷◌, [], length, slice_set, ap, sym, ◌∙◌, arith}
+use Rattle.std.proofs.Common.{◌≡◌, ℕ, true, false, not, List, ◌++◌, ◌∷◌, [], length, slice_set, ap, sym, ◌∙◌, arith}
 use Rattle.std.specs.Prelude.{Option, Some, None, is_some, option_map}
 use Rattle.std.proofs.Math.Seq.{set-append_seam}
 use Rattle.wire_msg.specs.Envelope.{Envelope}

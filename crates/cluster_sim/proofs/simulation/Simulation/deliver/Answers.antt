@@ -7,8 +7,9 @@ use Rattle.cluster_sim.specs.declared.outcome.Outcome.{Outcome}
 use Rattle.cluster_sim.specs.Acts.{At}
 use Rattle.cluster_sim.specs.Machine.{Machine, CameOf, Makes}
 use Rattle.cluster_sim.proofs.Doings.{delivered, undelivered}
-use Rattle.cluster_sim.proofs.Faulting.{faults_still, faults_received, delivered_there}
+use Rattle.cluster_sim.proofs.Faulting.{faults_still, faults_received}
 use Rattle.cluster_sim.proofs.simulation.Simulation.deliver.Goals as goal
+use Rattle.cluster_sim.proofs.Runs.{comes_sent}
 
 pub returns-in-Err-clause-acted : goal.returns-in-Err-clause-acted
 returns-in-Err-clause-acted c = λ w stands.
@@ -29,5 +30,5 @@ returns-in-Err-clause-faults c = faults_still _ c.args.self.now c.args.self.now 
 pub returns-in-Ok-clause-faults : goal.returns-in-Ok-clause-faults
 returns-in-Ok-clause-faults c =
     let net = ap (λ (m : Machine). m.net) c.self.view_is in
-    let there = delivered_there c.args.self.now.net c.args.number c.in-Ok.message (ap (λ (n : Network). delivery n c.args.number) (sym net) ∙ sym c.deliver.ensures ∙ c.in-Ok.is) in
+    let there = comes_sent c.args.self.now.net c.args.number c.in-Ok.message (ap (λ (n : Network). delivery n c.args.number) (sym net) ∙ sym c.deliver.ensures ∙ c.in-Ok.is) in
     faults_received (length c.args.self.now.nodes) c.args.self.now.net.sent c.args.number c.receiver.result c.in-Ok.message c.args.self.now c.take.new.self c.take.result there c.receiver.ensures.value c.take.ensures.faults
