@@ -1,48 +1,124 @@
 #!/usr/bin/env bash
-# Command lines that can't be read end with status 2, before any input is read, and name every command; three others
-# show the statuses 0 and 1. Called with the program, as in: command_lines.sh crates/invite/out/invite
+# The command line of the program. What can't be read ends with status 2, names every command, and leaves the input unread; some
+# runs of each command show the statuses 0 and 1, what is printed, and what comes of an output that is full.
+# Called with the program, as in: tests/command_lines.sh crates/invite/out/invite. Its last line counts the checks.
+set -u
 program=$1
+passed=0
 failed=0
 
-# expect STATUS INPUT WORDS..: the program ends so
-expect() {
-    local want=$1 input=$2 text
-    shift 2
-    text=$(printf '%b' "$input" | "$program" "$@" 2>/tmp/command_lines.err)
-    local status=$?
-    if [ "$status" -ne "$want" ] || [ -s /tmp/command_lines.err ]; then
-        echo "status $status in place of $want: $*"
-        failed=1
-    fi
-    if [ "$want" -eq 2 ] && ! { grep -q '^  answer ' <<<"$text" && grep -q '^  show ' <<<"$text" && grep -q '^  sim ' <<<"$text"; }; then
-        echo "the usage text doesn't name every command: $*"
-        failed=1
+if [ ! -x "$program" ]; then
+    echo "command_lines.sh: there is no program $program"
+    echo "0 passed, 1 failed"
+    exit 1
+fi
+room=$(mktemp -d) || exit 1
+trap 'rm -rf "$room"' EXIT
+
+# tell PROBLEM WORDS..: counts a check, and prints the problem if there is one
+tell() {
+    local problem=$1
+    shift
+    if [ -z "$problem" ]; then
+        passed=$((passed + 1))
+    else
+        failed=$((failed + 1))
+        echo "$problem: invite $*"
     fi
 }
 
-expect 2 '' 
-expect 2 '' unknown
-expect 2 '' help
-expect 2 '' --help
-expect 2 '' answer
-expect 2 '' answer 3
-expect 2 '' answer 0 3 4
-expect 2 '' answer 3 3
-expect 2 '' answer 0 0
-expect 2 '' answer 0 65
-expect 2 '' answer 64 65
-expect 2 '' answer 00 3
-expect 2 '' answer 0 03
-expect 2 '' answer +0 3
-expect 2 '' answer -1 3
-expect 2 '' answer 0x0 3
-expect 2 '' answer --help
-expect 2 '' show 1
-expect 2 '' sim 1
-expect 0 '010102000000\n' answer 0 3
-expect 0 '010102000000\n' answer 0 64
-expect 1 '01010200000100\n' answer 0 3
-expect 1 'zz\n' show
-expect 0 'cluster 1 4\ndeliver 0\n' sim
-expect 1 'cluster 0 4\n' sim
-exit "$failed"
+# start INPUT OUTPUT WORDS..: runs the program; its status is in $status, what it left unread in $room/left
+start() {
+    local input=$1 output=$2
+    shift 2
+    printf '%b' "$input" >"$room/in"
+    {
+        "$program" "$@" >"$output" 2>"$room/err"
+        status=$?
+        cat >"$room/left"
+    } <"$room/in"
+}
+
+# refused WORDS..: the command line can't be read
+refused() {
+    local problem='' command
+    start 'unread\n' "$room/out" "$@"
+    [ "$status" -eq 2 ] || problem="status $status in place of 2"
+    [ ! -s "$room/err" ] || problem='it writes to standard error'
+    for command in answer show sim store; do
+        grep -q "^  $command " "$room/out" || problem="the usage text doesn't name $command"
+    done
+    cmp -s "$room/in" "$room/left" || problem='it read its input'
+    tell "$problem" "$@"
+}
+
+# prints STATUS INPUT TEXT WORDS..: the program reads all of its input, prints the text and ends so
+prints() {
+    local want=$1 input=$2 text=$3 problem=''
+    shift 3
+    start "$input" "$room/out" "$@"
+    [ "$status" -eq "$want" ] || problem="status $status in place of $want"
+    [ ! -s "$room/err" ] || problem='it writes to standard error'
+    [ ! -s "$room/left" ] || problem='it left input unread'
+    printf '%b' "$text" | cmp -s - "$room/out" || problem="it prints something else than $text"
+    tell "$problem" "$@"
+}
+
+# full INPUT WORDS..: where standard output is full, the program ends with status 1
+full() {
+    local problem=''
+    start "$1" /dev/full "${@:2}"
+    [ "$status" -eq 1 ] || problem="status $status in place of 1, over a full output"
+    tell "$problem" "${@:2}"
+}
+
+refused
+refused unknown
+refused help
+refused --help
+refused answer
+refused answer 3
+refused answer 0 3 4
+refused answer 3 3
+refused answer 0 0
+refused answer 0 65
+refused answer 64 65
+refused answer 00 3
+refused answer 0 03
+refused answer +0 3
+refused answer -1 3
+refused answer 0x0 3
+refused answer --help
+refused show 1
+refused sim 1
+refused store
+refused store a b
+
+prints 0 '010102000000\n' '01020002000101\n' answer 0 3
+prints 0 '010102000000\n' '01020002000101\n' answer 0 64
+prints 1 '01010200000100\n' 'malformed\n' answer 0 3
+prints 1 '\n\nzz\n' 'bad line 3\n' answer 0 3
+prints 0 '010102000000\n' '2>0 AreYouCoordinator\n' show
+prints 1 'zz\n' 'bad line 1\n' show
+
+opening='node 0 Normal coord 0 group 0:1 up - members 0 count 1 pending - hand -\n'
+prints 0 'cluster 1 4\n' "$opening" sim
+prints 0 'cluster 1 4\ndeliver 0\n' "0 refused NoSuch\n$opening" sim
+prints 1 'cluster 0 4\n' 'bad line 1\n' sim
+prints 1 'cluster 1 4\n\nchek 0\n' 'bad line 3\n' sim
+prints 1 '' 'bad line 1\n' sim
+
+# Two runs over one file: what the first was answered, the second finds.
+file=$room/store
+prints 0 'raise\nformat 4\nmount\nraise\nput 1 6869\n' 'refused Broken\nok\nok\nok 1\nok 0\n' store "$file"
+prints 0 'mount\nlist\ndone 0\ndone 0\nlist\n' 'ok\ncount 1 next 1\njob 0 1 6869\nok\nrefused NoSuchJob\ncount 1 next 1\n' store "$file"
+prints 0 'mount\n' 'refused Device\n' store "$room/none"
+prints 1 'mount\nmout\n' 'bad line 2\n' store "$file"
+
+full '010102000000\n' answer 0 3
+full '010102000000\n' show
+full 'cluster 1 4\n' sim
+full 'mount\n' store "$file"
+
+echo "$passed passed, $failed failed"
+[ "$failed" -eq 0 ]

@@ -12,33 +12,33 @@ use Rattle.sim_net.specs.declared.fault.NetFault.TheVariants.{NoSuch}
 use Rattle.sim_net.specs.Network.{Network, delivery}
 use Rattle.node_core.specs.State.{State, is_down}
 use Rattle.durable_node.specs.Node.{Node, Stands}
-use Rattle.durable_node.specs.NodeState.{NodeState, settled}
-use Rattle.durable_node.specs.What.{What, Did, Refused, Faulted, Rests, Crashed, Recovered, MountFailed, RaiseFailed, RaiseRefused}
-use Rattle.durable_node.specs.After.{after, found_at}
-use Rattle.durable_node.specs.Kept.{Tried}
+use Rattle.histories.specs.NodeState.{NodeState, settled}
+use Rattle.histories.specs.What.{What, Did, Refused, Faulted, Rests, Crashed, Recovered, MountFailed, RaiseFailed, RaiseRefused}
+use Rattle.histories.specs.After.{after, found_at}
+use Rattle.histories.specs.Kept.{Tried}
 use Rattle.durable_node.proofs.Nodes.{is_some}
-use Rattle.durable_node.proofs.Tests.{eq_nat}
+use Rattle.histories.proofs.Tests.{eq_nat}
 use Rattle.schedule.specs.declared.act.Act.{Act}
 use Rattle.schedule.specs.declared.act.Act.TheVariants as act
 use Rattle.cluster_sim.specs.declared.outcome.Outcome.{Outcome}
 use Rattle.cluster_sim.specs.declared.report.Marked.{Marked}
-use Rattle.cluster_sim.specs.World.{World}
-use Rattle.cluster_sim.specs.Step.{Step, Takes, Loses, Cuts, Mends, Denies, OfNet, world_after}
-use Rattle.cluster_sim.specs.Acts.{At, Brings, IsRecovery, IsStepOf, outcome_of}
-use Rattle.cluster_sim.specs.Given.{groups_at}
-use Rattle.cluster_sim.specs.Tagged.{step_marks}
-use Rattle.cluster_sim.specs.Reporting.{TriedAt, Report, commands_in, mountings_in, own_commands, node_named, moment_of, state_at, state_or_down, step_sent}
-use Rattle.cluster_sim.specs.Growth.{grown, tried_so_far, IsLeft}
+use Rattle.runs.specs.World.{World}
+use Rattle.runs.specs.Step.{Step, Takes, Loses, Cuts, Mends, Denies, OfNet, world_after}
+use Rattle.runs.specs.Acts.{At, Brings, IsRecovery, IsStepOf, act_outcome}
+use Rattle.runs.specs.Given.{groups_at}
+use Rattle.runs.specs.Tagged.{step_marks}
+use Rattle.runs.specs.Reporting.{TriedAt, Report, commands_in, mountings_in, own_commands, node_named, moment_of, state_at, state_or_down, step_sent}
+use Rattle.runs.specs.Growth.{grown, tried_so_far, IsLeft}
 use Rattle.cluster_sim.specs.Told.{told}
 use Rattle.cluster_sim.specs.Machine.{Machine, StandsFor, Shows, Acted}
 use Rattle.cluster_sim.specs.Recorded.{AimTold, AreCounted, IsAnswered, ToldReport, Tells, GoesOn, command_brought, command_by, recovers, pending_room, tried_by, tried_at, mounted_at, mounted_now, given_in, listed, tried_of, told_moment, told_report, with_act}
-use Rattle.cluster_sim.proofs.Grown.{runs_grow, step_length}
-use Rattle.cluster_sim.proofs.Hands.{step_gains}
-use Rattle.cluster_sim.proofs.Keeping.{AllStates, states_keep}
+use Rattle.runs.proofs.Grown.{runs_grow, step_length}
+use Rattle.runs.proofs.Hands.{step_gains}
+use Rattle.runs.proofs.Keeping.{AllStates, states_keep}
 use Rattle.cluster_sim.proofs.Numbered.{step_adds}
-use Rattle.cluster_sim.proofs.Rooms.{left_few}
-use Rattle.cluster_sim.proofs.Runs.{at_place, get_set_same, get_set_other}
-use Rattle.cluster_sim.proofs.Telling.{StepTold, Mounts, aim_at, act_told}
+use Rattle.runs.proofs.Rooms.{left_few}
+use Rattle.runs.proofs.Runs.{at_place, get_set_same, get_set_other}
+use Rattle.cluster_sim.proofs.Telling.{ToldAs, Mounts, aim_at, act_told}
 
 -- ---- the hand after a step
 
@@ -145,6 +145,7 @@ recovery_takes nodes w (act.Submit n queue payload) step b is mounting = absurd 
 recovery_takes nodes w (act.Finish n origin id) step b is mounting = absurd (let bad = mounting in cc)
 recovery_takes nodes w (act.Arm n calls) step b is mounting = absurd (let bad = mounting in cc)
 recovery_takes nodes w (act.Crash n fill) step b is mounting = absurd (let bad = mounting in cc)
+recovery_takes nodes w (act.Compact n) step b is mounting = absurd (let bad = mounting in cc)
 recovery_takes nodes w (act.Recover n) step b is mounting = known (nat_lt n nodes) is mounting
   where
     known : (c : Bool) → At c n 0 IsRecovery step → (c && b) ≡ true → (what : What) × (step ≡ Takes (if c then n else 0) 0 what)
@@ -190,7 +191,7 @@ aim_is old w a aim before s stands is at stood =
 
 -- what the act adds is what is told of it
 step_is_told : (old new : Machine) (w : World) (a : Act) (o : Outcome) (aim : AimTold) (counts : ℕ → ℕ) (node : Node Memory) → StandsFor old w → (acted : Acted w a o new) → IsAim old a aim → slice_get new.nodes aim.node ≡ Some node
-    → StepTold (length w.states) w counts acted.step aim node.found
+    → ToldAs (act_outcome (length w.states) w a acted.step) (length w.states) w counts acted.step aim node.found
 step_is_told old new w a o aim counts node stands acted is at =
     let m = moved old new w acted.step aim.node node stands acted.stands at in
     let same = aim_is old w a aim m.before m.s stands is m.at_before m.stood in
@@ -198,7 +199,7 @@ step_is_told old new w a o aim counts node stands acted is at =
     let was : slice_get w.states (node_named (length w.states) w.net.sent a) ≡ Some m.s = subst (λ (k : ℕ). slice_get w.states k ≡ Some m.s) named m.was in
     let mounts : Mounts (node_named (length w.states) w.net.sent a) w acted.step node.found =
     subst (λ (k : ℕ). Mounts k w acted.step node.found) named (shown_mounts w acted.step new aim.node node acted.shows at) in
-    subst (λ (x : AimTold). StepTold (length w.states) w counts acted.step x node.found) (sym same)
+    subst (λ (x : AimTold). ToldAs (act_outcome (length w.states) w a acted.step) (length w.states) w counts acted.step x node.found) (sym same)
     (act_told (length w.states) w counts a acted.step node.found m.s acted.next.of_act acted.next.allowed was mounts)
 
 -- ---- the command of an act, once the act is done
@@ -231,6 +232,7 @@ command_still nodes w (act.Finish n origin id) step is = refl
 command_still nodes w (act.Arm n calls) step is = refl
 command_still nodes w (act.Crash n fill) step is = refl
 command_still nodes w (act.Recover n) step is = refl
+command_still nodes w (act.Compact n) step is = refl
 
 pub same_command : (old new : Machine) (w : World) (a : Act) (o : Outcome) → StandsFor old w → Acted w a o new → command_by new.net.sent a ≡ command_by old.net.sent a
 same_command old new w a o stands acted =
@@ -258,7 +260,7 @@ report_is old new report w r a o aim node before stands is_told acted is at coun
     (λ i. record { act = a; node = named i; outcome = acted.is_told i; state = (shown ∙ ap (λ (k : ℕ). state_at (world_after nodes w step).states k) named) i }) in
     let moments : report.moments ++ record { act = a; node = aim.node; outcome = o; state = node.state } ∷ [] ≡ map told_moment (r.moments ++ moment_of nodes w a step ∷ []) =
     (λ i. (is_told i).moments ++ moment i ∷ []) ∙ sym (map-append told_moment r.moments (moment_of nodes w a step ∷ [])) in
-    let tries : tried_at aim.node (tried_by aim o node.found) ≡ tried_at aim.node (tried_by aim (told (outcome_of nodes w step)) node.found) = ap (λ (x : Outcome). tried_at aim.node (tried_by aim x node.found)) acted.is_told in
+    let tries : tried_at aim.node (tried_by aim o node.found) ≡ tried_at aim.node (tried_by aim (told (act_outcome nodes w a step)) node.found) = ap (λ (x : Outcome). tried_at aim.node (tried_by aim x node.found)) acted.is_told in
     let groups : report.groups ++ given_in (tried_at aim.node (tried_by aim o node.found)) ≡ r.groups ++ groups_at nodes w step =
     (λ i. (is_told i).groups ++ (ap given_in tries ∙ sym t.given) i) in
     let commands : report.commands ++ listed (tried_at aim.node (tried_by aim o node.found)) ≡ r.commands ++ commands_in (step_marks nodes w (tried_so_far r) step) =

@@ -2,30 +2,28 @@
 use Rattle.std.proofs.Common.{◌≡◌, ◌≢◌, inl, inr, ℕ, ◌+◌, ◌*◌, ◌≤◌, List, length, refl, sym, ◌∙◌, ap, subst, arith, Option, Some, None, Result, Ok, Err}
 use Rattle.std.specs.Prelude.{IsSome, IfOk}
 use Rattle.sector_disk.specs.Memory.{Memory, state_of}
-use Rattle.job_model.specs.Command.{Command}
 use Rattle.job_model.specs.Durable.{Durable}
 use Rattle.wire_msg.specs.Envelope.{Envelope}
 use Rattle.sim_net.specs.Network.{Network, after_all_sent}
 use Rattle.node_core.specs.declared.event.Event.{Event}
 use Rattle.node_core.specs.declared.fault.CoreFault.TheVariants.{NoMemory}
-use Rattle.node_core.specs.NodeStep.{StepFault, OfCore, Full, Exhausted, NoSlot, Worn}
+use Rattle.node_core.specs.NodeStep.{StepFault, OfCore, Full, Exhausted, Worn}
 use Rattle.node_store.specs.Store.{slots_for}
 use Rattle.durable_node.specs.declared.fault.NodeFault.{NodeFault}
 use Rattle.durable_node.specs.declared.fault.NodeFault.TheVariants as node
 use Rattle.durable_node.specs.declared.step.Step.{Step}
-use Rattle.durable_node.specs.Carrying.{told_answer}
 use Rattle.durable_node.specs.Faults.{shown}
 use Rattle.durable_node.specs.Node.{Node, Stands}
-use Rattle.durable_node.specs.NodeState.{NodeState, wants_at}
-use Rattle.durable_node.specs.What.{What, Did, Refused, Faulted, Rests, Crashed, Recovered, MountFailed, RaiseFailed, RaiseRefused}
-use Rattle.durable_node.specs.Possible.{IsOfSlots}
+use Rattle.histories.specs.NodeState.{NodeState}
+use Rattle.histories.specs.What.{What, Did, Refused, Faulted, Rests, Crashed, Recovered, MountFailed, RaiseFailed, RaiseRefused}
+use Rattle.histories.specs.Possible.{IsOfSlots}
 use Rattle.durable_node.specs.Stepping.{IsToldBy, Does, Steps, CountsOf, sent_by}
 use Rattle.cluster_sim.specs.declared.outcome.Outcome.{Outcome}
 use Rattle.cluster_sim.specs.declared.outcome.Outcome.TheVariants as outcome
 use Rattle.cluster_sim.specs.declared.outcome.Refusal.TheVariants as refusal
-use Rattle.cluster_sim.specs.Acts.{answer_shown, what_outcome}
+use Rattle.runs.specs.Acts.{what_outcome}
 use Rattle.cluster_sim.specs.Told.{told, IsToldFault}
-use Rattle.cluster_sim.proofs.Sending.{none_sent}
+use Rattle.runs.proofs.Sending.{none_sent}
 use Rattle.cluster_sim.specs.Machine.{IsOfSize, IsSame, IsCounted, CameOf, Comes}
 
 -- the fault of a result, if there is one
@@ -47,15 +45,11 @@ came_of event result MountFailed is = is.0
 came_of event result (RaiseFailed kept) is = is.0
 came_of event result (RaiseRefused kept) is = is.0
 
-answer_told : (d : Durable) (wants : Option Command) → told_answer d wants ≡ answer_shown d wants
-answer_told d None = refl
-answer_told d (Some c) = refl
-
 -- an event that is handled
 pub done_told : (slots self nodes first : ℕ) (s : NodeState) (event : Event) (step : Step) (found : Option Durable) (what : What) → Does slots self nodes s event (Ok step) found what
     → outcome.Done step.answer first (length step.sent.items) ≡ told (what_outcome self nodes first s what)
 done_told slots self nodes first s event step found (Did e) does =
-    λ i. outcome.Done ((does.answer ∙ answer_told s.durable (wants_at self nodes s e)) i) first (length (does.sent i))
+    λ i. outcome.Done (does.answer i) first (length (does.sent i))
 done_told slots self nodes first s event step found (Refused e fault) does = absurd (let bad = does.told.1 in cc)
 done_told slots self nodes first s event step found (Faulted e) does = absurd (let bad = does.told.1 in cc)
 done_told slots self nodes first s event step found (Rests rest) does = absurd does.told
@@ -69,7 +63,6 @@ not_device : (why : StepFault) → shown why ≡ node.Device → ⊥
 not_device (OfCore fault) is = cc
 not_device Full is = cc
 not_device Exhausted is = cc
-not_device NoSlot is = cc
 not_device Worn is = cc
 
 -- a device that fails
@@ -107,7 +100,7 @@ some_of None is = absurd cc
 pub slots_of_size : (slots : ℕ) → slots ≤ 4096 → slots_for (8 + 4 * slots) ≡ slots
 slots_of_size slots most = grind (arith)
 
-pub same_by : (old new : Node Memory) (result : Result Step NodeFault) → IsSome old.disk → new.id ≡ old.id → new.nodes ≡ old.nodes → CountsOf state_of old.disk new.disk result → IsSame old new
+pub same_by : {A : Type 0} (old new : Node Memory) (result : Result A NodeFault) → IsSome old.disk → new.id ≡ old.id → new.nodes ≡ old.nodes → CountsOf state_of old.disk new.disk result → IsSame old new
 same_by old new result has id nodes counts = record {
   id = id;
   nodes = nodes;
@@ -149,12 +142,12 @@ faults_by event old new net net' fault (Ok o) has steps is same slots s most siz
 
 -- ---- the failures of the disk
 
-pub counted_done : (old new : Option Memory) (step : Step) (answer : Option ℕ) (first many : ℕ) → CountsOf state_of old new (Ok step) → IsCounted old new (outcome.Done answer first many)
+pub counted_done : {A : Type 0} (old new : Option Memory) (step : A) (answer : Option ℕ) (first many : ℕ) → CountsOf state_of old new (Ok step) → IsCounted old new (outcome.Done answer first many)
 counted_done old new step answer first many counts was now before after =
     let c = counts was now before after in
     record { sectors = c.sectors; honest = c.honest; later = c.later; unchanged = λ _. c.unchanged (λ bad. cc); cause = λ is. absurd (let bad = is in cc) }
 
-pub counted_fault : {E : Type 0} (old new : Option Memory) (fault : NodeFault) (answer : Result Outcome E) → IfOk answer (λ (o : Outcome). IsToldFault fault o) → CountsOf state_of old new (Err fault)
+pub counted_fault : {E : Type 0} (old new : Option Memory) (fault : NodeFault) (answer : Result Outcome E) → IfOk answer (λ (o : Outcome). IsToldFault fault o) → CountsOf {A = Step} state_of old new (Err fault)
     → IfOk answer (λ (o : Outcome). IsCounted old new o)
 counted_fault old new fault (Err e) is counts = tt
 counted_fault old new fault (Ok o) is counts = λ was now before after. elim is.1 [

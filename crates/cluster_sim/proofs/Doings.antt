@@ -6,18 +6,20 @@ use Rattle.sim_net.specs.declared.fault.NetFault.{NetFault}
 use Rattle.sim_net.specs.Network.{Network, found, delivery, after_lost, after_cut, after_mend}
 use Rattle.node_core.specs.declared.event.Event.{Event}
 use Rattle.node_core.specs.declared.event.Event.TheVariants as on
-use Rattle.durable_node.specs.What.{What, Did, Refused, Faulted, Rests, Crashed, Recovered, MountFailed, RaiseFailed, RaiseRefused, event_of, brought, AreAddressed}
+use Rattle.histories.specs.What.{Nothing, Compacted, CompactDown, CompactWorn, What, Did, Refused, Faulted, Rests, Crashed, Recovered, MountFailed, RaiseFailed, RaiseRefused, event_of, brought, AreAddressed}
 use Rattle.schedule.specs.declared.act.Act.{Act}
 use Rattle.schedule.specs.declared.act.Act.TheVariants as act
 use Rattle.cluster_sim.specs.declared.outcome.Outcome.{Outcome}
 use Rattle.cluster_sim.specs.declared.outcome.Outcome.TheVariants as outcome
+use Rattle.cluster_sim.specs.declared.outcome.Refusal.{Refusal}
 use Rattle.cluster_sim.specs.declared.outcome.Refusal.TheVariants as refusal
-use Rattle.cluster_sim.specs.World.{World}
-use Rattle.cluster_sim.specs.Step.{Step, Loses, Cuts, Mends, Denies, OfNet, Stranger}
-use Rattle.cluster_sim.specs.Run.{IsBrought}
-use Rattle.cluster_sim.specs.Acts.{IsOf, IsRecovery, At, Brings, lost_step, if_known, IsStepOf}
-use Rattle.cluster_sim.specs.Events.{event_at}
-use Rattle.cluster_sim.specs.Machine.{Machine, StandsFor, CameOf, Makes, Acted}
+use Rattle.runs.specs.World.{World}
+use Rattle.cluster_sim.specs.Told.{told}
+use Rattle.runs.specs.Step.{Step, Takes, Loses, Cuts, Mends, Denies, OfNet, Stranger}
+use Rattle.runs.specs.Run.{IsBrought}
+use Rattle.runs.specs.Acts.{IsOf, IsRecovery, At, Brings, lost_step, if_known, IsStepOf, IsCompaction, is_compaction, if_compaction, compaction_outcome, outcome_of, act_outcome}
+use Rattle.runs.specs.Events.{event_at}
+use Rattle.cluster_sim.specs.Machine.{Machine, StandsFor, CameOf, CompactedAs, bare_outcome, Makes, Acted}
 
 -- ---- what comes of an event
 
@@ -81,29 +83,53 @@ taken (act.Finish n origin id) = (refl, λ nodes w step at. at_more (nat_lt n no
 taken (act.Arm n calls) = tt
 taken (act.Crash n fill) = tt
 taken (act.Recover n) = (refl, λ nodes w step at. at_more (nat_lt n nodes) n 0 (CameOf on.Recover) IsRecovery step of_recovery at)
+taken (act.Compact n) = tt
 
 -- ---- a step of an act
 
-pub acted_by : (Q : Step → Type 0) (w : World) (a : Act) (o : Outcome) (new : Machine) → ((step : Step) → Q step → IsStepOf (length w.states) w a step) → Makes Q w o new → Acted w a o new
-acted_by Q w a o new is_step makes = record {
+-- an act that is no compaction is told as its step is
+as_step : (nodes : ℕ) (w : World) (a : Act) (step : Step) → is_compaction a ≡ false → act_outcome nodes w a step ≡ outcome_of nodes w step
+as_step nodes w a step other = ap (λ (b : Bool). if_compaction b step (outcome_of nodes w step)) other
+
+pub acted_by : (Q : Step → Type 0) (w : World) (a : Act) (o : Outcome) (new : Machine) → is_compaction a ≡ false → ((step : Step) → Q step → IsStepOf (length w.states) w a step) → Makes Q w o new → Acted w a o new
+acted_by Q w a o new other is_step makes = record {
   step = makes.step;
   next = record { of_act = is_step makes.step makes.is; allowed = makes.allowed; of_slots = makes.of_slots };
-  is_told = makes.is_told;
+  is_told = makes.is_told ∙ ap told (sym (as_step (length w.states) w a makes.step other));
   shows = makes.shows;
   stands = makes.stands;
 }
 
-acted_if : {E : Type 0} (Q : Step → Type 0) (w : World) (a : Act) (result : Result Outcome E) (new : Machine) → ((step : Step) → Q step → IsStepOf (length w.states) w a step) → IfOk result (λ (o : Outcome). Makes Q w o new)
+acted_if : {E : Type 0} (Q : Step → Type 0) (w : World) (a : Act) (result : Result Outcome E) (new : Machine) → is_compaction a ≡ false → ((step : Step) → Q step → IsStepOf (length w.states) w a step) → IfOk result (λ (o : Outcome). Makes Q w o new)
     → IfOk result (λ (o : Outcome). Acted w a o new)
-acted_if Q w a (Ok o) new is_step makes = acted_by Q w a o new is_step makes
-acted_if Q w a (Err e) new is_step makes = tt
+acted_if Q w a (Ok o) new other is_step makes = acted_by Q w a o new other is_step makes
+acted_if Q w a (Err e) new other is_step makes = tt
+
+-- an event is no compaction
+event_no_compaction : (a : Act) (n : ℕ) (event : Event) → event_at a ≡ Some (n, event) → is_compaction a ≡ false
+event_no_compaction (act.Check k) n event is = refl
+event_no_compaction (act.Merge k) n event is = refl
+event_no_compaction (act.Accept k) n event is = refl
+event_no_compaction (act.Ready k) n event is = refl
+event_no_compaction (act.Coord k) n event is = refl
+event_no_compaction (act.Dispatch k) n event is = refl
+event_no_compaction (act.Deliver k) n event is = refl
+event_no_compaction (act.Lose k) n event is = refl
+event_no_compaction (act.Cut a b) n event is = refl
+event_no_compaction (act.Mend a b) n event is = refl
+event_no_compaction (act.Submit k queue payload) n event is = refl
+event_no_compaction (act.Finish k origin id) n event is = refl
+event_no_compaction (act.Arm k calls) n event is = refl
+event_no_compaction (act.Crash k fill) n event is = refl
+event_no_compaction (act.Recover k) n event is = refl
+event_no_compaction (act.Compact k) n event is = absurd (let bad = is in cc)
 
 pub event_acted : {E : Type 0} (w : World) (a : Act) (n : ℕ) (event : Event) (result : Result Outcome E) (new : Machine) → event_at a ≡ Some (n, event)
     → ((number : ℕ) → IsBrought w number (brought (Some event)) → AreAddressed n (brought (Some event)) → IfOk result (λ (o : Outcome). Makes (λ step. At (nat_lt n (length w.states)) n number (CameOf event) step) w o new))
     → IfOk result (λ (o : Outcome). Acted w a o new)
 event_acted w a n event result new at makes =
     let is : IsTakenAs a (n, event) = subst (λ (x : Option (ℕ × Event)). IfSome x (IsTakenAs a)) at (taken a) in
-    acted_if (λ step. At (nat_lt n (length w.states)) n 0 (CameOf event) step) w a result new (λ step at. is.1 (length w.states) w step at)
+    acted_if (λ step. At (nat_lt n (length w.states)) n 0 (CameOf event) step) w a result new (event_no_compaction a n event at) (λ step at. is.1 (length w.states) w step at)
     (makes 0 (subst (λ (ms : List Envelope). IsBrought w 0 ms) (sym is.0) tt) (subst (λ (ms : List Envelope). AreAddressed n ms) (sym is.0) tt))
 
 -- ---- the network's acts
@@ -112,7 +138,7 @@ pub delivered : {E : Type 0} (w : World) (k : ℕ) (m : Envelope) (result : Resu
     → (IsBrought w k (brought (Some (on.Deliver m))) → AreAddressed m.receiver (brought (Some (on.Deliver m)))
     → IfOk result (λ (o : Outcome). Makes (λ step. At (nat_lt m.receiver (length w.states)) m.receiver k (CameOf (on.Deliver m)) step) w o new))
     → IfOk result (λ (o : Outcome). Acted w (act.Deliver k) o new)
-delivered w k m result new comes makes = acted_if (λ step. At (nat_lt m.receiver (length w.states)) m.receiver k (CameOf (on.Deliver m)) step) w (act.Deliver k) result new
+delivered w k m result new comes makes = acted_if (λ step. At (nat_lt m.receiver (length w.states)) m.receiver k (CameOf (on.Deliver m)) step) w (act.Deliver k) result new refl
     (λ step at. subst (λ (d : Result Envelope NetFault). Brings (length w.states) k d step) (sym comes)
     (at_more (nat_lt m.receiver (length w.states)) m.receiver k (CameOf (on.Deliver m)) (IsOf (on.Deliver m)) step (of_event (on.Deliver m) (λ e. cc)) at))
     (makes (comes, tt) (refl, tt))
@@ -237,19 +263,96 @@ quietly w n none empty what is =
 
 -- an act that is neither an event nor another of those that are told apart
 pub no_other : (a : Act) → event_at a ≡ None → ((k : ℕ) → a ≡ act.Deliver k → ⊥) → ((k : ℕ) → a ≡ act.Lose k → ⊥) → ((x y : ℕ) → a ≡ act.Cut x y → ⊥) → ((x y : ℕ) → a ≡ act.Mend x y → ⊥)
-    → ((n calls : ℕ) → a ≡ act.Arm n calls → ⊥) → ((n : ℕ) (fill : List ℕ) → a ≡ act.Crash n fill → ⊥) → ⊥
-no_other (act.Check n) none deliver lose cut mend arm crash = let bad = none in cc
-no_other (act.Merge n) none deliver lose cut mend arm crash = let bad = none in cc
-no_other (act.Accept n) none deliver lose cut mend arm crash = let bad = none in cc
-no_other (act.Ready n) none deliver lose cut mend arm crash = let bad = none in cc
-no_other (act.Coord n) none deliver lose cut mend arm crash = let bad = none in cc
-no_other (act.Dispatch n) none deliver lose cut mend arm crash = let bad = none in cc
-no_other (act.Deliver k) none deliver lose cut mend arm crash = deliver k refl
-no_other (act.Lose k) none deliver lose cut mend arm crash = lose k refl
-no_other (act.Cut a b) none deliver lose cut mend arm crash = cut a b refl
-no_other (act.Mend a b) none deliver lose cut mend arm crash = mend a b refl
-no_other (act.Submit n queue payload) none deliver lose cut mend arm crash = let bad = none in cc
-no_other (act.Finish n origin id) none deliver lose cut mend arm crash = let bad = none in cc
-no_other (act.Arm n calls) none deliver lose cut mend arm crash = arm n calls refl
-no_other (act.Crash n fill) none deliver lose cut mend arm crash = crash n fill refl
-no_other (act.Recover n) none deliver lose cut mend arm crash = let bad = none in cc
+    → ((n calls : ℕ) → a ≡ act.Arm n calls → ⊥) → ((n : ℕ) (fill : List ℕ) → a ≡ act.Crash n fill → ⊥) → ((n : ℕ) → a ≡ act.Compact n → ⊥) → ⊥
+no_other (act.Check n) none deliver lose cut mend arm crash compact = let bad = none in cc
+no_other (act.Merge n) none deliver lose cut mend arm crash compact = let bad = none in cc
+no_other (act.Accept n) none deliver lose cut mend arm crash compact = let bad = none in cc
+no_other (act.Ready n) none deliver lose cut mend arm crash compact = let bad = none in cc
+no_other (act.Coord n) none deliver lose cut mend arm crash compact = let bad = none in cc
+no_other (act.Dispatch n) none deliver lose cut mend arm crash compact = let bad = none in cc
+no_other (act.Deliver k) none deliver lose cut mend arm crash compact = deliver k refl
+no_other (act.Lose k) none deliver lose cut mend arm crash compact = lose k refl
+no_other (act.Cut a b) none deliver lose cut mend arm crash compact = cut a b refl
+no_other (act.Mend a b) none deliver lose cut mend arm crash compact = mend a b refl
+no_other (act.Submit n queue payload) none deliver lose cut mend arm crash compact = let bad = none in cc
+no_other (act.Finish n origin id) none deliver lose cut mend arm crash compact = let bad = none in cc
+no_other (act.Arm n calls) none deliver lose cut mend arm crash compact = arm n calls refl
+no_other (act.Crash n fill) none deliver lose cut mend arm crash compact = crash n fill refl
+no_other (act.Recover n) none deliver lose cut mend arm crash compact = let bad = none in cc
+no_other (act.Compact n) none deliver lose cut mend arm crash compact = compact n refl
+
+-- ---- a compaction
+
+is_compacted : (o : Outcome) (what : What) → CompactedAs o what → IsCompaction what
+is_compacted o (Did e) is = is
+is_compacted o (Refused e fault) is = is
+is_compacted o (Faulted e) is = is
+is_compacted o (Rests Nothing) is = is
+is_compacted o (Rests Compacted) is = tt
+is_compacted o (Rests CompactDown) is = tt
+is_compacted o (Rests CompactWorn) is = tt
+is_compacted o Crashed is = tt
+is_compacted o (Recovered kept) is = is
+is_compacted o MountFailed is = is
+is_compacted o (RaiseFailed kept) is = is
+is_compacted o (RaiseRefused kept) is = is
+
+-- an act that didn't fault is told as it is
+bare : (first : ℕ) (o : Outcome) → (o ≡ outcome.Faulted → ⊥) → bare_outcome first o ≡ o
+bare first (outcome.Done answer n many) quiet = refl
+bare first (outcome.Refused why) quiet = refl
+bare first outcome.Faulted quiet = absurd (quiet refl)
+
+bare_refused : (first : ℕ) (o : Outcome) (why : Refusal) → bare_outcome first o ≡ outcome.Refused why → o ≡ outcome.Refused why
+bare_refused first (outcome.Done answer n many) why is = is
+bare_refused first (outcome.Refused other) why is = is
+bare_refused first outcome.Faulted why is = absurd (let bad = is in cc)
+
+fall_told : (nodes n first : ℕ) (w : World) (o : Outcome) (what : What) → CompactedAs o what → bare_outcome first o ≡ told (outcome_of nodes w (Takes n 0 what))
+    → o ≡ told (compaction_outcome (Takes n 0 what) (outcome_of nodes w (Takes n 0 what)))
+fall_told nodes n first w o (Did e) is told_as = absurd is
+fall_told nodes n first w o (Refused e fault) is told_as = absurd is
+fall_told nodes n first w o (Faulted e) is told_as = absurd is
+fall_told nodes n first w o (Rests Nothing) is told_as = absurd is
+fall_told nodes n first w o (Rests Compacted) is told_as = sym (bare first o is) ∙ told_as
+fall_told nodes n first w o (Rests CompactDown) is told_as = sym (bare first o is) ∙ told_as
+fall_told nodes n first w o (Rests CompactWorn) is told_as = sym (bare first o is) ∙ told_as
+fall_told nodes n first w o Crashed is told_as = is
+fall_told nodes n first w o (Recovered kept) is told_as = absurd is
+fall_told nodes n first w o MountFailed is told_as = absurd is
+fall_told nodes n first w o (RaiseFailed kept) is told_as = absurd is
+fall_told nodes n first w o (RaiseRefused kept) is told_as = absurd is
+
+compaction_told : (b : Bool) (nodes n first : ℕ) (w : World) (o : Outcome) (step : Step) → At b n 0 (CompactedAs o) step → bare_outcome first o ≡ told (outcome_of nodes w step)
+    → o ≡ told (compaction_outcome step (outcome_of nodes w step))
+compaction_told true nodes n first w o step is told_as =
+    subst (λ (x : Step). o ≡ told (compaction_outcome x (outcome_of nodes w x))) (sym is.1)
+    (fall_told nodes n first w o is.0 is.2 (subst (λ (x : Step). bare_outcome first o ≡ told (outcome_of nodes w x)) is.1 told_as))
+compaction_told false nodes n first w o step is told_as =
+    subst (λ (x : Step). o ≡ told (compaction_outcome x (outcome_of nodes w x))) (sym is)
+    (bare_refused first o refusal.Stranger (subst (λ (x : Step). bare_outcome first o ≡ told (outcome_of nodes w x)) is told_as))
+
+pub compact_acted : (w : World) (n first : ℕ) (o : Outcome) (new : Machine) → Makes (λ step. At (nat_lt n (length w.states)) n 0 (CompactedAs o) step) w (bare_outcome first o) new → Acted w (act.Compact n) o new
+compact_acted w n first o new makes = record {
+  step = makes.step;
+  next = record {
+    of_act = at_more (nat_lt n (length w.states)) n 0 (CompactedAs o) IsCompaction makes.step (is_compacted o) makes.is;
+    allowed = makes.allowed;
+    of_slots = makes.of_slots;
+  };
+  is_told = compaction_told (nat_lt n (length w.states)) (length w.states) n first w o makes.step makes.is makes.is_told;
+  shows = makes.shows;
+  stands = makes.stands;
+}
+
+-- nothing is brought in a compaction
+pub compacts_quietly : (w : World) (n : ℕ) (o : Outcome) (what : What) → CompactedAs o what → IsBrought w 0 (brought (event_of what)) × AreAddressed n (brought (event_of what))
+compacts_quietly w n o (Did e) is = absurd is
+compacts_quietly w n o (Refused e fault) is = absurd is
+compacts_quietly w n o (Faulted e) is = absurd is
+compacts_quietly w n o (Rests rest) is = (tt, tt)
+compacts_quietly w n o Crashed is = (tt, tt)
+compacts_quietly w n o (Recovered kept) is = absurd is
+compacts_quietly w n o MountFailed is = absurd is
+compacts_quietly w n o (RaiseFailed kept) is = absurd is
+compacts_quietly w n o (RaiseRefused kept) is = absurd is

@@ -13,10 +13,10 @@ use Rattle.schedule.specs.declared.act.Act.{Act}
 use Rattle.schedule.specs.declared.act.Act.TheVariants as act
 use Rattle.cluster_sim.specs.declared.outcome.Outcome.{Outcome}
 use Rattle.cluster_sim.specs.declared.outcome.Outcome.TheVariants as outcome
-use Rattle.cluster_sim.specs.Events.{event_at}
-use Rattle.cluster_sim.specs.Reporting.{node_named, node_or_first, receiver_or_first}
+use Rattle.runs.specs.Events.{event_at}
+use Rattle.runs.specs.Reporting.{node_named, node_or_first, receiver_or_first}
 use Rattle.cluster_sim.specs.Machine.{Machine, IsCounted, disk_of, FaultsAt}
-use Rattle.cluster_sim.proofs.Runs.{get_set_same, get_set_other}
+use Rattle.runs.proofs.Runs.{get_set_same, get_set_other}
 use Rattle.cluster_sim.proofs.Members.{true_within}
 
 -- a disk that isn't called
@@ -71,6 +71,7 @@ named_by_event (act.Finish k origin id) n event nodes sent is = ap (λ (p : ℕ 
 named_by_event (act.Arm k calls) n event nodes sent is = absurd (let bad = is in cc)
 named_by_event (act.Crash k fill) n event nodes sent is = absurd (let bad = is in cc)
 named_by_event (act.Recover k) n event nodes sent is = ap (λ (p : ℕ × Event). node_or_first nodes p.0) (is_some _ _ is)
+named_by_event (act.Compact k) n event nodes sent is = absurd (let bad = is in cc)
 
 pub faults_received : {E : Type 0} (nodes : ℕ) (sent : List Envelope) (k receiver : ℕ) (m : Envelope) (old new : Machine) (result : Result Outcome E) → slice_get sent k ≡ Some m → receiver ≡ m.receiver
     → IfOk result (FaultsAt (node_or_first nodes receiver) old new) → IfOk result (FaultsAt (receiver_or_first nodes (slice_get sent k)) old new)

@@ -6,21 +6,21 @@ use Rattle.std.proofs.lemmas.Option.{slice_get_within, slice_get_read}
 use Rattle.sector_disk.specs.Memory.{Memory, state_of}
 use Rattle.sim_net.specs.Network.{Network, after_all_sent}
 use Rattle.durable_node.specs.Node.{Node, Stands}
-use Rattle.durable_node.specs.NodeState.{NodeState}
-use Rattle.durable_node.specs.What.{What, event_of, brought, AreAddressed}
-use Rattle.durable_node.specs.After.{after, found_at}
+use Rattle.histories.specs.NodeState.{NodeState}
+use Rattle.histories.specs.What.{What, event_of, brought, AreAddressed}
+use Rattle.histories.specs.After.{after, found_at}
 use Rattle.durable_node.proofs.Nodes.{is_some}
 use Rattle.cluster_sim.specs.declared.outcome.Outcome.{Outcome}
 use Rattle.cluster_sim.specs.declared.outcome.Outcome.TheVariants as outcome
 use Rattle.cluster_sim.specs.declared.outcome.Refusal.TheVariants as refusal
-use Rattle.cluster_sim.specs.World.{World}
-use Rattle.cluster_sim.specs.Step.{Step, Takes, Denies, Stranger, state_after, sent_after}
-use Rattle.cluster_sim.specs.Run.{IsBrought}
-use Rattle.cluster_sim.specs.Acts.{At, IsOfSlotsAt, what_outcome, node_outcome}
+use Rattle.runs.specs.World.{World}
+use Rattle.runs.specs.Step.{Step, Takes, Denies, Stranger, state_after, sent_after}
+use Rattle.runs.specs.Run.{IsBrought}
+use Rattle.runs.specs.Acts.{At, IsOfSlotsAt, what_outcome, node_outcome}
 use Rattle.cluster_sim.specs.Told.{told}
 use Rattle.cluster_sim.specs.Machine.{Machine, IsMember, IsCluster, StandsFor, IsSame, Comes, Makes}
-use Rattle.cluster_sim.proofs.Runs.{at_place, get_set_same, get_set_other}
-use Rattle.durable_node.proofs.Tests.{eq_nat}
+use Rattle.runs.proofs.Runs.{at_place, get_set_same, get_set_other}
+use Rattle.histories.proofs.Tests.{eq_nat}
 use Rattle.std.proofs.lemmas.Bool.Decides.{nat_tests}
 
 -- ---- one place is written

@@ -1,18 +1,18 @@
 -- The messages of a moment are those under its numbers, also when more were sent after it.
-use Rattle.std.proofs.Common.{◌≡◌, ℕ, zero, suc, List, [], ◌∷◌, ◌++◌, length, take, drop, slice_get, refl, sym, ◌∙◌, ap, subst, Option, Some, None, append_assoc}
+use Rattle.std.proofs.Common.{◌≡◌, ℕ, zero, suc, Bool, true, false, List, [], ◌∷◌, ◌++◌, length, take, drop, slice_get, refl, sym, ◌∙◌, ap, subst, Option, Some, None, append_assoc}
 use Rattle.std.proofs.lemmas.List.{append-nil}
 use Rattle.std.proofs.Math.Seq.{drop-append_seam, take-append_seam}
 use Rattle.wire_msg.specs.Envelope.{Envelope}
-use Rattle.durable_node.specs.NodeState.{NodeState}
-use Rattle.durable_node.specs.What.{What, Did, Refused, Faulted, Rests, Crashed, Recovered, MountFailed, RaiseFailed, RaiseRefused}
-use Rattle.durable_node.specs.After.{sent_at}
+use Rattle.histories.specs.NodeState.{NodeState}
+use Rattle.histories.specs.What.{Nothing, Compacted, CompactDown, CompactWorn, What, Did, Refused, Faulted, Rests, Crashed, Recovered, MountFailed, RaiseFailed, RaiseRefused}
+use Rattle.histories.specs.After.{sent_at}
 use Rattle.schedule.specs.declared.act.Act.{Act}
-use Rattle.cluster_sim.specs.World.{World, start}
-use Rattle.cluster_sim.specs.Step.{Step, Takes, Loses, Cuts, Mends, Denies, sent_after, world_after}
-use Rattle.cluster_sim.specs.Run.{world_at}
-use Rattle.cluster_sim.specs.Acts.{what_outcome, node_outcome, outcome_of}
-use Rattle.cluster_sim.specs.Reporting.{Moment, Report, moment_of, moments_from, step_sent}
-use Rattle.cluster_sim.specs.Growth.{IsLeft, acts_in}
+use Rattle.runs.specs.World.{World, start}
+use Rattle.runs.specs.Step.{Step, Takes, Loses, Cuts, Mends, Denies, sent_after, world_after}
+use Rattle.runs.specs.Run.{world_at}
+use Rattle.runs.specs.Acts.{what_outcome, node_outcome, outcome_of, if_compaction, is_compaction, act_outcome}
+use Rattle.runs.specs.Reporting.{Moment, Report, moment_of, moments_from, step_sent}
+use Rattle.runs.specs.Growth.{IsLeft, acts_in}
 use Rattle.cluster_sim.specs.Numbered.{sent_under}
 
 -- what stands behind the first ones, as many as it is
@@ -24,7 +24,10 @@ what_numbered : (n nodes : ℕ) (before rest : List Envelope) (s : NodeState) (w
 what_numbered n nodes before rest s (Did event) = sym (part_between before (sent_at n nodes s (Did event)) rest)
 what_numbered n nodes before rest s (Refused event fault) = refl
 what_numbered n nodes before rest s (Faulted event) = refl
-what_numbered n nodes before rest s (Rests why) = refl
+what_numbered n nodes before rest s (Rests Nothing) = refl
+what_numbered n nodes before rest s (Rests Compacted) = refl
+what_numbered n nodes before rest s (Rests CompactDown) = refl
+what_numbered n nodes before rest s (Rests CompactWorn) = refl
 what_numbered n nodes before rest s Crashed = refl
 what_numbered n nodes before rest s (Recovered kept) = refl
 what_numbered n nodes before rest s MountFailed = refl
@@ -36,6 +39,11 @@ node_numbered : (n nodes : ℕ) (before rest : List Envelope) (o : Option NodeSt
 node_numbered n nodes before rest None what = refl
 node_numbered n nodes before rest (Some s) what = what_numbered n nodes before rest s what
 
+-- a crash sends nothing
+no_messages : (n nodes : ℕ) (o : Option NodeState) → sent_after n nodes o Crashed ≡ []
+no_messages n nodes None = refl
+no_messages n nodes (Some s) = refl
+
 step_numbered : (nodes : ℕ) (w : World) (step : Step) (rest : List Envelope)
     → step_sent nodes w step ≡ sent_under ((world_after nodes w step).net.sent ++ rest) (outcome_of nodes w step)
 step_numbered nodes w (Takes n number what) rest = node_numbered n nodes w.net.sent rest (slice_get w.states n) what
@@ -43,6 +51,24 @@ step_numbered nodes w (Loses k) rest = refl
 step_numbered nodes w (Cuts a b) rest = refl
 step_numbered nodes w (Mends a b) rest = refl
 step_numbered nodes w (Denies why) rest = refl
+
+-- what comes of a compaction sends nothing where the node falls
+compaction_numbered : (nodes : ℕ) (w : World) (compacts : Bool) (step : Step) (rest : List Envelope)
+    → step_sent nodes w step ≡ sent_under ((world_after nodes w step).net.sent ++ rest) (if_compaction compacts step (outcome_of nodes w step))
+compaction_numbered nodes w false step rest = step_numbered nodes w step rest
+compaction_numbered nodes w true (Takes n number (Did event)) rest = step_numbered nodes w (Takes n number (Did event)) rest
+compaction_numbered nodes w true (Takes n number (Refused event fault)) rest = step_numbered nodes w (Takes n number (Refused event fault)) rest
+compaction_numbered nodes w true (Takes n number (Faulted event)) rest = step_numbered nodes w (Takes n number (Faulted event)) rest
+compaction_numbered nodes w true (Takes n number (Rests why)) rest = step_numbered nodes w (Takes n number (Rests why)) rest
+compaction_numbered nodes w true (Takes n number Crashed) rest = no_messages n nodes (slice_get w.states n)
+compaction_numbered nodes w true (Takes n number (Recovered kept)) rest = step_numbered nodes w (Takes n number (Recovered kept)) rest
+compaction_numbered nodes w true (Takes n number MountFailed) rest = step_numbered nodes w (Takes n number MountFailed) rest
+compaction_numbered nodes w true (Takes n number (RaiseFailed kept)) rest = step_numbered nodes w (Takes n number (RaiseFailed kept)) rest
+compaction_numbered nodes w true (Takes n number (RaiseRefused kept)) rest = step_numbered nodes w (Takes n number (RaiseRefused kept)) rest
+compaction_numbered nodes w true (Loses k) rest = refl
+compaction_numbered nodes w true (Cuts a b) rest = refl
+compaction_numbered nodes w true (Mends a b) rest = refl
+compaction_numbered nodes w true (Denies why) rest = refl
 
 -- ---- messages are only added, at the end
 
@@ -72,7 +98,7 @@ moment_numbered zero nodes (a ∷ acts) (step ∷ steps) w m at =
     let it : moment_of nodes w a step ≡ m = cc at in
     let grown = run_adds nodes steps (world_after nodes w step) in
     subst (λ (x : Moment). x.sent ≡ sent_under (world_at nodes (world_after nodes w step) steps).net.sent x.outcome) it
-    (subst (λ (all : List Envelope). step_sent nodes w step ≡ sent_under all (outcome_of nodes w step)) (sym grown.1) (step_numbered nodes w step grown.0))
+    (subst (λ (all : List Envelope). step_sent nodes w step ≡ sent_under all (act_outcome nodes w a step)) (sym grown.1) (compaction_numbered nodes w (is_compaction a) step grown.0))
 moment_numbered (suc k) nodes (a ∷ acts) (step ∷ steps) w m at = moment_numbered k nodes acts steps (world_after nodes w step) m at
 
 -- of a cluster that a run left, and its report

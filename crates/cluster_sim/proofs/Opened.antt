@@ -6,9 +6,10 @@ use Rattle.std.proofs.Math.Nat.{zero-add}
 use Rattle.sector_disk.specs.Memory.{Memory, state_of}
 use Rattle.sim_net.specs.Network.{Network, silent}
 use Rattle.durable_node.specs.Node.{Node, Stands}
-use Rattle.durable_node.specs.NodeState.{NodeState, opening}
+use Rattle.histories.specs.NodeState.{NodeState, opening}
 use Rattle.durable_node.proofs.Nodes.{is_some}
-use Rattle.cluster_sim.specs.World.{openings, start}
+use Rattle.runs.specs.World.{openings, start}
+use Rattle.runs.proofs.Opened.{length_openings}
 use Rattle.cluster_sim.specs.Machine.{IsOfSize, IsMember, IsCluster, StandsFor, AreOpened}
 
 -- what holds of each of a list, and of one more
@@ -29,10 +30,6 @@ opened_more slots count so_far nodes node so id_is nodes_is size opens = record 
 
 pub none_opened : (slots count : ℕ) → AreOpened slots count 0 []
 none_opened slots count = record { len = refl; member = λ k node at. absurd cc; opens = λ k node at. absurd cc }
-
-pub length_openings : (n k : ℕ) → length (openings n k) ≡ k
-length_openings n zero = refl
-length_openings n (suc k) = ap suc (length_openings (suc n) k)
 
 -- node k opens in its own state
 pub opening_at : (n count k : ℕ) (s : NodeState) → slice_get (openings n count) k ≡ Some s → opening (n + k) ≡ s

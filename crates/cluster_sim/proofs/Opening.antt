@@ -7,19 +7,20 @@ use Rattle.group_task.specs.Group.{Group}
 use Rattle.sector_disk.specs.Memory.{Memory}
 use Rattle.node_core.specs.Words.{own_group}
 use Rattle.durable_node.specs.Node.{Node}
-use Rattle.durable_node.specs.NodeState.{NodeState, opening}
-use Rattle.durable_node.specs.Marks.{Mark, opening_marks}
+use Rattle.histories.specs.NodeState.{NodeState, opening}
+use Rattle.histories.specs.Marks.{Mark, opening_marks}
 use Rattle.durable_node.proofs.Nodes.{is_some}
-use Rattle.cluster_sim.specs.World.{openings, start}
-use Rattle.cluster_sim.specs.Given.{opening_groups}
-use Rattle.cluster_sim.specs.Tagged.{tagged}
+use Rattle.runs.specs.World.{openings, start}
+use Rattle.runs.specs.Given.{opening_groups}
+use Rattle.runs.specs.Tagged.{tagged}
 use Rattle.cluster_sim.specs.Machine.{Machine, StandsFor}
-use Rattle.cluster_sim.specs.Reporting.{opening_marks_from, commands_in, mountings_in, report_of}
-use Rattle.cluster_sim.specs.Growth.{IsLeft}
+use Rattle.runs.specs.Reporting.{opening_marks_from, commands_in, mountings_in, report_of}
+use Rattle.runs.specs.Growth.{IsLeft}
 use Rattle.cluster_sim.specs.Recorded.{ToldReport, told_report, with_opening, AreCounted, Tells}
-use Rattle.cluster_sim.proofs.Grown.{in_append, mounted_append, counts_shown, runs_open}
-use Rattle.cluster_sim.proofs.Opened.{opening_at, length_openings}
-use Rattle.cluster_sim.proofs.Runs.{at_place}
+use Rattle.runs.proofs.Grown.{in_append, mounted_append, counts_shown, runs_open}
+use Rattle.cluster_sim.proofs.Opened.{opening_at}
+use Rattle.runs.proofs.Opened.{length_openings}
+use Rattle.runs.proofs.Runs.{at_place}
 
 openings_more : (k n : ℕ) → openings n (suc k) ≡ openings n k ++ opening (n + k) ∷ []
 openings_more zero n = ap (λ (m : ℕ). opening m ∷ []) (sym (add-zero n))

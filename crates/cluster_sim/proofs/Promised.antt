@@ -6,13 +6,14 @@ use Rattle.wire_msg.specs.Envelope.{Envelope}
 use Rattle.sim_net.specs.Network.{Network}
 use Rattle.schedule.specs.declared.act.Act.{Act}
 use Rattle.cluster_sim.specs.declared.outcome.Outcome.{Outcome}
-use Rattle.cluster_sim.specs.World.{World}
-use Rattle.cluster_sim.specs.Reporting.{Moment, Report, moment_of}
-use Rattle.cluster_sim.specs.Growth.{acts_in}
-use Rattle.cluster_sim.specs.Headline.{Headline, IsShortSchedule}
+use Rattle.runs.specs.World.{World}
+use Rattle.runs.specs.Reporting.{Moment, Report, moment_of}
+use Rattle.runs.specs.Growth.{acts_in}
+use Rattle.runs.specs.Headline.{Headline}
+use Rattle.histories.specs.Counts.{IsShort}
 use Rattle.cluster_sim.specs.Numbered.{sent_under}
 use Rattle.cluster_sim.specs.Recorded.{Recorded, ToldMoment, ToldReport, Tells, GoesOn, HasRun, IsPromised, told_moment}
-use Rattle.cluster_sim.proofs.Grown.{left_keeps, step_length}
+use Rattle.runs.proofs.Grown.{left_keeps, step_length}
 use Rattle.cluster_sim.proofs.Numbered.{left_numbered}
 
 acts_told : (ms : List Moment) → map (λ (m : ToldMoment). m.act) (map told_moment ms) ≡ map (λ (m : Moment). m.act) ms
@@ -28,7 +29,7 @@ pub promised : (c : Recorded) (w : World) (r : Report) (acts : List Act) → Tel
 promised c w r acts tells is short =
     let len : length (acts_in r) ≡ length c.report.moments =
     length-map r.moments (λ (m : Moment). m.act) ∙ sym (ap (λ (x : ToldReport). length x.moments) tells.is_told ∙ length-map r.moments told_moment) in
-    let few : IsShortSchedule (acts_in r) = omega (arith, len, short) in
+    let few : IsShort (acts_in r) = omega (arith, len, short) in
     record {
       run = r;
       is_told = tells.is_told;

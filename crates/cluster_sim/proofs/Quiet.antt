@@ -8,15 +8,15 @@ use Rattle.sim_net.specs.Network.{Network}
 use Rattle.node_core.specs.Start.{down}
 use Rattle.durable_node.specs.Arming.{armed_disk}
 use Rattle.durable_node.specs.Node.{Node, Stands}
-use Rattle.durable_node.specs.NodeState.{NodeState}
-use Rattle.durable_node.specs.What.{Rests, Nothing, Crashed}
-use Rattle.durable_node.specs.After.{after}
+use Rattle.histories.specs.NodeState.{NodeState}
+use Rattle.histories.specs.What.{Rests, Nothing, Crashed}
+use Rattle.histories.specs.After.{after}
 use Rattle.durable_node.proofs.Nodes.{is_some}
 use Rattle.cluster_sim.specs.declared.outcome.Outcome.{Outcome}
 use Rattle.cluster_sim.specs.declared.outcome.Outcome.TheVariants as outcome
 use Rattle.cluster_sim.specs.Machine.{IsOfSize, IsSame, IsCounted, Comes}
 use Rattle.cluster_sim.proofs.Coming.{some_of}
-use Rattle.cluster_sim.proofs.Sending.{none_sent}
+use Rattle.runs.proofs.Sending.{none_sent}
 
 armed_size : (slots calls : ℕ) (disk : Option Memory) → IsOfSize slots disk → IsOfSize slots (armed_disk calls disk)
 armed_size slots calls None size d at = absurd cc
@@ -29,7 +29,7 @@ arm_same calls old new is = record {
   size = λ slots size d at. armed_size slots calls old.disk size d (sym (ap (λ (n : Node Memory). n.disk) is) ∙ at);
 }
 
-pub crash_same : (fill : List ℕ) (old new : Node Memory) → IsSome old.disk → new ≡ record old { state = down old.id; disk = new.disk; kept = None; found = None }
+pub crash_same : (fill : List ℕ) (old new : Node Memory) → IsSome old.disk → new ≡ record old { state = down old.id; disk = new.disk; kept = None; area = None; found = None }
     → ((was now : Memory) → old.disk ≡ Some was → new.disk ≡ Some now → IsCrashed was fill now.contents × (now ≡ all_synced now.contents was.failures)) → IsSame old new
 crash_same fill old new has is crashed = record {
   id = ap (λ (n : Node Memory). n.id) is;

@@ -14,27 +14,27 @@ use Rattle.node_core.specs.declared.event.Event.{Event}
 use Rattle.node_core.specs.declared.event.Event.TheVariants as on
 use Rattle.node_core.specs.State.{State, is_down}
 use Rattle.node_core.specs.Wants.{raise_if, done_if, delivered_wants}
-use Rattle.durable_node.specs.NodeState.{NodeState, wants_at, settled}
-use Rattle.durable_node.specs.What.{Nothing, What, Did, Refused, Faulted, Rests, Crashed, Recovered, MountFailed, RaiseFailed, RaiseRefused}
-use Rattle.durable_node.specs.After.{raised, given_at, found_at}
-use Rattle.durable_node.specs.Marks.{Mark, tried_marks, failed_marks, marks_at}
-use Rattle.durable_node.specs.Possible.{IsWanted, IsForNode, IsPossible}
+use Rattle.histories.specs.NodeState.{NodeState, wants_at, settled, answer_if_wanted}
+use Rattle.histories.specs.What.{Nothing, Compacted, CompactDown, CompactWorn, What, Did, Refused, Faulted, Rests, Crashed, Recovered, MountFailed, RaiseFailed, RaiseRefused}
+use Rattle.histories.specs.After.{raised, given_at, found_at}
+use Rattle.histories.specs.Marks.{Mark, tried_marks, failed_marks, marks_at}
+use Rattle.histories.specs.Possible.{IsWanted, IsForNode, IsPossible}
 use Rattle.durable_node.proofs.Nodes.{is_some}
 use Rattle.schedule.specs.declared.act.Act.{Act}
 use Rattle.schedule.specs.declared.act.Act.TheVariants as act
 use Rattle.cluster_sim.specs.declared.outcome.Outcome.{Outcome}
 use Rattle.cluster_sim.specs.declared.outcome.Outcome.TheVariants as outcome
 use Rattle.cluster_sim.specs.declared.outcome.Refusal.{Refusal}
-use Rattle.cluster_sim.specs.World.{World}
-use Rattle.cluster_sim.specs.Step.{Step, Takes, Loses, Cuts, Mends, Denies, Denial, OfNet, Stranger}
-use Rattle.cluster_sim.specs.Run.{IsAllowed}
-use Rattle.cluster_sim.specs.Acts.{IsOf, IsRecovery, At, Brings, lost_step, if_known, IsStepOf, answer_shown, what_outcome, node_outcome, outcome_of}
-use Rattle.cluster_sim.specs.Given.{numbered, given_by, groups_at}
-use Rattle.cluster_sim.specs.Tagged.{tagged, marks_for, step_marks}
-use Rattle.cluster_sim.specs.Reporting.{commands_in, mountings_in, node_named, node_or_first, receiver_or_first}
+use Rattle.runs.specs.World.{World}
+use Rattle.runs.specs.Step.{Step, Takes, Loses, Cuts, Mends, Denies, Denial, OfNet, Stranger}
+use Rattle.runs.specs.Run.{IsAllowed}
+use Rattle.runs.specs.Acts.{IsOf, IsRecovery, At, Brings, lost_step, if_known, IsStepOf, what_outcome, node_outcome, ActOutcome, IsCompaction, compaction_outcome, fall_outcome, FaultedAct, outcome_of, act_outcome}
+use Rattle.runs.specs.Given.{numbered, given_by, groups_at}
+use Rattle.runs.specs.Tagged.{tagged, marks_for, step_marks}
+use Rattle.runs.specs.Reporting.{commands_in, mountings_in, node_named, node_or_first, receiver_or_first}
 use Rattle.cluster_sim.specs.Told.{told}
 use Rattle.cluster_sim.specs.Recorded.{AimTold, tried_by, tried_at, mounted_at, mounted_now, given_in, listed, command_said, command_brought, command_by, recovers, IsAnswered}
-use Rattle.cluster_sim.proofs.Runs.{comes_sent}
+use Rattle.runs.proofs.Runs.{comes_sent}
 
 -- these marks and groups of a node are the ones that are told of an act with this aim
 record PartsTold (n count : ℕ) (marks : List Mark) (groups : List Group) (aim : AimTold) (o : Outcome) (found : Option Durable) : Type 0 where
@@ -49,16 +49,16 @@ aims n command mounts = record { node = n; command = command; mounts = mounts }
 -- ---- one event at a node
 
 done_parts : (n count first many : ℕ) (d : Durable) (c : Command) (found : Option Durable)
-    → PartsTold n count (tried_marks d (Some c)) (numbered n (raised d (Some c))) (aims n (Some c) false) (outcome.Done (answer_shown d (Some c)) first many) found
+    → PartsTold n count (tried_marks d (Some c)) (numbered n (raised d (Some c))) (aims n (Some c) false) (outcome.Done (answer_if_wanted d (Some c)) first many) found
 done_parts n count first many d Raise found = record { tried = refl; mounted = refl; given = refl; answered = λ k raise is. (let same : d.counter + 1 ≡ k = is_some (d.counter + 1) k is in omega (arith, same)) }
 done_parts n count first many d (Put queue payload) found = record { tried = refl; mounted = refl; given = refl; answered = λ k raise is. absurd (let bad = raise in cc) }
 done_parts n count first many d (JobDone id) found = record { tried = refl; mounted = refl; given = refl; answered = λ k raise is. absurd (let bad = raise in cc) }
 
 did_parts : (n count first many : ℕ) (d : Durable) (wants command : Option Command) (found : Option Durable) → ((c : Command) → wants ≡ Some c → command ≡ Some c)
-    → PartsTold n count (tried_marks d wants) (numbered n (raised d wants)) (aims n command false) (outcome.Done (answer_shown d wants) first many) found
+    → PartsTold n count (tried_marks d wants) (numbered n (raised d wants)) (aims n command false) (outcome.Done (answer_if_wanted d wants) first many) found
 did_parts n count first many d None command found matches = record { tried = refl; mounted = refl; given = refl; answered = λ k raise is. absurd (let bad = is in cc) }
 did_parts n count first many d (Some c) command found matches =
-    subst (λ (x : Option Command). PartsTold n count (tried_marks d (Some c)) (numbered n (raised d (Some c))) (aims n x false) (outcome.Done (answer_shown d (Some c)) first many) found)
+    subst (λ (x : Option Command). PartsTold n count (tried_marks d (Some c)) (numbered n (raised d (Some c))) (aims n x false) (outcome.Done (answer_if_wanted d (Some c)) first many) found)
     (sym (matches c refl)) (done_parts n count first many d c found)
 
 failed_once : (n count : ℕ) (c : Command) (found : Option Durable) → PartsTold n count (failed_marks (Some c)) [] (aims n (Some c) false) outcome.Faulted found
@@ -134,11 +134,14 @@ recovery_parts n nodes count first s (RaiseRefused kept) found is possible at =
 -- ---- one step of a cluster
 
 -- what a step adds to a report is what is told of an act with this aim
-pub record StepTold (nodes : ℕ) (w : World) (counts : ℕ → ℕ) (step : Step) (aim : AimTold) (found : Option Durable) : Type 0 where
-  pub tried : commands_in (step_marks nodes w counts step) ≡ listed (tried_at aim.node (tried_by aim (told (outcome_of nodes w step)) found))
+pub record ToldAs (o : ActOutcome) (nodes : ℕ) (w : World) (counts : ℕ → ℕ) (step : Step) (aim : AimTold) (found : Option Durable) : Type 0 where
+  pub tried : commands_in (step_marks nodes w counts step) ≡ listed (tried_at aim.node (tried_by aim (told o) found))
   pub mounted : mountings_in (step_marks nodes w counts step) ≡ listed (mounted_at aim.node (counts aim.node) (mounted_now aim.mounts found))
-  pub given : groups_at nodes w step ≡ given_in (tried_at aim.node (tried_by aim (told (outcome_of nodes w step)) found))
-  pub answered : IsAnswered aim.command (told (outcome_of nodes w step))
+  pub given : groups_at nodes w step ≡ given_in (tried_at aim.node (tried_by aim (told o) found))
+  pub answered : IsAnswered aim.command (told o)
+
+abbrev pub StepTold : ℕ → World → (ℕ → ℕ) → Step → AimTold → Option Durable → Type 0
+StepTold nodes w counts step aim found = ToldAs (outcome_of nodes w step) nodes w counts step aim found
 
 takes_told : (n nodes number : ℕ) (w : World) (counts : ℕ → ℕ) (what : What) (s : NodeState) (command : Option Command) (mounts : Bool) (found : Option Durable) → slice_get w.states n ≡ Some s
     → PartsTold n (counts n) (marks_at n nodes s (counts n) what) (numbered n (given_at n nodes s what)) (aims n command mounts) (told (what_outcome n nodes (length w.net.sent) s what)) found
@@ -252,12 +255,40 @@ quiet_told n nodes none w counts step found s is may at parts =
     at_told (nat_lt n nodes) n nodes 0 (λ (what : What). what ≡ none) w counts step None found s is may at
     (λ what same possible. subst (λ (x : What). PartsTold n (counts n) (marks_at n nodes s (counts n) x) (numbered n (given_at n nodes s x)) (aims n None false) (told (what_outcome n nodes (length w.net.sent) s x)) found) (sym same) parts)
 
+-- a compaction adds nothing, however it ends
+compaction_at : (n nodes : ℕ) (w : World) (counts : ℕ → ℕ) (what : What) (s : NodeState) (found : Option Durable) → IsCompaction what → slice_get w.states n ≡ Some s
+    → ToldAs (fall_outcome what (node_outcome n nodes (length w.net.sent) (slice_get w.states n) what)) nodes w counts (Takes n 0 what) (aims n None false) found
+compaction_at n nodes w counts (Did e) s found is at = absurd is
+compaction_at n nodes w counts (Refused e fault) s found is at = absurd is
+compaction_at n nodes w counts (Faulted e) s found is at = absurd is
+compaction_at n nodes w counts (Rests Nothing) s found is at = absurd is
+compaction_at n nodes w counts (Rests Compacted) s found is at = takes_told n nodes 0 w counts (Rests Compacted) s None false found at (quiet_parts n (counts n) (length w.net.sent) None found)
+compaction_at n nodes w counts (Rests CompactDown) s found is at = takes_told n nodes 0 w counts (Rests CompactDown) s None false found at (refused_parts n (counts n) None _ found)
+compaction_at n nodes w counts (Rests CompactWorn) s found is at = takes_told n nodes 0 w counts (Rests CompactWorn) s None false found at (refused_parts n (counts n) None _ found)
+compaction_at n nodes w counts Crashed s found is at = record {
+  tried = subst (λ (o : Option NodeState). commands_in (tagged n (marks_for n nodes o (counts n) Crashed)) ≡ []) (sym at) refl;
+  mounted = subst (λ (o : Option NodeState). mountings_in (tagged n (marks_for n nodes o (counts n) Crashed)) ≡ []) (sym at) refl;
+  given = subst (λ (o : Option NodeState). given_by n nodes o Crashed ≡ []) (sym at) refl;
+  answered = tt;
+}
+compaction_at n nodes w counts (Recovered kept) s found is at = absurd is
+compaction_at n nodes w counts MountFailed s found is at = absurd is
+compaction_at n nodes w counts (RaiseFailed kept) s found is at = absurd is
+compaction_at n nodes w counts (RaiseRefused kept) s found is at = absurd is
+
+compaction_is_told : (b : Bool) (n nodes : ℕ) (w : World) (counts : ℕ → ℕ) (step : Step) (found : Option Durable) (s : NodeState) → At b n 0 IsCompaction step → slice_get w.states (if b then n else 0) ≡ Some s
+    → ToldAs (compaction_outcome step (outcome_of nodes w step)) nodes w counts step (aims (if b then n else 0) None false) found
+compaction_is_told true n nodes w counts step found s is at =
+    subst (λ (x : Step). ToldAs (compaction_outcome x (outcome_of nodes w x)) nodes w counts x (aims n None false) found) (sym is.1) (compaction_at n nodes w counts is.0 s found is.2 at)
+compaction_is_told false n nodes w counts step found s is at =
+    subst (λ (x : Step). ToldAs (compaction_outcome x (outcome_of nodes w x)) nodes w counts x (aims 0 None false) found) (sym is) (denied_told nodes w counts Stranger 0 None found)
+
 -- what is known of an act before it is done
 abbrev pub aim_at : ℕ → World → Act → NodeState → AimTold
 aim_at nodes w a s = record { node = node_named nodes w.net.sent a; command = command_by w.net.sent a; mounts = recovers nodes a && is_down s.state.phase }
 
 pub act_told : (nodes : ℕ) (w : World) (counts : ℕ → ℕ) (a : Act) (step : Step) (found : Option Durable) (s : NodeState) → IsStepOf nodes w a step → IsAllowed nodes w step
-    → slice_get w.states (node_named nodes w.net.sent a) ≡ Some s → Mounts (node_named nodes w.net.sent a) w step found → StepTold nodes w counts step (aim_at nodes w a s) found
+    → slice_get w.states (node_named nodes w.net.sent a) ≡ Some s → Mounts (node_named nodes w.net.sent a) w step found → ToldAs (act_outcome nodes w a step) nodes w counts step (aim_at nodes w a s) found
 act_told nodes w counts (act.Check n) step found s is may at mounts = event_told n nodes 0 on.CheckTimer w counts step None found s is may at (none_is None)
 act_told nodes w counts (act.Merge n) step found s is may at mounts = event_told n nodes 0 on.MergeTimer w counts step (Some Raise) found s is may at (raise_is _)
 act_told nodes w counts (act.Accept n) step found s is may at mounts = event_told n nodes 0 on.AcceptTimer w counts step None found s is may at (none_is None)
@@ -277,3 +308,4 @@ act_told nodes w counts (act.Finish n origin id) step found s is may at mounts =
 act_told nodes w counts (act.Arm n calls) step found s is may at mounts = quiet_told n nodes (Rests Nothing) w counts step found s is may at (quiet_parts n (counts n) (length w.net.sent) None found)
 act_told nodes w counts (act.Crash n fill) step found s is may at mounts = quiet_told n nodes Crashed w counts step found s is may at (quiet_parts n (counts n) (length w.net.sent) None found)
 act_told nodes w counts (act.Recover n) step found s is may at mounts = recovers_at (nat_lt n nodes) n nodes w counts step found s is may at mounts
+act_told nodes w counts (act.Compact n) step found s is may at mounts = compaction_is_told (nat_lt n nodes) n nodes w counts step found s is at

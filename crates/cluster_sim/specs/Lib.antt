@@ -1,17 +1,5 @@
-pub mod World
-pub mod Step
-pub mod Run
-pub mod Acts
-pub mod Exact
-pub mod Given
-pub mod Tagged
-pub mod Reporting
-pub mod Headline
-pub mod Growth
 pub mod Told
 pub mod Machine
 pub mod Operated
-pub mod Events
 pub mod Recorded
 pub mod Numbered
-pub mod Strangers

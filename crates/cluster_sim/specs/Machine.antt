@@ -7,18 +7,18 @@ use Rattle.sim_net.specs.Network.{Network, after_all_sent}
 use Rattle.node_core.specs.declared.event.Event.{Event}
 use Rattle.node_core.specs.declared.event.Event.TheVariants as on
 use Rattle.durable_node.specs.Node.{Node, Stands}
-use Rattle.durable_node.specs.NodeState.{NodeState, opening}
-use Rattle.durable_node.specs.What.{What, Did, Refused, Faulted, Rests, Crashed, Recovered, MountFailed, RaiseFailed, RaiseRefused}
-use Rattle.durable_node.specs.After.{after, sent_at, found_at}
-use Rattle.durable_node.specs.Possible.{IsPossible, IsOfSlots}
+use Rattle.histories.specs.NodeState.{NodeState, opening}
+use Rattle.histories.specs.What.{Rest, Nothing, Compacted, CompactDown, CompactWorn, What, Did, Refused, Faulted, Rests, Crashed, Recovered, MountFailed, RaiseFailed, RaiseRefused}
+use Rattle.histories.specs.After.{after, sent_at, found_at}
+use Rattle.histories.specs.Possible.{IsPossible, IsOfSlots}
 use Rattle.schedule.specs.declared.act.Act.{Act}
 use Rattle.cluster_sim.specs.declared.outcome.Outcome.{Outcome}
 use Rattle.cluster_sim.specs.declared.outcome.Outcome.TheVariants as outcome
-use Rattle.cluster_sim.specs.World.{World}
-use Rattle.cluster_sim.specs.Step.{Step, Takes, Loses, Cuts, Mends, Denies, world_after}
-use Rattle.cluster_sim.specs.Run.{IsAllowed}
-use Rattle.cluster_sim.specs.Acts.{StepOfSlots, what_outcome, outcome_of}
-use Rattle.cluster_sim.specs.Growth.{IsNext}
+use Rattle.runs.specs.World.{World}
+use Rattle.runs.specs.Step.{Step, Takes, world_after}
+use Rattle.runs.specs.Run.{IsAllowed}
+use Rattle.runs.specs.Acts.{StepOfSlots, what_outcome, outcome_of, act_outcome}
+use Rattle.runs.specs.Growth.{IsNext}
 use Rattle.cluster_sim.specs.Told.{told}
 
 -- the slots of a disk's area, the nodes by their ids, and the network
@@ -82,6 +82,26 @@ pub record Comes (slots id nodes : ℕ) (P : What → Type 0) (s : NodeState) (o
   pub found : new.found ≡ found_at s what
   pub stands : Stands state_of new (after id nodes s what)
 
+-- ---- a compaction
+
+-- what would be told of it if it were no compaction: a node that falls is told as one that crashed
+abbrev pub bare_outcome : ℕ → Outcome → Outcome
+bare_outcome first (outcome.Done answer n many) = outcome.Done answer n many
+bare_outcome first (outcome.Refused why) = outcome.Refused why
+bare_outcome first outcome.Faulted = outcome.Done None first 0
+
+abbrev pub CompactedRest : Outcome → Rest → Type 0
+CompactedRest o Nothing = ⊥
+CompactedRest o Compacted = o ≢ outcome.Faulted
+CompactedRest o CompactDown = o ≢ outcome.Faulted
+CompactedRest o CompactWorn = o ≢ outcome.Faulted
+
+-- it came of a compaction of which this is told
+abbrev pub CompactedAs : Outcome → What → Type 0
+CompactedAs o (Rests rest) = CompactedRest o rest
+CompactedAs o Crashed = o ≡ outcome.Faulted
+CompactedAs o what = ⊥
+
 -- an act that didn't fault left a disk's count of failures as it was; in one that faulted it rose, or stands at its greatest value
 abbrev pub IsCounted : Option Memory → Option Memory → Outcome → Type 0
 IsCounted old new o = (was now : Memory) → old ≡ Some was → new ≡ Some now → Counts (state_of was) (state_of now) (o ≡ outcome.Faulted) (o ≢ outcome.Faulted)
@@ -97,10 +117,7 @@ pub record IsSame (old new : Node Memory) : Type 0 where
 -- the node of a step tells what it mounted in it, if it mounted anything
 abbrev pub Shows : World → Step → Machine → Type 0
 Shows w (Takes n number what) machine = (node : Node Memory) (s : NodeState) → slice_get machine.nodes n ≡ Some node → slice_get w.states n ≡ Some s → node.found ≡ found_at s what
-Shows w (Loses k) machine = Unit {0}
-Shows w (Cuts a b) machine = Unit {0}
-Shows w (Mends a b) machine = Unit {0}
-Shows w (Denies why) machine = Unit {0}
+Shows w step machine = Unit {0}
 
 -- a step of this kind led from what the cluster stood for to what it stands for now, and so it is told
 pub record Makes (Q : Step → Type 0) (w : World) (outcome : Outcome) (new : Machine) : Type 0 where
@@ -116,7 +133,7 @@ pub record Makes (Q : Step → Type 0) (w : World) (outcome : Outcome) (new : Ma
 pub record Acted (w : World) (act : Act) (outcome : Outcome) (new : Machine) : Type 0 where
   pub step : Step
   pub next : IsNext (length w.states) new.slots w act step
-  pub is_told : outcome ≡ told (outcome_of (length w.states) w step)
+  pub is_told : outcome ≡ told (act_outcome (length w.states) w act step)
   pub shows : Shows w step new
   pub stands : StandsFor new (world_after (length w.states) w step)
 

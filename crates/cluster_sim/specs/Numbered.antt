@@ -1,7 +1,7 @@
 -- The messages that an act sent, by their numbers.
 use Rattle.std.specs.Prelude.{List, [], take, drop}
 use Rattle.wire_msg.specs.Envelope.{Envelope}
-use Rattle.cluster_sim.specs.Acts.{ActOutcome, Done, DeniedAct, RefusedAct, FaultedAct}
+use Rattle.runs.specs.Acts.{ActOutcome, Done, DeniedAct, RefusedAct, FaultedAct}
 
 -- of all messages, those under the numbers that are told of an act
 abbrev pub sent_under : List Envelope → ActOutcome → List Envelope

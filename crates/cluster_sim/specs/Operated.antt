@@ -16,18 +16,6 @@ IsLeftWith fill old new = (was now : Memory) → old ≡ Some was → new ≡ So
 
 -- it is armed with so many calls, or a crash leaves what it leaves with these bytes
 abbrev pub Operates : Act → Machine → Machine → Type 0
-Operates (act.Check n) old new = Unit {0}
-Operates (act.Merge n) old new = Unit {0}
-Operates (act.Accept n) old new = Unit {0}
-Operates (act.Ready n) old new = Unit {0}
-Operates (act.Coord n) old new = Unit {0}
-Operates (act.Dispatch n) old new = Unit {0}
-Operates (act.Deliver k) old new = Unit {0}
-Operates (act.Lose k) old new = Unit {0}
-Operates (act.Cut a b) old new = Unit {0}
-Operates (act.Mend a b) old new = Unit {0}
-Operates (act.Submit n queue payload) old new = Unit {0}
-Operates (act.Finish n origin id) old new = Unit {0}
 Operates (act.Arm n calls) old new = disk_at new n ≡ armed_disk calls (disk_at old n)
 Operates (act.Crash n fill) old new = IsLeftWith fill (disk_at old n) (disk_at new n)
-Operates (act.Recover n) old new = Unit {0}
+Operates a old new = Unit {0}

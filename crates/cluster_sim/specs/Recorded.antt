@@ -10,7 +10,7 @@ use Rattle.node_core.specs.State.{State, state_of}
 use Rattle.node_core.specs.Words.{own_group}
 use Rattle.sector_disk.specs.Memory.{Memory}
 use Rattle.durable_node.specs.Node.{Node}
-use Rattle.durable_node.specs.Kept.{Tried}
+use Rattle.histories.specs.Kept.{Tried}
 use Rattle.schedule.specs.declared.act.Act.{Act}
 use Rattle.schedule.specs.declared.act.Act.TheVariants as act
 use Rattle.cluster_sim.specs.declared.outcome.Outcome.{Outcome}
@@ -23,12 +23,12 @@ use Rattle.cluster_sim.specs.declared.report.Moment.{Moment as KeptMoment}
 use Rattle.cluster_sim.specs.declared.report.Marked.{Marked}
 use Rattle.cluster_sim.specs.declared.report.Mounted.{Mounted}
 use Rattle.cluster_sim.specs.declared.report.Report.{Report as KeptReport}
-use Rattle.cluster_sim.specs.World.{World}
-use Rattle.cluster_sim.specs.Step.{Step, world_after}
-use Rattle.cluster_sim.specs.Acts.{outcome_of}
-use Rattle.cluster_sim.specs.Reporting.{Moment, TriedAt, MountedAt, Report, own_commands}
-use Rattle.cluster_sim.specs.Growth.{acts_in, grown, IsLeft, IsNext}
-use Rattle.cluster_sim.specs.Headline.{Headline}
+use Rattle.runs.specs.World.{World}
+use Rattle.runs.specs.Step.{Step, world_after}
+use Rattle.runs.specs.Acts.{act_outcome}
+use Rattle.runs.specs.Reporting.{Moment, TriedAt, MountedAt, Report, own_commands}
+use Rattle.runs.specs.Growth.{acts_in, grown, IsLeft, IsNext}
+use Rattle.runs.specs.Headline.{Headline}
 use Rattle.cluster_sim.specs.Told.{told}
 use Rattle.cluster_sim.specs.Numbered.{sent_under}
 use Rattle.cluster_sim.specs.Machine.{Machine, StandsFor}
@@ -49,7 +49,7 @@ pub record ToldReport : Type 0 where
   pub commands : List TriedAt
   pub mounted : List MountedAt
 
--- an outcome is told: the reasons for which a journal is full are told as one. The messages of a moment are those of the
+-- an outcome is told: the reasons for which no number is left are told as one. The messages of a moment are those of the
 -- numbers in its outcome
 abbrev pub told_moment : Moment → ToldMoment
 told_moment m = record { act = m.act; node = m.node; outcome = told m.outcome; state = m.state }
@@ -93,16 +93,9 @@ pub record HasRoom (r : KeptReport) : Type 0 where
 
 -- the command that a message makes a node try, if it makes it try one
 abbrev pub command_said : Body → Option Command
-command_said says.AreYouCoordinator = None
-command_said (says.Coordinator agreed) = None
-command_said (says.AreYouThere group) = None
 command_said (says.Here group agreed) = Some Raise
-command_said (says.Invitation group) = None
-command_said (says.Accept group) = None
-command_said (says.Ready task) = None
-command_said (says.ReadyAck group) = None
-command_said (says.Work group id queue payload) = None
 command_said (says.Done id) = Some (JobDone id)
+command_said body = None
 
 abbrev pub command_brought : Option Envelope → Option Command
 command_brought None = None
@@ -110,39 +103,19 @@ command_brought (Some m) = command_said m.body
 
 -- the command that an act makes its node try, if it makes it try one, where these messages were sent
 abbrev pub command_by : List Envelope → Act → Option Command
-command_by sent (act.Check n) = None
 command_by sent (act.Merge n) = Some Raise
-command_by sent (act.Accept n) = None
 command_by sent (act.Ready n) = Some Raise
 command_by sent (act.Coord n) = Some Raise
-command_by sent (act.Dispatch n) = None
 command_by sent (act.Deliver k) = command_brought (slice_get sent k)
-command_by sent (act.Lose k) = None
-command_by sent (act.Cut a b) = None
-command_by sent (act.Mend a b) = None
 command_by sent (act.Submit n queue payload) = Some (Put queue payload)
 command_by sent (act.Finish n origin id) = Some (JobDone id)
-command_by sent (act.Arm n calls) = None
-command_by sent (act.Crash n fill) = None
 command_by sent (act.Recover n) = Some Raise
+command_by sent a = None
 
 -- the act is the recovery of a node of the cluster
 abbrev pub recovers : ℕ → Act → Bool
-recovers nodes (act.Check n) = false
-recovers nodes (act.Merge n) = false
-recovers nodes (act.Accept n) = false
-recovers nodes (act.Ready n) = false
-recovers nodes (act.Coord n) = false
-recovers nodes (act.Dispatch n) = false
-recovers nodes (act.Deliver k) = false
-recovers nodes (act.Lose k) = false
-recovers nodes (act.Cut a b) = false
-recovers nodes (act.Mend a b) = false
-recovers nodes (act.Submit n queue payload) = false
-recovers nodes (act.Finish n origin id) = false
-recovers nodes (act.Arm n calls) = false
-recovers nodes (act.Crash n fill) = false
 recovers nodes (act.Recover n) = nat_lt n nodes
+recovers nodes a = false
 
 -- what was mounted, where the act mounts
 abbrev pub mounted_now : Bool → Option Durable → Option Durable
@@ -261,7 +234,7 @@ pub record Tells (c : Recorded) (w : World) (r : Report) : Type 0 where
 pub record GoesOn (w : World) (r : Report) (act : Act) (outcome : Outcome) (new : Recorded) : Type 0 where
   pub step : Step
   pub next : IsNext (length w.states) new.machine.slots w act step
-  pub is_told : outcome ≡ told (outcome_of (length w.states) w step)
+  pub is_told : outcome ≡ told (act_outcome (length w.states) w act step)
   pub tells : Tells new (world_after (length w.states) w step) (grown (length w.states) w act step r)
 
 -- so many commands each node tried

@@ -1,6 +1,6 @@
 // The acts that are an event at a node.
 ghost use Rattle.std.specs.Prelude.{◌≡◌};
-ghost use Rattle.cluster_sim.specs.Events.{event_at};
+ghost use Rattle.runs.specs.Events.{event_at};
 
 use group_task::NodeId;
 use node_core::Event;

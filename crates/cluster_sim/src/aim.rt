@@ -3,7 +3,7 @@ ghost use Rattle.std.specs.Prelude.{◌≡◌, ◌<◌, ◌≤◌, ◌+◌, ◌&
 ghost use Rattle.node_core.specs.State.{is_down};
 ghost use Rattle.sector_disk.specs.Memory.{Memory};
 ghost use Rattle.durable_node.specs.Node.{Node};
-ghost use Rattle.cluster_sim.specs.Reporting.{node_named, node_or_first};
+ghost use Rattle.runs.specs.Reporting.{node_named, node_or_first};
 ghost use Rattle.cluster_sim.specs.Recorded.{command_by, command_of, command_said, pending_room, recovers};
 
 use crate::report::Command;
@@ -102,7 +102,8 @@ fn node_named(nodes: u8, net: &Net, act: &Act) -> NodeId
         | Act::Finish(id, _, _)
         | Act::Arm(id, _)
         | Act::Crash(id, _)
-        | Act::Recover(id) => node_or_first(nodes, *id),
+        | Act::Recover(id)
+        | Act::Compact(id) => node_or_first(nodes, *id),
         Act::Lose(_) | Act::Cut(_, _) | Act::Mend(_, _) => NodeId::numbered(0),
     }
 }

@@ -4,9 +4,9 @@ ghost use Rattle.group_task.specs.declared.node.TheConstants.{NODES};
 ghost use Rattle.cluster_sim.specs.Machine.{FaultsAt};
 ghost use Rattle.cluster_sim.specs.Operated.{Operates};
 ghost use Rattle.cluster_sim.specs.Recorded.{report_in, Tells, GoesOn, HasRun, IsPromised, IsRecorded, ToldMoment};
-ghost use Rattle.cluster_sim.specs.Growth.{acts_in};
-ghost use Rattle.cluster_sim.specs.Reporting.{Report as RunReport, node_named, report_of};
-ghost use Rattle.cluster_sim.specs.World.{World, start};
+ghost use Rattle.runs.specs.Growth.{acts_in};
+ghost use Rattle.runs.specs.Reporting.{Report as RunReport, node_named, report_of};
+ghost use Rattle.runs.specs.World.{World, start};
 
 use crate::aim::aim_of;
 use crate::outcome::Outcome;

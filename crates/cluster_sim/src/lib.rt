@@ -1,10 +1,11 @@
-//! Runs of a whole cluster, nodes with their disks and the network between them, and the laws of all runs.
+//! A whole cluster in one process, act by act: nodes with their disks and the network between them, and a report.
+//!
+//! Each act is a step of a run, as the crate `runs` defines it. The laws of all runs, which stand there, so hold of every report.
 #![tactic(auto)]
 
 mod acts;
 mod aim;
 mod cluster;
-mod laws;
 mod member;
 mod outcome;
 mod recording;
@@ -14,9 +15,6 @@ mod simulation;
 mod tests;
 
 pub use cluster::{Cluster, run};
-pub use laws::{
-    acts_are_exact, every_schedule, goes_on, groups_given, kept, left_by_a_run, no_strangers,
-};
 pub use outcome::{Outcome, Refusal};
 pub use report::{Command, Marked, Moment, Mounted, Report};
 pub use simulation::Simulation;

@@ -4,12 +4,12 @@ ghost use Rattle.sector_disk.specs.Memory.{state_of};
 ghost use Rattle.sim_net.specs.Network.{after_all_sent};
 ghost use Rattle.durable_node.specs.Arming.{armed_disk};
 ghost use Rattle.durable_node.specs.Node.{Stands};
-ghost use Rattle.durable_node.specs.NodeState.{NodeState};
+ghost use Rattle.histories.specs.NodeState.{NodeState};
 ghost use Rattle.durable_node.specs.Stepping.{most_by};
-ghost use Rattle.durable_node.specs.What.{Rests, Nothing, Crashed};
-ghost use Rattle.cluster_sim.specs.Machine.{IsOfSize, IsSame, IsCounted, CameOf, Comes};
+ghost use Rattle.histories.specs.What.{Rests, Nothing, Crashed};
+ghost use Rattle.cluster_sim.specs.Machine.{IsOfSize, IsSame, IsCounted, CameOf, Comes, CompactedAs, bare_outcome};
 ghost use Rattle.cluster_sim.specs.Operated.{IsLeftWith};
-ghost use Rattle.cluster_sim.specs.Told.{IsToldFault};
+ghost use Rattle.cluster_sim.specs.Told.{IsCompactionTold, IsToldFault};
 ghost use Rattle.node_core.specs.declared.fault.CoreFault.TheVariants.{NoMemory};
 
 use crate::outcome::{Outcome, Refusal};
@@ -116,6 +116,29 @@ pub(crate) fn crash(node: &mut DurableNode<MemDisk>, net: &Net, fill: &Fill) -> 
     node.has_disk();
     node.crash(fill.as_slice());
     nothing_sent(net)
+}
+
+/// Compacts a node's journal. Where the device fails in it, the node is Down.
+pub(crate) fn compact(node: &mut DurableNode<MemDisk>, net: &Net) -> Outcome
+    ensures same { IsSame node.old node.new }
+    ensures came { (slots : ℕ) (s : NodeState) → Stands state_of node.old s
+        → Comes slots node.old.id node.old.nodes (CompactedAs result) s (bare_outcome (length net.now.network.sent) result) node.new net.now.network net.now.network }
+    ensures counted { IsCounted node.old.disk node.new.disk result }
+{
+    node.has_disk();
+    let answer = node.compact();
+    compaction_told(net, answer)
+}
+
+/// What is told of a compaction.
+fn compaction_told(net: &Net, answer: Result<(), NodeFault>) -> Outcome
+    ensures { IsCompactionTold (length net.now.network.sent) answer result }
+{
+    match answer {
+        Ok(()) => nothing_sent(net),
+        Err(NodeFault::Device) => Outcome::Faulted,
+        Err(fault) => Outcome::Refused(Refusal::Node(fault)),
+    }
 }
 
 /// What is told of an act that is done and sends nothing.

@@ -5,8 +5,8 @@ ghost use Rattle.sector_disk.specs.Memory.{Memory};
 ghost use Rattle.durable_node.specs.Node.{Node};
 ghost use Rattle.node_core.specs.State.{state_of};
 ghost use Rattle.cluster_sim.specs.Machine.{StandsFor};
-ghost use Rattle.cluster_sim.specs.Reporting.{report_of};
-ghost use Rattle.cluster_sim.specs.World.{start};
+ghost use Rattle.runs.specs.Reporting.{report_of};
+ghost use Rattle.runs.specs.World.{start};
 ghost use Rattle.cluster_sim.specs.Recorded.{report_in, moment_in, tried_of, mounted_of, command_by, command_of, HasRoom, IsAnswered, IsCount, IsToldOf, aim_told, listed, with_act, with_opening, given_in, mounted_at, told_report, tried_at, tried_in};
 
 use crate::aim::{Aim, command_by};

@@ -2,15 +2,15 @@
 ghost use Rattle.std.specs.Prelude.{◌≡◌, ◌≤◌, ◌<◌, ◌&&◌, length, nat_lt, slice_get, Some, None, IfOk, OnOk, OnErr, ℕ};
 ghost use Rattle.group_task.specs.declared.node.TheConstants.{NODES};
 ghost use Rattle.durable_node.specs.Arming.{armed_disk};
-ghost use Rattle.durable_node.specs.What.{brought, AreAddressed};
+ghost use Rattle.histories.specs.What.{brought, AreAddressed};
 ghost use Rattle.schedule.specs.declared.act.Act.TheVariants as act;
-ghost use Rattle.cluster_sim.specs.Acts.{At};
-ghost use Rattle.cluster_sim.specs.Events.{event_at};
+ghost use Rattle.runs.specs.Acts.{At};
+ghost use Rattle.runs.specs.Events.{event_at};
 ghost use Rattle.cluster_sim.specs.Machine.{AreOpened, StandsFor, CameOf, Makes, Acted, FaultsAt};
 ghost use Rattle.cluster_sim.specs.Operated.{Operates, IsLeftWith, disk_at};
-ghost use Rattle.cluster_sim.specs.Reporting.{node_named, node_or_first, receiver_or_first};
-ghost use Rattle.cluster_sim.specs.Run.{IsBrought};
-ghost use Rattle.cluster_sim.specs.World.{World, start};
+ghost use Rattle.runs.specs.Reporting.{node_named, node_or_first, receiver_or_first};
+ghost use Rattle.runs.specs.Run.{IsBrought};
+ghost use Rattle.runs.specs.World.{World, start};
 
 use crate::acts::event_at;
 use crate::member::{self, handle, nothing_sent};
@@ -220,6 +220,19 @@ impl Simulation {
         member::crash(&mut self.nodes[place], &self.net, fill)
     }
 
+    /// Compacts the journal of a node.
+    fn compact(&mut self, id: NodeId) -> Outcome
+        ensures slots { self.new.slots ≡ self.old.slots }
+        ensures acted { (w : World) → StandsFor self.old w → Acted w (act.Compact id) result self.new }
+        ensures faults { FaultsAt (node_or_first (length self.old.nodes) id) self.old self.new result }
+    {
+        let place = usize::from(id.number());
+        if place >= self.nodes.len() {
+            return Outcome::Refused(Refusal::Stranger);
+        }
+        member::compact(&mut self.nodes[place], &self.net)
+    }
+
     /// An act that is no event of its own.
     fn apply(&mut self, act: &Act) -> Result<Outcome, AllocError>
         requires { event_at act.now ≡ None }
@@ -236,6 +249,7 @@ impl Simulation {
             Act::Mend(a, b) => Ok(self.mend(*a, *b)),
             Act::Arm(id, calls) => Ok(self.arm(*id, *calls)),
             Act::Crash(id, fill) => Ok(self.crash(*id, fill)),
+            Act::Compact(id) => Ok(self.compact(*id)),
             _ => unreachable!(),
         }
     }

@@ -4,13 +4,11 @@ ghost use Rattle.node_core.specs.Planned.{wanted_by};
 
 use anyhow::{Context, bail};
 use group_task::{GroupNo, NODES, NodeId};
-use job_model::{Command, JobTable, Payload, Queue};
+use job_model::{Command, JobTable, Payload, QUEUES, Queue};
 use node_core::{Durable, Event, NodeCore};
 use std::alloc::Global;
 use std::mem;
 use wire_msg::{Body, Message};
-
-const QUEUES: u8 = 16;
 
 /// A core with its counter and its table of jobs.
 #[derive(Drop)]

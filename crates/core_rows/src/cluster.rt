@@ -7,7 +7,7 @@ ghost use Rattle.node_core.specs.Planned.{wanted_by};
 use crate::texts::{
     phase_word, put, put_fault, put_group, put_hand, put_hex, put_ids, put_number, put_pending,
 };
-use group_task::{Members, NODES, NodeId};
+use group_task::{NODES, NodeId};
 use job_model::{Command, JobTable, Payload, Queue};
 use node_core::{CoreFault, Durable, Event, NodeCore};
 use std::alloc::{AllocError, Global};
@@ -21,14 +21,22 @@ pub enum Act {
     Check(u8),
     Merge(u8),
     Accept(u8),
+    Ready(u8),
     Coord(u8),
+    Dispatch(u8),
+    Recover(u8),
+    Crash(u8),
+    /// A message comes to its receiver.
     Deliver(usize),
+    /// A message comes to this node, whoever its receiver is.
+    DeliverTo(u8, usize),
     Submit(u8, u8, &'static [u8]),
     Finish(u8, u8, u64),
 }
 
 #[derive(Drop)]
 pub struct Node {
+    nodes: u8,
     pub core: NodeCore,
     table: JobTable,
     count: u64,
@@ -48,10 +56,21 @@ impl Node {
         assert!(rt; nodes <= NODES);
         assert!(rt; id.number() < nodes);
         Ok(Node {
+            nodes,
             core: NodeCore::new(alloc, id, nodes, 1),
             table: JobTable::with_room(alloc, 8)?,
             count: 1,
         })
+    }
+
+    /// The node is Down. What it keeps stays.
+    fn crash(&mut self, alloc: Global) -> Result<(), Fail> {
+        let id = self.core.id();
+        if self.nodes > NODES || id.number() >= self.nodes {
+            return Err(Fail::from("more than all nodes"));
+        }
+        self.core = NodeCore::down(alloc, id, self.nodes);
+        Ok(())
     }
 
     /// One whole step: its plan, its command, and its commit. The answer of the command comes back too.
@@ -99,7 +118,7 @@ impl Node {
         put(text, " up ")?;
         put_ids(text, vector.up)?;
         put(text, " members ")?;
-        put_ids(text, self.members())?;
+        put_ids(text, vector.members())?;
         self.put_kept(text)
     }
 
@@ -111,13 +130,6 @@ impl Node {
         put(text, " hand ")?;
         put_hand(text, &self.core.vector().hand)?;
         put(text, "\n")
-    }
-
-    fn members(&self) -> Members {
-        match self.core.vector().task {
-            Some(task) => task.members(),
-            None => Members::new(),
-        }
     }
 }
 
@@ -157,10 +169,18 @@ impl Cluster {
             Act::Check(node) => self.step(node, Event::CheckTimer),
             Act::Merge(node) => self.step(node, Event::MergeTimer),
             Act::Accept(node) => self.step(node, Event::AcceptTimer),
+            Act::Ready(node) => self.step(node, Event::ReadyTimer),
             Act::Coord(node) => self.step(node, Event::CoordTimer),
+            Act::Dispatch(node) => self.step(node, Event::DispatchTimer),
+            Act::Recover(node) => self.step(node, Event::Recover),
+            Act::Crash(node) => self.crash(node),
             Act::Deliver(number) => {
                 let message = *self.sent.get(number).ok_or("no such message")?;
                 self.step(message.receiver().number(), Event::Deliver(message))
+            }
+            Act::DeliverTo(node, number) => {
+                let message = *self.sent.get(number).ok_or("no such message")?;
+                self.step(node, Event::Deliver(message))
             }
             Act::Submit(node, queue, payload) => {
                 let queue = Queue::new(queue).ok_or("no such queue")?;
@@ -172,6 +192,12 @@ impl Cluster {
                 self.step(node, Event::Finish(origin, id))
             }
         }
+    }
+
+    fn crash(&mut self, node: u8) -> Result<(), Fail> {
+        let node = self.nodes.get_mut(usize::from(node)).ok_or("no such node")?;
+        node.crash(self.alloc)?;
+        Ok(put(&mut self.text, "crash\n")?)
     }
 
     fn step(&mut self, node: u8, event: Event) -> Result<(), Fail> {

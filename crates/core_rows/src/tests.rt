@@ -35,6 +35,11 @@ const LATE: [Act; 5] = [
     Act::Deliver(11),
 ];
 
+const OPENING: &str = "node 0 Normal coord 0 group 0:1 up - members 0 count 1 pending - hand -
+node 1 Normal coord 1 group 1:1 up - members 1 count 1 pending - hand -
+node 2 Normal coord 2 group 2:1 up - members 2 count 1 pending - hand -
+";
+
 const JOINED: &str = "node 0 Normal coord 0 group 0:2 up 1 members 0,1 count 2 pending - hand -
 node 1 Normal coord 0 group 0:2 up - members 0,1 count 1 pending - hand -
 node 2 Normal coord 2 group 2:1 up - members 2 count 1 pending - hand -
@@ -199,6 +204,183 @@ fn own_invitation(rt: HostRuntime) -> Result<(), Fail> {
 node 1 Normal coord 1 group 1:1 up - members 1 count 1 pending - hand -
 node 2 Normal coord 2 group 2:1 up - members 2 count 1 pending - hand -
 ",
+    )
+}
+
+/// A coordinator whose member doesn't acknowledge gives the group up; the acknowledgement comes too late. ReadyTimer at another node
+/// changes nothing.
+#[test]
+fn ready_timer(rt: HostRuntime) -> Result<(), Fail> {
+    let accepted = [Act::Deliver(4), Act::Deliver(6), Act::Accept(0)];
+    let mut cluster = three_after(&rt, rt.alloc(), &[&MERGE, &accepted])?;
+    check(
+        &rt,
+        &mut cluster,
+        &[Act::Ready(1), Act::Ready(2), Act::Ready(0)],
+        "ok\nok\nok\n",
+        "node 0 Normal coord 0 group 0:3 up - members 0 count 3 pending - hand -
+node 1 Reorganization coord 0 group 0:2 up - members - count 1 pending - hand -
+node 2 Normal coord 2 group 2:1 up - members 2 count 1 pending - hand -
+",
+    )?;
+    cluster.text.clear();
+    check(
+        &rt,
+        &mut cluster,
+        &[Act::Deliver(7), Act::Deliver(8)],
+        "ok 8:010801000009000000000000000002\nok\n",
+        "node 0 Normal coord 0 group 0:3 up - members 0 count 3 pending - hand -
+node 1 Normal coord 0 group 0:2 up - members 0,1 count 1 pending - hand -
+node 2 Normal coord 2 group 2:1 up - members 2 count 1 pending - hand -
+",
+    )
+}
+
+/// Where no other coordinator answered in time, checking ends: an answer that comes later isn't noted.
+#[test]
+fn merge_with_nothing_found(rt: HostRuntime) -> Result<(), Fail> {
+    let mut cluster = three_after(&rt, rt.alloc(), &[])?;
+    check(
+        &rt,
+        &mut cluster,
+        &[
+            Act::Check(0),
+            Act::Merge(0),
+            Act::Deliver(0),
+            Act::Deliver(2),
+            Act::Merge(0),
+        ],
+        "ok 0:010100010000 1:010100020000\nok\nok 2:01020100000101\nok\nok\n",
+        OPENING,
+    )?;
+    assert_eq!(rt; cluster.merge_wait(0)?, None);
+    Ok(())
+}
+
+/// A coordinator whose invitation nobody accepted in time is Normal at once, alone. An accept that comes later changes nothing.
+#[test]
+fn accept_timer_alone(rt: HostRuntime) -> Result<(), Fail> {
+    let mut cluster = three_after(&rt, rt.alloc(), &[&MERGE])?;
+    check(
+        &rt,
+        &mut cluster,
+        &[Act::Accept(0), Act::Deliver(4), Act::Deliver(6)],
+        "ok\nok 6:010601000009000000000000000002\nok\n",
+        "node 0 Normal coord 0 group 0:2 up - members 0 count 2 pending - hand -
+node 1 Reorganization coord 0 group 0:2 up - members - count 1 pending - hand -
+node 2 Normal coord 2 group 2:1 up - members 2 count 1 pending - hand -
+",
+    )
+}
+
+/// Of two pending jobs one is sent to its owner once more, and the other is in hand already. Once the node is alone, both are its own.
+#[test]
+fn dispatch_and_recover(rt: HostRuntime) -> Result<(), Fail> {
+    let mut cluster = three_after(&rt, rt.alloc(), &[&MERGE, &JOIN])?;
+    check(
+        &rt,
+        &mut cluster,
+        &[
+            Act::Submit(0, 1, b"hi"),
+            Act::Submit(0, 2, b"a"),
+            Act::Dispatch(0),
+            Act::Dispatch(1),
+        ],
+        "ok id 0 9:01090001001600000000000000000200000000000000000100026869
+ok id 1
+ok 10:01090001001600000000000000000200000000000000000100026869
+ok
+",
+        "node 0 Normal coord 0 group 0:2 up 1 members 0,1 count 2 pending 0,1 hand 0:1
+node 1 Normal coord 0 group 0:2 up - members 0,1 count 1 pending - hand -
+node 2 Normal coord 2 group 2:1 up - members 2 count 1 pending - hand -
+",
+    )?;
+    cluster.text.clear();
+    check(
+        &rt,
+        &mut cluster,
+        &[Act::Recover(0), Act::Dispatch(0), Act::Recover(1)],
+        "ok\nok\nok\n",
+        "node 0 Normal coord 0 group 0:3 up - members 0 count 3 pending 0,1 hand 0:0,0:1
+node 1 Normal coord 1 group 1:2 up - members 1 count 2 pending - hand -
+node 2 Normal coord 2 group 2:1 up - members 2 count 1 pending - hand -
+",
+    )
+}
+
+/// Messages for another node, and from, of and to nodes outside the cluster, are refused.
+#[test]
+fn strangers(rt: HostRuntime) -> Result<(), Fail> {
+    let mut cluster = three_after(&rt, rt.alloc(), &[])?;
+    for bytes in [
+        b"\x01\x01\x00\x01\x00\x00".as_slice(),
+        b"\x01\x01\x05\x00\x00\x00",
+        b"\x01\x05\x01\x00\x00\x09\x03\x00\x00\x00\x00\x00\x00\x00\x02",
+        b"\x01\x07\x01\x00\x00\x0d\x01\x00\x00\x00\x00\x00\x00\x00\x02\x03\x00\x01\x03",
+    ] {
+        cluster.sent.push(decode(bytes)?)?;
+    }
+    check(
+        &rt,
+        &mut cluster,
+        &[
+            Act::DeliverTo(2, 0),
+            Act::Deliver(1),
+            Act::Deliver(2),
+            Act::Deliver(3),
+        ],
+        "refused Stranger\nrefused Stranger\nrefused Stranger\nrefused Stranger\n",
+        OPENING,
+    )
+}
+
+/// A node that is Down takes no job and no news of one, and hears nothing, until it recovers; its work in hand is gone.
+#[test]
+fn down_until_recovered(rt: HostRuntime) -> Result<(), Fail> {
+    let asked = [Act::Check(1), Act::Submit(0, 0, b"a")];
+    let mut cluster = three_after(&rt, rt.alloc(), &[&asked])?;
+    check(
+        &rt,
+        &mut cluster,
+        &[
+            Act::Crash(0),
+            Act::Submit(0, 0, b"b"),
+            Act::Finish(0, 0, 0),
+            Act::Deliver(0),
+            Act::Check(0),
+            Act::Merge(0),
+            Act::Accept(0),
+            Act::Ready(0),
+            Act::Coord(0),
+            Act::Dispatch(0),
+            Act::Recover(0),
+        ],
+        "crash\nrefused Down\nrefused Down\nok\nok\nok\nok\nok\nok\nok\nok\n",
+        "node 0 Normal coord 0 group 0:2 up - members 0 count 2 pending 0 hand -
+node 1 Normal coord 1 group 1:1 up - members 1 count 1 pending - hand -
+node 2 Normal coord 2 group 2:1 up - members 2 count 1 pending - hand -
+",
+    )
+}
+
+/// A job is finished by its origin and its id, once.
+#[test]
+fn unknown_jobs(rt: HostRuntime) -> Result<(), Fail> {
+    let mut cluster = three_after(&rt, rt.alloc(), &[])?;
+    check(
+        &rt,
+        &mut cluster,
+        &[
+            Act::Finish(0, 0, 0),
+            Act::Submit(0, 0, b"a"),
+            Act::Finish(0, 1, 0),
+            Act::Finish(0, 0, 1),
+            Act::Finish(0, 0, 0),
+            Act::Finish(0, 0, 0),
+        ],
+        "refused UnknownJob\nok id 0\nrefused UnknownJob\nrefused UnknownJob\nok\nrefused UnknownJob\n",
+        OPENING,
     )
 }
 

@@ -10,11 +10,11 @@ use Rattle.node_core.specs.Core.{Core}
 use Rattle.node_core.specs.Start.{down}
 use Rattle.node_core.specs.State.{is_down}
 use Rattle.node_store.specs.Store.{StoreState, slots_for, stands_for}
-use Rattle.durable_node.specs.After.{after}
+use Rattle.histories.specs.After.{after}
 use Rattle.durable_node.specs.Arming.{armed_disk, armed_store}
-use Rattle.durable_node.specs.Node.{IsPlaced, IsNode, IsLeft, Stands, Node, disk_in, kept_in, node_with}
-use Rattle.durable_node.specs.NodeState.{NodeState, settled}
-use Rattle.durable_node.specs.What.{Crashed}
+use Rattle.durable_node.specs.Node.{IsPlaced, IsNode, IsLeft, Stands, Node, disk_in, kept_in, area_in, node_with}
+use Rattle.histories.specs.NodeState.{NodeState, settled}
+use Rattle.histories.specs.What.{Crashed}
 use Rattle.durable_node.proofs.Ignores.{not_up}
 use Rattle.durable_node.proofs.Mounts.{stands_same, quiet_same}
 use Rattle.durable_node.proofs.Nodes.{is_some}
@@ -90,6 +90,11 @@ kept_armed calls true store = refl
 kept_armed calls false None = refl
 kept_armed calls false (Some st) = refl
 
+area_armed : (calls : ℕ) (down : Bool) (store : Option (StoreState Memory)) → area_in down (armed_store calls store) ≡ area_in down store
+area_armed calls true store = refl
+area_armed calls false None = refl
+area_armed calls false (Some st) = refl
+
 pub node_is_armed : (id nodes calls : ℕ) (core : Core) (disk disk' : Option Memory) (store store' : Option (StoreState Memory)) (doubt : Option (Wanted × ℕ)) (found : Option ℕ) → IsPlaced disk store
     → disk' ≡ armed_disk calls disk → store' ≡ armed_store calls store
     → node_with id nodes core disk' store' doubt None ≡ record (node_with id nodes core disk store doubt found) { disk = armed_disk calls (disk_in disk store); found = None }
@@ -102,6 +107,7 @@ node_is_armed id nodes calls core disk disk' store store' doubt found placed of_
       state = core.state;
       disk = disk_armed calls disk store placed i;
       kept = kept_armed calls (is_down core.state.phase) store i;
+      area = area_armed calls (is_down core.state.phase) store i;
       doubt = doubt;
       found = None;
     })

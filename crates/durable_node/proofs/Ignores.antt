@@ -18,14 +18,13 @@ use Rattle.node_store.specs.Store.{StoreState, slots_for}
 use Rattle.durable_node.specs.declared.fault.NodeFault.{NodeFault}
 use Rattle.durable_node.specs.declared.fault.NodeFault.TheVariants as node
 use Rattle.durable_node.specs.declared.step.Step.{Step}
-use Rattle.durable_node.specs.NodeState.{NodeState}
-use Rattle.durable_node.specs.What.{What, Did, Refused}
-use Rattle.durable_node.specs.After.{after}
-use Rattle.durable_node.specs.Possible.{IsForNode}
-use Rattle.durable_node.specs.Carrying.{told_answer}
+use Rattle.histories.specs.NodeState.{NodeState, answer_if_wanted}
+use Rattle.histories.specs.What.{What, Did, Refused}
+use Rattle.histories.specs.After.{after}
+use Rattle.histories.specs.Possible.{IsForNode}
 use Rattle.durable_node.specs.Node.{node_with, Stands}
 use Rattle.durable_node.specs.Stepping.{Does, Steps}
-use Rattle.durable_node.proofs.Downs.{StaysDown, at_down}
+use Rattle.histories.proofs.Downs.{StaysDown, at_down}
 
 -- each event but Recover is one for the node
 for_other : (s : State) (event : Event) → event ≢ Recover → IsForNode s event
@@ -73,7 +72,7 @@ module _ {Disk : Type 0} (disks : Disk → DiskState) (id nodes : ℕ) (core cor
           possible = (for_other s.state event other, record { by_core = taken; not_spent = λ spent. subst (λ (w : Option Command). IsSpent s.durable w) stays.wants spent });
           of_slots = subst (λ (w : Option Command). FitsSlots slots s.durable w Handled) (sym stays.wants) (λ full. full);
           sent = done.1 ∙ sym stays.sent;
-          answer = done.2 ∙ ap (λ (w : Option Command). told_answer s.durable w) (sym stays.wants);
+          answer = done.2 ∙ ap (λ (w : Option Command). answer_if_wanted s.durable w) (sym stays.wants);
           mounted = refl;
         },
         subst (λ (t : NodeState). Stands disks (node_with id nodes core' disk store doubt None) t) kept (still s is same stands),

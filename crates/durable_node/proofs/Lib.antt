@@ -1,20 +1,3 @@
-pub mod Tests
-pub mod Among
-pub mod Anything
-pub mod Moves
-pub mod Rows
-pub mod Entries
-pub mod Counts
-pub mod Lives
-pub mod OneBooks
-pub mod Growing
-pub mod Downs
-pub mod Kepts
-pub mod Owners
-pub mod Jobs
-pub mod Pending
-pub mod Ups
-pub mod Wanted
 pub mod Mounts
 pub mod Turned
 pub mod Serves
@@ -25,3 +8,5 @@ pub mod Crashes
 pub mod Opens
 pub mod AnyDisk
 pub mod Placed
+pub mod Compactions
+pub mod Carries

@@ -8,8 +8,8 @@ use Rattle.job_model.specs.Durable.{Durable}
 use Rattle.job_journal.specs.Journal.{jobs_by, jobs_in, IsSound, IsSoundImage}
 use Rattle.job_journal.proofs.Frames.{SameFrom, cell_same_from, found_same_from}
 use Rattle.node_store.specs.Store.{durable_by, stands_for, slots_for, AllStandFor}
-use Rattle.durable_node.specs.NodeState.{NodeState, settled}
-use Rattle.durable_node.specs.Possible.{IsWanted, IsSettling}
+use Rattle.histories.specs.NodeState.{NodeState, settled}
+use Rattle.histories.specs.Possible.{IsWanted, IsSettling}
 use Rattle.durable_node.specs.Carrying.{BeforeOrAfter}
 use Rattle.durable_node.specs.Node.{IsLeft}
 use Rattle.node_store.proofs.Mountings.{sound_kept}

@@ -16,12 +16,12 @@ use Rattle.node_store.specs.Store.{StoreState, durable_of, slots_for}
 use Rattle.durable_node.specs.declared.fault.NodeFault.{NodeFault}
 use Rattle.durable_node.specs.declared.fault.NodeFault.TheVariants as node
 use Rattle.durable_node.specs.declared.step.Step.{Step}
-use Rattle.durable_node.specs.Node.{IsPlaced, IsNode, disk_in, kept_in, node_with}
+use Rattle.durable_node.specs.Node.{IsPlaced, IsNode, disk_in, kept_in, area_in, node_with}
 use Rattle.durable_node.specs.Remounting.{IsRisen, IsRiseRefused}
 use Rattle.durable_node.specs.Stepping.{IsDone, CountsOf}
 use Rattle.durable_node.proofs.Serves.{is_device}
 use Rattle.durable_node.proofs.Ignores.{not_up}
-use Rattle.durable_node.proofs.Ups.{stays_up}
+use Rattle.histories.proofs.Ups.{stays_up}
 
 pub is_some : {T : Type 0} (x y : T) → Some x ≡ Some y → x ≡ y
 is_some x y e = cc
@@ -29,11 +29,11 @@ is_some x y e = cc
 pub clash : (b : Bool) → b ≡ true → b ≡ false → ⊥
 clash b t f = (let bad : true ≡ false = sym t ∙ f in cc)
 
-placed_still : {Disk : Type 0} (disk : Option Disk) (old new : StoreState Disk) → IsPlaced disk (Some old) → IsPlaced disk (Some new)
+pub placed_still : {Disk : Type 0} (disk : Option Disk) (old new : StoreState Disk) → IsPlaced disk (Some old) → IsPlaced disk (Some new)
 placed_still None old new placed = tt
 placed_still (Some d) old new placed = absurd placed
 
-under : {Disk : Type 0} (disk : Option Disk) (store : StoreState Disk) (now : Disk) → IsPlaced disk (Some store) → disk_in disk (Some store) ≡ Some now → store.disk ≡ now
+pub under : {Disk : Type 0} (disk : Option Disk) (store : StoreState Disk) (now : Disk) → IsPlaced disk (Some store) → disk_in disk (Some store) ≡ Some now → store.disk ≡ now
 under None store now placed e = cc
 under (Some d) store now placed e = absurd placed
 
@@ -76,7 +76,7 @@ module _ {Disk : Type 0} (disks : Disk → DiskState) (id nodes : ℕ) (core cor
         (subst (λ (n : ℕ). IsSound (slots_for n) (disks back)) (sym sectors) sound);
   })
 
-  store_of : (store : StoreState Disk) (slots : ℕ) → store.journal.slots ≡ slots → slots ≡ slots_for (disks store.disk).sectors → (st : StoreState Disk) → Some store ≡ Some st → st.journal.slots ≡ slots_for (disks st.disk).sectors
+  pub store_of : (store : StoreState Disk) (slots : ℕ) → store.journal.slots ≡ slots → slots ≡ slots_for (disks store.disk).sectors → (st : StoreState Disk) → Some store ≡ Some st → st.journal.slots ≡ slots_for (disks st.disk).sectors
   store_of store slots same at st e = subst (λ (x : StoreState Disk). x.journal.slots ≡ slots_for (disks x.disk).sectors) (is_some store st e) (same ∙ at)
 
   alone_up : (count : ℕ) (s : State) → s ≡ alone id count → is_down s.phase ≡ false
@@ -158,6 +158,7 @@ same_node id nodes core core' disk store store' doubt doubt' same same_store sam
   state = same i;
   disk = disk_in disk (same_store i);
   kept = kept_in (is_down (same i).phase) (same_store i);
+  area = area_in (is_down (same i).phase) (same_store i);
   doubt = same_doubt i;
   found = None;
 })
@@ -173,15 +174,20 @@ same_on_fault A B d core core' (Err fault) failed refused = by_device (is_device
     by_device (inr e) = (refused e).1
 
 -- what is counted of a disk under a store
-pub counts_under : {Disk : Type 0} (disks : Disk → DiskState) (disk : Option Disk) (store store' : StoreState Disk) (result : Result Step NodeFault) → IsPlaced disk (Some store)
+pub counts_under : {Disk A : Type 0} (disks : Disk → DiskState) (disk : Option Disk) (store store' : StoreState Disk) (result : Result A NodeFault) → IsPlaced disk (Some store)
     → Counts (disks store.disk) (disks store'.disk) (IsErrOf result node.Device) (IsErrOf result node.Device → ⊥) → CountsOf disks (disk_in disk (Some store)) (disk_in disk (Some store')) result
-counts_under {Disk} disks disk store store' result placed counts was now old new =
+counts_under {Disk} {A} disks disk store store' result placed counts was now old new =
     subst (λ (d : Disk). Counts (disks d) (disks now) (IsErrOf result node.Device) (IsErrOf result node.Device → ⊥)) (under disk store was placed old)
     (subst (λ (d : Disk). Counts (disks store.disk) (disks d) (IsErrOf result node.Device) (IsErrOf result node.Device → ⊥)) (under disk store' now (placed_still disk store store' placed) new) counts)
 
+-- a node that is down shows nothing of what its disk keeps
+pub none_kept : {Disk : Type 0} (b : Bool) (store : Option (StoreState Disk)) (d : Durable) → b ≡ true → kept_in b store ≡ Some d → ⊥
+none_kept true store d fallen h = cc
+none_kept false store d fallen h = absurd cc
+
 -- a disk that isn't called
-pub counts_still : {Disk : Type 0} (disks : Disk → DiskState) (disk : Option Disk) (result : Result Step NodeFault) → (IsErrOf result node.Device → ⊥) → CountsOf disks disk disk result
-counts_still {Disk} disks disk result not_device was now old new =
+pub counts_still : {Disk A : Type 0} (disks : Disk → DiskState) (disk : Option Disk) (result : Result A NodeFault) → (IsErrOf result node.Device → ⊥) → CountsOf disks disk disk result
+counts_still {Disk} {A} disks disk result not_device was now old new =
     subst (λ (d : Disk). Counts (disks was) (disks d) (IsErrOf result node.Device) (IsErrOf result node.Device → ⊥)) (is_some was now (sym old ∙ new))
     (record { sectors = refl; honest = refl; later = omega arith; unchanged = λ _. refl; cause = λ device. absurd (not_device device) })
 

@@ -12,10 +12,10 @@ use Rattle.node_store.specs.Store.{slots_for, AllStandFor}
 use Rattle.durable_node.specs.declared.fault.NodeFault.{NodeFault}
 use Rattle.durable_node.specs.declared.fault.NodeFault.TheVariants as node
 use Rattle.durable_node.specs.declared.step.Step.{Step}
-use Rattle.durable_node.specs.NodeState.{NodeState, opening}
-use Rattle.durable_node.specs.What.{What, Did, Refused, Faulted, Rests, Crashed, Recovered, MountFailed, RaiseFailed, RaiseRefused}
-use Rattle.durable_node.specs.After.{after}
-use Rattle.durable_node.specs.Possible.{IsForNode}
+use Rattle.histories.specs.NodeState.{NodeState, opening}
+use Rattle.histories.specs.What.{What, Did, Refused, Faulted, Rests, Crashed, Recovered, MountFailed, RaiseFailed, RaiseRefused}
+use Rattle.histories.specs.After.{after}
+use Rattle.histories.specs.Possible.{IsForNode}
 use Rattle.durable_node.specs.Node.{Node, IsLeft, Stands}
 use Rattle.durable_node.specs.Stepping.{Does, Steps}
 use Rattle.durable_node.proofs.Mounts.{left_by}
@@ -26,7 +26,7 @@ abbrev fresh : ℕ → NodeState
 fresh id = record { state = down id; durable = formatted; doubt = None }
 
 abbrev pub new_node : ℕ → ℕ → Memory → Node Memory
-new_node id nodes disk = record { id = id; nodes = nodes; state = down id; disk = Some disk; kept = None; doubt = None; found = None }
+new_node id nodes disk = record { id = id; nodes = nodes; state = down id; disk = Some disk; kept = None; area = None; doubt = None; found = None }
 
 fresh_stands : (id nodes : ℕ) (disk : Memory) → 24 ≤ (state_of disk).sectors → AllStandFor (slots_for (state_of disk).sectors) formatted (state_of disk) → IsSound (slots_for (state_of disk).sectors) (state_of disk)
     → Stands state_of (new_node id nodes disk) (fresh id)

@@ -20,10 +20,10 @@ use Rattle.node_store.specs.Store.{StoreState, durable_of, slots_for, stands_for
 use Rattle.durable_node.specs.declared.fault.NodeFault.{NodeFault}
 use Rattle.durable_node.specs.declared.fault.NodeFault.TheVariants as node
 use Rattle.durable_node.specs.declared.step.Step.{Step}
-use Rattle.durable_node.specs.NodeState.{NodeState, settled}
-use Rattle.durable_node.specs.What.{What, Recovered, MountFailed, RaiseFailed, RaiseRefused}
-use Rattle.durable_node.specs.After.{after}
-use Rattle.durable_node.specs.Possible.{IsSettling}
+use Rattle.histories.specs.NodeState.{NodeState, settled}
+use Rattle.histories.specs.What.{What, Recovered, MountFailed, RaiseFailed, RaiseRefused}
+use Rattle.histories.specs.After.{after}
+use Rattle.histories.specs.Possible.{IsSettling}
 use Rattle.durable_node.specs.Faults.{fault_for}
 use Rattle.durable_node.specs.Carrying.{BeforeOrAfter}
 use Rattle.durable_node.specs.Node.{Node, told_doubt, disk_in, found_in, node_with, IsLeft, Stands}

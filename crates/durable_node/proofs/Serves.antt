@@ -19,10 +19,10 @@ use Rattle.node_store.specs.Store.{StoreState, durable_of, slots_for, AllStandFo
 use Rattle.durable_node.specs.declared.fault.NodeFault.{NodeFault}
 use Rattle.durable_node.specs.declared.fault.NodeFault.TheVariants as node
 use Rattle.durable_node.specs.declared.step.Step.{Step}
-use Rattle.durable_node.specs.NodeState.{NodeState}
-use Rattle.durable_node.specs.What.{What, Did, Refused, Faulted}
-use Rattle.durable_node.specs.After.{after}
-use Rattle.durable_node.specs.Possible.{IsForNode}
+use Rattle.histories.specs.NodeState.{NodeState}
+use Rattle.histories.specs.What.{What, Did, Refused, Faulted}
+use Rattle.histories.specs.After.{after}
+use Rattle.histories.specs.Possible.{IsForNode}
 use Rattle.durable_node.specs.Carrying.{BeforeOrAfter}
 use Rattle.durable_node.specs.Node.{told_doubt, kept_in, node_with, IsPlaced, IsLeft, Stands}
 use Rattle.durable_node.specs.Stepping.{IsDone, IsFailed, IsTurnedAway, Does, Steps}
@@ -50,7 +50,7 @@ is_device node.NotFormatted = inr (λ e. absurd cc)
 is_device (node.Damaged sector) = inr (λ e. absurd cc)
 is_device node.TooSmall = inr (λ e. absurd cc)
 
-kept_up : {Disk : Type 0} (b : Bool) (store : StoreState Disk) (d : Durable) → b ≡ false → kept_in b (Some store) ≡ Some d → durable_of store ≡ d
+pub kept_up : {Disk : Type 0} (b : Bool) (store : StoreState Disk) (d : Durable) → b ≡ false → kept_in b (Some store) ≡ Some d → durable_of store ≡ d
 kept_up true store d up h = absurd cc
 kept_up false store d up h = cc
 

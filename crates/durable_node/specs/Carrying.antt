@@ -1,24 +1,19 @@
 -- What the store makes of the command that an event wants.
-use Rattle.std.specs.Prelude.{ℕ, ◌≡◌, ◌⊎◌, Option, Some, None, IsFalse}
+use Rattle.std.specs.Prelude.{ℕ, ◌≡◌, ◌⊎◌, Option, Some, IsFalse}
 use Rattle.sector_disk.specs.Disk.{Image}
 use Rattle.job_model.specs.Command.{Command}
 use Rattle.job_model.specs.Durable.{Durable}
 use Rattle.job_model.specs.Fold.{after_wanted}
-use Rattle.job_model.specs.Answer.{answer_of}
 use Rattle.node_core.specs.NodeStep.{StepFault, CantTake, IsSpent, FitsSlots, Handled, Refused}
 use Rattle.node_store.specs.Store.{StoreState, durable_of, stands_for}
+use Rattle.histories.specs.NodeState.{answer_if_wanted}
 use Rattle.durable_node.specs.declared.fault.NodeFault.{NodeFault}
 use Rattle.durable_node.specs.Faults.{shown}
-
--- the answer to the command that an event wants, if it wants one
-abbrev pub told_answer : Durable → Option Command → Option ℕ
-told_answer d None = None
-told_answer d (Some c) = Some (answer_of d c)
 
 -- the store keeps what the command makes, and answers it
 abbrev pub Carried : {Disk : Type 0} → StoreState Disk → StoreState Disk → Option Command → Option ℕ → Type 0
 Carried old new wants answer =
-    (answer ≡ told_answer (durable_of old) wants) × (durable_of new ≡ after_wanted (durable_of old) wants) × IsFalse new.broken
+    (answer ≡ answer_if_wanted (durable_of old) wants) × (durable_of new ≡ after_wanted (durable_of old) wants) × IsFalse new.broken
 
 -- the store may take the command
 pub record MayTake (slots : ℕ) (d : Durable) (wants : Option Command) : Type 0 where

@@ -11,8 +11,8 @@ use Rattle.node_core.specs.Start.{down}
 use Rattle.node_core.specs.State.{State, is_down}
 use Rattle.job_journal.specs.Journal.{IsSound}
 use Rattle.node_store.specs.Store.{StoreState, durable_of, slots_for, stands_for}
-use Rattle.durable_node.specs.NodeState.{NodeState, settled}
-use Rattle.durable_node.specs.Possible.{IsSettling}
+use Rattle.histories.specs.NodeState.{NodeState, settled}
+use Rattle.histories.specs.Possible.{IsSettling}
 
 -- a command in doubt as the node tells it, with the count, or for a job the next id, from before it
 abbrev pub told_doubt : Durable → Option Command → Option (Wanted × ℕ)
@@ -20,6 +20,13 @@ told_doubt d None = None
 told_doubt d (Some Raise) = Some (wanted.Raise, d.counter)
 told_doubt d (Some (Put queue payload)) = Some (wanted.Put queue payload, d.next)
 told_doubt d (Some (Done id)) = Some (wanted.Done id, d.next)
+
+-- the area of the journal that a node writes in: the number of its cell, how many slots it has, and how many of them hold
+-- a record
+pub record Area : Type 0 where
+  pub number : ℕ
+  pub slots : ℕ
+  pub used : ℕ
 
 pub record Node (Disk : Type 0) : Type 0 where
   pub id : ℕ
@@ -29,6 +36,8 @@ pub record Node (Disk : Type 0) : Type 0 where
   pub disk : Option Disk
   -- what the disk keeps, where the node is up
   pub kept : Option Durable
+  -- the area of its journal, where the node is up
+  pub area : Option Area
   -- the command in doubt
   pub doubt : Option (Wanted × ℕ)
   -- what the last call mounted
@@ -44,6 +53,14 @@ abbrev pub kept_in : {Disk : Type 0} → Bool → Option (StoreState Disk) → O
 kept_in true store = None
 kept_in false None = None
 kept_in false (Some store) = Some (durable_of store)
+
+abbrev pub area_of : {Disk : Type 0} → StoreState Disk → Area
+area_of store = record { number = store.journal.area.value; slots = store.journal.slots; used = store.journal.used }
+
+abbrev pub area_in : {Disk : Type 0} → Bool → Option (StoreState Disk) → Option Area
+area_in true store = None
+area_in false None = None
+area_in false (Some store) = Some (area_of store)
 
 -- a store mounted with this count, whatever came of the raise: it left the jobs as they were
 abbrev pub found_in : {Disk : Type 0} → Option ℕ → Option (StoreState Disk) → Option Durable
@@ -66,6 +83,7 @@ node_with id nodes core disk store doubt found = record {
   state = core.state;
   disk = disk_in disk store;
   kept = kept_in (is_down core.state.phase) store;
+  area = area_in (is_down core.state.phase) store;
   doubt = doubt;
   found = found_in found store;
 }

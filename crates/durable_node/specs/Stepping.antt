@@ -13,26 +13,17 @@ use Rattle.node_store.specs.Store.{slots_for}
 use Rattle.durable_node.specs.declared.fault.NodeFault.{NodeFault}
 use Rattle.durable_node.specs.declared.fault.NodeFault.TheVariants as node
 use Rattle.durable_node.specs.declared.step.Step.{Step}
-use Rattle.durable_node.specs.NodeState.{NodeState, wants_at, settled}
-use Rattle.durable_node.specs.What.{What, Did, Refused, Faulted, Rests, Crashed, Recovered, MountFailed, RaiseFailed, RaiseRefused}
-use Rattle.durable_node.specs.After.{after, sent_at, found_at}
-use Rattle.durable_node.specs.Possible.{IsPossible, IsOfSlots, IsWanted}
+use Rattle.histories.specs.NodeState.{NodeState, wants_at, settled, answer_if_wanted}
+use Rattle.histories.specs.What.{What, Did, Refused, Faulted, Rests, Crashed, Recovered, MountFailed, RaiseFailed, RaiseRefused}
+use Rattle.histories.specs.After.{after, sent_at, found_at}
+use Rattle.histories.specs.Possible.{IsPossible, IsOfSlots, IsWanted}
 use Rattle.durable_node.specs.Faults.{shown}
-use Rattle.durable_node.specs.Carrying.{told_answer}
 use Rattle.durable_node.specs.Node.{Node, Stands}
 
 -- the event Recover
 abbrev pub is_recover : Event → Bool
-is_recover on.CheckTimer = false
-is_recover on.MergeTimer = false
-is_recover on.AcceptTimer = false
-is_recover on.ReadyTimer = false
-is_recover on.CoordTimer = false
-is_recover on.DispatchTimer = false
-is_recover (on.Deliver m) = false
-is_recover (on.Submit queue payload) = false
-is_recover (on.Finish origin id) = false
 is_recover on.Recover = true
+is_recover event = false
 
 -- ---- an event at a node that is up
 
@@ -40,7 +31,7 @@ is_recover on.Recover = true
 pub record IsDone (slots nodes self : ℕ) (s : State) (d : Durable) (event : Event) (s' : State) (d' : Durable) (step : Step) : Type 0 where
   pub handled : IsHandled nodes self s d event s' d' step.sent.items
   pub fits : FitsSlots slots d (wants_of self d.pending event s) Handled
-  pub answer : step.answer ≡ told_answer d (wants_of self d.pending event s)
+  pub answer : step.answer ≡ answer_if_wanted d (wants_of self d.pending event s)
 
 -- the device failed in the event's command
 pub record IsFailed (slots nodes self : ℕ) (s : State) (d : Durable) (event : Event) : Type 0 where
@@ -71,15 +62,9 @@ IsToldBy (RaiseRefused kept) event result = (event ≡ on.Recover) × (result �
 
 -- the answer to the command that was carried out, if there was one
 abbrev pub answer_at : ℕ → ℕ → NodeState → What → Option ℕ
-answer_at self nodes s (Did event) = told_answer s.durable (wants_at self nodes s event)
-answer_at self nodes s (Refused event fault) = None
-answer_at self nodes s (Faulted event) = None
-answer_at self nodes s (Rests rest) = None
-answer_at self nodes s Crashed = None
+answer_at self nodes s (Did event) = answer_if_wanted s.durable (wants_at self nodes s event)
 answer_at self nodes s (Recovered kept) = Some ((settled kept s).counter + 1)
-answer_at self nodes s MountFailed = None
-answer_at self nodes s (RaiseFailed kept) = None
-answer_at self nodes s (RaiseRefused kept) = None
+answer_at self nodes s what = None
 
 -- the messages that a call hands out, and the answer to its command
 abbrev pub sent_by : Result Step NodeFault → List Envelope
@@ -112,7 +97,7 @@ Steps {Disk} disks old new event result =
 
 -- the count of the device's failures: every answer but `Device` leaves it as it is, and `Device` is told only where it rose, or
 -- stands at its greatest value
-abbrev pub CountsOf : {Disk : Type 0} → (Disk → DiskState) → Option Disk → Option Disk → Result Step NodeFault → Type 0
+abbrev pub CountsOf : {Disk A : Type 0} → (Disk → DiskState) → Option Disk → Option Disk → Result A NodeFault → Type 0
 CountsOf {Disk} disks old new result =
     (was now : Disk) → old ≡ Some was → new ≡ Some now → Counts (disks was) (disks now) (IsErrOf result node.Device) (IsErrOf result node.Device → ⊥)
 

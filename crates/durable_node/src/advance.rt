@@ -3,6 +3,7 @@ ghost use Rattle.node_core.specs.declared.event.Event.TheVariants as on;
 ghost use Rattle.node_core.specs.declared.fault.CoreFault.TheVariants.{NoMemory};
 ghost use Rattle.node_core.specs.State.{is_down};
 ghost use Rattle.durable_node.specs.Node.{disk_in, kept_in, found_in, IsNode, node_with};
+ghost use Rattle.durable_node.specs.Refusing.{Answers};
 ghost use Rattle.durable_node.specs.Remounting.{Remounted};
 ghost use Rattle.durable_node.specs.Stepping.{CountsOf, Steps, most_by};
 
@@ -35,6 +36,7 @@ pub(crate) fn advance<D: SectorDisk + Drop>(
         → Steps D.state (node_with id nodes core.old disk.old store.old doubt.old found.old) (node_with id nodes core.new disk.new store.new doubt.new found.new) event.now result }
     ensures memory { result ≡ Err (NodeFault.Core NoMemory)
         → node_with id nodes core.new disk.new store.new doubt.new found.new ≡ node_with id nodes core.old disk.old store.old doubt.old None }
+    ensures answers { Answers (node_with id nodes core.old disk.old store.old doubt.old found.old) event.now result }
     ensures counts { CountsOf D.state (disk_in disk.old store.old) (disk_in disk.new store.new) result }
     ensures mounting { is_down core.old.state.phase ≡ true → event.now ≡ Event.Recover
         → Remounted (node_with id nodes core.old disk.old store.old doubt.old found.old) (node_with id nodes core.new disk.new store.new doubt.new found.new) result (found_in found.new store.new) }

@@ -6,9 +6,11 @@ ghost use Rattle.job_model.specs.Fold.{is_pending};
 ghost use Rattle.node_core.specs.Planned.{wanted_by};
 ghost use Rattle.job_journal.specs.Journal.{IsSound};
 ghost use Rattle.node_store.specs.Store.{durable_of, InStore, AllStandFor};
-ghost use Rattle.durable_node.specs.Possible.{IsWanted};
+ghost use Rattle.histories.specs.Possible.{IsWanted};
 ghost use Rattle.durable_node.specs.Faults.{fault_for};
 ghost use Rattle.durable_node.specs.Carrying.{Carried, MayTake, CantCarry, BeforeOrAfter};
+ghost use Rattle.durable_node.specs.Node.{area_of};
+ghost use Rattle.durable_node.specs.Refusing.{AnswersTo, disk_refusal};
 
 use crate::fault::{NodeFault, node_fault};
 use node_core::Durable;
@@ -25,6 +27,7 @@ pub(crate) fn carry<D: SectorDisk>(
     requires sound { IsSound store.old.journal.slots (D.state store.old.disk) }
     requires pending { (id : ℕ) → wanted_by wants.now ≡ Some (Done id) → is_pending (durable_of store.old).pending id ≡ true }
     ensures counts { Counts (D.state store.old.disk) (D.state store.new.disk) (IsErrOf result NodeFault.Device) (IsErrOf result NodeFault.Device → ⊥) }
+    ensures answers { AnswersTo (disk_refusal (durable_of store.old) (area_of store.old) (wanted_by wants.now)) result }
     ensures ok { IfOk result (Carried store.old store.new (wanted_by wants.now)) }
     ensures taken { IsOk result → MayTake store.old.journal.slots (durable_of store.old) (wanted_by wants.now) }
     ensures failed { IsErrOf result NodeFault.Device → MayTake store.old.journal.slots (durable_of store.old) (wanted_by wants.now) × IsWanted (wanted_by wants.now) }
@@ -41,9 +44,19 @@ pub(crate) fn carry<D: SectorDisk>(
     match wants {
         Durable::None => Ok(None),
         Durable::Raise => told(store.raise()),
-        Durable::Put(queue, payload) => told(store.put(*queue, *payload)),
+        Durable::Put(queue, payload) => {
+            ids_fit(store);
+            told(store.put(*queue, *payload))
+        }
         Durable::Done(id) => told(store.done(*id)),
     }
+}
+
+/// The next id is a number of 64 bits.
+fn ids_fit<D: SectorDisk>(store: &NodeStore<D>)
+    ensures { (durable_of store.now).next < 2 ^ 64 }
+{
+    let _ = store.table().next();
 }
 
 /// What the store answers, as the node tells it.

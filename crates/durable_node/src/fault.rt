@@ -9,9 +9,11 @@ use node_store::StoreFault;
 pub enum NodeFault {
     /// The node refuses the event.
     Core(CoreFault),
-    /// No slot of the journal is free, or a job wouldn't fit beside those that are pending.
+    /// The job doesn't fit into the journal: the pending jobs and three more are more than its slots. Only a Submit is
+    /// refused with it.
     Full,
-    /// The counter is the greatest there is, or no id is left.
+    /// The counter is the greatest there is, no id is left, or no slot of the journal is free and the number of its area
+    /// is the greatest.
     Exhausted,
     /// The device failed. The node is Down.
     Device,

@@ -7,12 +7,14 @@ ghost use Rattle.node_core.specs.State.{is_down};
 ghost use Rattle.node_core.specs.Most.{most_of};
 ghost use Rattle.node_core.specs.Start.{down};
 ghost use Rattle.node_core.specs.Planned.{wanted_by};
+ghost use Rattle.node_core.specs.Refusals.{refusal_of};
 ghost use Rattle.node_core.specs.Wants.{wants_of};
 ghost use Rattle.job_journal.specs.Journal.{IsSound};
 ghost use Rattle.node_store.specs.Store.{durable_of, InStore, AllStandFor};
 ghost use Rattle.durable_node.specs.Carrying.{BeforeOrAfter};
-ghost use Rattle.durable_node.specs.Node.{told_doubt};
-ghost use Rattle.durable_node.specs.Possible.{IsWanted};
+ghost use Rattle.durable_node.specs.Node.{area_of, told_doubt};
+ghost use Rattle.histories.specs.Possible.{IsWanted};
+ghost use Rattle.durable_node.specs.Refusing.{AnswersEvent, disk_refusal};
 ghost use Rattle.durable_node.specs.Stepping.{IsDone, IsFailed, IsTurnedAway};
 
 use crate::carry::carry;
@@ -26,7 +28,7 @@ use std::alloc::Global;
 
 /// Handles an event at a node that is up: growths first, then the device, and the change last. After `Device` the core is
 /// down.
-#[tactic(auto, using(crate::proofs::Wanted::wanted_pending))]
+#[tactic(auto, using(histories::proofs::Wanted::wanted_pending))]
 pub(crate) fn handle<D: SectorDisk>(
     alloc: Global,
     id: NodeId,
@@ -45,6 +47,8 @@ pub(crate) fn handle<D: SectorDisk>(
     ensures id { core.new.id ≡ id }
     ensures nodes { core.new.nodes ≡ nodes }
     ensures counts { Counts (D.state store.old.disk) (D.state store.new.disk) (IsErrOf result NodeFault.Device) (IsErrOf result NodeFault.Device → ⊥) }
+
+    ensures answers { AnswersEvent (refusal_of nodes id event.now core.old.state) (disk_refusal (durable_of store.old) (area_of store.old) (wants_of id (durable_of store.old).pending event.now core.old.state)) result }
 
     // The event was handled.
     ensures done { IfOk result (IsDone store.old.journal.slots nodes id core.old.state (durable_of store.old) event.now core.new.state (durable_of store.new)) }

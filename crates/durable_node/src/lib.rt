@@ -1,16 +1,16 @@
-//! A node over its disk, what may come of its events, and the laws of all histories.
+//! A node over its disk.
 //!
-//! [`DurableNode`] joins the state machine of a node with the store on its disk. Each call is one entry of the node's history:
-//! a list of what came of its events, crashes and recoveries. The definitions stand in `specs/`, over the table of the node's
-//! state machine; the laws are contracts of functions that do nothing.
+//! [`DurableNode`] joins the state machine of a node with the store on its disk. Each call is one entry of the node's history,
+//! as the crate `histories` defines it: the list of what came of a node's events, crashes and recoveries. The laws of all
+//! histories, which stand there, so hold of every node.
 #![tactic(auto)]
 
 mod advance;
 mod carry;
+mod compacting;
 mod fault;
 mod handle;
 mod ignore;
-mod laws;
 mod memory;
 mod node;
 mod place;
@@ -18,9 +18,6 @@ mod remount;
 mod step;
 
 pub use fault::NodeFault;
-pub use laws::{
-    counts_rise, few_counts, goes_on, kept, one_book, one_coordinator_and_task, owner_finishes,
-};
 pub use node::DurableNode;
 pub use step::Step;
 

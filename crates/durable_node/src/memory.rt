@@ -4,11 +4,11 @@ ghost use Rattle.group_task.specs.declared.node.TheConstants.{NODES};
 ghost use Rattle.sector_disk.specs.Memory.{Memory, state_of, all_synced};
 ghost use Rattle.sector_disk.specs.Crash.{IsCrashed};
 ghost use Rattle.node_core.specs.Start.{down};
-ghost use Rattle.durable_node.specs.After.{after};
+ghost use Rattle.histories.specs.After.{after};
 ghost use Rattle.durable_node.specs.Arming.{armed_disk, armed_store};
 ghost use Rattle.durable_node.specs.Node.{IsPlaced, Stands};
-ghost use Rattle.durable_node.specs.NodeState.{NodeState, opening};
-ghost use Rattle.durable_node.specs.What.{Crashed};
+ghost use Rattle.histories.specs.NodeState.{NodeState, opening};
+ghost use Rattle.histories.specs.What.{Crashed};
 
 use crate::node::DurableNode;
 use crate::remount::take_disk;
@@ -61,7 +61,7 @@ impl DurableNode<MemDisk> {
     /// Stops the node here. It is Down, and its disk has the bytes of `fill` in the sectors that weren't synced, as
     /// [`MemDisk::crash`] says. What is in doubt stays in doubt.
     pub fn crash(&mut self, fill: &[u8])
-        ensures down { self.new ≡ record self.old { state = down self.old.id; disk = self.new.disk; kept = None; found = None } }
+        ensures down { self.new ≡ record self.old { state = down self.old.id; disk = self.new.disk; kept = None; area = None; found = None } }
         ensures disk { (was now : Memory) → self.old.disk ≡ Some was → self.new.disk ≡ Some now
             → IsCrashed was fill.now now.contents × (now ≡ all_synced now.contents was.failures) }
         ensures stands { (s : NodeState) → Stands state_of self.old s → Stands state_of self.new (after self.old.id self.old.nodes s Crashed) }

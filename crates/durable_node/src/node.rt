@@ -1,5 +1,5 @@
 // A node over its disk.
-ghost use Rattle.std.specs.Prelude.{◌≡◌, ◌≢◌, ◌≤◌, ◌<◌, IfOk, IfSome, IsNone, Some, None, Err, length, true};
+ghost use Rattle.std.specs.Prelude.{◌≡◌, ◌≢◌, ◌≤◌, ◌<◌, IsOk, IfOk, IfErr, IsErrOf, IfSome, IsNone, Some, None, Err, length, true};
 ghost use Rattle.group_task.specs.declared.node.TheConstants.{NODES};
 ghost use Rattle.job_model.specs.Table.{durable_of};
 ghost use Rattle.job_journal.specs.Journal.{IsSound};
@@ -7,10 +7,13 @@ ghost use Rattle.node_core.specs.declared.fault.CoreFault.TheVariants.{NoMemory}
 ghost use Rattle.node_core.specs.Start.{down};
 ghost use Rattle.node_core.specs.State.{state_of, is_down};
 ghost use Rattle.node_store.specs.Store.{slots_for};
+ghost use Rattle.durable_node.specs.Compacting.{Compacts, StaysKept, IsMovedNode, IsFallenNode};
+ghost use Rattle.durable_node.specs.Refusing.{Answers, AnswersTo, compaction_refusal};
 ghost use Rattle.durable_node.specs.Remounting.{Remounted};
 ghost use Rattle.durable_node.specs.Stepping.{CountsOf, Steps, most_by};
 
 use crate::advance::{advance, is_down};
+use crate::compacting::compact;
 use crate::fault::NodeFault;
 use crate::step::Step;
 use group_task::NodeId;
@@ -61,7 +64,7 @@ impl<D: SectorDisk> DurableNode<D> {
         requires within { id < nodes }
         requires most { nodes ≤ NODES }
         requires sound { IsSound (slots_for (D.state disk).sectors) (D.state disk) }
-        ensures { result ≡ record { id = id; nodes = nodes; state = down id; disk = Some disk; kept = None; doubt = None; found = None } }
+        ensures { result ≡ record { id = id; nodes = nodes; state = down id; disk = Some disk; kept = None; area = None; doubt = None; found = None } }
     {
         DurableNode {
             alloc,
@@ -120,13 +123,17 @@ impl<D: SectorDisk> DurableNode<D> {
 impl<D: SectorDisk + Drop> DurableNode<D> {
     /// One event. A node that is Down does nothing but mount its disk, at the event Recover.
     ///
-    /// Refused as the core refuses it, and then: `Full`, `Exhausted`, and where the node mounts its disk `NotFormatted`,
+    /// A node that is up refuses it as the core does, then for want of memory, and then where the disk can't take its
+    /// command: a raise is `Exhausted` at the greatest counter; a Submit is `Exhausted` where no id is left, then `Full` where
+    /// the pending jobs and three more are more than the slots; and a Submit or a job that is done is `Exhausted` where no
+    /// slot is free and the area's number is the greatest. Where the node mounts its disk it may answer `NotFormatted`,
     /// `Damaged` and `TooSmall`. A refusal leaves the node as it was. After `Device` the node is Down.
     pub fn step(&mut self, event: &Event) -> Result<Step, NodeFault>
         ensures id { self.new.id ≡ self.old.id }
         ensures nodes { self.new.nodes ≡ self.old.nodes }
         ensures step { result ≢ Err (NodeFault.Core NoMemory) → Steps D.state self.old self.new event.now result }
         ensures memory { result ≡ Err (NodeFault.Core NoMemory) → self.new ≡ record self.old { found = None } }
+        ensures answers { Answers self.old event.now result }
         ensures counts { CountsOf D.state self.old.disk self.new.disk result }
         // Over any disk, honest or not.
         ensures mounting { is_down self.old.state.phase ≡ true → event.now ≡ Event.Recover → Remounted self.old self.new result self.new.found }
@@ -151,11 +158,40 @@ impl<D: SectorDisk + Drop> DurableNode<D> {
         ensures nodes { self.new.nodes ≡ self.old.nodes }
         ensures step { result ≢ Err (NodeFault.Core NoMemory) → Steps D.state self.old self.new Event.Recover result }
         ensures memory { result ≡ Err (NodeFault.Core NoMemory) → self.new ≡ record self.old { found = None } }
+        ensures answers { Answers self.old Event.Recover result }
         ensures counts { CountsOf D.state self.old.disk self.new.disk result }
         ensures mounting { is_down self.old.state.phase ≡ true → Remounted self.old self.new result self.new.found }
         ensures few { IfOk result (λ step. length step.sent.items ≤ most_by self.old.nodes self.old.kept) }
     {
         self.step(&Event::Recover)
+    }
+
+    /// Moves the pending jobs into the other area of the journal, where they take one slot each, and one more. What the
+    /// disk stands for stays the same, in each image that a crash may leave meanwhile. It takes no memory, and sends nothing.
+    ///
+    /// Refused in the order `Core(Down)`, `Exhausted` (the area's number is the greatest), `Device`. After `Device` the
+    /// node is Down, with no command in doubt.
+    pub fn compact(&mut self) -> Result<(), NodeFault>
+        ensures id { self.new.id ≡ self.old.id }
+        ensures nodes { self.new.nodes ≡ self.old.nodes }
+        ensures answers { AnswersTo (compaction_refusal self.old.area) result }
+        ensures step { Compacts D.state self.old self.new result }
+        ensures moved { IsOk result → IsMovedNode self.old self.new }
+        ensures fallen { IsErrOf result NodeFault.Device → IsFallenNode self.old self.new }
+        ensures refused { IfErr result (λ fault. fault ≢ NodeFault.Device → self.new ≡ record self.old { found = None }) }
+        ensures images { StaysKept D.state self.old self.new }
+        ensures counts { CountsOf D.state self.old.disk self.new.disk result }
+    {
+        compact(
+            self.alloc,
+            self.id,
+            self.nodes,
+            &mut self.core,
+            &self.disk,
+            &mut self.store,
+            &self.doubt,
+            &mut self.found,
+        )
     }
 
     /// The disk alone, as it is.

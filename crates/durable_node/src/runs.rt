@@ -42,6 +42,12 @@ fn kept(node: &DurableNode<MemDisk>) -> Option<u64> {
     Some(counter)
 }
 
+// The next id and the number of pending jobs, where the node is up.
+fn jobs(node: &DurableNode<MemDisk>) -> Option<(u64, usize)> {
+    let (_, table) = node.durable()?;
+    Some((table.next(), table.pending().len()))
+}
+
 // The counter that the last call found by mounting.
 fn found(node: &DurableNode<MemDisk>) -> Option<u64> {
     let (counter, _) = node.mounted()?;
@@ -164,7 +170,7 @@ fn finish(node: &mut DurableNode<MemDisk>, id: u64) -> Result<Option<u64>, NodeF
     told(node.step(&Event::Finish(NodeId::numbered(0), id)))
 }
 
-// From the opening to jobs that are done, and a journal with no slot left.
+// From the opening to jobs that are done. The last of them finds no free slot, and the journal is compacted.
 #[test]
 fn jobs_of_one_node(rt: HostRuntime) -> Result<(), Fail> {
     let mut node = DurableNode::open(rt.alloc(), NodeId::numbered(0), 1, 4)?;
@@ -174,7 +180,7 @@ fn jobs_of_one_node(rt: HostRuntime) -> Result<(), Fail> {
     assert_eq!(rt; submit(&mut node, 0x63), Some(Err(NodeFault::Full)));
     assert_eq!(rt; finish(&mut node, 0), Ok(Some(0)));
     assert_eq!(rt; submit(&mut node, 0x64), Some(Ok(Some(2))));
-    assert_eq!(rt; finish(&mut node, 1), Err(NodeFault::Full));
+    assert_eq!(rt; finish(&mut node, 1), Ok(Some(1)));
     assert_eq!(rt;
         finish(&mut node, 0),
         Err(NodeFault::Core(CoreFault::UnknownJob))
@@ -185,6 +191,24 @@ fn jobs_of_one_node(rt: HostRuntime) -> Result<(), Fail> {
         Some(Err(NodeFault::Core(CoreFault::Down)))
     );
     assert_eq!(rt; told(node.recover()), Ok(Some(2)));
+    Ok(())
+}
+
+// A compaction is no command: where it fails, none is in doubt.
+#[test]
+fn compacted(rt: HostRuntime) -> Result<(), Fail> {
+    let mut node = DurableNode::open(rt.alloc(), NodeId::numbered(0), 1, 4)?;
+    assert_eq!(rt; submit(&mut node, 0x61), Some(Ok(Some(0))));
+    assert_eq!(rt; node.compact(), Ok(()));
+    assert_eq!(rt; submit(&mut node, 0x62), Some(Ok(Some(1))));
+    node.arm(9);
+    assert_eq!(rt; node.compact(), Err(NodeFault::Device));
+    assert_eq!(rt; place(&node).0, Phase::Down);
+    assert_eq!(rt; node.doubt(), None);
+    assert_eq!(rt; node.compact(), Err(NodeFault::Core(CoreFault::Down)));
+    node.crash(&[0xa5]);
+    assert_eq!(rt; told(node.recover()), Ok(Some(2)));
+    assert_eq!(rt; jobs(&node), Some((2, 2)));
     Ok(())
 }
 

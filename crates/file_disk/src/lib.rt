@@ -1,9 +1,19 @@
 //! A disk of sectors over a real file.
 #![tactic(auto)]
 
-mod file;
+mod disk;
+mod fault;
+mod making;
+#[cfg(test)]
+mod making_tests;
+mod places;
+#[cfg(test)]
+mod places_tests;
+mod stride;
 #[cfg(test)]
 mod tests;
 mod zeros;
 
-pub use file::FileDisk;
+pub use disk::FileDisk;
+pub use fault::OpenFault;
+pub use stride::Stride;

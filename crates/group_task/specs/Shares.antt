@@ -22,3 +22,9 @@ OneOwner = (members : List ℕ) (queue : ℕ) → IsSet members → members ≢ 
 abbrev pub IsEven : Type 0
 IsEven = (members : List ℕ) (a b : ℕ) → IsSet members → has members a ≡ true → has members b ≡ true →
     queues_of members a ≤ queues_of members b + 1
+
+-- the queues are shared among these members: exactly one of them owns each, and none owns two more than another
+pub record AreShared (members : List ℕ) : Type 0 where
+  pub member : (queue : ℕ) → queue < QUEUES → has members (owner_of members queue) ≡ true
+  pub once : (queue : ℕ) → queue < QUEUES → count_by (λ node. owner_of members queue == node) members ≡ 1
+  pub even : (a b : ℕ) → has members a ≡ true → has members b ≡ true → queues_of members a ≤ queues_of members b + 1

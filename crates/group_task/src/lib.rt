@@ -6,6 +6,7 @@
 #![tactic(auto)]
 
 mod group;
+mod laws;
 mod members;
 mod node;
 mod shares;
@@ -14,6 +15,7 @@ mod task;
 mod tests;
 
 pub use group::GroupNo;
+pub use laws::limits;
 pub use members::{Iter, Members};
 pub use node::{NODES, NodeId};
 pub use shares::{even_shares, one_owner};

@@ -51,6 +51,14 @@ impl Members {
         all
     }
 
+    /// The nodes stand in rising order, each once, and below [`NODES`](crate::NODES). This function is the law, and does nothing.
+    #[inline]
+    pub(crate) fn rise(&self)
+        ensures { IsSet self.now }
+    {
+        let _word = self.word;
+    }
+
     /// How many nodes the set has.
     #[inline]
     pub fn len(&self) -> usize

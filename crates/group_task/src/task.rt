@@ -1,5 +1,5 @@
 ghost use Rattle.std.specs.Prelude.{◌≡◌, true};
-ghost use Rattle.group_task.specs.Ids.{has};
+ghost use Rattle.group_task.specs.Ids.{has, IsSet};
 ghost use Rattle.group_task.specs.Assignment.{owner_of};
 
 use crate::group::GroupNo;
@@ -45,8 +45,11 @@ impl Task {
     #[inline]
     pub fn members(&self) -> Members
         ensures value { result ≡ self.now.members }
+        ensures set { IsSet self.now.members }
         ensures creator { has self.now.members self.now.group.creator ≡ true }
     {
+        let Task { members, .. } = self;
+        members.rise();
         self.members
     }
 }
@@ -68,6 +71,7 @@ pub fn share(group: GroupNo, members: Members) -> Task
 /// [`one_owner`](crate::one_owner) and [`even_shares`](crate::even_shares) say what comes of it.
 pub fn owner(task: &Task, queue: Queue) -> NodeId
     ensures value { result ≡ owner_of task.now.members queue }
+    ensures set { IsSet task.now.members }
     ensures member { has task.now.members result ≡ true }
 {
     let members = task.members();

@@ -1,4 +1,5 @@
-//! The program `invite`: its command line. The commands themselves are the console's, over standard input and output.
+//! The program `invite`: its command line. The commands themselves are `invite_console`'s and `store_console`'s, over standard input
+//! and output.
 #![tactic(auto)]
 
 ghost use Rattle.std.specs.Prelude.{◌<◌, ◌≤◌};
@@ -18,6 +19,8 @@ enum Task {
     Answer(Place),
     Show,
     Sim,
+    /// Over the file of this path.
+    Store(String),
 }
 
 /// One node of a cluster.
@@ -51,6 +54,9 @@ fn run(rt: &HostRuntime) -> io::Result<u8> {
         }
         Task::Show => invite_console::show(alloc, &mut input, &mut output),
         Task::Sim => invite_console::sim(alloc, &mut input, &mut output),
+        Task::Store(path) => {
+            store_console::store(rt, alloc, path.as_str(), &mut input, &mut output)
+        }
     };
     Ok(ending.status())
 }
@@ -60,7 +66,7 @@ fn task_of<'a>(rt: &HostRuntime, words: &'a [String]) -> io::Result<Option<Task>
     let alloc = rt.alloc();
     match command(alloc)?.try_get_matches_from(words) {
         Ok(matches) => {
-            if let Some(task) = task_in(&matches) {
+            if let Some(task) = task_in(alloc, &matches)? {
                 return Ok(Some(task));
             }
             rt.print(
@@ -79,21 +85,30 @@ fn task_of<'a>(rt: &HostRuntime, words: &'a [String]) -> io::Result<Option<Task>
 }
 
 /// What the matches ask for, unless a number is out of its range.
-fn task_in(matches: &ArgMatches<'_>) -> Option<Task> {
-    let (name, inner) = matches.subcommand()?;
+fn task_in(alloc: Global, matches: &ArgMatches<'_>) -> Result<Option<Task>, AllocError> {
+    let Some((name, inner)) = matches.subcommand() else {
+        return Ok(None);
+    };
     match name {
-        "answer" => {
-            let id = NodeId::new(number(inner.get_str("SELF")?)?)?;
-            let nodes = number(inner.get_str("NODES")?)?;
-            if nodes > NODES || id.number() >= nodes {
-                return None;
-            }
-            Some(Task::Answer(Place { id, nodes }))
-        }
-        "show" => Some(Task::Show),
-        "sim" => Some(Task::Sim),
-        _ => None,
+        "answer" => Ok(place_in(inner).map(Task::Answer)),
+        "show" => Ok(Some(Task::Show)),
+        "sim" => Ok(Some(Task::Sim)),
+        "store" => match inner.get_str("PATH") {
+            Some(path) => Ok(Some(Task::Store(String::from_str(alloc, path)?))),
+            None => Ok(None),
+        },
+        _ => Ok(None),
     }
+}
+
+/// The node that SELF and NODES tell.
+fn place_in(matches: &ArgMatches<'_>) -> Option<Place> {
+    let id = NodeId::new(number(matches.get_str("SELF")?)?)?;
+    let nodes = number(matches.get_str("NODES")?)?;
+    if nodes > NODES || id.number() >= nodes {
+        return None;
+    }
+    Some(Place { id, nodes })
 }
 
 /// The number that a word is, as lines have it.
@@ -119,10 +134,19 @@ fn command<'a>(alloc: Global) -> Result<Command<'a>, AllocError> {
     let sim = Command::new(alloc, "sim").about(
         "Reads a schedule, runs it on a simulated cluster, and prints what each act did",
     );
+    let path = Arg::new(alloc, "PATH")
+        .required(true)
+        .help("The file of the store");
+    let store = Command::new(alloc, "store")
+        .about(
+            "Reads lines that ask something of a store in a file, and prints what each was answered",
+        )
+        .arg(path)?;
     Command::new(alloc, "invite")
         .subcommand_required(true)
         .disable_help_subcommand(true)
         .subcommand(answer)?
         .subcommand(show)?
-        .subcommand(sim)
+        .subcommand(sim)?
+        .subcommand(store)
 }

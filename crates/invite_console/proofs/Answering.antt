@@ -5,7 +5,7 @@ use Rattle.std.proofs.Math.Seq.{take-length}
 use Rattle.wire_msg.specs.Envelope.{Envelope}
 use Rattle.wire_msg.specs.Contents.{messages_in, unfinished_in, is_malformed, messages_behind}
 use Rattle.node_core.specs.Start.{alone}
-use Rattle.invite_console.specs.Ends.{before, line}
+use Rattle.console_text.specs.Ends.{before, line}
 use Rattle.invite_console.specs.Answer.{answers_to, end_of_answers, first_count}
 use Rattle.invite_console.specs.Session.{Progress, onward, TakesAll}
 use Rattle.invite_console.proofs.Sessions.{onward_end}

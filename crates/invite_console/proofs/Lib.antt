@@ -1,5 +1,4 @@
 pub mod Answering
-pub mod Consumed
 pub mod Deliveries
 pub mod Feeding
 pub mod Joins

@@ -3,7 +3,7 @@ use Rattle.std.proofs.Common.{◌≡◌, ℕ, List, [], ◌∷◌, ◌++◌, tru
 use Rattle.std.proofs.Math.Seq.{drop-cons}
 use Rattle.wire_msg.specs.Envelope.{Envelope}
 use Rattle.node_core.specs.State.{State}
-use Rattle.invite_console.specs.Ends.{Outcome, before, line}
+use Rattle.console_text.specs.Ends.{Outcome, before, line}
 use Rattle.invite_console.specs.Answer.{answers, delivery, is_strange, message_lines}
 use Rattle.invite_console.specs.Session.{Progress, after_message, onward}
 

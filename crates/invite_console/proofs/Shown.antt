@@ -6,7 +6,7 @@ use Rattle.std.proofs.lemmas.List.Concat.{flat_map-append}
 use Rattle.wire_msg.specs.Envelope.{Envelope}
 use Rattle.wire_msg.specs.Framing.{rest_len}
 use Rattle.wire_msg.specs.Contents.{messages_in, unfinished_in}
-use Rattle.invite_console.specs.Ends.{before, line}
+use Rattle.console_text.specs.Ends.{before, line}
 use Rattle.invite_console.specs.Show.{message_text, shown, shown_of, end_of_show, rest_text}
 use Rattle.invite_console.proofs.Feeding.{broken_messages, broken_unfinished, empty_messages}
 

@@ -1,27 +1,27 @@
 -- A simulation told one act further.
-use Rattle.std.proofs.Common.{◌≡◌, ℕ, zero, suc, ◌+◌, List, [], ◌∷◌, ◌++◌, ◌<◌, ◌≤◌, length, map, drop, Option, Some, None, Result, Ok, Err, IfOk, OnOk, IsOk, slice_get, refl, sym, ap, subst, ◌∙◌, append_assoc, add-one, add-zero, arith}
+use Rattle.std.proofs.Common.{◌≡◌, ℕ, zero, suc, ◌+◌, Bool, true, false, List, [], ◌∷◌, ◌++◌, ◌<◌, ◌≤◌, length, map, drop, Option, Some, None, Result, Ok, Err, IfOk, OnOk, IsOk, slice_get, refl, sym, ap, subst, ◌∙◌, append_assoc, add-one, add-zero, arith}
 use Rattle.std.proofs.lemmas.List.{append-nil, drop_all, map-append, length-map, length-append}
 use Rattle.std.proofs.Math.Seq.{drop-append_seam}
 use Rattle.wire_msg.specs.Envelope.{Envelope}
 use Rattle.sim_net.specs.Network.{Network}
 use Rattle.sector_disk.specs.Memory.{Memory, state_of}
 use Rattle.durable_node.specs.Node.{Node, Stands}
-use Rattle.durable_node.specs.NodeState.{NodeState}
-use Rattle.durable_node.specs.What.{What, Did, Refused, Faulted, Rests, Crashed, Recovered, MountFailed, RaiseFailed, RaiseRefused}
+use Rattle.histories.specs.NodeState.{NodeState}
+use Rattle.histories.specs.What.{Nothing, Compacted, CompactDown, CompactWorn, What, Did, Refused, Faulted, Rests, Crashed, Recovered, MountFailed, RaiseFailed, RaiseRefused}
 use Rattle.schedule.specs.declared.act.Act.{Act}
 use Rattle.cluster_sim.specs.declared.outcome.Outcome.{Outcome}
-use Rattle.cluster_sim.specs.World.{World, start}
-use Rattle.cluster_sim.proofs.Grown.{step_length}
+use Rattle.runs.specs.World.{World, start}
+use Rattle.runs.proofs.Grown.{step_length}
 use Rattle.cluster_sim.proofs.Numbered.{step_adds}
-use Rattle.cluster_sim.specs.Step.{Step, Takes, Loses, Cuts, Mends, Denies, OfNet, Stranger, world_after}
-use Rattle.cluster_sim.specs.Acts.{node_outcome, outcome_of}
-use Rattle.cluster_sim.specs.Reporting.{Moment, moment_of, step_sent, report_of}
-use Rattle.cluster_sim.specs.Growth.{grown, IsNext, RunsGrow, RunsOpen}
+use Rattle.runs.specs.Step.{Step, Takes, Loses, Cuts, Mends, Denies, OfNet, Stranger, world_after}
+use Rattle.runs.specs.Acts.{node_outcome, outcome_of, is_compaction, if_compaction, act_outcome}
+use Rattle.runs.specs.Reporting.{Moment, moment_of, step_sent, report_of}
+use Rattle.runs.specs.Growth.{grown, IsNext, RunsGrow, RunsOpen}
 use Rattle.cluster_sim.specs.Told.{told}
 use Rattle.cluster_sim.specs.Machine.{Machine, Acted, StandsFor}
 use Rattle.invite_console.specs.Acts.{act_line, act_lines, first_of}
 use Rattle.invite_console.specs.Sim.{AddsRow, AddsRows, HasWorld, IsSoFar, TellsRun}
-use Rattle.cluster_sim.proofs.Opened.{length_openings}
+use Rattle.runs.proofs.Opened.{length_openings}
 
 -- ---- the lines
 
@@ -40,7 +40,10 @@ told_first n nodes first None what = refl
 told_first n nodes first (Some s) (Did event) = refl
 told_first n nodes first (Some s) (Refused event fault) = refl
 told_first n nodes first (Some s) (Faulted event) = refl
-told_first n nodes first (Some s) (Rests rest) = refl
+told_first n nodes first (Some s) (Rests Nothing) = refl
+told_first n nodes first (Some s) (Rests Compacted) = refl
+told_first n nodes first (Some s) (Rests CompactDown) = refl
+told_first n nodes first (Some s) (Rests CompactWorn) = refl
 told_first n nodes first (Some s) Crashed = refl
 told_first n nodes first (Some s) (Recovered kept) = refl
 told_first n nodes first (Some s) MountFailed = refl
@@ -56,6 +59,26 @@ first_sent nodes w (Mends a b) = refl
 first_sent nodes w (Denies (OfNet fault)) = refl
 first_sent nodes w (Denies Stranger) = refl
 
+-- a compaction in which the device failed tells none
+compaction_first : (nodes : ℕ) (w : World) (compacts : Bool) (step : Step) → first_of (length w.net.sent) (told (if_compaction compacts step (outcome_of nodes w step))) ≡ length w.net.sent
+compaction_first nodes w false step = first_sent nodes w step
+compaction_first nodes w true (Takes n number (Did event)) = first_sent nodes w (Takes n number (Did event))
+compaction_first nodes w true (Takes n number (Refused event fault)) = first_sent nodes w (Takes n number (Refused event fault))
+compaction_first nodes w true (Takes n number (Faulted event)) = first_sent nodes w (Takes n number (Faulted event))
+compaction_first nodes w true (Takes n number (Rests rest)) = first_sent nodes w (Takes n number (Rests rest))
+compaction_first nodes w true (Takes n number Crashed) = refl
+compaction_first nodes w true (Takes n number (Recovered kept)) = first_sent nodes w (Takes n number (Recovered kept))
+compaction_first nodes w true (Takes n number MountFailed) = first_sent nodes w (Takes n number MountFailed)
+compaction_first nodes w true (Takes n number (RaiseFailed kept)) = first_sent nodes w (Takes n number (RaiseFailed kept))
+compaction_first nodes w true (Takes n number (RaiseRefused kept)) = first_sent nodes w (Takes n number (RaiseRefused kept))
+compaction_first nodes w true (Loses k) = first_sent nodes w (Loses k)
+compaction_first nodes w true (Cuts a b) = first_sent nodes w (Cuts a b)
+compaction_first nodes w true (Mends a b) = first_sent nodes w (Mends a b)
+compaction_first nodes w true (Denies why) = first_sent nodes w (Denies why)
+
+pub act_first : (nodes : ℕ) (w : World) (a : Act) (step : Step) → first_of (length w.net.sent) (told (act_outcome nodes w a step)) ≡ length w.net.sent
+act_first nodes w a step = compaction_first nodes w (is_compaction a) step
+
 -- the messages of a step are the last ones
 pub last_sent : (nodes : ℕ) (w : World) (step : Step) → drop (length w.net.sent) (world_after nodes w step).net.sent ≡ step_sent nodes w step
 last_sent nodes w step =
@@ -64,11 +87,11 @@ last_sent nodes w step =
 -- ---- one act further
 
 -- the line of the act, as its moment has it
-told_line : (nodes k : ℕ) (w : World) (a : Act) (step : Step) (new : Machine) (outcome : Outcome) → outcome ≡ told (outcome_of nodes w step) → StandsFor new (world_after nodes w step)
+told_line : (nodes k : ℕ) (w : World) (a : Act) (step : Step) (new : Machine) (outcome : Outcome) → outcome ≡ told (act_outcome nodes w a step) → StandsFor new (world_after nodes w step)
     → act_line k a outcome (drop (length w.net.sent) new.net.sent) ≡ act_line k a (told (moment_of nodes w a step).outcome) (moment_of nodes w a step).sent
 told_line nodes k w a step new outcome is_told stands =
     ap (λ (o : Outcome). act_line k a o (drop (length w.net.sent) new.net.sent)) is_told
-    ∙ ap (λ (sent : List Envelope). act_line k a (told (outcome_of nodes w step)) sent) (ap (λ (net : Network). drop (length w.net.sent) net.sent) stands.net ∙ last_sent nodes w step)
+    ∙ ap (λ (sent : List Envelope). act_line k a (told (act_outcome nodes w a step)) sent) (ap (λ (net : Network). drop (length w.net.sent) net.sent) stands.net ∙ last_sent nodes w step)
 
 numbered : (acts : List Act) (ms : List Moment) → map (λ (m : Moment). m.act) ms ≡ acts → length acts ≡ 0 + length ms
 numbered acts ms same = let count : length acts ≡ length ms = ap length (sym same) ∙ length-map ms (λ (m : Moment). m.act) in omega (arith, count)
@@ -76,7 +99,7 @@ numbered acts ms same = let count : length acts ≡ length ms = ap length (sym s
 -- the text has the line of one moment more
 lines_further : (nodes : ℕ) (w : World) (ms : List Moment) (old new : Machine) (acts : List Act) (a : Act) (outcome : Outcome) (step : Step) (text behind : List ℕ)
     → text ≡ act_lines 0 ms → map (λ (m : Moment). m.act) ms ≡ acts → old.net ≡ w.net
-    → outcome ≡ told (outcome_of nodes w step) → StandsFor new (world_after nodes w step)
+    → outcome ≡ told (act_outcome nodes w a step) → StandsFor new (world_after nodes w step)
     → behind ≡ text ++ act_line (length acts) a outcome (drop (length old.net.sent) new.net.sent)
     → behind ≡ act_lines 0 (ms ++ moment_of nodes w a step ∷ [])
 lines_further nodes w ms old new acts a outcome step text behind text_is acts_are net is_told stands added =
@@ -100,7 +123,7 @@ further grow nodes slots old new acts a outcome text behind so acted same added 
     let next : IsNext nodes slots w a act.step =
     subst (λ (n : ℕ). IsNext n slots w a act.step) so.count (subst (λ (k : ℕ). IsNext (length w.states) k w a act.step) (same ∙ so.slots_are) act.next) in
     let stands : StandsFor new (world_after nodes w act.step) = subst (λ (n : ℕ). StandsFor new (world_after n w act.step)) so.count act.stands in
-    let is_told : outcome ≡ told (outcome_of nodes w act.step) = act.is_told ∙ ap (λ (n : ℕ). told (outcome_of n w act.step)) so.count in
+    let is_told : outcome ≡ told (act_outcome nodes w a act.step) = act.is_told ∙ ap (λ (n : ℕ). told (act_outcome n w a act.step)) so.count in
     record {
       world = world_after nodes w act.step;
       report = grown nodes w a act.step so.report;
@@ -131,7 +154,7 @@ pub first_is : (old new : Machine) (w : World) (a : Act) (outcome : Outcome) →
 first_is old new w a outcome stands acted =
     let n = length w.states in
     subst (λ (k : ℕ). first_of k outcome ≡ k) (sent_before old w stands)
-    (ap (λ (o : Outcome). first_of (length w.net.sent) o) acted.is_told ∙ first_sent n w acted.step)
+    (ap (λ (o : Outcome). first_of (length w.net.sent) o) acted.is_told ∙ act_first n w a acted.step)
 
 pub world_kept : (old new : Machine) (w : World) (a : Act) (outcome : Outcome) → Acted w a outcome new → HasWorld new
 world_kept old new w a outcome acted = (world_after (length w.states) w acted.step, acted.stands)

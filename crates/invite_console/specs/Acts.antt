@@ -16,7 +16,7 @@ use Rattle.cluster_sim.specs.declared.outcome.Outcome.TheVariants.{Done, Refused
 use Rattle.cluster_sim.specs.declared.outcome.Refusal.{Refusal}
 use Rattle.cluster_sim.specs.declared.outcome.Refusal.TheVariants.{Node, Net, Stranger}
 use Rattle.cluster_sim.specs.Told.{told}
-use Rattle.cluster_sim.specs.Reporting.{Moment}
+use Rattle.runs.specs.Reporting.{Moment}
 
 abbrev pub message_text : ℕ → Envelope → List ℕ
 message_text number m = codes " " ++ decimal number ++ codes ":" ++ encode_lower (spelling m)
@@ -76,6 +76,7 @@ answer_text (act.Finish n origin id) answer = []
 answer_text (act.Arm n calls) answer = []
 answer_text (act.Crash n fill) answer = []
 answer_text (act.Recover n) answer = []
+answer_text (act.Compact n) answer = []
 
 -- what came of an act, and the messages that were sent in it
 abbrev pub outcome_text : Act → Outcome → List Envelope → List ℕ

@@ -11,7 +11,7 @@ use Rattle.node_core.specs.Effect.{Effect}
 use Rattle.node_core.specs.Effects.{effect_of}
 use Rattle.node_core.specs.Refusals.{refusal_of}
 use Rattle.node_core.specs.Start.{alone}
-use Rattle.invite_console.specs.Ends.{Outcome, line, refused, before}
+use Rattle.console_text.specs.Ends.{Outcome, line, refused, before}
 use Rattle.invite_console.specs.Lines.{over_hex_lines}
 
 -- the count of the group in which the node begins

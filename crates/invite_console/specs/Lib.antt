@@ -1,5 +1,3 @@
-pub mod Ends
-pub mod Input
 pub mod Lines
 pub mod Digits
 pub mod Answer

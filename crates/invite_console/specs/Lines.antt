@@ -1,7 +1,7 @@
 -- Hex lines, put together.
 use Rattle.std.specs.Prelude.{ℕ, ◌+◌, List, [], ◌∷◌, ◌++◌, Option, Some, None, Result, Ok, Err, codes, decimal}
 use Rattle.line_words.specs.Lines.{bytes_of, lines_of}
-use Rattle.invite_console.specs.Ends.{Outcome, refused}
+use Rattle.console_text.specs.Ends.{Outcome, refused}
 
 -- the bytes of a line of `answer` or `show`; an empty line has none
 abbrev pub line_bytes : List ℕ → Option (List ℕ)

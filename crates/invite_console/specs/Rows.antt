@@ -1,16 +1,16 @@
 -- A node's line in the table that ends a simulation.
-use Rattle.std.specs.Prelude.{◌≡◌, ℕ, List, [], ◌∷◌, ◌++◌, codes, decimal, map, Option, Some, None}
+use Rattle.std.specs.Prelude.{◌≡◌, ℕ, List, [], ◌∷◌, ◌++◌, codes, decimal, map}
 use Rattle.std.specs.List.Sorted.{IsPermutation, IsSorted}
 use Rattle.std.specs.Ordering.{nat_cmp, ordering_then}
 use Rattle.std.specs.declared.cmp.Ordering.{Ordering}
-use Rattle.group_task.specs.Assignment.{Assignment}
 use Rattle.job_model.specs.declared.job.Job.{Job}
 use Rattle.job_model.specs.Durable.{Durable}
 use Rattle.node_core.specs.declared.in_hand.InHand.{InHand}
 use Rattle.node_core.specs.declared.phase.Phase.{Phase}
 use Rattle.node_core.specs.declared.phase.Phase.TheVariants.{Down, Election, Reorganization, Normal}
 use Rattle.node_core.specs.State.{State}
-use Rattle.invite_console.specs.Ends.{line}
+use Rattle.node_core.specs.Words.{members_of}
+use Rattle.console_text.specs.Ends.{line}
 use Rattle.invite_console.specs.Show.{group_text, ids_text}
 
 abbrev pub phase_text : Phase → List ℕ
@@ -18,11 +18,6 @@ phase_text Down = codes "Down"
 phase_text Election = codes "Election"
 phase_text Reorganization = codes "Reorganization"
 phase_text Normal = codes "Normal"
-
--- the members of the task, if there is one
-abbrev pub members_of : Option Assignment → List ℕ
-members_of None = []
-members_of (Some task) = task.members
 
 -- jobs in hand, as the nodes that keep them and their ids there
 abbrev pub held_by : InHand → ℕ × ℕ

@@ -3,7 +3,7 @@ use Rattle.std.specs.Prelude.{◌≡◌, ℕ, List, ◌++◌, Bool, true, false}
 use Rattle.wire_msg.specs.Envelope.{Envelope}
 use Rattle.node_core.specs.State.{State}
 use Rattle.node_core.specs.Core.{Core}
-use Rattle.invite_console.specs.Ends.{Outcome, before}
+use Rattle.console_text.specs.Ends.{Outcome, before}
 use Rattle.invite_console.specs.Answer.{answers, delivery, message_lines}
 
 pub record Progress : Type 0 where

@@ -1,14 +1,14 @@
 -- The text of the command `show`.
 use Rattle.std.specs.Prelude.{ℕ, List, [], ◌∷◌, ◌++◌, codes, decimal, length, Bool, true, false, Option, Some, None, if◌then◌else◌, ◌==◌}
 use Rattle.std.specs.List.{flat_map}
-use Rattle.hex.specs.Hex.{encode_lower}
 use Rattle.group_task.specs.Group.{Group}
 use Rattle.group_task.specs.Assignment.{Assignment}
 use Rattle.wire_msg.specs.Envelope.{Envelope}
 use Rattle.wire_msg.specs.declared.body.Body.{Body}
 use Rattle.wire_msg.specs.declared.body.Body.TheVariants.{AreYouCoordinator, Coordinator, AreYouThere, Here, Invitation, Accept, Ready, ReadyAck, Work, Done}
 use Rattle.wire_msg.specs.Contents.{messages_in, unfinished_in}
-use Rattle.invite_console.specs.Ends.{Outcome, line, refused, before}
+use Rattle.console_text.specs.Ends.{Outcome, line, refused, before}
+use Rattle.console_text.specs.Words.{bytes_text}
 use Rattle.invite_console.specs.Lines.{over_hex_lines}
 
 abbrev pub truth_text : Bool → List ℕ
@@ -27,11 +27,6 @@ more_ids_text (id ∷ ids) = codes "," ++ decimal id ++ more_ids_text ids
 abbrev pub ids_text : List ℕ → List ℕ
 ids_text [] = codes "-"
 ids_text (id ∷ ids) = decimal id ++ more_ids_text ids
-
--- bytes as a word; a dash stands for none
-abbrev pub bytes_text : List ℕ → List ℕ
-bytes_text [] = codes "-"
-bytes_text (b ∷ bytes) = encode_lower (b ∷ bytes)
 
 abbrev pub task_text : Assignment → List ℕ
 task_text task = codes "Ready " ++ group_text task.group ++ codes " members " ++ ids_text task.members

@@ -1,14 +1,14 @@
 -- The text of the command `sim`.
 use Rattle.std.specs.Prelude.{◌≡◌, ℕ, ◌+◌, List, [], ◌∷◌, ◌++◌, codes, decimal, length, Bool, true, false, Result, Ok, Err}
 use Rattle.node_core.specs.State.{is_down}
-use Rattle.durable_node.specs.NodeState.{NodeState}
+use Rattle.histories.specs.NodeState.{NodeState}
 use Rattle.schedule.specs.declared.act.Act.{Act}
 use Rattle.schedule.specs.Text.{Plan, plan_of}
-use Rattle.cluster_sim.specs.World.{World}
-use Rattle.cluster_sim.specs.Reporting.{Report}
-use Rattle.cluster_sim.specs.Growth.{IsLeft, acts_in}
+use Rattle.runs.specs.World.{World}
+use Rattle.runs.specs.Reporting.{Report}
+use Rattle.runs.specs.Growth.{IsLeft, acts_in}
 use Rattle.cluster_sim.specs.Machine.{Machine, StandsFor}
-use Rattle.invite_console.specs.Ends.{Outcome, line, refused}
+use Rattle.console_text.specs.Ends.{Outcome, line, refused}
 use Rattle.invite_console.specs.Acts.{act_lines}
 use Rattle.invite_console.specs.Rows.{HasRow, down_row}
 

@@ -3,8 +3,8 @@
 ghost use Rattle.std.specs.Prelude.{◌≡◌, ◌++◌, ◌<◌, ◌≤◌, IfOk, IfSome, IsOk, OnOk, codes, decimal, drop, length, slice_get};
 ghost use Rattle.invite_console.specs.Acts.{act_line, answer_text, core_name, fault_name, first_of, message_text, net_name, outcome_text, refusal_name, sent_text};
 
-use crate::words::{push_hex, push_number, push_text};
 use cluster_sim::{Outcome, Refusal};
+use console_text::{push_hex, push_number, push_text};
 use durable_node::NodeFault;
 use message_list::MessageList;
 use node_core::CoreFault;

@@ -4,15 +4,13 @@ ghost use Rattle.wire_msg.specs.Envelope.{Envelope};
 ghost use Rattle.node_core.specs.declared.event.Event.TheVariants.{Deliver};
 ghost use Rattle.node_core.specs.Start.{alone};
 ghost use Rattle.node_core.specs.Wants.{wants_of};
-ghost use Rattle.invite_console.specs.Ends.{outcome_of, IsFixed, Prints};
+ghost use Rattle.console_text.specs.Ends.{outcome_of, IsFixed, Prints};
 ghost use Rattle.invite_console.specs.Answer.{answer_text, answers_to, first_count, state_after};
 
 use crate::batches::{PIECE, next_batch};
-use crate::ends::{Ending, Printout, Trouble};
-use crate::input::read_input;
-use crate::lines::{bad_line, hex_lines};
-use crate::printing::print;
+use crate::lines::hex_lines;
 use crate::session::Session;
+use console_text::{Ending, Printout, Trouble, bad_line, print, read_input};
 use group_task::NodeId;
 use line_words::LineFault;
 use std::alloc::{AllocError, Global};

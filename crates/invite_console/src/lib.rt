@@ -9,11 +9,7 @@ mod acts;
 mod answers;
 mod batches;
 mod digits;
-mod ends;
-mod input;
 mod lines;
-mod printing;
-mod reads;
 mod rows;
 mod session;
 mod showing;
@@ -21,9 +17,7 @@ mod simulating;
 mod words;
 
 pub use answers::{answer, needs_no_disk};
-pub use ends::{Ending, Trouble};
-pub use input::{MAX_READS, read_input, read_within};
-pub use reads::Reads;
+pub use console_text::Ending;
 pub use showing::show;
 pub use simulating::sim;
 

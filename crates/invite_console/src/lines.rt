@@ -1,12 +1,9 @@
-ghost use Rattle.std.specs.Prelude.{◌≡◌, ◌++◌, IfOk, IfErr, OnOk, MatchOption, Some, Ok, false, true, option_map, codes, decimal};
+ghost use Rattle.std.specs.Prelude.{◌≡◌, ◌++◌, IfOk, IfErr, OnOk, MatchOption, Some, Ok, false, true, option_map};
 ghost use Rattle.invite_console.specs.Digits.{AreValues};
-ghost use Rattle.invite_console.specs.Ends.{outcome_of, refused};
 ghost use Rattle.line_words.specs.Lines.{bytes_of, IsFaultAt, IsLineFault};
 ghost use Rattle.invite_console.specs.Lines.{line_bytes, hex_lines_of};
 
 use crate::digits::{decode_pairs, digit_values};
-use crate::ends::Printout;
-use crate::words::{push_number, push_text};
 use line_words::{LineFault, cut_line};
 use std::alloc::{AllocError, Global};
 
@@ -69,15 +66,4 @@ pub(crate) fn hex_lines(alloc: Global, input: &[u8]) -> Result<Vec<u8>, LineFaul
     }
     push_line(&values, &mut bytes, number, left)?;
     Ok(bytes)
-}
-
-/// What a command prints where the line of this number can't be read.
-pub(crate) fn bad_line(alloc: Global, number: u64) -> Result<Printout, AllocError>
-    ensures { IfOk result (λ printout. outcome_of printout ≡ refused (codes "bad line " ++ decimal number)) }
-{
-    let mut text = Vec::new(alloc);
-    push_text(&mut text, "bad line ")?;
-    push_number(&mut text, number)?;
-    push_text(&mut text, "\n")?;
-    Ok(Printout { text, good: false })
 }

@@ -5,13 +5,14 @@ ghost use Rattle.job_model.specs.Table.{durable_of};
 ghost use Rattle.node_core.specs.State.{state_of};
 ghost use Rattle.sector_disk.specs.Memory.{state_of as disk_state};
 ghost use Rattle.durable_node.specs.Node.{Stands};
-ghost use Rattle.durable_node.specs.NodeState.{NodeState};
+ghost use Rattle.histories.specs.NodeState.{NodeState};
 ghost use Rattle.invite_console.specs.Sim.{AddsRow};
-ghost use Rattle.invite_console.specs.Ends.{line};
+ghost use Rattle.console_text.specs.Ends.{line};
 ghost use Rattle.invite_console.specs.Show.{ids_text};
 ghost use Rattle.invite_console.specs.Rows.{down_row, group_part, head_text, job_ids, jobs_part, pair_text, pairs_text, phase_text, sets_part, up_row, AreHeld, HasRow};
 
-use crate::words::{push_group, push_ids, push_number, push_text};
+use crate::words::{push_group, push_ids};
+use console_text::{push_number, push_text};
 use durable_node::DurableNode;
 use group_task::{Members, NodeId};
 use job_model::{Job, JobTable};

@@ -4,7 +4,17 @@ use std::alloc::Global;
 use std::process::Abort;
 use std::test::Fail;
 
-const SCHEDULES: [(&str, &str); 18] = [
+const SCHEDULES: [(&str, &str); 20] = [
+    // compacted_ten_times
+    (
+        "cluster 1 4\n\ncompact 0\ncompact 0\ncompact 0\ncompact 0\ncompact 0\ncompact 0\ncompact 0\ncompact 0\ncompact 0\ncompact 0\nsubmit 0 0 61\n",
+        "0 ok\n1 ok\n2 ok\n3 ok\n4 ok\n5 ok\n6 ok\n7 ok\n8 ok\n9 ok\n10 ok id 0\nnode 0 Normal coord 0 group 0:1 up - members 0 count 1 pending 0 hand 0:0\n",
+    ),
+    // compaction_refused
+    (
+        "cluster 2 4\n\nsubmit 0 0 61\ncompact 0\n\ncrash 0\ncompact 0\ncompact 2\ncompact 63\n\nrecover 0\ncompact 0\n",
+        "0 ok id 0\n1 ok\n2 ok\n3 refused Down\n4 refused Stranger\n5 refused Stranger\n6 ok\n7 ok\nnode 0 Normal coord 0 group 0:2 up - members 0 count 2 pending 0 hand -\nnode 1 Normal coord 1 group 1:1 up - members 1 count 1 pending - hand -\n",
+    ),
     // coordinator_dies
     (
         "cluster 3 8\n\ncheck 0\ndeliver 0\ndeliver 1\ndeliver 2\ndeliver 3\n\nmerge 0\ndeliver 4\ndeliver 5\ndeliver 6\ndeliver 7\n\naccept 0\ndeliver 8\ndeliver 9\ndeliver 10\ndeliver 11\n\ncrash 0\ncoord 1\ndeliver 12\ncoord 1\ncoord 2\ncoord 2\n\ncheck 1\ndeliver 15\ndeliver 16\nmerge 1\ndeliver 17\ndeliver 18\naccept 1\ndeliver 19\ndeliver 20\n\nrecover 0\n",
@@ -13,7 +23,7 @@ const SCHEDULES: [(&str, &str); 18] = [
     // full_journal
     (
         "cluster 1 4\n\nsubmit 0 0 61\nsubmit 0 0 62\nsubmit 0 0 63\nfinish 0 0 0\nsubmit 0 0 64\nfinish 0 0 1\n",
-        "0 ok id 0\n1 ok id 1\n2 refused Full\n3 ok\n4 ok id 2\n5 refused Full\nnode 0 Normal coord 0 group 0:1 up - members 0 count 1 pending 1,2 hand 0:1,0:2\n",
+        "0 ok id 0\n1 ok id 1\n2 refused Full\n3 ok\n4 ok id 2\n5 ok\nnode 0 Normal coord 0 group 0:1 up - members 0 count 1 pending 2 hand 0:2\n",
     ),
     // job_outlives_two_crashes
     (
@@ -143,4 +153,46 @@ fn lines_that_cannot_be_read(rt: HostRuntime) -> Result<(), Fail> {
 fn acts_outside_the_cluster(rt: HostRuntime) -> Result<(), Fail> {
     check(&rt, rt.alloc(), REFUSED.0, REFUSED.1, 0);
     Ok(())
+}
+
+/// A full journal, of which the last act compacts. It is cut off after so many device calls, and the node recovers after a
+/// crash with this fill.
+fn cut_compaction(alloc: Global, calls: u8, fill: &str) -> Result<String, Fail> {
+    Ok(format!(in alloc;
+        "cluster 1 4\nsubmit 0 0 61\nsubmit 0 0 62\nsubmit 0 0 63\nfinish 0 0 0\nsubmit 0 0 64\narm 0 {calls}\nfinish 0 0 1\ncrash 0{fill}\nrecover 0\n"
+    )?)
+}
+
+/// What is printed then.
+fn cut_output(alloc: Global, act: &str, pending: &str) -> Result<String, Fail> {
+    Ok(format!(in alloc;
+        "0 ok id 0\n1 ok id 1\n2 refused Full\n3 ok\n4 ok id 2\n5 ok\n6 {act}\n7 ok\n8 ok\nnode 0 Normal coord 0 group 0:2 up - members 0 count 2 pending {pending} hand -\n"
+    )?)
+}
+
+fn check_cut(
+    rt: &impl Abort,
+    alloc: Global,
+    calls: u8,
+    fill: &str,
+    act: &str,
+    pending: &str,
+) -> Result<(), Fail> {
+    let input = cut_compaction(alloc, calls, fill)?;
+    let want = cut_output(alloc, act, pending)?;
+    check(rt, alloc, input.as_str(), want.as_str(), 0);
+    Ok(())
+}
+
+/// 8 calls to unseal, 6 to fill, 6 to seal, 4 to raise the area cell and 4 for the job that is done. Only a gate of that
+/// last record that is torn shut keeps it.
+#[test]
+fn stops_in_a_compaction(rt: HostRuntime) -> Result<(), Fail> {
+    for calls in 0..28 {
+        check_cut(&rt, rt.alloc(), calls, "", "fault Device", "1,2")?;
+        let pending = if calls < 26 { "1,2" } else { "2" };
+        check_cut(&rt, rt.alloc(), calls, " a5", "fault Device", pending)?;
+    }
+    check_cut(&rt, rt.alloc(), 28, "", "ok", "2")?;
+    check_cut(&rt, rt.alloc(), 28, " a5", "ok", "2")
 }

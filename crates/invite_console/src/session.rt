@@ -3,13 +3,12 @@ ghost use Rattle.group_task.specs.declared.node.TheConstants.{NODES};
 ghost use Rattle.node_core.specs.Start.{alone};
 ghost use Rattle.hex.specs.Hex.{encode_lower};
 ghost use Rattle.wire_msg.specs.Spelling.{spelling};
-ghost use Rattle.invite_console.specs.Ends.{line, outcome_of};
+ghost use Rattle.console_text.specs.Ends.{line, outcome_of};
 ghost use Rattle.invite_console.specs.Answer.{is_strange, message_lines};
 ghost use Rattle.invite_console.specs.Session.{after_message, Delivers, SameButRoom, TakesAll};
 ghost use Rattle.node_core.specs.Quiet.{IsQuiet};
 
-use crate::ends::Printout;
-use crate::words::{push_hex, push_text};
+use console_text::{Printout, push_hex, push_text};
 use group_task::NodeId;
 use job_model::JobTable;
 use node_core::{CoreFault, NodeCore};

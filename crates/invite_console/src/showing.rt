@@ -1,13 +1,13 @@
 ghost use Rattle.std.specs.Prelude.{◌≡◌, ◌++◌, IfOk, OnOk, codes};
-ghost use Rattle.invite_console.specs.Ends.{line, outcome_of, IsFixed, Prints};
+ghost use Rattle.console_text.specs.Ends.{line, outcome_of, IsFixed, Prints};
 ghost use Rattle.invite_console.specs.Show.{body_text, group_text, message_text, rest_text, shown, shown_of, show_text, task_text, truth_text, work_text};
 
 use crate::batches::{PIECE, next_batch};
-use crate::ends::{Ending, Printout, Trouble};
-use crate::input::read_input;
-use crate::lines::{bad_line, hex_lines};
-use crate::printing::print;
-use crate::words::{push_bytes_text, push_group, push_ids, push_number, push_text, push_truth};
+use crate::lines::hex_lines;
+use crate::words::{push_group, push_ids, push_truth};
+use console_text::{
+    Ending, Printout, Trouble, bad_line, print, push_bytes_text, push_number, push_text, read_input,
+};
 use group_task::{GroupNo, Task};
 use job_model::{Payload, Queue};
 use line_words::LineFault;

@@ -4,19 +4,17 @@ ghost use Rattle.std.specs.Prelude.{◌≡◌, ◌≤◌, ◌++◌, [], ◌∷�
 ghost use Rattle.group_task.specs.declared.node.TheConstants.{NODES};
 ghost use Rattle.schedule.specs.declared.act.Act.{Act as ActValue};
 ghost use Rattle.cluster_sim.specs.Machine.{StandsFor};
-ghost use Rattle.cluster_sim.specs.World.{World};
-ghost use Rattle.invite_console.specs.Ends.{outcome_of, Prints};
+ghost use Rattle.runs.specs.World.{World};
+ghost use Rattle.console_text.specs.Ends.{outcome_of, Prints};
 ghost use Rattle.invite_console.specs.Sim.{AddsRows, HasWorld, IsSimulation, IsSoFar, TellsRun};
 
 use crate::acts::push_done;
-use crate::ends::{Ending, Printout, Trouble};
-use crate::input::read_input;
-use crate::lines::bad_line;
-use crate::printing::print;
 use crate::rows::push_row;
-use cluster_sim::{Simulation, left_by_a_run};
+use cluster_sim::Simulation;
+use console_text::{Ending, Printout, Trouble, bad_line, print, read_input};
 use group_task::NodeId;
 use line_words::LineFault;
+use runs::left_by_a_run;
 use schedule::{Act, Schedule, read_schedule};
 use std::alloc::{AllocError, Global};
 use std::io::{Read, Write};

@@ -1,4 +1,5 @@
-use super::{Ending, MAX_READS, answer, show};
+use super::{answer, show};
+use console_text::{Ending, MAX_READS};
 use group_task::{NODES, NodeId};
 use std::alloc::Global;
 use std::io;

@@ -1,5 +1,5 @@
 -- What an append leaves of the journal.
-use Rattle.std.proofs.Common.{◌≡◌, ◌≢◌, ◌+◌, ◌*◌, ◌<◌, ◌≤◌, ◌⊎◌, inl, inr, ⊎_elim, ℕ, List, [], ◌∷◌, ◌++◌, length, Bool, true, false, not, ◌==◌, ◌&&◌, nat_le, Option, Some, None, is_some, sym, ◌∙◌, ap, subst, refl, arith, if◌then◌else◌}
+use Rattle.std.proofs.Common.{◌≡◌, ◌+◌, ◌*◌, ◌<◌, ◌≤◌, ◌⊎◌, inl, inr, ⊎_elim, ℕ, List, [], ◌∷◌, ◌++◌, length, Bool, true, false, not, ◌==◌, ◌&&◌, nat_le, Some, None, is_some, sym, ◌∙◌, ap, subst, refl, arith, if◌then◌else◌}
 use Rattle.std.proofs.lemmas.Bool.Decides.{nat_tests}
 use Rattle.std.proofs.lemmas.List.{length-append}
 use Rattle.std.proofs.lemmas.List.Sums.{length-filter, count_by-le-length}
@@ -22,44 +22,9 @@ use Rattle.job_journal.specs.declared.place.Place.TheVariants.{Running}
 use Rattle.job_journal.specs.Areas.{slots_from, sealed_prefix, IsPrefix}
 use Rattle.job_journal.specs.Journal.{IsSoundImage, InJournal}
 use Rattle.job_journal.specs.Mounted.{JournalState, Holds, AllHold, IsJournal, first_sector, next_slot}
-use Rattle.job_journal.specs.Appending.{BeforeOrAfter, appended, is_full, refusal, record_for}
-use Rattle.job_journal.specs.declared.fault.JournalFault.{JournalFault}
-use Rattle.job_journal.specs.declared.fault.JournalFault.TheVariants.{Broken, NoSuchJob, Exhausted, Full}
+use Rattle.job_journal.specs.Appending.{Admitted, BeforeOrAfter, appended, is_full, record_for}
 use Rattle.job_journal.proofs.Frames.{first_within, jobs_are, sound_of_prefix, prefix_of_sound}
 use Rattle.job_journal.proofs.Prefixes.{put_in, size, put_none, put_some, length_slots, nth, nth_size, nth_slots, slot_kept, slots_put, replayed_more}
-
-abbrev refused_by : Bool → Bool → Bool → Bool → Bool → Option JournalFault
-refused_by broken unknown out full used =
-    if broken then Some Broken else (if unknown then Some NoSuchJob else (if out then Some Exhausted else (if full then Some Full else (if used then Some Full else None))))
-
-record NoneOf (a b c d e : Bool) : Type 0 where
-  pub broken : a ≡ false
-  pub unknown : b ≡ false
-  pub out : c ≡ false
-  pub full : d ≡ false
-  pub used : e ≡ false
-
-none_of : (a b c d e : Bool) → refused_by a b c d e ≡ None → NoneOf a b c d e
-none_of false false false false false h = record { broken = refl; unknown = refl; out = refl; full = refl; used = refl }
-none_of false false false false true h = cc
-none_of false false false true e h = cc
-none_of false false true d e h = cc
-none_of false true c d e h = cc
-none_of true b c d e h = cc
-
--- a command that isn't refused finds a slot and is allowed
-pub record Admitted (journal : JournalState) (command : Command) : Type 0 where
-  pub known : is_unknown (jobs_of journal.table) command ≡ false
-  pub ids : is_out_of_ids (jobs_of journal.table) command ≡ false
-  pub fits : is_full journal.slots (jobs_of journal.table) command ≡ false
-  pub free : journal.used < journal.slots
-
-pub admitted : (journal : JournalState) (command : Command) → IsJournal journal → refusal journal command ≡ None → Admitted journal command
-admitted journal command is none =
-    let jobs = jobs_of journal.table in
-    let h = none_of journal.broken (is_unknown jobs command) (is_out_of_ids jobs command) (is_full journal.slots jobs command) (journal.used == journal.slots) none in
-    let other : journal.used ≢ journal.slots = grind (arith, nat_tests, h.used) in
-    record { known = h.unknown; ids = h.out; fits = h.full; free = grind (arith, other, is.used) }
 
 without_less : (id : ℕ) (jobs : List Job) → length (without_job jobs id) ≤ length jobs
 without_less id jobs =
@@ -74,7 +39,7 @@ leaves_room slots jobs (Put queue payload) less fits =
     omega (arith, few, length-append jobs.pending (record { id = jobs.next; queue = queue; payload = payload } ∷ []))
 leaves_room slots jobs (Done id) less fits = omega (arith, less, without_less id jobs.pending)
 
-room_for : (slots : ℕ) (reading : Reading) → length reading.jobs.pending + 2 ≤ slots → fitting slots (Some reading) ≡ Some reading
+pub room_for : (slots : ℕ) (reading : Reading) → length reading.jobs.pending + 2 ≤ slots → fitting slots (Some reading) ≡ Some reading
 room_for slots reading less =
     let is : nat_le (length reading.jobs.pending + 2) slots ≡ true = grind (arith, nat_tests, less) in
     ap (λ b. if b then Some reading else None) is
@@ -196,6 +161,7 @@ appended_is journal command is can = record {
   present = is.present;
   room = is.room;
   pending = leaves_room journal.slots (jobs_of journal.table) command is.pending can.fits;
+  whole = is.whole;
 }
 
 -- each image of a sound disk
@@ -203,12 +169,11 @@ alone_of : (journal : JournalState) (old : DiskState) (d : Image) → AllHold jo
 alone_of journal old d all sound image = record { holds = all d image; prefix = prefix_of_sound journal d (all d image) (sound d image) }
 
 -- an image of the time while the slot is stored
-append_step : (journal : JournalState) (command : Command) (content : List ℕ) (old new : DiskState) → IsJournal journal → refusal journal command ≡ None
+append_step : (journal : JournalState) (command : Command) (content : List ℕ) (old new : DiskState) → IsJournal journal → Admitted journal command
     → record_of content ≡ Some (record_for (jobs_of journal.table) command) → AllHold journal old → ((d : Image) → IsImage old d → IsSoundImage journal.slots d)
     → (Knows old (next_slot journal) false → Each old new (Follows (InSlot (next_slot journal)) old (next_slot journal) (IsStored content)))
     → Each old new (λ c. HoldsAlone journal c ⊎ HoldsAlone (appended journal command) c)
-append_step journal command content old new is none written all sound images c since =
-    let can = admitted journal command is none in
+append_step journal command content old new is can written all sound images c since =
     let f = images (λ d image. ap is_some (next_unsealed journal d can.free (all d image))) c since in
     let h = alone_of journal old f.from all sound f.image in
     let still : slot_at c (next_slot journal) ≡ None → HoldsAlone journal c ⊎ HoldsAlone (appended journal command) c =
@@ -220,39 +185,38 @@ append_step journal command content old new is none written all sound images c s
     f.step
 
 -- in each image while the slot is stored
-pub append_images : (journal : JournalState) (command : Command) (content : List ℕ) (old new : DiskState) → IsJournal journal → refusal journal command ≡ None
+pub append_images : (journal : JournalState) (command : Command) (content : List ℕ) (old new : DiskState) → IsJournal journal → Admitted journal command
     → record_of content ≡ Some (record_for (jobs_of journal.table) command) → AllHold journal old → ((d : Image) → IsImage old d → IsSoundImage journal.slots d)
     → (Knows old (next_slot journal) false → Each old new (Follows (InSlot (next_slot journal)) old (next_slot journal) (IsStored content)))
     → Each old new (BeforeOrAfter journal command)
-append_images journal command content old new is none written all sound images c since =
+append_images journal command content old new is can written all sound images c since =
     ⊎_elim (λ was. inl (jobs_are journal c was.holds)) (λ now. inr (jobs_are (appended journal command) c now.holds))
-    (append_step journal command content old new is none written all sound images c since)
+    (append_step journal command content old new is can written all sound images c since)
 
-pub append_sound : (journal : JournalState) (command : Command) (content : List ℕ) (old new : DiskState) → IsJournal journal → refusal journal command ≡ None
+pub append_sound : (journal : JournalState) (command : Command) (content : List ℕ) (old new : DiskState) → IsJournal journal → Admitted journal command
     → record_of content ≡ Some (record_for (jobs_of journal.table) command) → AllHold journal old → ((d : Image) → IsImage old d → IsSoundImage journal.slots d)
     → (Knows old (next_slot journal) false → Each old new (Follows (InSlot (next_slot journal)) old (next_slot journal) (IsStored content)))
     → Each old new (IsSoundImage journal.slots)
-append_sound journal command content old new is none written all sound images c since =
+append_sound journal command content old new is can written all sound images c since =
     ⊎_elim (λ was. sound_of_prefix journal c was.holds was.prefix) (λ now. sound_of_prefix (appended journal command) c now.holds now.prefix)
-    (append_step journal command content old new is none written all sound images c since)
+    (append_step journal command content old new is can written all sound images c since)
 
 -- once all of it is synced
-pub append_after : (journal : JournalState) (command : Command) (content : List ℕ) (old new : DiskState) → IsJournal journal → refusal journal command ≡ None
+pub append_after : (journal : JournalState) (command : Command) (content : List ℕ) (old new : DiskState) → IsJournal journal → Admitted journal command
     → record_of content ≡ Some (record_for (jobs_of journal.table) command) → AllHold journal old → ((d : Image) → IsImage old d → IsSoundImage journal.slots d)
     → Run (InSlot (next_slot journal)) old new → AllSettled new → slot_at new.contents (next_slot journal) ≡ Some content
     → AllHold (appended journal command) new
-append_after journal command content old new is none written all sound run settled sealed c image =
+append_after journal command content old new is can written all sound run settled sealed c image =
     let slot = next_slot journal in
     let f = run.follows c (run.ends c image) in
-    let now = holds_more journal command content f.0 c is (admitted journal command is none) written (alone_of journal old f.0 all sound f.1) f.2
+    let now = holds_more journal command content f.0 c is can written (alone_of journal old f.0 all sound f.1) f.2
     (slot_same c new.contents slot (image.same (slot + 1) (settled (slot + 1))) (image.same slot (settled slot)) ∙ sealed) in
     now.holds
 
 -- the slot lies in the journal
-pub append_run : (journal : JournalState) (command : Command) (old new : DiskState) → IsJournal journal → refusal journal command ≡ None
+pub append_run : (journal : JournalState) (command : Command) (old new : DiskState) → IsJournal journal → Admitted journal command
     → Run (InSlot (next_slot journal)) old new → Run (InJournal journal.slots) old new
-append_run journal command old new is none run =
-    let can = admitted journal command is none in
+append_run journal command old new is can run =
     let w = first_within journal in
     run_widen (InSlot (next_slot journal)) (InJournal journal.slots) old new
     (λ at in_slot. ⊎_elim (λ e. (omega (arith, w.0, e), omega (arith, w.1, e, can.free))) (λ e. (omega (arith, w.0, e), omega (arith, w.1, e, can.free))) in_slot)

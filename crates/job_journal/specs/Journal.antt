@@ -1,5 +1,5 @@
 -- What an image stands for as a journal of jobs.
-use Rattle.std.specs.Prelude.{◌<◌, ◌≤◌, ℕ, ◌+◌, ◌*◌, Bool, false, List, Option, Some, None, is_none, if◌then◌else◌, IsTrue}
+use Rattle.std.specs.Prelude.{◌≡◌, ◌<◌, ◌≤◌, ℕ, ◌+◌, ◌*◌, Bool, false, List, Option, Some, None, is_none, if◌then◌else◌, IsTrue}
 use Rattle.sector_disk.specs.Disk.{Image, DiskState, IsImage}
 use Rattle.slot_gate.specs.Slot.{slot_at}
 use Rattle.safe_cell.specs.Body.{body_value}
@@ -58,6 +58,7 @@ IsSound slots disk = IsTrue disk.honest → (image : Image) → IsImage disk ima
 abbrev pub InJournal : ℕ → ℕ → Type 0
 InJournal slots at = (4 ≤ at) × (at < 8 + 4 * slots)
 
--- the sectors of so many slots from the first area on
-abbrev pub InAreas : ℕ → ℕ → Type 0
-InAreas slots at = (8 ≤ at) × (at < 8 + 2 * slots)
+-- the journal of an image is as a format leaves it: the area cell has the value 1, and no gate of either area is sealed
+pub record IsFormatted (slots : ℕ) (image : Image) : Type 0 where
+  pub area : cell_at image 4 ≡ Some 1
+  pub unsealed : (k : ℕ) → k < 2 * slots → slot_at image (8 + 2 * k) ≡ None

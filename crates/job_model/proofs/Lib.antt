@@ -1,3 +1,4 @@
 pub mod OrderLaws
+pub mod Places
 pub mod RecordBytes
 pub mod RecordSectors

@@ -1,5 +1,5 @@
 -- What contracts see of a table of jobs.
-use Rattle.std.specs.Prelude.{ℕ, ◌≡◌, ◌<◌, ◌-◌, ◌^◌, true, List, length}
+use Rattle.std.specs.Prelude.{ℕ, ◌≡◌, ◌<◌, ◌≤◌, ◌-◌, ◌*◌, ◌^◌, true, List, length, drop}
 use Rattle.job_model.specs.declared.job.Job.{Job}
 use Rattle.job_model.specs.declared.command.Command.{Command as Given}
 use Rattle.job_model.specs.declared.command.Command.TheVariants.{Put as GivenPut, Done as GivenDone}
@@ -31,3 +31,9 @@ CanApply table (GivenDone id) = is_pending table.pending id ≡ true
 -- a job of this id stands after those that are pending, and below the next one
 abbrev pub CanKeep : Table → ℕ → Type 0
 CanKeep table id = IsInOrder table.pending id × (id < table.next)
+
+-- The jobs stand in order in the places from start on, and there are twice as many places as there is room for jobs.
+pub record HasPlaces (next room : ℕ) (places : List Job) (capacity start : ℕ) : Type 0 where
+  pub within : start ≤ length places
+  pub in_order : IsInOrder (drop start places) next
+  pub twice : capacity ≡ 2 * room

@@ -6,6 +6,7 @@
 
 mod command;
 mod job;
+mod laws;
 mod payload;
 mod queue;
 mod record;
@@ -15,6 +16,7 @@ mod tests;
 
 pub use command::Command;
 pub use job::Job;
+pub use laws::limits;
 pub use payload::{PAYLOAD_CAPACITY, Payload};
 pub use queue::{QUEUES, Queue};
 pub use record::{Record, one_sector};

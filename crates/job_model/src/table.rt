@@ -1,4 +1,4 @@
-ghost use Rattle.std.specs.Prelude.{◌≡◌, ℕ, ◌+◌, ◌-◌, ◌^◌, ◌<◌, ◌≤◌, ◌↔◌, List, [], ◌∷◌, ◌++◌, length, true, IsTrue, IfOk, vec_capacity};
+ghost use Rattle.std.specs.Prelude.{◌≡◌, ℕ, ◌+◌, ◌-◌, ◌^◌, ◌<◌, ◌≤◌, ◌↔◌, List, [], ◌∷◌, ◌++◌, length, take, drop, true, false, is_some, IsTrue, IfOk, IfSome, IfNone, vec_capacity};
 ghost use Rattle.job_model.specs.Answer.{answer_of};
 ghost use Rattle.job_model.specs.Fold.{after_command, is_pending, without_job};
 ghost use Rattle.job_model.specs.Order.{IsInOrder};
@@ -13,24 +13,28 @@ use std::marker::Model;
 
 /// The jobs that are pending, in order of id, and the id of the next one.
 ///
-/// Ids begin at 0 and rise by one with each job that is put, so none ever comes again; the
-/// greatest is 18446744073709551614. No call but [`JobTable::with_room`] takes memory.
+/// Ids begin at 0 and rise by one with each job that is put, so none ever comes again, unless
+/// [`JobTable::restart`] begins anew; the greatest is 18446744073709551614. No call but [`JobTable::with_room`] takes memory, which is for twice
+/// as many jobs as there is room for: so a job at the front is taken out as fast as one at the end, and each
+/// job that is put pays for at most one move to the front.
 #[derive(Drop)]
 pub struct JobTable {
     next: u64,
-    pending: Vec<Job>,
+    room: usize,
+    // The jobs stand in these places from `start` on; what is before it is done.
+    places: Vec<Job>,
+    start: usize,
 }
 
 impl Model for JobTable {
-    ghost use Rattle.std.specs.Prelude.{vec_capacity};
-    ghost use Rattle.job_model.specs.Order.{IsInOrder};
-    ghost use Rattle.job_model.specs.Table.{Table};
+    ghost use Rattle.std.specs.Prelude.{drop, vec_capacity};
+    ghost use Rattle.job_model.specs.Table.{Table, HasPlaces};
 
     ghost Value = { Table };
 
-    ghost view = { λ a. record { next = a.next; pending = a.pending.items; room = vec_capacity a.pending } };
+    ghost view = { λ a. record { next = a.next; pending = drop a.start a.places.items; room = a.room } };
 
-    ghost invariant = { λ a. IsInOrder a.pending.items a.next };
+    ghost invariant = { λ a. HasPlaces a.next a.room a.places.items (vec_capacity a.places) a.start };
 }
 
 impl JobTable {
@@ -38,9 +42,14 @@ impl JobTable {
     pub fn with_room(alloc: Global, room: usize) -> Result<JobTable, AllocError>
         ensures { IfOk result (λ table. table ≡ record { next = 0; pending = []; room = room }) }
     {
+        let Some(places) = room.checked_mul(2) else {
+            return Err(AllocError);
+        };
         Ok(JobTable {
             next: 0,
-            pending: Vec::with_capacity(alloc, room)?,
+            room,
+            places: Vec::with_capacity(alloc, places)?,
+            start: 0,
         })
     }
 
@@ -59,14 +68,14 @@ impl JobTable {
         ensures value { result.now ≡ self.now.pending }
         ensures in_order { IsInOrder self.now.pending self.now.next }
     {
-        &self.pending
+        &self.places[self.start..]
     }
 
     /// Whether a job of this id is pending.
     pub fn contains(&self, id: u64) -> bool
         ensures { result ≡ is_pending self.now.pending id }
     {
-        self.pending.iter().any(|job| job.id == id)
+        place_of(self.pending(), self.next, id).is_some()
     }
 
     /// Whether [`JobTable::apply`] takes the command: a job finds room and an id, or is pending.
@@ -74,10 +83,16 @@ impl JobTable {
         ensures { IsTrue result ↔ CanApply self.now command.now }
     {
         match command {
-            Command::Put(..) => self.pending.len() < self.pending.capacity()
-                && self.next < u64::MAX,
+            Command::Put(..) => self.has_room() && self.next < u64::MAX,
             Command::Done(id) => self.contains(*id),
         }
+    }
+
+    /// Whether there is room for one job more.
+    pub fn has_room(&self) -> bool
+        ensures { IsTrue result ↔ (length self.now.pending < self.now.room) }
+    {
+        self.pending().len() < self.room
     }
 
     /// Applies a command in the room that is there, and gives the id that it makes or ends.
@@ -104,7 +119,8 @@ impl JobTable {
     pub fn restart(&mut self, next: u64)
         ensures { self.new ≡ record { next = next; pending = []; room = self.old.room } }
     {
-        self.pending.clear();
+        self.places.clear();
+        self.start = 0;
         self.next = next;
     }
 
@@ -113,16 +129,18 @@ impl JobTable {
     pub fn can_keep(&self, id: u64) -> bool
         ensures { IsTrue result ↔ CanKeep self.now id }
     {
-        id < self.next && is_above(&self.pending, self.next, id)
+        id < self.next && is_above(self.pending(), self.next, id)
     }
 
-    /// Takes over a job that compaction kept, under its old id, in the room that is there.
+    /// Takes over a job that compaction kept, under its old id, in the room that is there: ask
+    /// [`JobTable::has_room`] and [`JobTable::can_keep`] first.
     pub fn keep(&mut self, job: Job)
         requires room { length self.old.pending < self.old.room }
         requires in_order { CanKeep self.old job.id }
         ensures { self.new ≡ record self.old { pending = self.old.pending ++ job ∷ [] } }
     {
-        self.pending.push_reserved(job);
+        make_place(&mut self.places, &mut self.start);
+        self.places.push_reserved(job);
     }
 
     // Makes a job pending, and gives its id.
@@ -133,7 +151,8 @@ impl JobTable {
         ensures table { self.new ≡ record self.old { next = self.old.next + 1; pending = self.old.pending ++ (record { id = self.old.next; queue = queue; payload = payload }) ∷ [] } }
     {
         let id = self.next;
-        self.pending.push_reserved(Job { id, queue, payload });
+        make_place(&mut self.places, &mut self.start);
+        self.places.push_reserved(Job { id, queue, payload });
         self.next += 1;
         id
     }
@@ -142,7 +161,9 @@ impl JobTable {
     fn done(&mut self, id: u64)
         ensures { self.new ≡ record self.old { pending = without_job self.old.pending id } }
     {
-        remove_job(&mut self.pending, id);
+        if let Some(at) = place_of(self.pending(), self.next, id) {
+            take_out(&mut self.places, &mut self.start, at);
+        }
     }
 }
 
@@ -157,9 +178,51 @@ fn is_above(jobs: &[Job], next: u64, id: u64) -> bool
     }
 }
 
-fn remove_job(jobs: &mut Vec<Job>, id: u64)
-    ensures jobs { jobs.new.items ≡ without_job jobs.old.items id }
-    ensures room { vec_capacity jobs.new ≡ vec_capacity jobs.old }
+// Which of the jobs, which stand in order below `next`, has this id.
+fn place_of(jobs: &[Job], next: u64, id: u64) -> Option<usize>
+    requires { IsInOrder jobs.now next }
+    ensures found { IfSome result (λ at. (at < length jobs.now) × (without_job jobs.now id ≡ take at jobs.now ++ drop (at + 1) jobs.now)) }
+    ensures none { IfNone result (without_job jobs.now id ≡ jobs.now) }
+    ensures pending { is_some result ≡ is_pending jobs.now id }
 {
-    jobs.retain(|job| job.id != id);
+    let at = jobs.partition_point(|job| job.id < id);
+    if at < jobs.len() && jobs[at].id == id {
+        Some(at)
+    } else {
+        None
+    }
+}
+
+// Sees to it that a place is free behind the jobs: where none is, they move to the front.
+fn make_place(places: &mut Vec<Job>, start: &mut usize)
+    requires { start.old ≤ length places.old.items }
+    ensures jobs { drop start.new places.new.items ≡ drop start.old places.old.items }
+    ensures within { start.new ≤ length places.new.items }
+    ensures capacity { vec_capacity places.new ≡ vec_capacity places.old }
+    ensures free { length (drop start.old places.old.items) < vec_capacity places.old
+        → length places.new.items < vec_capacity places.new }
+{
+    if places.len() < places.capacity() {
+        return;
+    }
+    let jobs = places.len() - *start;
+    places.as_mut_slice().copy_within(*start.., 0);
+    places.truncate(jobs);
+    *start = 0;
+}
+
+// Takes the job in this place out: the jobs before it or those behind it move, whichever are fewer.
+fn take_out(places: &mut Vec<Job>, start: &mut usize, at: usize)
+    requires { start.old + at < length places.old.items }
+    ensures jobs { drop start.new places.new.items ≡ take at (drop start.old places.old.items) ++ drop (at + 1) (drop start.old places.old.items) }
+    ensures within { start.new ≤ length places.new.items }
+    ensures capacity { vec_capacity places.new ≡ vec_capacity places.old }
+{
+    if at < (places.len() - *start) / 2 {
+        let (first, to) = (*start, *start + 1);
+        places.as_mut_slice().copy_within(first..first + at, to);
+        *start = to;
+    } else {
+        places.remove(*start + at);
+    }
 }

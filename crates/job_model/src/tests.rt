@@ -23,9 +23,8 @@ fn put(table: &mut JobTable, number: u8, bytes: &[u8]) -> Option<u64> {
 }
 
 fn keep(table: &mut JobTable, job: Job) -> bool {
-    let room = table.can_apply(&Command::Put(job.queue, job.payload));
     let in_order = table.can_keep(job.id);
-    if room && in_order {
+    if table.has_room() && in_order {
         table.keep(job);
     }
     in_order
@@ -112,6 +111,50 @@ fn kept_jobs_in_order(rt: HostRuntime) -> Result<(), AllocError> {
     }
     assert_eq!(rt; put(&mut table, 1, b"c"), Some(7));
     check_pending(&rt, &table, &[(3, 0, b"b"), (6, 0, b"b"), (7, 1, b"c")]);
+    Ok(())
+}
+
+// Where the greatest id was given, jobs that were kept still find room.
+#[test]
+fn kept_where_no_id_is_left(rt: HostRuntime) -> Result<(), AllocError> {
+    let mut table = JobTable::with_room(rt.alloc(), 1)?;
+    table.restart(u64::MAX);
+    assert_eq!(rt;
+        job(3, 0, b"a").map(|job| keep(&mut table, job)),
+        Some(true)
+    );
+    assert!(rt; !table.has_room());
+    check_pending(&rt, &table, &[(3, 0, b"a")]);
+    Ok(())
+}
+
+// Four jobs have eight places: jobs come and go at the front, in the middle and at the end until each place was used
+// several times.
+#[test]
+fn places_used_again(rt: HostRuntime) -> Result<(), AllocError> {
+    let mut table = JobTable::with_room(rt.alloc(), 4)?;
+    for id in 0..3 {
+        assert_eq!(rt; put(&mut table, 0, b"a"), Some(id));
+    }
+    for id in 3..40 {
+        assert_eq!(rt; put(&mut table, 0, b"a"), Some(id));
+        check_pending(
+            &rt,
+            &table,
+            &[
+                (id - 3, 0, b"a"),
+                (id - 2, 0, b"a"),
+                (id - 1, 0, b"a"),
+                (id, 0, b"a"),
+            ],
+        );
+        assert_eq!(rt; put(&mut table, 0, b"a"), None);
+        assert_eq!(rt; applied(&mut table, Command::Done(id - 3)), Some(id - 3));
+    }
+    for (id, left) in [(38, 2), (39, 1), (37, 0)] {
+        assert_eq!(rt; applied(&mut table, Command::Done(id)), Some(id));
+        assert_eq!(rt; table.pending().len(), left);
+    }
     Ok(())
 }
 

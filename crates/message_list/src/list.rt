@@ -114,12 +114,17 @@ impl MessageList {
     /// again takes memory for the longest spelling alone.
     pub fn spell(&self, place: usize, bytes: &mut Vec<u8>) -> Result<(), AllocError>
         requires { place < length self.now.messages }
-        ensures { IfSome (slice_get self.now.messages place) (λ message. OnOk result (bytes.new.items ≡ spelling message)) }
+        ensures spelled { IfSome (slice_get self.now.messages place) (λ message. OnOk result (bytes.new.items ≡ spelling message)) }
+        ensures refused { OnErr result (bytes.new.items ≡ []) }
     {
         let Some(letter) = self.letters.get(place) else {
             unreachable!()
         };
-        if spell_letter(bytes, letter)? {
+        let is_whole = spell_letter(bytes, letter);
+        if is_whole.is_err() {
+            bytes.clear();
+        }
+        if is_whole? {
             return Ok(());
         }
         self.spell_kept(place, bytes)
@@ -130,7 +135,8 @@ impl MessageList {
     #[inline(never)]
     fn spell_kept(&self, place: usize, bytes: &mut Vec<u8>) -> Result<(), AllocError>
         requires { place < length self.now.messages }
-        ensures { IfSome (slice_get self.now.messages place) (λ message. OnOk result (bytes.new.items ≡ spelling message)) }
+        ensures spelled { IfSome (slice_get self.now.messages place) (λ message. OnOk result (bytes.new.items ≡ spelling message)) }
+        ensures refused { OnErr result (bytes.new.items ≡ []) }
     {
         match self.get(place) {
             Some(message) => spell_message(bytes, &message),

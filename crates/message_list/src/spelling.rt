@@ -1,6 +1,6 @@
 //! Spellings of messages as they are kept. A letter tells its message, but for a Ready and a Work, whose bodies are kept beside it.
 
-ghost use Rattle.std.specs.Prelude.{◌≡◌, ◌∷◌, ◌++◌, [], ℕ, List, true, IfOk, OnOk};
+ghost use Rattle.std.specs.Prelude.{◌≡◌, ◌∷◌, ◌++◌, [], ℕ, List, true, IfOk, OnOk, OnErr};
 ghost use Rattle.std.specs.Int.{w64, to_be_bytes};
 ghost use Rattle.group_task.specs.Assignment.{Assignment};
 ghost use Rattle.wire_msg.specs.Spelling.{spelling, truth};
@@ -41,9 +41,10 @@ pub fn spell_letter(bytes: &mut Vec<u8>, letter: &Letter) -> Result<bool, AllocE
     Ok(true)
 }
 
-/// Writes the spelling of a message in place of what `bytes` held.
+/// Writes the spelling of a message in place of what `bytes` held, which is left empty where memory runs out.
 pub fn spell_message(bytes: &mut Vec<u8>, message: &Message) -> Result<(), AllocError>
-    ensures { OnOk result (bytes.new.items ≡ spelling message.now) }
+    ensures spelled { OnOk result (bytes.new.items ≡ spelling message.now) }
+    ensures refused { OnErr result (bytes.new.items ≡ []) }
 {
     if encode_into(bytes, message).is_err() {
         return Err(AllocError);

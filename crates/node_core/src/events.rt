@@ -8,6 +8,7 @@ ghost use Rattle.node_core.specs.Wants.{wants_of, delivered_wants};
 ghost use Rattle.node_core.specs.Refusals.{refusal_of, ids_in};
 ghost use Rattle.node_core.specs.Planned.{IsPlanOf, plan_sends};
 ghost use Rattle.node_core.specs.Most.{most_of};
+ghost use Rattle.node_core.specs.Memory.{takes_memory, delivered_takes, Spares, SparesMemory};
 ghost use Rattle.node_core.specs.Consistent.{IsConsistent};
 
 use crate::event::Event;
@@ -41,6 +42,7 @@ pub fn plan_event(
     ensures refused { IfSome (refusal_of nodes id event.now (state_of vector.now)) (λ fault. result ≡ Err fault) }
     ensures memory { IfErr result (λ fault. fault ≢ CoreFault.NoMemory
         → refusal_of nodes id event.now (state_of vector.now) ≡ Some fault) }
+    ensures spares { SparesMemory (takes_memory id event.now (state_of vector.now)) result }
 {
     match event {
         Event::CheckTimer => Ok(timers::check_timer(alloc, nodes, id, vector)?),
@@ -96,6 +98,7 @@ pub fn plan_delivery(
     ensures refused { IfSome (refusal_of nodes id (Deliver message.now) (state_of vector.now)) (λ fault. result ≡ Err fault) }
     ensures memory { IfErr result (λ fault. fault ≢ CoreFault.NoMemory
         → refusal_of nodes id (Deliver message.now) (state_of vector.now) ≡ Some fault) }
+    ensures spares { SparesMemory (takes_memory id (Deliver message.now) (state_of vector.now)) result }
 {
     if !is_known(nodes, id, message) {
         return Err(CoreFault::Stranger);
@@ -125,6 +128,7 @@ fn plan_message(
         (delivered_wants from table.now.pending body.now (state_of vector.now))
         (λ answer. delivered id from body.now answer (state_of vector.now))) }
     ensures few { IfOk result (λ plan. plan_sends id plan < nodes) }
+    ensures memory { Spares (delivered_takes id from body.now (state_of vector.now)) result }
 {
     match body {
         Body::AreYouCoordinator => messages::asked_coordinator(room, nodes, id, from, vector),

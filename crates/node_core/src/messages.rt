@@ -4,10 +4,12 @@ ghost use Rattle.group_task.specs.Others.{AreOthers};
 ghost use Rattle.job_model.specs.Fold.{is_pending};
 ghost use Rattle.node_core.specs.State.{state_of, is_down};
 ghost use Rattle.node_core.specs.Effect.{nothing};
+ghost use Rattle.wire_msg.specs.declared.body.Body.TheVariants as says;
 ghost use Rattle.node_core.specs.Messages.{asked_coordinator, answered_coordinator, invited, takes_invitation, passed_on, accepted};
 ghost use Rattle.node_core.specs.Messages.{told_ready, is_told, acknowledged, asked_there, answered_there, was_probed, got_work};
 ghost use Rattle.node_core.specs.Wants.{raise_if, done_if};
-ghost use Rattle.node_core.specs.Planned.{IsPlanOf, plan_sends};
+ghost use Rattle.node_core.specs.Planned.{IsPlanOf, plan_sends, gain_of};
+ghost use Rattle.node_core.specs.Memory.{delivered_takes, Spares};
 ghost use Rattle.node_core.specs.Within.{AreWithin};
 ghost use Rattle.node_core.specs.Consistent.{IsConsistent};
 
@@ -42,6 +44,7 @@ pub fn asked_coordinator(
     ensures row { IfOk result (λ plan. IsPlanOf nodes id (state_of vector.now) plan None
         (λ _. asked_coordinator id from (state_of vector.now))) }
     ensures few { IfOk result (λ plan. plan_sends id plan < nodes) }
+    ensures memory { Spares (delivered_takes id from (says.AreYouCoordinator) (state_of vector.now)) result }
 {
     if matches!(vector.phase, Phase::Down) {
         return Ok(nothing(room));
@@ -69,6 +72,7 @@ pub fn answered_coordinator(
     ensures row { IfOk result (λ plan. IsPlanOf nodes id (state_of vector.now) plan None
         (λ _. answered_coordinator id from agreed (state_of vector.now))) }
     ensures none { IfOk result (λ plan. plan_sends id plan ≡ 0) }
+    ensures memory { Spares (delivered_takes id from (says.Coordinator agreed) (state_of vector.now)) result }
 {
     if agreed && leads(id, vector) && vector.checking {
         let standing = Standing {
@@ -97,6 +101,7 @@ pub fn invited(
     ensures row { IfOk result (λ plan. IsPlanOf nodes id (state_of vector.now) plan None
         (λ _. invited id group (state_of vector.now))) }
     ensures few { IfOk result (λ plan. plan_sends id plan < nodes) }
+    ensures memory { Spares (takes_invitation id group (state_of vector.now)) result }
 {
     if !takes_invitation(id, group, vector) {
         return Ok(nothing(room));
@@ -165,6 +170,7 @@ pub fn accepted(
     requires consistent { IsConsistent nodes id (state_of vector.now) }
     ensures row { IfOk result (λ plan. IsPlanOf nodes id (state_of vector.now) plan None (λ _. accepted id from group (state_of vector.now))) }
     ensures none { IfOk result (λ plan. plan_sends id plan ≡ 0) }
+    ensures memory { Spares (delivered_takes id from (says.Accept group) (state_of vector.now)) result }
 {
     if matches!(vector.phase, Phase::Election)
         && vector.coordinator.is(id)
@@ -199,6 +205,7 @@ pub fn told_ready(
     ensures row { IfOk result (λ plan. IsPlanOf nodes id (state_of vector.now) plan None
         (λ _. told_ready id from task (state_of vector.now))) }
     ensures few { IfOk result (λ plan. plan_sends id plan < nodes) }
+    ensures memory { Spares (delivered_takes id from (says.Ready task) (state_of vector.now)) result }
 {
     let told = is_told(id, from, task, vector);
     if told && matches!(vector.phase, Phase::Reorganization) {
@@ -246,6 +253,7 @@ pub fn acknowledged(
     ensures row { IfOk result (λ plan. IsPlanOf nodes id (state_of vector.now) plan None
         (λ _. acknowledged id from group (state_of vector.now))) }
     ensures none { IfOk result (λ plan. plan_sends id plan ≡ 0) }
+    ensures memory { Spares (delivered_takes id from (says.ReadyAck group) (state_of vector.now)) result }
 {
     if !(awaits_ready(id, vector) && group.is(vector.group)) {
         return Ok(nothing(room));
@@ -282,6 +290,7 @@ pub fn asked_there(
     ensures row { IfOk result (λ plan. IsPlanOf nodes id (state_of vector.now) plan None
         (λ _. asked_there id from group (state_of vector.now))) }
     ensures few { IfOk result (λ plan. plan_sends id plan < nodes) }
+    ensures memory { Spares (delivered_takes id from (says.AreYouThere group) (state_of vector.now)) result }
 {
     if matches!(vector.phase, Phase::Down) {
         return Ok(nothing(room));
@@ -310,6 +319,7 @@ pub fn answered_there(
         (raise_if (was_probed from group (state_of vector.now) && not agreed))
         (λ answer. answered_there id from group agreed answer (state_of vector.now))) }
     ensures none { IfOk result (λ plan. plan_sends id plan ≡ 0) }
+    ensures memory { Spares (delivered_takes id from (says.Here group agreed) (state_of vector.now)) result }
 {
     if !(vector.probing && vector.coordinator.is(from) && group.is(vector.group)) {
         return Ok(nothing(room));
@@ -345,6 +355,7 @@ pub fn got_work(
     ensures row { IfOk result (λ plan. IsPlanOf nodes id (state_of vector.now) plan None
         (λ _. got_work id from group job queue payload.now (state_of vector.now))) }
     ensures none { IfOk result (λ plan. plan_sends id plan ≡ 0) }
+    ensures memory { Spares (delivered_takes id from (says.Work group job queue payload.now) (state_of vector.now)) result }
 {
     if !matches!(vector.phase, Phase::Normal) || !group.is(vector.group) {
         return Ok(nothing(room));
@@ -384,6 +395,7 @@ pub fn told_done(
         (done_if (not (is_down vector.now.phase) && is_pending table.now.pending job) job)
         (λ _. nothing (state_of vector.now)) }
     ensures none { plan_sends id result ≡ 0 }
+    ensures gain { gain_of result.act ≡ 0 }
 {
     if !matches!(vector.phase, Phase::Down) && table.contains(job) {
         return Plan {

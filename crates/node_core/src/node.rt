@@ -1,4 +1,4 @@
-ghost use Rattle.std.specs.Prelude.{◌≡◌, ◌≢◌, ◌+◌, ◌≤◌, ◌<◌, ◌↔◌, List, length, IfOk, IfErr, IfSome, IsNone, OnErr, OnOk, Some, None, []};
+ghost use Rattle.std.specs.Prelude.{◌≡◌, ◌≢◌, ◌+◌, ◌≤◌, ◌<◌, ◌↔◌, List, length, IfOk, IfErr, IfSome, IsNone, OnErr, OnOk, Err, Some, None, true, []};
 ghost use Rattle.job_model.specs.Command.{Raise};
 ghost use Rattle.job_model.specs.declared.job.Job.{Job};
 ghost use Rattle.group_task.specs.declared.node.TheConstants.{NODES};
@@ -10,6 +10,7 @@ ghost use Rattle.node_core.specs.Refusals.{refusal_of};
 ghost use Rattle.node_core.specs.Planned.{gain_of, plan_wants};
 ghost use Rattle.node_core.specs.Start.{alone, down};
 ghost use Rattle.node_core.specs.Most.{most_of};
+ghost use Rattle.node_core.specs.Memory.{takes_memory};
 ghost use Rattle.node_core.specs.Wait.{IsGreatest, IsMergeWait};
 ghost use Rattle.node_core.specs.Core.{IsPlanFor, CanCarry};
 
@@ -137,7 +138,8 @@ impl NodeCore {
     }
 
     /// What an event will make of this node, over the table of the jobs that it keeps, with all memory that this takes.
-    /// Nothing but room changes. NoMemory comes after all other refusals; the same call may be made again.
+    /// Nothing but room changes. NoMemory comes after all other refusals, and only of an event that takes memory; the same call
+    /// may be made again.
     pub fn plan_step(&mut self, event: &Event, table: &JobTable) -> Result<Plan, CoreFault>
         ensures kept { self.new ≡ record self.old { room = self.new.room } }
         ensures plan { IfOk result (IsPlanFor self.new table.now.pending event.now) }
@@ -146,6 +148,7 @@ impl NodeCore {
             (λ fault. result ≡ Err fault) }
         ensures memory { IfErr result (λ fault. fault ≢ CoreFault.NoMemory
             → refusal_of self.old.nodes self.old.id event.now self.old.state ≡ Some fault) }
+        ensures spares { result ≡ Err CoreFault.NoMemory → takes_memory self.old.id event.now self.old.state ≡ true }
         ensures unchanged { OnErr result (self.new ≡ self.old) }
     {
         let plan = plan_event(self.alloc, self.nodes, self.id, &self.vector, event, table)?;
@@ -169,6 +172,7 @@ impl NodeCore {
             (λ fault. result ≡ Err fault) }
         ensures memory { IfErr result (λ fault. fault ≢ CoreFault.NoMemory
             → refusal_of self.old.nodes self.old.id (Deliver message.now) self.old.state ≡ Some fault) }
+        ensures spares { result ≡ Err CoreFault.NoMemory → takes_memory self.old.id (Deliver message.now) self.old.state ≡ true }
         ensures unchanged { OnErr result (self.new ≡ self.old) }
     {
         let plan = plan_delivery(
@@ -189,6 +193,7 @@ impl NodeCore {
         ensures kept { self.new ≡ record self.old { room = self.new.room } }
         ensures grown { self.old.room ≤ self.new.room }
         ensures room { OnOk result (length self.old.state.hand + gain_of plan.now.act ≤ self.new.room) }
+        ensures refused { OnErr result ((0 < gain_of plan.now.act) × (self.old.room < length self.old.state.hand + gain_of plan.now.act)) }
         ensures unchanged { OnErr result (self.new ≡ self.old) }
     {
         self.vector.hand.reserve(plan.gain())

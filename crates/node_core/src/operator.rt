@@ -6,7 +6,7 @@ ghost use Rattle.node_core.specs.Words.{holds};
 ghost use Rattle.node_core.specs.Timers.{recovery};
 ghost use Rattle.node_core.specs.Operator.{submit, finish};
 ghost use Rattle.node_core.specs.Wants.{done_if};
-ghost use Rattle.node_core.specs.Planned.{IsPlanOf, plan_sends};
+ghost use Rattle.node_core.specs.Planned.{IsPlanOf, plan_sends, gain_of};
 ghost use Rattle.node_core.specs.Consistent.{IsConsistent};
 
 use crate::guards::owner_in;
@@ -25,6 +25,7 @@ pub fn recovery(room: Vec<Message>, nodes: u8, id: NodeId, vector: &Vector) -> P
     ensures row { IsPlanOf nodes id (state_of vector.now) result (Some Raise)
         (λ answer. recovery id answer (state_of vector.now)) }
     ensures none { plan_sends id result ≡ 0 }
+    ensures gain { gain_of result.act ≡ 0 }
 {
     Plan {
         act: Act::Recover,

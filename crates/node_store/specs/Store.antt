@@ -1,6 +1,6 @@
 -- What a disk with a counter and a journal stands for, and what a mounted store knows of it.
 use Rattle.std.specs.Prelude.{◌≡◌, ◌⊎◌, ◌<◌, ◌≤◌, ℕ, ◌+◌, ◌-◌, ◌*◌, ◌/◌, ◌^◌, ◌==◌, min, Bool, IsTrue, IsFalse, Option, Some, None, if◌then◌else◌, Result, IsOk, IsErrOf, Err}
-use Rattle.sector_disk.specs.Disk.{Image, DiskState, IsImage}
+use Rattle.sector_disk.specs.Disk.{Image, DiskState, IsImage, sector_at}
 use Rattle.safe_cell.specs.Cell.{cell_at}
 use Rattle.safe_cell.specs.Mounted.{CellState, IsCellAt, AllStand}
 use Rattle.job_model.specs.Answer.{answer_of}
@@ -10,9 +10,10 @@ use Rattle.job_model.specs.Fold.{after_command}
 use Rattle.job_model.specs.declared.command.Command.{Command as Change}
 use Rattle.job_journal.specs.declared.fault.JournalFault.{JournalFault}
 use Rattle.job_journal.specs.Jobs.{Jobs, jobs_of, kept}
-use Rattle.job_journal.specs.Journal.{jobs_in}
+use Rattle.job_journal.specs.Journal.{jobs_in, IsFormatted}
 use Rattle.job_journal.specs.Mounted.{JournalState, AllHold}
 use Rattle.job_journal.specs.Appending.{refusal}
+use Rattle.job_journal.specs.Compacting as Journal
 use Rattle.node_store.specs.declared.fault.StoreFault.{StoreFault}
 
 -- how many slots an area of a disk has
@@ -58,6 +59,10 @@ abbrev pub BeforeOrAfter : {Disk : Type 0} → StoreState Disk → Command → I
 BeforeOrAfter store command image =
     (stands_for store.journal.slots image ≡ Some (durable_of store)) ⊎ (stands_for store.journal.slots image ≡ Some (after_command (durable_of store) command))
 
+-- an image stands for the state of before
+abbrev pub StaysAs : {Disk : Type 0} → StoreState Disk → Image → Type 0
+StaysAs store image = stands_for store.journal.slots image ≡ Some (durable_of store)
+
 -- a fault of the journal as one of the store
 abbrev pub fault_of : JournalFault → StoreFault
 fault_of JournalFault.Device = StoreFault.Device
@@ -76,6 +81,10 @@ refused_by (Some fault) = Some (fault_of fault)
 abbrev pub append_refusal : {Disk : Type 0} → StoreState Disk → Change → Option StoreFault
 append_refusal store command = refused_by (refusal (record store.journal { broken = store.broken }) command)
 
+-- why a compaction is
+abbrev pub compaction_refusal : {Disk : Type 0} → StoreState Disk → Option StoreFault
+compaction_refusal store = refused_by (Journal.compaction_refusal (record store.journal { broken = store.broken }))
+
 -- why a raise is
 abbrev pub raise_refusal : {Disk : Type 0} → StoreState Disk → Option StoreFault
 raise_refusal store = if store.broken then Some StoreFault.Broken else (if store.counter.value == 2 ^ 64 - 1 then Some StoreFault.Exhausted else None)
@@ -93,3 +102,9 @@ Changed old new command answer =
 -- the sectors of a store
 abbrev pub InStore : ℕ → ℕ → Type 0
 InStore slots at = at < 8 + 4 * slots
+
+-- While a disk is formatted an image has the counter that an image of before had, or a journal that is formatted already: so a
+-- format that was cut off leaves no new counter over an old journal.
+abbrev pub IsPartlyFormatted : ℕ → DiskState → Image → Type 0
+IsPartlyFormatted slots old image =
+    ((before : Image) × IsImage old before × ((at : ℕ) → at < 4 → sector_at image at ≡ sector_at before at)) ⊎ IsFormatted slots image

@@ -54,6 +54,20 @@ fn put(store: &mut NodeStore<MemDisk>) -> Option<Result<u64, StoreFault>>
     Some(store.put(queue, payload))
 }
 
+fn done(store: &mut NodeStore<MemDisk>, id: u64) -> Result<u64, StoreFault>
+    requires { IsSound store.old.journal.slots (state_of store.old.disk) }
+    ensures { IsSound store.new.journal.slots (state_of store.new.disk) }
+{
+    store.done(id)
+}
+
+fn compact(store: &mut NodeStore<MemDisk>) -> Result<(), StoreFault>
+    requires { IsSound store.old.journal.slots (state_of store.old.disk) }
+    ensures { IsSound store.new.journal.slots (state_of store.new.disk) }
+{
+    store.compact()
+}
+
 // Of 24 sectors an area has four slots: two jobs, a Base and a Done fit.
 #[test]
 fn smallest_disk(rt: HostRuntime) -> Result<(), Fail> {
@@ -66,6 +80,114 @@ fn smallest_disk(rt: HostRuntime) -> Result<(), Fail> {
     assert_eq!(rt; put(&mut store), Some(Ok(0)));
     assert_eq!(rt; put(&mut store), Some(Ok(1)));
     assert_eq!(rt; put(&mut store), Some(Err(StoreFault::Full)));
+    Ok(())
+}
+
+// What a disk mounts as: its counter and how many jobs are pending, or why not.
+fn mounts_as(alloc: Global, disk: MemDisk) -> Result<(u64, usize), StoreFault> {
+    match NodeStore::mount(alloc, disk) {
+        Ok(store) => Ok((store.counter(), store.table().pending().len())),
+        Err(refused) => Err(refused.fault),
+    }
+}
+
+// A disk whose counter is 2, in slot A over a 1 in slot B, and on which one job is pending.
+fn used(alloc: Global) -> Result<MemDisk, Fail> {
+    let mut store = opened(alloc)?;
+    if put(&mut store) != Some(Ok(0)) {
+        return Err(Fail::new("no job was put"));
+    }
+    store.raise()?;
+    store.raise()?;
+    Ok(store.into_disk())
+}
+
+// Formats in so many device calls at most, and crashes.
+fn formatted_within(disk: &mut MemDisk, calls: u64, fill: &[u8]) -> Result<(), StoreFault> {
+    disk.arm(calls);
+    let answer = format(disk);
+    disk.crash(fill);
+    answer
+}
+
+// Eight writes and a sync unseal the gates of both areas; eight calls format the area cell and eight the counter. Cut off,
+// a new disk isn't formatted, unless a gate of the counter was torn shut: over a body of zeros that is a counter of 0.
+#[test]
+fn format_stopped_at_each_call(rt: HostRuntime) -> Result<(), Fail> {
+    for (fill, seals) in [(&[][..], false), (&[0xa5][..], true)] {
+        for k in 0..=25 {
+            let mut disk = MemDisk::new(rt.alloc(), 24)?;
+            let answer = formatted_within(&mut disk, k, fill);
+            assert_eq!(rt; answer.is_ok(), k == 25, "{k} calls");
+            let torn = seals && (k >= 17 && k <= 20 || k >= 23);
+            let found = if k == 25 || torn {
+                Ok((0, 0))
+            } else {
+                Err(StoreFault::NotFormatted)
+            };
+            assert_eq!(rt; mounts_as(rt.alloc(), disk), found, "{k} calls");
+        }
+    }
+    Ok(())
+}
+
+// A disk in use isn't to be formatted: cut off, it may have lost its jobs and not its counter, its area cell, both, or have
+// an older counter, which slot B still holds once slot A is unsealed.
+#[test]
+fn used_disk_formatted_again(rt: HostRuntime) -> Result<(), Fail> {
+    for k in 0..=25 {
+        let mut disk = used(rt.alloc())?;
+        let answer = formatted_within(&mut disk, k, &[]);
+        assert_eq!(rt; answer.is_ok(), k == 25, "{k} calls");
+        let found = match k {
+            0..=8 => Ok((2, 1)),
+            9 | 10 | 17 | 18 => Ok((2, 0)),
+            11..=16 => Err(StoreFault::Damaged(5)),
+            19 | 20 => Ok((1, 0)),
+            21..=24 => Err(StoreFault::NotFormatted),
+            _ => Ok((0, 0)),
+        };
+        assert_eq!(rt; mounts_as(rt.alloc(), disk), found, "{k} calls");
+    }
+    Ok(())
+}
+
+// Areas of 4,096 slots, the most there are: the second one ends in the last sector.
+#[test]
+fn greatest_disk(rt: HostRuntime) -> Result<(), Fail> {
+    let mut disk = MemDisk::new(rt.alloc(), 16392)?;
+    format(&mut disk)?;
+    let mut store = mounted(rt.alloc(), disk)?;
+    assert_eq!(rt; put(&mut store), Some(Ok(0)));
+    compact(&mut store)?;
+    assert_eq!(rt; put(&mut store), Some(Ok(1)));
+    let mut disk = store.into_disk();
+    disk.crash(&[]);
+    assert_eq!(rt; mounts_as(rt.alloc(), disk), Ok((0, 2)));
+    Ok(())
+}
+
+// Five commands for four slots: the last of them finds no free slot, and compacts.
+#[test]
+fn full_journal(rt: HostRuntime) -> Result<(), Fail> {
+    let mut store = opened(rt.alloc())?;
+    assert_eq!(rt; put(&mut store), Some(Ok(0)));
+    assert_eq!(rt; put(&mut store), Some(Ok(1)));
+    assert_eq!(rt; put(&mut store), Some(Err(StoreFault::Full)));
+    assert_eq!(rt; done(&mut store, 0), Ok(0));
+    assert_eq!(rt; put(&mut store), Some(Ok(2)));
+    assert_eq!(rt; done(&mut store, 1), Ok(1));
+    assert_eq!(rt; store.table().pending().len(), 1);
+    Ok(())
+}
+
+#[test]
+fn compacted_again_and_again(rt: HostRuntime) -> Result<(), Fail> {
+    let mut store = opened(rt.alloc())?;
+    compact(&mut store)?;
+    compact(&mut store)?;
+    compact(&mut store)?;
+    assert_eq!(rt; put(&mut store), Some(Ok(0)));
     Ok(())
 }
 

@@ -6,7 +6,7 @@ use Rattle.safe_cell.specs.declared.fault.CellFault.{CellFault}
 use Rattle.safe_cell.specs.declared.fault.CellFault.TheVariants.{NotFormatted, Damaged, Device}
 use Rattle.safe_cell.specs.Body.{body_value}
 use Rattle.safe_cell.specs.Cell.{greater, cell_of, cell_at, IsDamaged}
-use Rattle.safe_cell.specs.Mounted.{CellState, IsCellAt, IsSpare, IsRead, Stands}
+use Rattle.safe_cell.specs.Mounted.{CellState, IsCellAt, IsSpare, IsRead, Stands, PrefersFirst}
 use Rattle.safe_cell.specs.Told.{Tells}
 use Rattle.safe_cell.proofs.Values.{stands_for}
 
@@ -54,6 +54,7 @@ tells_damaged_first at c h =
       not_formatted = (λ is. cc, λ both. let some = h.1 in cc);
       damaged_first = (λ _. h, λ _. refl);
       damaged_second = (λ is. let same : at ≡ at + 2 = cc in absurd (omega arith), λ both. absurd (both.0 h));
+      present = tt;
     }
 
 pub tells_damaged_second : (at : ℕ) (c : Image) (first : Option ℕ) → IsRead (slot_at c at) first → IsDamaged (slot_at c (at + 2)) → Tells at c (Err (Damaged (at + 2)))
@@ -65,6 +66,7 @@ tells_damaged_second at c first read h =
       not_formatted = (λ is. cc, λ both. let some = h.1 in let none_too = both.1 in cc);
       damaged_first = (λ is. let same : at + 2 ≡ at = cc in absurd (omega arith), λ damaged. absurd (sound damaged));
       damaged_second = (λ _. (sound, h), λ _. refl);
+      present = tt;
     }
 
 pub tells_not_formatted : (at : ℕ) (c : Image) → slot_at c at ≡ None → slot_at c (at + 2) ≡ None → Tells at c (Err NotFormatted)
@@ -75,10 +77,16 @@ tells_not_formatted at c first second =
       not_formatted = (λ _. (first, second), λ _. refl);
       damaged_first = (λ is. cc, λ damaged. absurd (read_not_damaged (slot_at c at) None first damaged));
       damaged_second = (λ is. cc, λ both. absurd (read_not_damaged (slot_at c (at + 2)) None second both.1));
+      present = tt;
     }
 
-pub tells_cell : (at : ℕ) (c : Image) (cell : CellState) → IsCellAt at cell → Stands cell c → Tells at c (Ok cell)
-tells_cell at c cell way h =
+-- the first slot was read before the other
+first_counts : (at : ℕ) (c : Image) (first : Option ℕ) (cell : CellState) → IsRead (slot_at c at) first → (first ≡ Some cell.value → cell.present ≡ at) → PrefersFirst at c cell
+first_counts at c None cell read h body is value = absurd cc
+first_counts at c (Some v) cell read h body is value = let same : read.0 ≡ body = cc in h (sym read.2 ∙ ap body_value same ∙ value)
+
+pub tells_cell : (at : ℕ) (c : Image) (cell : CellState) → IsCellAt at cell → Stands cell c → PrefersFirst at c cell → Tells at c (Ok cell)
+tells_cell at c cell way h prefers =
     let some : cell_at c at ≡ Some cell.value = stands_for at cell c way h in
     let sealed = h.present in
     let sound = neither_damaged at cell c way h in
@@ -93,6 +101,7 @@ tells_cell at c cell way h =
       );
       damaged_first = (λ is. cc, λ damaged. absurd (sound at (inl refl) damaged));
       damaged_second = (λ is. cc, λ both. absurd (sound (at + 2) (inr refl) both.1));
+      present = prefers;
     }
 
 -- a fault is told by the result that has it
@@ -121,11 +130,11 @@ tells_fault at slot c answer f is which aside damaged =
 -- both slots were read
 pub tells_values : (at : ℕ) (c : Image) (first second : Option ℕ) (cell : Option CellState) → IsRead (slot_at c at) first → IsRead (slot_at c (at + 2)) second
     → (IsNone cell ↔ ((first ≡ None) × (second ≡ None))) → IfSome cell (λ s. IsCellAt at s × IsFalse s.broken) → IfSome cell (λ s. Stands s c)
-    → Tells at c (ok_or cell NotFormatted)
-tells_values at c first second None read_a read_b none place stands =
+    → IfSome cell (λ s. first ≡ Some s.value → s.present ≡ at) → Tells at c (ok_or cell NotFormatted)
+tells_values at c first second None read_a read_b none place stands before =
     let both = none.0 refl in
     tells_not_formatted at c (subst (λ o. IsRead (slot_at c at) o) both.0 read_a) (subst (λ o. IsRead (slot_at c (at + 2)) o) both.1 read_b)
-tells_values at c first second (Some cell) read_a read_b none place stands = tells_cell at c cell place.0 stands
+tells_values at c first second (Some cell) read_a read_b none place stands before = tells_cell at c cell place.0 stands (first_counts at c first cell read_a before)
 
 -- what holds of the cell that was made
 pub if_made : (P Q R : CellState → Type 0) (fault : CellFault) (cell : Option CellState) → ((s : CellState) → P s → Q s → R s)

@@ -34,6 +34,10 @@ pub record Stands (cell : CellState) (image : Image) : Type 0 where
 abbrev pub AllStand : CellState → DiskState → Type 0
 AllStand cell disk = (d : Image) → IsImage disk d → Stands cell d
 
+-- where slot A has the value, it is the one that counts, also where B has the same
+abbrev pub PrefersFirst : ℕ → Image → CellState → Type 0
+PrefersFirst at image cell = (body : List ℕ) → slot_at image at ≡ Some body → body_value body ≡ Some cell.value → cell.present ≡ at
+
 -- the value that was read from a slot: none where it is unsealed
 abbrev pub IsRead : Option (List ℕ) → Option ℕ → Type 0
 IsRead slot None = slot ≡ None

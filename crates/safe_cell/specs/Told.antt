@@ -1,11 +1,11 @@
 -- What a mounting tells of a cell.
-use Rattle.std.specs.Prelude.{◌≡◌, ◌↔◌, ℕ, ◌+◌, Some, None, Result, IsOkAnd, IsErrOf}
+use Rattle.std.specs.Prelude.{◌≡◌, ◌↔◌, ℕ, ◌+◌, Some, None, Result, IsOkAnd, IfOk, IsErrOf}
 use Rattle.sector_disk.specs.Disk.{Image}
 use Rattle.slot_gate.specs.Slot.{slot_at}
 use Rattle.safe_cell.specs.declared.fault.CellFault.{CellFault}
 use Rattle.safe_cell.specs.declared.fault.CellFault.TheVariants.{NotFormatted, Damaged}
 use Rattle.safe_cell.specs.Cell.{cell_at, IsDamaged}
-use Rattle.safe_cell.specs.Mounted.{CellState}
+use Rattle.safe_cell.specs.Mounted.{CellState, PrefersFirst}
 
 -- The answer tells exactly what an image stands for: the value where it has one, else why it has none.
 pub record Tells (at : ℕ) (image : Image) (answer : Result CellState CellFault) : Type 0 where
@@ -14,3 +14,4 @@ pub record Tells (at : ℕ) (image : Image) (answer : Result CellState CellFault
   pub damaged_first : IsErrOf answer (Damaged at) ↔ IsDamaged (slot_at image at)
   -- the first slot is read first
   pub damaged_second : IsErrOf answer (Damaged (at + 2)) ↔ ((IsDamaged (slot_at image at) → ⊥) × IsDamaged (slot_at image (at + 2)))
+  pub present : IfOk answer (λ cell. PrefersFirst at image cell)

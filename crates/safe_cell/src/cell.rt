@@ -50,6 +50,7 @@ impl SafeCell {
         ensures stands { (c : Image)
             → IsRead (slot_at c at) first → IsRead (slot_at c (at + 2)) second
             → IfSome result (λ cell. Stands cell c) }
+        ensures before { IfSome result (λ cell. first ≡ Some cell.value → cell.present ≡ at) }
     {
         let (present, spare, spare_sealed, value) = match (first, second) {
             (None, None) => return None,

@@ -3,7 +3,7 @@ use Rattle.std.specs.Prelude.{ℕ, List, [], ◌∷◌, Option, Some, None, opti
 use Rattle.schedule.specs.declared.act.Act.{Act}
 use Rattle.schedule.specs.declared.act.Act.TheVariants as act
 use Rattle.schedule.specs.declared.verb.Verb.{Verb}
-use Rattle.schedule.specs.declared.verb.Verb.TheVariants.{Check, Merge, Accept, Ready, Coord, Dispatch, Deliver, Lose, Cut, Mend, Submit, Finish, Arm, Crash, Recover}
+use Rattle.schedule.specs.declared.verb.Verb.TheVariants.{Check, Merge, Accept, Ready, Coord, Dispatch, Deliver, Lose, Cut, Mend, Submit, Finish, Arm, Crash, Recover, Compact}
 use Rattle.line_words.specs.Words.{number_of}
 use Rattle.line_words.specs.Lines.{bytes_of}
 use Rattle.schedule.specs.Verbs.{verb_of}
@@ -35,6 +35,7 @@ short_act Finish field = None
 short_act Arm field = None
 short_act Crash node = option_map (λ n. act.Crash n []) (node_of node)
 short_act Recover node = option_map act.Recover (node_of node)
+short_act Compact node = option_map act.Compact (node_of node)
 
 -- a verb with two fields
 abbrev pub middle_act : Verb → List ℕ → List ℕ → Option Act
@@ -53,6 +54,7 @@ middle_act Finish a b = None
 middle_act Arm node calls = of_two act.Arm (node_of node) (number_of calls)
 middle_act Crash node fill = of_two act.Crash (node_of node) (bytes_of fill)
 middle_act Recover a b = None
+middle_act Compact a b = None
 
 -- a verb with three fields
 abbrev pub long_act : Verb → List ℕ → List ℕ → List ℕ → Option Act
@@ -71,6 +73,7 @@ long_act Finish node origin id = of_three act.Finish (node_of node) (node_of ori
 long_act Arm a b c = None
 long_act Crash a b c = None
 long_act Recover a b c = None
+long_act Compact a b c = None
 
 abbrev pub with_verb : {A : Type 0} → (Verb → Option A) → Option Verb → Option A
 with_verb read None = None

@@ -1,7 +1,7 @@
 -- The first words of a schedule's lines.
 use Rattle.std.specs.Prelude.{ℕ, List, bytes_eq, codes, if◌then◌else◌, Option, Some, None}
 use Rattle.schedule.specs.declared.verb.Verb.{Verb}
-use Rattle.schedule.specs.declared.verb.Verb.TheVariants.{Check, Merge, Accept, Ready, Coord, Dispatch, Deliver, Lose, Cut, Mend, Submit, Finish, Arm, Crash, Recover}
+use Rattle.schedule.specs.declared.verb.Verb.TheVariants.{Check, Merge, Accept, Ready, Coord, Dispatch, Deliver, Lose, Cut, Mend, Submit, Finish, Arm, Crash, Recover, Compact}
 
 -- the verb that a word is
 abbrev pub verb_of : List ℕ → Option Verb
@@ -20,4 +20,5 @@ verb_of word =
     if bytes_eq word (codes "finish") then Some Finish else
     if bytes_eq word (codes "arm") then Some Arm else
     if bytes_eq word (codes "crash") then Some Crash else
-    if bytes_eq word (codes "recover") then Some Recover else None
+    if bytes_eq word (codes "recover") then Some Recover else
+    if bytes_eq word (codes "compact") then Some Compact else None

@@ -82,4 +82,5 @@ pub enum Act {
     Arm(NodeId, u64),
     Crash(NodeId, Fill),
     Recover(NodeId),
+    Compact(NodeId),
 }

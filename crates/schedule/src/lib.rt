@@ -3,12 +3,14 @@
 
 mod act;
 mod fields;
+mod laws;
 mod parsing;
 mod reading;
 mod size;
 mod verb;
 
 pub use act::{Act, Fill, Submitted};
+pub use laws::limits;
 pub use reading::read_schedule;
 pub use size::{LEAST_SLOTS, MOST_ACTS, MOST_SLOTS, Schedule, Size};
 

@@ -55,6 +55,7 @@ fn short(alloc: Global, verb: Verb, field: &[u8]) -> Option<Act>
         Verb::Lose => Some(Act::Lose(number(field)?)),
         Verb::Crash => Some(Act::Crash(node(field)?, Fill::new(Vec::new(alloc)))),
         Verb::Recover => Some(Act::Recover(node(field)?)),
+        Verb::Compact => Some(Act::Compact(node(field)?)),
         Verb::Cut | Verb::Mend | Verb::Submit | Verb::Finish | Verb::Arm => None,
     }
 }

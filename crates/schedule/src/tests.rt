@@ -34,6 +34,7 @@ fn told(act: &Act) -> (&'static str, [u64; 3], &[u8]) {
         Act::Arm(node, calls) => ("arm", [u64::from(node.number()), *calls, 0], none),
         Act::Crash(node, fill) => ("crash", [u64::from(node.number()), 0, 0], fill.as_slice()),
         Act::Recover(node) => ("recover", [u64::from(node.number()), 0, 0], none),
+        Act::Compact(node) => ("compact", [u64::from(node.number()), 0, 0], none),
     }
 }
 
@@ -78,6 +79,7 @@ fn acts_with_their_fields(rt: HostRuntime) -> Result<(), Fail> {
         ("crash 2 -", ("crash", [2, 0, 0], "")),
         ("crash 2 6a4B", ("crash", [2, 0, 0], "jK")),
         ("recover 2", ("recover", [2, 0, 0], "")),
+        ("compact 63", ("compact", [63, 0, 0], "")),
     ] {
         let schedule = read_behind_cluster(rt.alloc(), line)??;
         assert_eq!(rt; schedule.acts.len(), 1, "{line}");

@@ -19,6 +19,7 @@ pub enum Verb {
     Arm,
     Crash,
     Recover,
+    Compact,
 }
 
 impl Verb {
@@ -56,6 +57,8 @@ impl Verb {
             Some(Verb::Crash)
         } else if is(word, "recover") {
             Some(Verb::Recover)
+        } else if is(word, "compact") {
+            Some(Verb::Compact)
         } else {
             None
         }

@@ -1,2 +1,3 @@
 pub mod Slots
 pub mod Stored
+pub mod Rows

@@ -1,5 +1,5 @@
 -- A slot is a body sector and the gate sector behind it. The first byte of the gate says whether it is sealed.
-use Rattle.std.specs.Prelude.{◌≡◌, ◌⊎◌, ℕ, ◌+◌, List, ◌∷◌, get_or, replicate, Bool, ◌==◌, Option, Some, None, if◌then◌else◌}
+use Rattle.std.specs.Prelude.{◌≡◌, ◌⊎◌, ℕ, ◌+◌, ◌*◌, ◌<◌, ◌≤◌, List, ◌∷◌, get_or, replicate, Bool, ◌==◌, Option, Some, None, if◌then◌else◌}
 use Rattle.sector_disk.specs.Disk.{Image, sector_at}
 
 -- the gate's first byte is 0xA5; its other bytes aren't looked at
@@ -21,3 +21,7 @@ unsealed_gate = replicate 512 0
 -- the two sectors of a slot
 abbrev pub InSlot : ℕ → ℕ → Type 0
 InSlot slot at = (at ≡ slot) ⊎ (at ≡ slot + 1)
+
+-- the sectors of so many slots from one on
+abbrev pub InSlots : ℕ → ℕ → ℕ → Type 0
+InSlots first slots at = (first ≤ at) × (at < first + 2 * slots)

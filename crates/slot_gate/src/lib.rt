@@ -6,9 +6,11 @@
 #![tactic(auto)]
 
 mod change;
+mod row;
 mod slot;
 #[cfg(test)]
 mod tests;
 
 pub use change::store;
+pub use row::unseal_all;
 pub use slot::{fill, look, seal, unseal};

@@ -1,9 +1,20 @@
-//! Fills a journal of 4,096 slots with so many records, one at least, and mounts its store so many times. It prints how
-//! many device calls the last append and a mounting make, and is a measure of time: `rt run -- 4096 200`.
+//! Measures of the store and its journal, and whole runs of a journal over one disk's life.
+//!
+//! - `live SLOTS COMMANDS SEED`: so many Puts and Dones in one disk's life, with crashes at random device calls; each
+//!   mounting is compared with what was acknowledged, and a difference ends the run with another status.
+//! - `fill RECORDS ROUNDS`: a journal of 4,096 slots with so many records, one at least, and so many mountings of its
+//!   store; it prints how many device calls the last append and a mounting make.
+//! - `front JOBS ROUNDS`: so many Puts, and then their Dones in order, so many times.
+//! - `compact JOBS ROUNDS`: so many compactions of 4,096 slots with so many pending jobs.
 #![tactic(auto)]
+
+mod expected;
+mod life;
+mod random;
 
 ghost use Rattle.std.specs.Prelude.{◌≡◌, IfOk, length};
 
+use crate::life::Life;
 use anyhow::Context;
 use job_model::{Command, Payload, Queue};
 use node_store::NodeStore;
@@ -17,20 +28,79 @@ const SECTORS: u64 = 16392;
 const SLOTS: u64 = 4096;
 
 fn main(rt: HostRuntime) -> anyhow::Result<()> {
-    let records: u64 = env::args(&rt)?
+    let mode = env::args(&rt)?
         .nth(1)
-        .context("how many records?")?
-        .parse()?;
-    let rounds: u64 = env::args(&rt)?
-        .nth(2)
-        .context("how many mountings?")?
-        .parse()?;
+        .context("live, fill, front or compact?")?;
+    let first: u64 = env::args(&rt)?.nth(2).context("a number")?.parse()?;
+    let second: u64 = env::args(&rt)?.nth(3).context("a second number")?.parse()?;
+    match mode.as_str() {
+        "live" => {
+            let seed: u64 = env::args(&rt)?.nth(4).context("a seed")?.parse()?;
+            live(rt, first, second, seed)
+        }
+        "fill" => fill(rt, first, second),
+        "front" => front(rt.alloc(), first, second),
+        "compact" => compact(rt.alloc(), first, second),
+        _ => Err(anyhow::anyhow!("live, fill, front or compact?")),
+    }
+}
+
+fn live(rt: HostRuntime, slots: u64, commands: u64, seed: u64) -> anyhow::Result<()> {
+    let mut life = Life::begin(rt.alloc(), slots, seed)?;
+    for _ in 0..u64::MAX {
+        if life.done >= commands {
+            break;
+        }
+        life.step()?;
+    }
+    let (done, refused, crashes) = (life.done, life.refused, life.crashes);
+    let (mountings, kept) = (life.mountings, life.kept_in_doubt);
+    let compactions = life.compactions()?;
+    println!(rt; "{done} commands, {refused} refused as Full")?;
+    println!(rt; "{crashes} crashes, {mountings} mountings, {kept} commands in doubt were kept")?;
+    println!(rt; "{compactions} compactions")?;
+    Ok(())
+}
+
+fn fill(rt: HostRuntime, records: u64, rounds: u64) -> anyhow::Result<()> {
     let mut disk = filled(rt.alloc(), records.saturating_sub(1))?;
     let append = calls_of_append(rt.alloc(), &mut disk)?;
     println!(rt; "an append: {append} device calls")?;
     let (mounting, disk) = calls_of_mounting(rt.alloc(), disk);
     println!(rt; "a mounting of {records} records: {mounting} device calls")?;
     mount_again(rt.alloc(), disk, rounds)
+}
+
+// Puts so many jobs and then ends them in order, so many times.
+fn front(alloc: Global, jobs: u64, rounds: u64) -> anyhow::Result<()> {
+    let mut disk = filled(alloc, 0)?;
+    let mut journal = job_journal::mount(alloc, &mut disk, SLOTS)?;
+    for round in 0..rounds {
+        let first = journal.table().next();
+        for job in 0..jobs {
+            journal.append(&mut disk, put()?)?;
+        }
+        disk.crash(&[]);
+        for k in 0..jobs {
+            journal.append(&mut disk, Command::Done(first.saturating_add(k)))?;
+        }
+        disk.crash(&[]);
+    }
+    Ok(())
+}
+
+// Compacts so many times with so many jobs.
+fn compact(alloc: Global, jobs: u64, rounds: u64) -> anyhow::Result<()> {
+    let mut disk = filled(alloc, 0)?;
+    let mut journal = job_journal::mount(alloc, &mut disk, SLOTS)?;
+    for job in 0..jobs {
+        journal.append(&mut disk, put()?)?;
+    }
+    for round in 0..rounds {
+        disk.crash(&[]);
+        journal.compact(&mut disk)?;
+    }
+    Ok(())
 }
 
 fn put() -> anyhow::Result<Command> {

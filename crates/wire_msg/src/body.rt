@@ -1,6 +1,9 @@
 use group_task::{GroupNo, Task};
 use job_model::{Payload, Queue};
 
+/// How many bytes the body of a message has at most: that of a Work with the longest payload. Its whole spelling has six more.
+pub const BODY_CAPACITY: usize = 420;
+
 /// What a message says, in the order of the kinds 1 to 10. The names are those of Garcia-Molina's
 /// invitation algorithm (Elections in a distributed computing system, 1982), and of the work that a group shares.
 #[derive(Clone, Copy, Debug, PartialEq, Eq)]

@@ -11,9 +11,9 @@ mod reading;
 mod stream;
 mod writing;
 
-pub use body::Body;
+pub use body::{BODY_CAPACITY, Body};
 pub use fault::WireFault;
-pub use laws::{any_cutting, message_of_spelling, one_reading, one_spelling};
+pub use laws::{any_cutting, limits, message_of_spelling, one_reading, one_spelling};
 pub use message::Message;
 pub use reading::decode;
 pub use stream::Stream;

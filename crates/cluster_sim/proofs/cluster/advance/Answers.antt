@@ -1,10 +1,10 @@
 use Rattle.std.proofs.Common.{◌≡◌, ℕ, ◌+◌, ◌≤◌, List, ◌++◌, length, slice_index_or, slice_set, sym, ◌∙◌, ap, subst, arith, Some, option_map}
-use Rattle.cluster_sim.specs.Reporting.{TriedAt, own_commands}
+use Rattle.runs.specs.Reporting.{TriedAt, own_commands}
 use Rattle.std.proofs.lemmas.List.{length-map}
 use Rattle.std.proofs.lemmas.Option.{get_or_from_slice_get}
 use Rattle.cluster_sim.specs.Recorded.{AreCounted, ToldReport, aim_told, listed, moment_in, mounted_of, report_in, tried_of, with_act}
 use Rattle.cluster_sim.proofs.Advancing.{hand_fits, jobs_fit, answered_by, goes_on, own_few, counted_some, counted_none, same_command, same_count}
-use Rattle.cluster_sim.proofs.Runs.{at_place}
+use Rattle.runs.proofs.Runs.{at_place}
 use Rattle.cluster_sim.proofs.cluster.advance.Goals.{then-is_some, else-is_some}
 use Rattle.cluster_sim.proofs.cluster.advance.Goals as goal
 

@@ -1,10 +1,10 @@
 use Rattle.std.proofs.Common.{◌≡◌, ◌+◌, ◌<◌, ◌≤◌, ◌^◌, [], length, ◌∙◌, ap, arith}
 use Rattle.std.proofs.lemmas.List.{length-map}
 use Rattle.sim_net.specs.Network.{Network}
-use Rattle.cluster_sim.specs.World.{start}
-use Rattle.cluster_sim.specs.Reporting.{report_of}
+use Rattle.runs.specs.World.{start}
+use Rattle.runs.specs.Reporting.{report_of}
 use Rattle.cluster_sim.specs.Recorded.{moment_in, report_in}
-use Rattle.cluster_sim.proofs.Opened.{length_openings}
+use Rattle.runs.proofs.Opened.{length_openings}
 use Rattle.cluster_sim.proofs.Promised.{all_promised}
 use Rattle.cluster_sim.proofs.cluster.run.Goals as goal
 

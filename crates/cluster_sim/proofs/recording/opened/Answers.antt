@@ -1,7 +1,7 @@
 use Rattle.std.proofs.Common.{◌≡◌, ℕ, ◌<◌, length, slice_get, ◌∙◌, ap, subst, arith, Some}
 use Rattle.node_core.specs.State.{state_of}
 use Rattle.cluster_sim.specs.Recorded.{with_opening}
-use Rattle.cluster_sim.proofs.Opened.{length_openings}
+use Rattle.runs.proofs.Opened.{length_openings}
 use Rattle.cluster_sim.proofs.Opening.{opened_to, opened_more, opened_all, opened_state}
 use Rattle.cluster_sim.proofs.recording.opened.Goals as goal
 

@@ -1,6 +1,6 @@
 use Rattle.std.proofs.Common.{◌≡◌, ℕ}
 use Rattle.cluster_sim.specs.Machine.{StandsFor}
-use Rattle.cluster_sim.specs.World.{start}
+use Rattle.runs.specs.World.{start}
 use Rattle.cluster_sim.specs.Recorded.{report_in}
 use Rattle.cluster_sim.proofs.Opening.{opened_to}
 use Rattle.cluster_sim.proofs.recording.opened.Given as goal

@@ -1,7 +1,7 @@
 use Rattle.std.proofs.Common.{ℕ, ◌+◌, List, sym, ◌∙◌, subst}
 use Rattle.sector_disk.specs.Memory.{Memory, state_of}
 use Rattle.durable_node.specs.Node.{Node, Stands}
-use Rattle.durable_node.specs.NodeState.{opening}
+use Rattle.histories.specs.NodeState.{opening}
 use Rattle.cluster_sim.specs.Machine.{AreOpened}
 use Rattle.cluster_sim.proofs.Opened.{opened_more}
 use Rattle.cluster_sim.proofs.simulation.opened.Goals as goal

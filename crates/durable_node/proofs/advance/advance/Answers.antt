@@ -6,7 +6,7 @@ use Rattle.node_core.specs.State.{is_down}
 use Rattle.node_store.specs.Store.{StoreState, durable_of}
 use Rattle.durable_node.specs.Node.{IsNode, disk_in, kept_in, node_with}
 use Rattle.durable_node.specs.Stepping.{CountsOf, Steps, most_by}
-use Rattle.durable_node.proofs.Nodes.{node_ignored, node_served, same_node, counts_under, counts_still, few_ignored, not_device, up_on_ok, clash}
+use Rattle.durable_node.proofs.Nodes.{node_ignored, node_served, same_node, counts_under, counts_still, few_ignored, not_device, none_kept, up_on_ok, clash}
 use Rattle.durable_node.proofs.Serves.{serves_at}
 use Rattle.durable_node.proofs.Ignores.{ignores}
 use Rattle.durable_node.proofs.advance.advance.Goals as goal
@@ -59,6 +59,7 @@ returns-in_default g c =
           fallen e.kept c.in_default.not-Recover c.ignore.result memory (rw (c.requires.node.core_nodes, c.requires.node.core_id) at e.done) (rw (c.requires.node.core_nodes, c.requires.node.core_id) at e.refused);
       mounting = λ down is. absurd (c.in_default.not-Recover is);
       memory = λ memory. same_node c.args.id c.args.nodes c.args.core.now c.ignore.new.core c.args.disk.now c.args.store.now c.args.store.now c.args.doubt.now c.args.doubt.now e.kept refl refl;
+      answers = λ d area kept of_area. absurd (none_kept (is_down c.args.core.now.state.phase) c.args.store.now d (sym c.is_down.ensures ∙ c.if-is_down.true) kept);
       counts = counts_still state (disk_in c.args.disk.now c.args.store.now) c.ignore.result (not_device refused c.ignore.result e.refused);
       few = few_ignored (most_by c.args.nodes (kept_in _ c.args.store.now)) _ c.ignore.result e.done;
     }

@@ -2,7 +2,7 @@ use Rattle.std.proofs.Common.{◌≡◌, ◌++◌, ◌∙◌, sym, ap, codes, tr
 use Rattle.std.specs.Prelude.{is_some}
 use Rattle.wire_msg.specs.Framing.{rest_len}
 use Rattle.wire_msg.specs.Contents.{messages_in, unfinished_in}
-use Rattle.invite_console.specs.Ends.{line}
+use Rattle.console_text.specs.Ends.{line}
 use Rattle.invite_console.specs.Show.{shown, rest_text}
 use Rattle.invite_console.proofs.Shown.{shown_none, shown_more, shows_malformed, shows_all}
 use Rattle.invite_console.proofs.Feeding.{empty_unfinished, messages_turn, stream_turn, none_where}

@@ -1,5 +1,5 @@
 use Rattle.std.proofs.Common.{ℕ, List, drop}
-use Rattle.cluster_sim.specs.World.{World}
+use Rattle.runs.specs.World.{World}
 use Rattle.cluster_sim.specs.Machine.{StandsFor}
 use Rattle.invite_console.specs.Sim.{AddsRows}
 use Rattle.invite_console.proofs.simulating.push_table.Given as goal

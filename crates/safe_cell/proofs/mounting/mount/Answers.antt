@@ -63,7 +63,7 @@ returns-clause-tells g c = λ honest aside.
     let second = subst (λ s. IsRead s c.in_ok-second.second) kept (c.in_ok-second.ensures.read h1) in
     subst (λ r. Tells c.args.at contents r) (sym c.ok_or.ensures.value)
     (tells_values c.args.at contents c.in_ok-first.first c.in_ok-second.second c.of_values.result first second
-    c.of_values.ensures.none c.of_values.ensures.place (c.of_values.ensures.stands contents first second))
+    c.of_values.ensures.none c.of_values.ensures.place (c.of_values.ensures.stands contents first second) c.of_values.ensures.before)
 
 pub returns-clause-mounted : goal.returns-clause-mounted
 returns-clause-mounted g c = λ honest.

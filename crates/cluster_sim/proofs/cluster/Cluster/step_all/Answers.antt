@@ -1,7 +1,7 @@
 use Rattle.std.proofs.Common.{◌++◌, ◌∷◌, [], List, sym, ◌∙◌, ap, subst, append_assoc}
 use Rattle.schedule.specs.declared.act.Act.{Act}
 use Rattle.cluster_sim.specs.declared.outcome.Outcome.{Outcome}
-use Rattle.cluster_sim.specs.Growth.{acts_in}
+use Rattle.runs.specs.Growth.{acts_in}
 use Rattle.cluster_sim.specs.Recorded.{GoesOn, HasRun}
 use Rattle.cluster_sim.proofs.Promised.{ok_here, one_done}
 use Rattle.cluster_sim.proofs.cluster.Cluster.step_all.Goals as goal

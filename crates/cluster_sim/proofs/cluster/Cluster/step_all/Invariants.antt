@@ -1,8 +1,8 @@
 use Rattle.std.proofs.Common.{◌≡◌, ◌++◌, ℕ, length}
 use Rattle.cluster_sim.specs.Recorded.{Tells, HasRun}
-use Rattle.cluster_sim.specs.Growth.{acts_in}
-use Rattle.cluster_sim.specs.Reporting.{Report}
-use Rattle.cluster_sim.specs.World.{World}
+use Rattle.runs.specs.Growth.{acts_in}
+use Rattle.runs.specs.Reporting.{Report}
+use Rattle.runs.specs.World.{World}
 use Rattle.cluster_sim.proofs.cluster.Cluster.step_all.Given as goal
 
 abbrev pub invariant-loop-act : goal.invariant-loop-act

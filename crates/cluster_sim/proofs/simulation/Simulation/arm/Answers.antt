@@ -1,11 +1,11 @@
 use Rattle.std.proofs.Common.{◌≡◌, ℕ, ◌<◌, ◌≤◌, length, nat_lt, refl, sym, ◌∙◌, ap, subst, arith}
 use Rattle.std.specs.Prelude.{slice_set}
-use Rattle.durable_node.specs.What.{What, Rests, Nothing}
+use Rattle.histories.specs.What.{What, Rests, Nothing}
 use Rattle.schedule.specs.declared.act.Act.TheVariants as act
-use Rattle.cluster_sim.specs.Acts.{At}
-use Rattle.cluster_sim.specs.Step.{Step}
+use Rattle.runs.specs.Acts.{At}
+use Rattle.runs.specs.Step.{Step}
 use Rattle.cluster_sim.specs.Machine.{Machine, IsCluster, StandsFor, Acted, FaultsAt}
-use Rattle.cluster_sim.specs.Reporting.{node_or_first}
+use Rattle.runs.specs.Reporting.{node_or_first}
 use Rattle.cluster_sim.proofs.Members.{place_at, denied_at, still_cluster, takes}
 use Rattle.cluster_sim.proofs.Doings.{quietly, acted_by}
 use Rattle.cluster_sim.proofs.Faulting.{faults_still, faults_here}
@@ -19,7 +19,7 @@ returns-then-place-len-clause-acted c = λ w stands.
     let past : c.len.result ≤ c.from-place.result = grind (arith) in
     let same = ap (λ (m : Machine). length m.nodes) c.self.view_is in
     let beyond : length c.args.self.now.nodes ≤ c.args.id = omega (arith, place, len, past, same) in
-    acted_by (λ step. At (nat_lt c.args.id (length w.states)) c.args.id 0 (λ (what : What). what ≡ Rests Nothing) step) w (act.Arm c.args.id c.args.calls) _ c.args.self.now (λ step at. at) (denied_at w c.args.id 0 (λ (what : What). what ≡ Rests Nothing) c.args.self.now stands beyond)
+    acted_by (λ step. At (nat_lt c.args.id (length w.states)) c.args.id 0 (λ (what : What). what ≡ Rests Nothing) step) w (act.Arm c.args.id c.args.calls) _ c.args.self.now refl (λ step at. at) (denied_at w c.args.id 0 (λ (what : What). what ≡ Rests Nothing) c.args.self.now stands beyond)
 
 pub invariant_of-self : goal.invariant_of-self
 invariant_of-self c =
@@ -41,7 +41,7 @@ returns-clause-acted c = λ w stands.
     let before : StandsFor (record { slots = was.slots; nodes = was.nodes.items; net = was.net.network }) w = subst (λ (m : Machine). StandsFor m w) (sym c.self.view_is) stands in
     let q : Step → Type 0 = (λ step. At (nat_lt c.args.id (length w.states)) c.args.id 0 (λ (what : What). what ≡ Rests Nothing) step) in
     subst (λ (k : ℕ). Acted w (act.Arm c.args.id c.args.calls) c.arm.result (record { slots = was.slots; nodes = slice_set was.nodes.items k c.arm.new.node; net = was.net.network })) (sym place)
-    (acted_by q w (act.Arm c.args.id c.args.calls) c.arm.result _ (λ step is. is)
+    (acted_by q w (act.Arm c.args.id c.args.calls) c.arm.result _ refl (λ step is. is)
     (takes was.slots c.args.id 0 (λ (what : What). what ≡ Rests Nothing) was.nodes.items c.index_mut.result.now c.arm.new.node was.net.network was.net.network c.arm.result w c.self.invariant at before
     (quietly w c.args.id (Rests Nothing) refl) (λ s is. c.arm.ensures.came was.slots s is)))
 

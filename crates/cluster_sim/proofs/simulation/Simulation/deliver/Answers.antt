@@ -2,14 +2,14 @@ use Rattle.std.proofs.Common.{ℕ, length, nat_lt, refl, sym, ◌∙◌, ap, sub
 use Rattle.std.specs.Prelude.{IfOk}
 use Rattle.sim_net.specs.Network.{Network, delivery}
 use Rattle.node_core.specs.declared.event.Event.TheVariants as on
-use Rattle.durable_node.specs.What.{AreAddressed}
+use Rattle.histories.specs.What.{AreAddressed}
 use Rattle.cluster_sim.specs.declared.outcome.Outcome.{Outcome}
-use Rattle.cluster_sim.specs.Acts.{At}
+use Rattle.runs.specs.Acts.{At}
 use Rattle.cluster_sim.specs.Machine.{Machine, CameOf, Makes}
 use Rattle.cluster_sim.proofs.Doings.{delivered, undelivered}
 use Rattle.cluster_sim.proofs.Faulting.{faults_still, faults_received}
 use Rattle.cluster_sim.proofs.simulation.Simulation.deliver.Goals as goal
-use Rattle.cluster_sim.proofs.Runs.{comes_sent}
+use Rattle.runs.proofs.Runs.{comes_sent}
 
 pub returns-in-Err-clause-acted : goal.returns-in-Err-clause-acted
 returns-in-Err-clause-acted c = λ w stands.

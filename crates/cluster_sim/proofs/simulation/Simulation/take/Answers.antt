@@ -1,9 +1,9 @@
 use Rattle.std.proofs.Common.{◌≡◌, ℕ, ◌<◌, ◌≤◌, length, nat_lt, refl, sym, ◌∙◌, ap, subst, arith}
 use Rattle.std.specs.Prelude.{slice_set, IfOk, OnErr}
 use Rattle.cluster_sim.specs.declared.outcome.Outcome.{Outcome}
-use Rattle.cluster_sim.specs.Acts.{At}
+use Rattle.runs.specs.Acts.{At}
 use Rattle.cluster_sim.specs.Machine.{Machine, IsCluster, StandsFor, CameOf, Makes, FaultsAt}
-use Rattle.cluster_sim.specs.Reporting.{node_or_first}
+use Rattle.runs.specs.Reporting.{node_or_first}
 use Rattle.cluster_sim.proofs.Members.{place_at, denied_at, still_cluster, takes_if, rests_if}
 use Rattle.cluster_sim.proofs.Doings.{brought_came}
 use Rattle.cluster_sim.proofs.Faulting.{faults_still, faults_if}

@@ -6,7 +6,7 @@ use Rattle.node_core.specs.declared.event.Event.TheVariants.{Recover}
 use Rattle.node_store.specs.Store.{slots_for, AllStandFor}
 use Rattle.job_journal.specs.Journal.{IsSound}
 use Rattle.durable_node.specs.Node.{Node, Stands}
-use Rattle.durable_node.specs.NodeState.{opening}
+use Rattle.histories.specs.NodeState.{opening}
 use Rattle.durable_node.specs.Stepping.{Steps}
 use Rattle.durable_node.proofs.Opens.{opens, forgets}
 use Rattle.durable_node.proofs.memory.DurableNode+MemDisk.open.Goals as goal

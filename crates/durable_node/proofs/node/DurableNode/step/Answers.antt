@@ -2,6 +2,7 @@ use Rattle.std.proofs.Common.{◌≡◌, true, subst}
 use Rattle.node_core.specs.declared.event.Event.TheVariants.{Recover}
 use Rattle.node_core.specs.State.{is_down}
 use Rattle.durable_node.specs.Node.{Node, node_with}
+use Rattle.durable_node.specs.Refusing.{Answers}
 use Rattle.durable_node.specs.Remounting.{Remounted}
 use Rattle.durable_node.specs.Stepping.{Steps}
 use Rattle.durable_node.proofs.node.DurableNode.step.Goals as goal
@@ -17,3 +18,6 @@ returns-clause-mounting g c =
     let n = c.advance.new in
     let new = node_with c.self.inside.id c.self.inside.nodes n.core n.disk n.store n.doubt n.found in
     subst (λ (old : Node _). is_down old.state.phase ≡ true → c.args.event.now ≡ Recover → Remounted old new c.advance.result new.found) c.self.view_is c.advance.ensures.mounting
+
+pub returns-clause-answers : goal.returns-clause-answers
+returns-clause-answers g c = subst (λ (old : Node _). Answers old c.args.event.now c.advance.result) c.self.view_is c.advance.ensures.answers

@@ -1,5 +1,5 @@
 use Rattle.std.proofs.Common.{◌≡◌, ◌++◌, ◌∙◌, ap, codes, true, false}
-use Rattle.invite_console.specs.Ends.{line}
+use Rattle.console_text.specs.Ends.{line}
 use Rattle.invite_console.specs.Answer.{is_strange}
 use Rattle.invite_console.specs.Session.{after_message}
 use Rattle.invite_console.proofs.Sessions.{all_refused, all_taken}

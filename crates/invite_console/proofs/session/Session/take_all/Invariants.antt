@@ -1,6 +1,6 @@
 use Rattle.std.proofs.Common.{◌≡◌, ◌++◌, List, drop}
 use Rattle.wire_msg.specs.Envelope.{Envelope}
-use Rattle.invite_console.specs.Ends.{Outcome}
+use Rattle.console_text.specs.Ends.{Outcome}
 use Rattle.invite_console.specs.Session.{onward}
 use Rattle.invite_console.proofs.session.Session.take_all.Given as goal
 

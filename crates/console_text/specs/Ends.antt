@@ -1,0 +1,68 @@
+-- What a command prints, and how it ends.
+use Rattle.std.specs.Prelude.{◌≡◌, ℕ, List, [], ◌∷◌, ◌++◌, Bool, false, if◌then◌else◌, codes, Option, IfSome, Result, Ok, Err}
+use Rattle.std.specs.Io.KnownBytes.{Appends, Keeps}
+use Rattle.console_text.specs.declared.ends.Ending.{Ending}
+use Rattle.console_text.specs.declared.ends.Ending.TheVariants.{Done, Refused, NoMemory, Unread, Unwritten}
+use Rattle.console_text.specs.declared.ends.Trouble.{Trouble}
+use Rattle.console_text.specs.declared.ends.Trouble.TheVariants as trouble
+use Rattle.console_text.specs.declared.ends.Printout.{Printout}
+
+-- a text, ended as a line
+abbrev pub line : List ℕ → List ℕ
+line text = text ++ 10 ∷ []
+
+-- what a command prints, and whether it ends with status 0
+pub record Outcome : Type 0 where
+  pub text : List ℕ
+  pub good : Bool
+
+-- something was wrong: this line says what
+abbrev pub refused : List ℕ → Outcome
+refused text = record { text = line text; good = false }
+
+-- a text in front of what is printed
+abbrev pub before : List ℕ → Outcome → Outcome
+before text outcome = record { text = text ++ outcome.text; good = outcome.good }
+
+abbrev pub outcome_of : Printout → Outcome
+outcome_of printout = record { text = printout.text.items; good = printout.good }
+
+abbrev pub ending_of : Bool → Ending
+ending_of good = if good then Done else Refused
+
+abbrev pub status_of : Ending → ℕ
+status_of Done = 0
+status_of Refused = 1
+status_of NoMemory = 1
+status_of Unread = 1
+status_of Unwritten = 1
+
+-- the text is written, unless a write failed
+abbrev pub PrintsText : List ℕ → Option (List ℕ) → Option (List ℕ) → Ending → Ending → Type 0
+PrintsText text old new wanted Unwritten = Unit {0}
+PrintsText text old new wanted Done = (Done ≡ wanted) × Appends old new text
+PrintsText text old new wanted Refused = (Refused ≡ wanted) × Appends old new text
+PrintsText text old new wanted NoMemory = (NoMemory ≡ wanted) × Appends old new text
+PrintsText text old new wanted Unread = (Unread ≡ wanted) × Appends old new text
+
+abbrev pub PrintsIt : Result Printout Trouble → Option (List ℕ) → Option (List ℕ) → Ending → Type 0
+PrintsIt (Ok printout) old new ending = PrintsText printout.text.items old new (ending_of printout.good) ending
+PrintsIt (Err trouble.NoMemory) old new ending = PrintsText (line (codes "no memory")) old new NoMemory ending
+PrintsIt (Err trouble.Unread) old new ending = (ending ≡ Unread) × Keeps old new
+
+-- the outcome is this one
+abbrev pub IsFixed : (List ℕ → Outcome) → List ℕ → Outcome → Type 0
+IsFixed fixed bytes outcome = outcome ≡ fixed bytes
+
+-- The text of an outcome for the bytes that were read, and nothing else, is written. Where the reader tells its bytes, they are these.
+abbrev pub Answered : (List ℕ → Outcome → Type 0) → Option (List ℕ) → Option (List ℕ) → Option (List ℕ) → Ending → Type 0
+Answered Is input old new ending =
+    (bytes : List ℕ) × (outcome : Outcome) × IfSome input (λ known. known ≡ bytes) × Is bytes outcome × (ending ≡ ending_of outcome.good) × Appends old new outcome.text
+
+-- What a command writes for what it reads, by how it ends. Nothing is said of a writer that failed.
+abbrev pub Prints : (List ℕ → Outcome → Type 0) → Option (List ℕ) → Option (List ℕ) → Option (List ℕ) → Ending → Type 0
+Prints Is input old new Done = Answered Is input old new Done
+Prints Is input old new Refused = Answered Is input old new Refused
+Prints Is input old new NoMemory = Appends old new (line (codes "no memory"))
+Prints Is input old new Unread = Keeps old new
+Prints Is input old new Unwritten = Unit {0}

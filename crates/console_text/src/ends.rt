@@ -1,0 +1,58 @@
+ghost use Rattle.std.specs.Prelude.{◌≡◌};
+
+use std::alloc::AllocError;
+
+/// How a command ended.
+#[derive(Clone, Copy, Debug, PartialEq, Eq)]
+pub enum Ending {
+    /// All was printed, and nothing was wrong.
+    Done,
+    /// What was printed says what was wrong.
+    Refused,
+    /// Memory ran out; `no memory` was printed, and nothing else.
+    NoMemory,
+    /// A read failed, or the input had no end within the reads that are made of it. Nothing was printed.
+    Unread,
+    /// A write failed. How much went out is not known.
+    Unwritten,
+}
+
+/// Why a command has nothing to print for an input.
+#[derive(Clone, Copy, Debug, PartialEq, Eq)]
+pub enum Trouble {
+    /// Memory ran out.
+    NoMemory,
+    /// A read failed, or the input had no end within the reads that are made of it.
+    Unread,
+}
+
+/// What a command prints, and whether it ends with status 0.
+#[derive(Debug, Drop)]
+pub struct Printout {
+    pub text: Vec<u8>,
+    pub good: bool,
+}
+
+impl From<AllocError> for Trouble {
+    ghost use Rattle.console_text.specs.declared.ends.Trouble.TheVariants.{NoMemory};
+
+    ghost from_gives = { λ _ trouble. trouble ≡ NoMemory };
+
+    fn from(_error: AllocError) -> Trouble {
+        Trouble::NoMemory
+    }
+}
+
+impl Ending {
+    ghost use Rattle.console_text.specs.Ends.{status_of};
+
+    /// The exit status of the program.
+    pub fn status(self) -> u8
+        ensures { result ≡ status_of self }
+    {
+        match self {
+            Ending::Done => 0,
+            Ending::Refused | Ending::NoMemory | Ending::Unread | Ending::Unwritten => 1,
+        }
+    }
+}

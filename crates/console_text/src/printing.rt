@@ -1,0 +1,34 @@
+ghost use Rattle.std.specs.Prelude.{◌≡◌, ◌++◌, IfOk, codes, decimal};
+ghost use Rattle.console_text.specs.Ends.{PrintsIt, outcome_of, refused};
+
+use crate::ends::{Ending, Printout, Trouble};
+use crate::words::{push_number, push_text};
+use std::alloc::{AllocError, Global};
+use std::io::Write;
+
+/// Prints what a command came to, in one write, and nothing else.
+pub fn print<W: Write>(output: &mut W, outcome: Result<Printout, Trouble>) -> Ending
+    ensures { PrintsIt outcome (W.contents output.old) (W.contents output.new) result }
+{
+    let (text, ending) = match &outcome {
+        Ok(printout) if printout.good => (printout.text.as_slice(), Ending::Done),
+        Ok(printout) => (printout.text.as_slice(), Ending::Refused),
+        Err(Trouble::NoMemory) => (b"no memory\n".as_slice(), Ending::NoMemory),
+        Err(Trouble::Unread) => return Ending::Unread,
+    };
+    if output.write_all(text).is_err() || output.flush().is_err() {
+        return Ending::Unwritten;
+    }
+    ending
+}
+
+/// What a command prints where the line of this number can't be read.
+pub fn bad_line(alloc: Global, number: u64) -> Result<Printout, AllocError>
+    ensures { IfOk result (λ printout. outcome_of printout ≡ refused (codes "bad line " ++ decimal number)) }
+{
+    let mut text = Vec::new(alloc);
+    push_text(&mut text, "bad line ")?;
+    push_number(&mut text, number)?;
+    push_text(&mut text, "\n")?;
+    Ok(Printout { text, good: false })
+}

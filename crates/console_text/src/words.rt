@@ -1,0 +1,50 @@
+//! The words that texts are made of, each added to what stands there.
+
+ghost use Rattle.std.specs.Prelude.{◌≡◌, ◌++◌, OnOk, decimal};
+ghost use Rattle.hex.specs.Hex.{encode_lower};
+ghost use Rattle.console_text.specs.Words.{bytes_text};
+
+use itoa::Buffer;
+use std::alloc::AllocError;
+
+/// Adds the letters of a word.
+pub fn push_text(text: &mut Vec<u8>, word: &str) -> Result<(), AllocError>
+    ensures { OnOk result (text.new.items ≡ text.old.items ++ word.now) }
+{
+    text.extend_from_slice(word.as_bytes())?;
+    Ok(())
+}
+
+/// Adds a number in decimal.
+pub fn push_number(text: &mut Vec<u8>, number: u64) -> Result<(), AllocError>
+    ensures { OnOk result (text.new.items ≡ text.old.items ++ decimal number) }
+{
+    let mut digits = Buffer::new();
+    push_text(text, digits.format(number))
+}
+
+/// Adds bytes in hex digits.
+pub fn push_hex(text: &mut Vec<u8>, bytes: &[u8]) -> Result<(), AllocError>
+    ensures { OnOk result (text.new.items ≡ text.old.items ++ encode_lower bytes.now) }
+{
+    let start = text.len();
+    let Some(digits) = bytes.len().checked_mul(2) else {
+        return Err(AllocError);
+    };
+    let Some(end) = start.checked_add(digits) else {
+        return Err(AllocError);
+    };
+    text.resize(end, 0)?;
+    let _ = hex::encode_to_slice(bytes, &mut text[start..]);
+    Ok(())
+}
+
+/// Adds bytes as a word, where a dash stands for none.
+pub fn push_bytes_text(text: &mut Vec<u8>, bytes: &[u8]) -> Result<(), AllocError>
+    ensures { OnOk result (text.new.items ≡ text.old.items ++ bytes_text bytes.now) }
+{
+    match bytes {
+        [] => push_text(text, "-"),
+        _ => push_hex(text, bytes),
+    }
+}

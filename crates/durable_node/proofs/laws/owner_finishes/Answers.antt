@@ -1,7 +1,0 @@
-use Rattle.durable_node.proofs.Owners.{owner_finishes, one_worker}
-use Rattle.durable_node.proofs.Jobs.{work_is_job}
-use Rattle.durable_node.proofs.Pending.{one_job}
-use Rattle.durable_node.proofs.laws.owner_finishes.Goals as goal
-
-pub returns : goal.returns
-returns c = record { finishes = owner_finishes; worker = one_worker; job = work_is_job; one_job = one_job }

@@ -1,0 +1,68 @@
+-- What a compaction of a node's journal does, and how it is told.
+use Rattle.std.specs.Prelude.{ℕ, ◌≡◌, ◌+◌, length, IsTrue, IsOk, Option, Some, None, Result, Err}
+use Rattle.sector_disk.specs.Disk.{DiskState, Image}
+use Rattle.sector_disk.specs.Run.{Each}
+use Rattle.job_model.specs.Durable.{Durable}
+use Rattle.node_core.specs.declared.fault.CoreFault.TheVariants.{Down}
+use Rattle.node_core.specs.Core.{Core}
+use Rattle.node_core.specs.Start.{down}
+use Rattle.node_store.specs.Store.{slots_for, stands_for}
+use Rattle.durable_node.specs.declared.fault.NodeFault.{NodeFault}
+use Rattle.durable_node.specs.declared.fault.NodeFault.TheVariants as node
+use Rattle.histories.specs.NodeState.{NodeState}
+use Rattle.histories.specs.What.{Rest, Nothing, Compacted, CompactDown, CompactWorn, What, Did, Refused, Faulted, Rests, Crashed, Recovered, MountFailed, RaiseFailed, RaiseRefused}
+use Rattle.histories.specs.After.{after}
+use Rattle.histories.specs.Possible.{IsPossible}
+use Rattle.durable_node.specs.Node.{Node, Area, Stands}
+
+-- what a compaction that rests answers
+abbrev pub RestTold : {A : Type 0} → Rest → Result A NodeFault → Type 0
+RestTold Nothing result = ⊥
+RestTold Compacted result = IsOk result
+RestTold CompactDown result = result ≡ Err (node.Core Down)
+RestTold CompactWorn result = result ≡ Err node.Exhausted
+
+-- what a compaction answers, by what came of it: where the device fails in it, the node falls as in a crash
+abbrev pub CompactTold : {A : Type 0} → What → Result A NodeFault → Type 0
+CompactTold (Did event) result = ⊥
+CompactTold (Refused event fault) result = ⊥
+CompactTold (Faulted event) result = ⊥
+CompactTold (Rests rest) result = RestTold rest result
+CompactTold Crashed result = result ≡ Err node.Device
+CompactTold (Recovered kept) result = ⊥
+CompactTold MountFailed result = ⊥
+CompactTold (RaiseFailed kept) result = ⊥
+CompactTold (RaiseRefused kept) result = ⊥
+
+-- whatever state the node stood for, one of the things that may come of a compaction came of it, and the node stands for the
+-- state after it
+abbrev pub Compacts : {Disk A : Type 0} → (Disk → DiskState) → Node Disk → Node Disk → Result A NodeFault → Type 0
+Compacts {Disk} disks old new result =
+    (disk : Disk) (s : NodeState) → old.disk ≡ Some disk → Stands disks old s →
+    (what : What) × CompactTold what result × IsPossible old.id old.nodes s what × Stands disks new (after old.id old.nodes s what)
+
+-- the other area, which holds a Base and the pending jobs alone
+abbrev pub moved : Durable → Area → Area
+moved d area = record { number = area.number + 1; slots = area.slots; used = length d.pending + 1 }
+
+-- in each image since the compaction began the disk of a node that was up stands for what it kept
+abbrev pub StaysKept : {Disk : Type 0} → (Disk → DiskState) → Node Disk → Node Disk → Type 0
+StaysKept {Disk} disks old new =
+    (was now : Disk) (d : Durable) → old.disk ≡ Some was → new.disk ≡ Some now → old.kept ≡ Some d → IsTrue (disks was).honest →
+    Each (disks was) (disks now) (λ (image : Image). stands_for (slots_for (disks was).sectors) image ≡ Some d)
+
+-- it was done: the jobs are in the other area, and nothing else that the node shows has changed
+pub record IsMovedNode {Disk : Type 0} (old new : Node Disk) : Type 0 where
+  pub is : new ≡ record old { disk = new.disk; area = new.area; found = None }
+  pub area : (d : Durable) (area : Area) → old.kept ≡ Some d → old.area ≡ Some area → new.area ≡ Some (moved d area)
+
+-- the device failed in it: the node is down, and what was in doubt is as before, so no command of a node that was up
+abbrev pub IsFallenNode : {Disk : Type 0} → Node Disk → Node Disk → Type 0
+IsFallenNode old new = new ≡ record old { state = down old.id; disk = new.disk; kept = None; area = None; found = None }
+
+-- the core goes down where the device fails, and else it stays
+pub record IsRewrittenCore {A : Type 0} (self nodes : ℕ) (old new : Core) (result : Result A NodeFault) : Type 0 where
+  pub id : new.id ≡ self
+  pub nodes_is : new.nodes ≡ nodes
+  pub stays : (result ≡ Err node.Device → ⊥) → new.state ≡ old.state
+  pub falls : result ≡ Err node.Device → new.state ≡ down self

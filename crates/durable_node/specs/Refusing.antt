@@ -1,0 +1,63 @@
+-- Why a node refuses an event or a compaction: of several reasons the first.
+use Rattle.std.specs.Prelude.{ℕ, ◌≡◌, ◌⊎◌, ◌+◌, ◌-◌, ◌^◌, ◌==◌, ◌&&◌, nat_lt, nat_le, Bool, length, if◌then◌else◌, Option, Some, None, Result, Err, IsOk, IsErrOf}
+use Rattle.job_model.specs.Command.{Command, Raise, Put, Done}
+use Rattle.job_model.specs.Durable.{Durable}
+use Rattle.node_core.specs.declared.event.Event.{Event}
+use Rattle.node_core.specs.declared.fault.CoreFault.{CoreFault}
+use Rattle.node_core.specs.declared.fault.CoreFault.TheVariants.{Down, NoMemory}
+use Rattle.node_core.specs.NodeStep.{StepFault, OfCore, Full, Exhausted, Worn}
+use Rattle.node_core.specs.Refusals.{refusal_of}
+use Rattle.node_core.specs.State.{State}
+use Rattle.node_core.specs.Wants.{wants_of}
+use Rattle.durable_node.specs.declared.fault.NodeFault.{NodeFault}
+use Rattle.durable_node.specs.declared.fault.NodeFault.TheVariants as node
+use Rattle.durable_node.specs.declared.step.Step.{Step}
+use Rattle.durable_node.specs.Faults.{shown}
+use Rattle.durable_node.specs.Node.{Node, Area}
+
+-- ---- a command
+
+-- the area can't be changed once more
+abbrev pub is_last : Area → Bool
+is_last area = area.number == 2 ^ 64 - 1
+
+-- no slot is free, and no compaction can free one
+abbrev pub area_refusal : Area → Option StepFault
+area_refusal area = if area.used == area.slots && is_last area then Some Worn else None
+
+-- why the disk can't take a command
+abbrev pub disk_refusal : Durable → Area → Option Command → Option StepFault
+disk_refusal d area None = None
+disk_refusal d area (Some Raise) = if d.counter == 2 ^ 64 - 1 then Some Exhausted else None
+disk_refusal d area (Some (Put queue payload)) =
+    if nat_le (2 ^ 64 - 1) d.next then Some Exhausted
+    else (if nat_lt area.slots (length d.pending + 3) then Some Full else area_refusal area)
+disk_refusal d area (Some (Done id)) = area_refusal area
+
+-- a call that was given a command answers why it was refused, or else does it or meets a device that fails
+abbrev pub AnswersTo : {A : Type 0} → Option StepFault → Result A NodeFault → Type 0
+AnswersTo (Some why) result = result ≡ Err (shown why)
+AnswersTo None result = IsOk result ⊎ IsErrOf result node.Device
+
+-- ---- an event
+
+-- there was no memory, or P
+abbrev pub OrNoMemory : {A : Type 0} → Result A NodeFault → Type 0 → Type 0
+OrNoMemory result P = IsErrOf result (node.Core NoMemory) ⊎ P
+
+-- want of memory comes after the core's reasons, and before the disk's
+abbrev pub AnswersEvent : {A : Type 0} → Option CoreFault → Option StepFault → Result A NodeFault → Type 0
+AnswersEvent (Some fault) why result = result ≡ Err (node.Core fault)
+AnswersEvent None why result = OrNoMemory result (AnswersTo why result)
+
+-- what a node that is up answers to an event
+abbrev pub Answers : {Disk : Type 0} → Node Disk → Event → Result Step NodeFault → Type 0
+Answers node event result = (d : Durable) (area : Area) → node.kept ≡ Some d → node.area ≡ Some area →
+    AnswersEvent (refusal_of node.nodes node.id event node.state) (disk_refusal d area (wants_of node.id d.pending event node.state)) result
+
+-- ---- a compaction
+
+-- why a compaction is refused, by the area of a node that is up
+abbrev pub compaction_refusal : Option Area → Option StepFault
+compaction_refusal None = Some (OfCore Down)
+compaction_refusal (Some area) = if is_last area then Some Worn else None

@@ -1,0 +1,89 @@
+// The compaction of a node's journal.
+ghost use Rattle.std.specs.Prelude.{◌≡◌, ◌≢◌, ◌≤◌, ◌<◌, IsTrue, IsFalse, IsOk, IfErr, IsErrOf, Some, None};
+ghost use Rattle.sector_disk.specs.Disk.{Counts};
+ghost use Rattle.sector_disk.specs.Run.{Run, Each};
+ghost use Rattle.group_task.specs.declared.node.TheConstants.{NODES};
+ghost use Rattle.job_journal.specs.Journal.{IsSound};
+ghost use Rattle.node_core.specs.State.{is_down};
+ghost use Rattle.node_store.specs.Store.{durable_of, InStore, StaysAs};
+ghost use Rattle.durable_node.specs.Compacting.{Compacts, StaysKept, IsMovedNode, IsFallenNode, IsRewrittenCore, moved};
+ghost use Rattle.durable_node.specs.Node.{disk_in, area_in, area_of, IsNode, node_with};
+ghost use Rattle.durable_node.specs.Refusing.{AnswersTo, compaction_refusal};
+ghost use Rattle.durable_node.specs.Stepping.{CountsOf};
+
+use crate::advance::is_down;
+use crate::fault::{NodeFault, node_fault};
+use group_task::NodeId;
+use node_core::{CoreFault, Durable, NodeCore};
+use node_store::NodeStore;
+use sector_disk::SectorDisk;
+use std::alloc::Global;
+
+/// Compacts the journal, over the parts of a node.
+pub(crate) fn compact<D: SectorDisk>(
+    alloc: Global,
+    id: NodeId,
+    nodes: u8,
+    core: &mut NodeCore,
+    disk: &Option<D>,
+    store: &mut Option<NodeStore<D>>,
+    doubt: &Option<(Durable, u64)>,
+    found: &mut Option<u64>,
+) -> Result<(), NodeFault>
+    requires node { IsNode D.state id nodes core.old disk.now store.old }
+    ensures node { IsNode D.state id nodes core.new disk.now store.new }
+    ensures answers { AnswersTo (compaction_refusal (area_in (is_down core.old.state.phase) store.old)) result }
+    ensures step { Compacts D.state (node_with id nodes core.old disk.now store.old doubt.now found.old) (node_with id nodes core.new disk.now store.new doubt.now found.new) result }
+    ensures moved { IsOk result → IsMovedNode (node_with id nodes core.old disk.now store.old doubt.now found.old) (node_with id nodes core.new disk.now store.new doubt.now found.new) }
+    ensures fallen { IsErrOf result NodeFault.Device → IsFallenNode (node_with id nodes core.old disk.now store.old doubt.now found.old) (node_with id nodes core.new disk.now store.new doubt.now found.new) }
+    ensures refused { IfErr result (λ fault. fault ≢ NodeFault.Device
+        → node_with id nodes core.new disk.now store.new doubt.now found.new ≡ node_with id nodes core.old disk.now store.old doubt.now None) }
+    ensures images { StaysKept D.state (node_with id nodes core.old disk.now store.old doubt.now found.old) (node_with id nodes core.new disk.now store.new doubt.now found.new) }
+    ensures counts { CountsOf D.state (disk_in disk.now store.old) (disk_in disk.now store.new) result }
+{
+    *found = None;
+    if is_down(core) {
+        return Err(NodeFault::Core(CoreFault::Down));
+    }
+    match store {
+        Some(store) => rewrite(alloc, id, nodes, core, store),
+        None => unreachable!(),
+    }
+}
+
+/// Compacts the journal of a node that is up. After `Device` the core is down.
+fn rewrite<D: SectorDisk>(
+    alloc: Global,
+    id: NodeId,
+    nodes: u8,
+    core: &mut NodeCore,
+    store: &mut NodeStore<D>,
+) -> Result<(), NodeFault>
+    requires id { core.old.id ≡ id }
+    requires nodes { core.old.nodes ≡ nodes }
+    requires within { id < nodes }
+    requires most { nodes ≤ NODES }
+    requires whole { IsFalse store.old.broken }
+    requires sound { IsSound store.old.journal.slots (D.state store.old.disk) }
+    ensures core { IsRewrittenCore id nodes core.old core.new result }
+    ensures answers { AnswersTo (compaction_refusal (Some (area_of store.old))) result }
+    ensures done { IsOk result → IsFalse store.new.broken × (area_of store.new ≡ moved (durable_of store.old) (area_of store.old)) }
+    ensures refused { IfErr result (λ fault. fault ≢ NodeFault.Device → store.new ≡ store.old) }
+    ensures kept { durable_of store.new ≡ durable_of store.old }
+    ensures slots { store.new.journal.slots ≡ store.old.journal.slots }
+    ensures counts { Counts (D.state store.old.disk) (D.state store.new.disk) (IsErrOf result NodeFault.Device) (IsErrOf result NodeFault.Device → ⊥) }
+    ensures sound { IsSound store.old.journal.slots (D.state store.new.disk) }
+    ensures run { IsTrue (D.state store.old.disk).honest → Run (InStore store.old.journal.slots) (D.state store.old.disk) (D.state store.new.disk) }
+    ensures images { IsTrue (D.state store.old.disk).honest → Each (D.state store.old.disk) (D.state store.new.disk) (StaysAs store.old) }
+{
+    match store.compact() {
+        Ok(()) => Ok(()),
+        Err(fault) => {
+            let fault = node_fault(fault);
+            if fault.is_device() {
+                *core = NodeCore::down(alloc, id, nodes);
+            }
+            Err(fault)
+        }
+    }
+}

@@ -1,0 +1,229 @@
+// A disk of sectors over a file.
+ghost use Rattle.std.specs.Prelude.{◌≡◌, ◌≤◌, ◌<◌, ◌↔◌, ◌*◌, ◌/◌, ◌^◌, IsOk, IsErrOf, IfOk, IsOkUnless, IsTrue, false, true};
+ghost use Rattle.sector_disk.specs.Disk.{Counts, Touches, AllSettled, nothing, sector_at};
+ghost use Rattle.sector_disk.specs.Memory.{risen};
+ghost use Rattle.sector_disk.specs.declared.fault.DiskFault.TheVariants.{Device, OutOfRange};
+ghost use Rattle.file_disk.specs.declared.stride.Stride.TheVariants.{Packed};
+ghost use Rattle.file_disk.specs.File.{state_of, unfailed, bytes_of, laws};
+
+use crate::fault::OpenFault;
+use crate::making::{Found, made, opened};
+use crate::places::{overwrite, read_at};
+use crate::stride::Stride;
+use sector_disk::{DiskFault, Sector, SectorDisk};
+use std::fs::{File, Files};
+use std::io;
+use std::marker::Model;
+use std::path::AsPath;
+
+/// A disk over a file: sector `at` is the 512 bytes of the file from `at` times the stride on.
+///
+/// It is never honest: no contract says what a file gives back or what a crash leaves of it. The file stays open and locked until the disk is
+/// dropped, which syncs nothing.
+///
+/// A write or a sync that fails makes the disk *spent*: each later call on one of its sectors, and each sync, is `Device` with no call of the
+/// system. What the system then did with data that it hadn't written out isn't known, and a later sync may answer that all is well.
+#[derive(Drop)]
+pub struct FileDisk {
+    file: File,
+    sectors: u64,
+    stride: Stride,
+    spent: bool,
+    failures: u64,
+}
+
+impl Model for FileDisk {
+    ghost use Rattle.std.specs.Prelude.{◌*◌, ◌<◌, ◌^◌};
+    ghost use Rattle.file_disk.specs.File.{FileState, bytes_of};
+
+    ghost Value = { FileState };
+
+    ghost view = { λ disk. record { sectors = disk.sectors; stride = disk.stride; spent = disk.spent; failures = disk.failures } };
+
+    ghost invariant = { λ disk. disk.sectors * bytes_of disk.stride < 2 ^ 64 };
+}
+
+impl FileDisk {
+    /// Makes a file of zeros, in place of one that is there, and keeps it open. The file and the folder that holds it are synced. Refused where
+    /// the file can't be made, locked, written or synced. A file that is locked, or no regular file, is left as it was, and so is one where
+    /// the length asked for can't be had; a refusal that comes later leaves a file that nothing is known of.
+    pub fn create<P: AsPath>(
+        rt: &impl Files<File = File>,
+        path: P,
+        sectors: u64,
+    ) -> Result<FileDisk, OpenFault>
+        ensures ok { IfOk result (λ disk. disk ≡ unfailed sectors Packed) }
+
+        // No file is so long.
+        ensures too_long { 2 ^ 63 ≤ sectors * 512 → IsErrOf result OpenFault.Device }
+    {
+        make(rt, path, sectors, Stride::Packed, Found::Replaced)
+    }
+
+    /// As [`FileDisk::create`], with sectors so far apart, and only where there is nothing of this name: else `Exists`, and what is there is left
+    /// as it was.
+    pub fn create_new<P: AsPath>(
+        rt: &impl Files<File = File>,
+        path: P,
+        sectors: u64,
+        stride: Stride,
+    ) -> Result<FileDisk, OpenFault>
+        ensures ok { IfOk result (λ disk. disk ≡ unfailed sectors stride) }
+        ensures too_long { 2 ^ 63 ≤ sectors * bytes_of stride → IsErrOf result OpenFault.Device }
+    {
+        make(rt, path, sectors, stride, Found::Refused)
+    }
+
+    /// Opens a file as a disk of the whole sectors that it has: 512 bytes each, and what is left at its end belongs to none. Refused where the
+    /// file can't be opened to read and write, or be locked, or its length isn't told.
+    pub fn open<P: AsPath>(rt: &impl Files<File = File>, path: P) -> Result<FileDisk, OpenFault>
+        ensures ok { IfOk result (λ disk. disk ≡ unfailed disk.sectors Packed) }
+    {
+        FileDisk::open_with(rt, path, Stride::Packed)
+    }
+
+    /// As [`FileDisk::open`], with sectors so far apart: as far as they were when the file was made, which the file doesn't tell.
+    pub fn open_with<P: AsPath>(
+        rt: &impl Files<File = File>,
+        path: P,
+        stride: Stride,
+    ) -> Result<FileDisk, OpenFault>
+        ensures ok { IfOk result (λ disk. disk ≡ unfailed disk.sectors stride) }
+    {
+        let file = opened(rt, path)?;
+        let length = file.metadata()?.len();
+        Ok(over(file, length, stride))
+    }
+
+    // Counts a call that failed.
+    fn fail(&mut self) -> Result<(), DiskFault>
+        ensures device { IsErrOf result Device }
+        ensures counted { self.new ≡ record self.old { failures = risen self.old.failures } }
+    {
+        self.failures = self.failures.saturating_add(1);
+        Err(DiskFault::Device)
+    }
+
+    // What a write or a sync answers: after one that failed the disk is spent.
+    fn answer(&mut self, done: io::Result<()>) -> Result<(), DiskFault>
+        ensures done { IsOk result ↔ IsOk done }
+        ensures device { IsOkUnless result Device }
+        ensures ok { IsOk result → self.new ≡ self.old }
+        ensures failed { IsErrOf result Device → self.new ≡ record self.old { spent = true; failures = risen self.old.failures } }
+    {
+        if done.is_err() {
+            self.spent = true;
+            return self.fail();
+        }
+        Ok(())
+    }
+}
+
+impl SectorDisk for FileDisk {
+    ghost state = { state_of };
+
+    ghost laws = { λ disk honest. laws disk honest };
+
+    fn sectors(&self) -> u64 {
+        self.sectors
+    }
+
+    fn failures(&self) -> u64 {
+        self.failures
+    }
+
+    fn read(&mut self, at: u64, into: &mut Sector) -> Result<(), DiskFault>
+        ensures counts { Counts (state_of self.old) (state_of self.new) (IsErrOf result Device) (IsOk result) }
+        ensures refused { IsErrOf result OutOfRange ↔ (self.old.sectors ≤ at) }
+        ensures unchanged { IsErrOf result OutOfRange → self.new ≡ self.old }
+        ensures touches { IsTrue false → Touches nothing (state_of self.old) (state_of self.new) }
+        ensures gives { IsTrue false → IsOk result → into.new ≡ sector_at (state_of self.old).contents at }
+
+        // A read that fails leaves the disk as fit for use as it was.
+        ensures spent { IsTrue self.old.spent → at < self.old.sectors → IsErrOf result Device }
+        ensures ok { IsOk result → self.new ≡ self.old }
+        ensures failed { IsErrOf result Device → self.new ≡ record self.old { failures = risen self.old.failures } }
+    {
+        if at >= self.sectors {
+            return Err(DiskFault::OutOfRange);
+        }
+        let place = at * self.stride.bytes();
+        if self.spent || read_at(&self.file, place, into).is_err() {
+            return self.fail();
+        }
+        Ok(())
+    }
+
+    fn write(&mut self, at: u64, from: &Sector) -> Result<(), DiskFault>
+        ensures counts { Counts (state_of self.old) (state_of self.new) (IsErrOf result Device) (IsOk result) }
+        ensures refused { IsErrOf result OutOfRange ↔ (self.old.sectors ≤ at) }
+        ensures unchanged { IsErrOf result OutOfRange → self.new ≡ self.old }
+        ensures touches { IsTrue false → Touches (λ k. k ≡ at) (state_of self.old) (state_of self.new) }
+        ensures gives { IsTrue false → IsOk result → sector_at (state_of self.new).contents at ≡ from.now }
+
+        // Each write that fails is counted once, and spends the disk.
+        ensures spent { IsTrue self.old.spent → at < self.old.sectors → IsErrOf result Device }
+        ensures ok { IsOk result → self.new ≡ self.old }
+        ensures failed { IsErrOf result Device → self.new ≡ record self.old { spent = true; failures = risen self.old.failures } }
+    {
+        if self.sectors <= at {
+            return Err(DiskFault::OutOfRange);
+        }
+        if self.spent {
+            return self.fail();
+        }
+        let place = at * self.stride.bytes();
+        let length = self.sectors * self.stride.bytes();
+        let done = overwrite(&self.file, length, place, from);
+        self.answer(done)
+    }
+
+    /// Asks for all data to be written out, and waits for the answer.
+    fn sync(&mut self) -> Result<(), DiskFault>
+        ensures counts { Counts (state_of self.old) (state_of self.new) (IsErrOf result Device) (IsOk result) }
+        ensures refused { IsErrOf result OutOfRange ↔ ⊥ }
+        ensures touches { IsTrue false → Touches nothing (state_of self.old) (state_of self.new) }
+        ensures settles { IsTrue false → IsOk result → AllSettled (state_of self.new) }
+
+        // Each sync that fails is counted once, and spends the disk.
+        ensures spent { IsTrue self.old.spent → IsErrOf result Device }
+        ensures ok { IsOk result → self.new ≡ self.old }
+        ensures failed { IsErrOf result Device → self.new ≡ record self.old { spent = true; failures = risen self.old.failures } }
+    {
+        if self.spent {
+            return self.fail();
+        }
+        let done = self.file.sync_data();
+        self.answer(done)
+    }
+}
+
+fn make<P: AsPath>(
+    rt: &impl Files<File = File>,
+    path: P,
+    sectors: u64,
+    stride: Stride,
+    found: Found,
+) -> Result<FileDisk, OpenFault>
+    ensures ok { IfOk result (λ disk. disk ≡ unfailed sectors stride) }
+    ensures too_long { 2 ^ 63 ≤ sectors * bytes_of stride → IsErrOf result OpenFault.Device }
+{
+    let Some(length) = sectors.checked_mul(stride.bytes()) else {
+        return Err(OpenFault::Device);
+    };
+    let file = made(rt, path, length, found)?;
+    Ok(over(file, length, stride))
+}
+
+// The disk over an open file of this length.
+pub fn over(file: File, length: u64, stride: Stride) -> FileDisk
+    ensures { result ≡ unfailed (length / bytes_of stride) stride }
+{
+    FileDisk {
+        file,
+        sectors: length / stride.bytes(),
+        stride,
+        spent: false,
+        failures: 0,
+    }
+}

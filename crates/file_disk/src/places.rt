@@ -1,0 +1,25 @@
+// Bytes of a file at their place.
+use std::fs::File;
+use std::io;
+use std::io::ErrorKind;
+use std::os::unix::fs::FileExt;
+
+// Fills the piece from this place on: a read that gives less is followed by another, an interrupted one is made again, and the end of the
+// file is an error.
+pub fn read_at<F: FileExt>(file: &F, place: u64, piece: &mut [u8]) -> io::Result<()> {
+    file.read_exact_at(piece, place)
+}
+
+// Writes the whole piece from this place on: a write that takes less is followed by another, and an interrupted one is made again.
+pub fn write_at<F: FileExt>(file: &F, place: u64, piece: &[u8]) -> io::Result<()> {
+    file.write_all_at(piece, place)
+}
+
+// Writes the piece over a file of at least so many bytes. One that has become shorter is refused: a write behind its end would leave zeros
+// where sectors were.
+pub fn overwrite(file: &File, length: u64, place: u64, piece: &[u8]) -> io::Result<()> {
+    if file.metadata()?.len() < length {
+        return Err(io::Error::from(ErrorKind::UnexpectedEof));
+    }
+    write_at(file, place, piece)
+}

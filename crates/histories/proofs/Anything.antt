@@ -1,0 +1,78 @@
+-- Claims that hold of anything.
+use Rattle.std.proofs.Common.{ℕ, List, [], ◌∷◌, Option, Some, None}
+use Rattle.group_task.specs.Group.{Group}
+use Rattle.group_task.specs.Assignment.{Assignment}
+use Rattle.job_model.specs.declared.job.Job.{Job}
+use Rattle.job_model.specs.Command.{Command}
+use Rattle.job_model.specs.Durable.{Durable}
+use Rattle.job_model.specs.Fold.{after_wanted}
+use Rattle.wire_msg.specs.Envelope.{Envelope}
+use Rattle.wire_msg.specs.declared.body.Body.{Body}
+use Rattle.wire_msg.specs.declared.body.Body.TheVariants.{AreYouCoordinator, Coordinator, AreYouThere, Here, Invitation, Accept, Ready, ReadyAck, Work as WorkMessage, Done as DoneMessage}
+use Rattle.node_core.specs.declared.phase.Phase.{Phase}
+use Rattle.node_core.specs.declared.phase.Phase.TheVariants.{Down, Election, Reorganization, Normal}
+use Rattle.node_core.specs.State.{State}
+use Rattle.histories.specs.Named.{BodyHolds, AllHold, TaskHolds, PlaceHolds}
+use Rattle.histories.proofs.Moves.{WorkIn, AllWork, JobsHold, GivenHold, Knows, KnowsJobs}
+
+abbrev pub AnyGroup : Group → Type 0
+AnyGroup group = Unit {0}
+
+abbrev pub AnyWork : ℕ → ℕ → ℕ → Type 0
+AnyWork origin id queue = Unit {0}
+
+any_task : (t : Option Assignment) → TaskHolds AnyGroup t
+any_task None = tt
+any_task (Some t) = tt
+
+any_place : (p : Phase) (g : Group) (t : Option Assignment) → PlaceHolds AnyGroup p g t
+any_place Down g t = tt
+any_place Election g t = (tt, any_task t)
+any_place Reorganization g t = (tt, any_task t)
+any_place Normal g t = (tt, any_task t)
+
+any_body : (b : Body) → BodyHolds AnyGroup b
+any_body AreYouCoordinator = tt
+any_body (Coordinator agreed) = tt
+any_body (AreYouThere group) = tt
+any_body (Here group agreed) = tt
+any_body (Invitation group) = tt
+any_body (Accept group) = tt
+any_body (Ready task) = tt
+any_body (ReadyAck group) = tt
+any_body (WorkMessage group id queue payload) = tt
+any_body (DoneMessage id) = tt
+
+any_work : (sender : ℕ) (b : Body) → WorkIn AnyWork sender b
+any_work sender AreYouCoordinator = tt
+any_work sender (Coordinator agreed) = tt
+any_work sender (AreYouThere group) = tt
+any_work sender (Here group agreed) = tt
+any_work sender (Invitation group) = tt
+any_work sender (Accept group) = tt
+any_work sender (Ready task) = tt
+any_work sender (ReadyAck group) = tt
+any_work sender (WorkMessage group id queue payload) = tt
+any_work sender (DoneMessage id) = tt
+
+any_came : (ms : List Envelope) → AllHold AnyGroup ms
+any_came [] = tt
+any_came (m ∷ ms) = (any_body m.body, any_came ms)
+
+pub all_any_work : (ms : List Envelope) → AllWork AnyWork ms
+all_any_work [] = tt
+all_any_work (m ∷ ms) = (any_work m.sender m.body, all_any_work ms)
+
+any_given : (self : ℕ) (ks : List ℕ) → GivenHold AnyGroup self ks
+any_given self [] = tt
+any_given self (k ∷ ks) = (tt, any_given self ks)
+
+pub any_pending : (self : ℕ) (jobs : List Job) → JobsHold AnyWork self jobs
+any_pending self [] = tt
+any_pending self (job ∷ jobs) = (tt, any_pending self jobs)
+
+pub knows_any : (self : ℕ) (s : State) (given : List ℕ) (came : List Envelope) → Knows AnyGroup self s given came
+knows_any self s given came = record { place = any_place s.phase s.group s.task; fresh = any_given self given; heard = any_came came }
+
+pub knows_any_jobs : (self : ℕ) (d : Durable) (wants : Option Command) → KnowsJobs AnyWork self d wants
+knows_any_jobs self d wants = record { before = any_pending self d.pending; after = any_pending self (after_wanted d wants).pending }

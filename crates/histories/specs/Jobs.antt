@@ -1,0 +1,31 @@
+-- Which job the work in hand is.
+use Rattle.std.specs.Prelude.{ℕ, ◌≡◌, List, length, slice_get, Some}
+use Rattle.job_model.specs.declared.job.Job.{Job}
+use Rattle.node_core.specs.declared.in_hand.InHand.{InHand}
+use Rattle.node_core.specs.State.{State}
+use Rattle.histories.specs.Lists.{IsAmong}
+use Rattle.histories.specs.NodeState.{NodeState, opening}
+use Rattle.histories.specs.What.{Entry}
+use Rattle.histories.specs.History.{states}
+use Rattle.histories.specs.Bundle.{Bundle}
+use Rattle.histories.specs.Moments.{IsMoment}
+
+-- at some moment the origin had a pending job of this id and queue
+pub record IsJobOf (histories : List (List Entry)) (origin id queue : ℕ) : Type 0 where
+  pub history : List Entry
+  pub at : slice_get histories origin ≡ Some history
+  pub state : NodeState
+  pub is_state : IsAmong state (states origin (length histories) (opening origin) history)
+  pub job : Job
+  pub pending : IsAmong job state.durable.pending
+  pub of_id : job.id ≡ id
+  pub of_queue : job.queue ≡ queue
+
+-- the work in hand was a pending job of its origin, of the same id and queue
+abbrev pub WorkIsJob : Type 0
+WorkIsJob = (histories : List (List Entry)) → Bundle histories → (n : ℕ) (v : State) → IsMoment histories n v → (w : InHand) → IsAmong w v.hand → IsJobOf histories w.origin w.id w.queue
+
+-- jobs of one id that are pending at two moments of a history are one job, with one queue and one payload
+abbrev pub OneJob : Type 0
+OneJob = (self nodes : ℕ) (h : List Entry) (s t : NodeState) → IsAmong s (states self nodes (opening self) h) → IsAmong t (states self nodes (opening self) h) →
+    (a b : Job) → IsAmong a s.durable.pending → IsAmong b t.durable.pending → a.id ≡ b.id → a ≡ b

@@ -1,0 +1,17 @@
+pub mod Lists
+pub mod NodeState
+pub mod What
+pub mod After
+pub mod Possible
+pub mod History
+pub mod Bundle
+pub mod Rising
+pub mod Moments
+pub mod Book
+pub mod Counts
+pub mod Kept
+pub mod Marks
+pub mod Owners
+pub mod Jobs
+pub mod Named
+pub mod Ends

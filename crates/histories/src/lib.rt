@@ -1,0 +1,13 @@
+//! What may come of the events of a node with its disk, the histories of nodes, and the laws of all histories.
+//!
+//! A history lists what came of a node's events, crashes and recoveries. The definitions stand in `specs/`, over the table of
+//! the node's state machine, and speak of no disk: which command was kept is part of an entry. The laws are contracts of
+//! functions that do nothing.
+#![tactic(auto)]
+
+mod laws;
+
+pub use laws::{
+    counts_rise, few_counts, goes_on, kept, one_book, one_coordinator_and_task, owner_finishes,
+    senders,
+};

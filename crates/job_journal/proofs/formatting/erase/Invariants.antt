@@ -1,5 +1,0 @@
-use Rattle.job_journal.proofs.Formats.{Erased}
-use Rattle.job_journal.proofs.formatting.erase.Given as goal
-
-abbrev pub invariant-loop-erased : goal.invariant-loop-erased
-invariant-loop-erased g l = Erased l.fn.slots (g.D.SectorDisk.state l.fn.disk) (g.D.SectorDisk.state l.disk) l.erased

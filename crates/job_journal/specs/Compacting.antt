@@ -1,0 +1,49 @@
+-- What a compaction writes, and what it leaves.
+use Rattle.std.specs.Prelude.{◌≡◌, ◌<◌, ◌≤◌, ℕ, ◌+◌, ◌*◌, ◌==◌, true, List, ◌∷◌, length, map, slice_get, Option, Some, None, if◌then◌else◌}
+use Rattle.sector_disk.specs.Disk.{Image, sector_at}
+use Rattle.slot_gate.specs.Slot.{slot_at}
+use Rattle.safe_cell.specs.Mounted.{raised}
+use Rattle.job_model.specs.declared.record.Record.{Record}
+use Rattle.job_model.specs.declared.record.Record.TheVariants.{Base, Keep}
+use Rattle.job_model.specs.Records.{record_of}
+use Rattle.job_journal.specs.Jobs.{Jobs}
+use Rattle.job_journal.specs.Appending.{is_last}
+use Rattle.job_journal.specs.Areas.{first_of}
+use Rattle.job_journal.specs.Mounted.{JournalState}
+use Rattle.job_journal.specs.declared.fault.JournalFault.{JournalFault}
+use Rattle.job_journal.specs.declared.fault.JournalFault.TheVariants.{Broken, Exhausted}
+
+-- the records that stand for these jobs: their next id, and each job in order of id
+abbrev pub records_for : Jobs → List Record
+records_for jobs = Base jobs.next ∷ map Keep jobs.pending
+
+-- why a compaction is refused before the device is called
+abbrev pub compaction_refusal : JournalState → Option JournalFault
+compaction_refusal journal =
+    if journal.broken then Some Broken
+    else (if is_last journal.area.value then Some Exhausted else None)
+
+-- the journal after a compaction: the same jobs, in the other area
+abbrev pub compacted : JournalState → JournalState
+compacted journal = record journal { area = raised journal.area; used = length journal.table.pending + 1 }
+
+-- the journal with a free slot: compacted where there was none
+abbrev pub with_slot : JournalState → JournalState
+with_slot journal = if journal.used == journal.slots then compacted journal else journal
+
+-- After `Device` the journal is broken. It has the jobs of before, and what else it knows is of no use.
+pub record IsGivenUp (old new : JournalState) : Type 0 where
+  pub broken : new.broken ≡ true
+  pub slots : new.slots ≡ old.slots
+  pub table : new.table ≡ old.table
+
+-- An area that is being written from a sector on: the bodies of its first slots are these records, so many of
+-- them, the first slots are sealed, and the others aren't.
+pub record IsWritten (first slots : ℕ) (records : List Record) (fills seals : ℕ) (image : Image) : Type 0 where
+  pub bodies : (k : ℕ) → k < fills → record_of (sector_at image (first + 2 * k)) ≡ slice_get records k
+  pub sealed : (k : ℕ) → k < seals → slot_at image (first + 2 * k) ≡ Some (sector_at image (first + 2 * k))
+  pub free : (k : ℕ) → seals ≤ k → k < slots → slot_at image (first + 2 * k) ≡ None
+
+-- the other area, in which a compaction writes
+abbrev pub other_sector : JournalState → ℕ
+other_sector journal = first_of journal.slots (journal.area.value + 1)

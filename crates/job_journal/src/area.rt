@@ -1,0 +1,138 @@
+// An area written anew: unsealed, then filled with the records of some jobs, and then sealed.
+ghost use Rattle.std.specs.Prelude.{◌≡◌, ◌⊎◌, ◌<◌, ◌≤◌, ◌+◌, ◌*◌, ◌^◌, ℕ, length, slice_get, IsTrue, IsOk, IsErrOf, Some, None};
+ghost use Rattle.sector_disk.specs.Disk.{Counts, AllSettled};
+ghost use Rattle.sector_disk.specs.Run.{Run};
+ghost use Rattle.slot_gate.specs.Slot.{slot_at, InSlots};
+ghost use Rattle.job_journal.specs.Compacting.{records_for, IsWritten};
+ghost use Rattle.job_journal.specs.Jobs.{jobs_of};
+
+use crate::fault::JournalFault;
+use job_model::{JobTable, Record};
+use sector_disk::SectorDisk;
+use slot_gate::{fill, seal, unseal};
+
+// Writes the jobs of a table into an area that is present in no image, in `2 * slots` device calls and four for each
+// record. Only the last of them leaves an area that reads as the jobs.
+pub(crate) fn write_area<D: SectorDisk>(
+    disk: &mut D,
+    first: u64,
+    slots: u64,
+    table: &JobTable,
+) -> Result<(), JournalFault>
+    requires on_disk { first + 2 * slots ≤ (D.state disk.old).sectors }
+    requires fits { first + 2 * slots < 2 ^ 64 }
+    requires room { length table.now.pending + 2 ≤ slots }
+    ensures device_alone { IsOk result ⊎ IsErrOf result JournalFault.Device }
+    ensures counts { Counts (D.state disk.old) (D.state disk.new)
+        (IsErrOf result JournalFault.Device) (IsErrOf result JournalFault.Device → ⊥) }
+    ensures run { IsTrue (D.state disk.old).honest
+        → Run (InSlots first slots) (D.state disk.old) (D.state disk.new) }
+    ensures written { IsTrue (D.state disk.old).honest → IsOk result
+        → IsWritten first slots (records_for (jobs_of table.now)) (length table.now.pending + 1)
+        (length table.now.pending + 1) (D.state disk.new).contents }
+    ensures settled { IsTrue (D.state disk.old).honest → IsOk result
+        → AllSettled (D.state disk.new) }
+{
+    let Ok(()) = erase(disk, first, slots) else {
+        return Err(JournalFault::Device);
+    };
+    let Ok(()) = fill_area(disk, first, slots, table) else {
+        return Err(JournalFault::Device);
+    };
+    seal_area(disk, first, slots, table)
+}
+
+// Unseals so many slots from this sector on, each by itself.
+fn erase<D: SectorDisk>(disk: &mut D, first: u64, slots: u64) -> Result<(), JournalFault>
+    requires on_disk { first + 2 * slots ≤ (D.state disk.old).sectors }
+    requires fits { first + 2 * slots < 2 ^ 64 }
+    ensures device_alone { IsOk result ⊎ IsErrOf result JournalFault.Device }
+    ensures counts { Counts (D.state disk.old) (D.state disk.new)
+        (IsErrOf result JournalFault.Device) (IsErrOf result JournalFault.Device → ⊥) }
+    ensures run { IsTrue (D.state disk.old).honest
+        → Run (InSlots first slots) (D.state disk.old) (D.state disk.new) }
+    ensures unsealed { IsTrue (D.state disk.old).honest → IsOk result
+        → (k : ℕ) → k < slots → slot_at (D.state disk.new).contents (first + 2 * k) ≡ None }
+{
+    for erased in 0..slots {
+        let Ok(()) = unseal(disk, first + 2 * erased) else {
+            return Err(JournalFault::Device);
+        };
+    }
+    Ok(())
+}
+
+// Fills the records of the jobs into slots that are unsealed.
+fn fill_area<D: SectorDisk>(
+    disk: &mut D,
+    first: u64,
+    slots: u64,
+    table: &JobTable,
+) -> Result<(), JournalFault>
+    requires on_disk { first + 2 * slots ≤ (D.state disk.old).sectors }
+    requires fits { first + 2 * slots < 2 ^ 64 }
+    requires room { length table.now.pending + 2 ≤ slots }
+    ensures device_alone { IsOk result ⊎ IsErrOf result JournalFault.Device }
+    ensures counts { Counts (D.state disk.old) (D.state disk.new)
+        (IsErrOf result JournalFault.Device) (IsErrOf result JournalFault.Device → ⊥) }
+    ensures run { IsTrue (D.state disk.old).honest
+        → Run (InSlots first slots) (D.state disk.old) (D.state disk.new) }
+    ensures filled { IsTrue (D.state disk.old).honest → IsOk result
+        → IsWritten first slots (records_for (jobs_of table.now)) 0 0 (D.state disk.old).contents
+        → IsWritten first slots (records_for (jobs_of table.now)) (length table.now.pending + 1)
+        0 (D.state disk.new).contents }
+    ensures settled { IsTrue (D.state disk.old).honest → IsOk result
+        → AllSettled (D.state disk.new) }
+{
+    for filled in 0..table.pending().len() as u64 + 1 {
+        let body = record_at(table, filled).to_sector();
+        let Ok(()) = fill(disk, first + 2 * filled, &body) else {
+            return Err(JournalFault::Device);
+        };
+    }
+    Ok(())
+}
+
+// Seals the slots that were filled, over bodies that are synced.
+fn seal_area<D: SectorDisk>(
+    disk: &mut D,
+    first: u64,
+    slots: u64,
+    table: &JobTable,
+) -> Result<(), JournalFault>
+    requires on_disk { first + 2 * slots ≤ (D.state disk.old).sectors }
+    requires fits { first + 2 * slots < 2 ^ 64 }
+    requires room { length table.now.pending + 2 ≤ slots }
+    requires synced { IsTrue (D.state disk.old).honest → AllSettled (D.state disk.old) }
+    ensures device_alone { IsOk result ⊎ IsErrOf result JournalFault.Device }
+    ensures counts { Counts (D.state disk.old) (D.state disk.new)
+        (IsErrOf result JournalFault.Device) (IsErrOf result JournalFault.Device → ⊥) }
+    ensures run { IsTrue (D.state disk.old).honest
+        → Run (InSlots first slots) (D.state disk.old) (D.state disk.new) }
+    ensures sealed { IsTrue (D.state disk.old).honest → IsOk result
+        → IsWritten first slots (records_for (jobs_of table.now)) (length table.now.pending + 1)
+        0 (D.state disk.old).contents
+        → IsWritten first slots (records_for (jobs_of table.now)) (length table.now.pending + 1)
+        (length table.now.pending + 1) (D.state disk.new).contents }
+    ensures settled { IsTrue (D.state disk.old).honest → IsOk result
+        → AllSettled (D.state disk.new) }
+{
+    for sealed in 0..table.pending().len() as u64 + 1 {
+        let Ok(()) = seal(disk, first + 2 * sealed) else {
+            return Err(JournalFault::Device);
+        };
+    }
+    Ok(())
+}
+
+// The record in this slot of an area that is written anew.
+fn record_at(table: &JobTable, slot: u64) -> Record
+    requires { slot ≤ length table.now.pending }
+    ensures { slice_get (records_for (jobs_of table.now)) slot ≡ Some result }
+{
+    if slot == 0 {
+        Record::Base(table.next())
+    } else {
+        Record::Keep(table.pending()[slot as usize - 1])
+    }
+}

@@ -1,0 +1,120 @@
+// A journal moved into its other area, with no record in it but those of the pending jobs.
+ghost use Rattle.std.specs.Prelude.{◌≡◌, ◌⊎◌, ◌<◌, ◌≤◌, ◌+◌, ◌-◌, ◌*◌, ◌^◌, ℕ, IsTrue, IsOk, IsErrOf, IsSome, Some, None};
+ghost use Rattle.sector_disk.specs.Disk.{Image, Counts, AllSettled};
+ghost use Rattle.sector_disk.specs.Run.{Run, Each};
+ghost use Rattle.job_journal.specs.Appending.{Answers};
+ghost use Rattle.job_journal.specs.Areas.{first_of};
+ghost use Rattle.job_journal.specs.Compacting.{compaction_refusal, compacted, with_slot, IsGivenUp};
+ghost use Rattle.job_journal.specs.Jobs.{jobs_of};
+ghost use Rattle.job_journal.specs.Journal.{jobs_in, IsSound, IsSoundImage, InJournal};
+ghost use Rattle.job_journal.specs.Mounted.{AllHold, IsJournal};
+
+use crate::area::write_area;
+use crate::fault::JournalFault;
+use crate::journal::{JobJournal, first_sector};
+use sector_disk::SectorDisk;
+
+impl JobJournal {
+    /// Writes the pending jobs into the other area and makes it the present one: `2 * slots` device calls, four for
+    /// each pending job and four more, and four or six for the area cell. No job changes, and it takes no memory.
+    /// Refused in the order `Broken`, `Exhausted` (the area cell), `Device`; after `Device` the journal is broken
+    /// until it is mounted again.
+    pub fn compact<D: SectorDisk>(&mut self, disk: &mut D) -> Result<(), JournalFault>
+        requires on_disk { 8 + 4 * self.old.slots ≤ (D.state disk.old).sectors }
+
+        ensures counts { Counts (D.state disk.old) (D.state disk.new)
+            (IsErrOf result JournalFault.Device) (IsErrOf result JournalFault.Device → ⊥) }
+
+        // Which answer comes when, and what it leaves.
+        ensures answers { Answers (compaction_refusal self.old) result }
+        ensures refused { IsSome (compaction_refusal self.old)
+            → (disk.new ≡ disk.old) × (self.new ≡ self.old) }
+        ensures device { IsErrOf result JournalFault.Device → IsGivenUp self.old self.new }
+        ensures ok { IsOk result → self.new ≡ compacted self.old }
+        ensures slots { self.new.slots ≡ self.old.slots }
+        ensures table { self.new.table ≡ self.old.table }
+
+        // No sector outside the journal changes in any image.
+        ensures run { IsTrue (D.state disk.old).honest
+            → Run (InJournal self.old.slots) (D.state disk.old) (D.state disk.new) }
+
+        // Each image since the start stands for the jobs of before, and on a sound disk it is sound.
+        ensures images { IsTrue (D.state disk.old).honest → AllHold self.old (D.state disk.old)
+            → Each (D.state disk.old) (D.state disk.new)
+            (λ image. jobs_in self.old.slots image ≡ Some (jobs_of self.old.table)) }
+        ensures sound { IsTrue (D.state disk.old).honest → IsSound self.old.slots (D.state disk.old)
+            → AllHold self.old (D.state disk.old)
+            → Each (D.state disk.old) (D.state disk.new) (IsSoundImage self.old.slots) }
+
+        // After `Ok` each image has the new area, and nothing is unsynced.
+        ensures after { IsTrue (D.state disk.old).honest → AllHold self.old (D.state disk.old) → IsOk result
+            → AllHold self.new (D.state disk.new) }
+        ensures settled { IsTrue (D.state disk.old).honest → IsOk result
+            → AllSettled (D.state disk.new) }
+    {
+        if let Some(fault) = self.refuse_compaction() {
+            return Err(fault);
+        }
+        let records = self.table.pending().len() as u64 + 1;
+        let other = other_sector(self.slots, self.area.value());
+        if write_area(disk, other, self.slots, &self.table).is_err() {
+            self.broken = true;
+            return Err(JournalFault::Device);
+        }
+        if self.area.raise(disk).is_err() {
+            self.broken = true;
+            return Err(JournalFault::Device);
+        }
+        self.used = records;
+        Ok(())
+    }
+
+    // Compacts where no slot is free.
+    pub(crate) fn make_room<D: SectorDisk>(&mut self, disk: &mut D) -> Result<(), JournalFault>
+        requires on_disk { 8 + 4 * self.old.slots ≤ (D.state disk.old).sectors }
+        requires can { self.old.used ≡ self.old.slots → compaction_refusal self.old ≡ None }
+        ensures counts { Counts (D.state disk.old) (D.state disk.new)
+            (IsErrOf result JournalFault.Device) (IsErrOf result JournalFault.Device → ⊥) }
+        ensures device_alone { IsOk result ⊎ IsErrOf result JournalFault.Device }
+        ensures device { IsErrOf result JournalFault.Device → IsGivenUp self.old self.new }
+        ensures ok { IsOk result → self.new ≡ with_slot self.old }
+        ensures run { IsTrue (D.state disk.old).honest
+            → Run (InJournal self.old.slots) (D.state disk.old) (D.state disk.new) }
+        ensures images { IsTrue (D.state disk.old).honest → AllHold self.old (D.state disk.old)
+            → Each (D.state disk.old) (D.state disk.new)
+            (λ image. jobs_in self.old.slots image ≡ Some (jobs_of self.old.table)) }
+        ensures sound { IsTrue (D.state disk.old).honest → IsSound self.old.slots (D.state disk.old)
+            → AllHold self.old (D.state disk.old)
+            → Each (D.state disk.old) (D.state disk.new) (IsSoundImage self.old.slots) }
+        ensures after { IsTrue (D.state disk.old).honest → AllHold self.old (D.state disk.old) → IsOk result
+            → AllHold self.new (D.state disk.new) }
+    {
+        if self.used == self.slots {
+            return self.compact(disk);
+        }
+        Ok(())
+    }
+
+    /// Why a compaction would be refused before the device is called.
+    pub fn refuse_compaction(&self) -> Option<JournalFault>
+        ensures value { result ≡ compaction_refusal self.now }
+        ensures kept { IsJournal self.now }
+    {
+        if self.broken {
+            Some(JournalFault::Broken)
+        } else if self.area.value() == u64::MAX {
+            Some(JournalFault::Exhausted)
+        } else {
+            None
+        }
+    }
+}
+
+// The first sector of the area that isn't present under this value of the area cell.
+fn other_sector(slots: u64, value: u64) -> u64
+    requires most { slots ≤ 4096 }
+    requires below { value < 2 ^ 64 - 1 }
+    ensures { result ≡ first_of slots (value + 1) }
+{
+    first_sector(slots, value + 1)
+}

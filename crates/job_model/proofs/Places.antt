@@ -1,0 +1,142 @@
+-- Where a job stands among jobs whose ids rise, and what is left without it.
+use Rattle.std.proofs.Common.{◌≡◌, ◌+◌, ◌*◌, ◌<◌, ◌≤◌, ⊎_elim, ℕ, zero, suc, Bool, true, false, not, cond, eqb, ltb, List, [], ◌∷◌, ◌++◌, length, take, drop, ◌∙◌, sym, subst, ap, refl, arith}
+use Rattle.std.proofs.lemmas.Bool.Decides.{nat_tests, leb_tells}
+use Rattle.std.specs.Prelude.{slice_index_or, ◌||◌}
+use Rattle.std.specs.List.Sorted.{IsNonDecreasingBy, IsPartitionPoint}
+use lib.Seq.{paste}
+use Rattle.std.proofs.lemmas.Bool.{ltb-true}
+use Rattle.std.proofs.lemmas.List.{get_or_default, drop-append-le, drop-take, drop-drop, append_assoc, length-append, length-take-le}
+use Rattle.std.proofs.Math.Seq.{drop-append_seam}
+use Rattle.job_model.specs.declared.job.Job.{Job}
+use Rattle.job_model.specs.Fold.{without_job, is_pending}
+use Rattle.job_model.specs.Order.{IdsRise, IsInOrder}
+use Rattle.job_model.specs.Table.{HasPlaces}
+use Rattle.job_model.proofs.OrderLaws.{IdsRise-append}
+
+-- each id is at least the lowest
+pub least : (low limit : ℕ) (jobs : List Job) (k : ℕ) (d : Job) → IdsRise low limit jobs → k < length jobs → low ≤ (slice_index_or jobs k d).id
+least low limit [] k d r less = absurd (omega (arith, less))
+least low limit (x ∷ xs) zero d r less = r.0
+least low limit (x ∷ xs) (suc k) d r less = let rest = least (x.id + 1) limit xs k d r.2 (omega (arith, less)) in omega (arith, rest, r.0)
+
+-- later ids are no lower
+pub rises : (low limit : ℕ) (jobs : List Job) (i j : ℕ) (d : Job) → IdsRise low limit jobs → i ≤ j → j < length jobs → (slice_index_or jobs i d).id ≤ (slice_index_or jobs j d).id
+rises low limit [] i j d r le less = absurd (omega (arith, less))
+rises low limit (x ∷ xs) zero zero d r le less = omega arith
+rises low limit (x ∷ xs) zero (suc j) d r le less = let rest = least (x.id + 1) limit xs j d r.2 (omega (arith, less)) in omega (arith, rest)
+rises low limit (x ∷ xs) (suc i) zero d r le less = absurd (omega (arith, le))
+rises low limit (x ∷ xs) (suc i) (suc j) d r le less = rises (x.id + 1) limit xs i j d r.2 (omega (arith, le)) (omega (arith, less))
+
+other_id : (a b : ℕ) → (a ≡ b → ⊥) → eqb a b ≡ false
+other_id a b differ = grind (arith, nat_tests, differ)
+
+same_id : (a b : ℕ) → a ≡ b → eqb a b ≡ true
+same_id a b is = grind (arith, nat_tests, is)
+
+-- none of these jobs has the id
+abbrev pub IsOther : List Job → ℕ → Type 0
+IsOther jobs id = (k : ℕ) (d : Job) → k < length jobs → (slice_index_or jobs k d).id ≡ id → ⊥
+
+pub without_other : (jobs : List Job) (id : ℕ) → IsOther jobs id → without_job jobs id ≡ jobs
+without_other [] id other = refl
+without_other (x ∷ xs) id other =
+    ap (λ b. cond (not b) (x ∷ without_job xs id) (without_job xs id)) (other_id x.id id (other zero x (omega arith)))
+    ∙ ap (λ ys. x ∷ ys) (without_other xs id (λ k d less. other (suc k) d (omega (arith, less))))
+
+pub pending_other : (jobs : List Job) (id : ℕ) → IsOther jobs id → is_pending jobs id ≡ false
+pending_other [] id other = refl
+pending_other (x ∷ xs) id other =
+    ap (λ b. b || is_pending xs id) (other_id x.id id (other zero x (omega arith)))
+    ∙ pending_other xs id (λ k d less. other (suc k) d (omega (arith, less)))
+
+-- the job in this place has the id: it is pending, and without it the others are left
+pub pending_at : (jobs : List Job) (id at : ℕ) (d : Job) → at < length jobs → (slice_index_or jobs at d).id ≡ id → is_pending jobs id ≡ true
+pending_at [] id at d less is = absurd (omega (arith, less))
+pending_at (x ∷ xs) id zero d less is = ap (λ b. b || is_pending xs id) (same_id x.id id is)
+pending_at (x ∷ xs) id (suc at) d less is = by_first (eqb x.id id) (is_pending xs id) (pending_at xs id at d (omega (arith, less)) is)
+  where
+    by_first : (a b : Bool) → b ≡ true → (a || b) ≡ true
+    by_first true b h = refl
+    by_first false b h = h
+
+pub without_at : (low limit : ℕ) (jobs : List Job) (id at : ℕ) (d : Job) → IdsRise low limit jobs → at < length jobs → (slice_index_or jobs at d).id ≡ id
+    → without_job jobs id ≡ take at jobs ++ drop (at + 1) jobs
+without_at low limit [] id at d r less is = absurd (omega (arith, less))
+without_at low limit (x ∷ xs) id zero d r less is =
+    ap (λ b. cond (not b) (x ∷ without_job xs id) (without_job xs id)) (same_id x.id id is)
+    ∙ without_other xs id (λ k e below same. let high = least (x.id + 1) limit xs k e r.2 below in omega (arith, high, same, is))
+without_at low limit (x ∷ xs) id (suc at) d r less is =
+    let high = least (x.id + 1) limit xs at d r.2 (omega (arith, less)) in
+    let next : suc at + 1 ≡ suc (at + 1) = omega arith in
+    ap (λ b. cond (not b) (x ∷ without_job xs id) (without_job xs id)) (other_id x.id id (λ same. omega (arith, high, same, is)))
+    ∙ ap (λ ys. x ∷ ys) (without_at (x.id + 1) limit xs id at d r.2 (omega (arith, less)) is)
+    ∙ ap (λ k. x ∷ (take at xs ++ drop k (x ∷ xs))) (sym next)
+
+-- the jobs before a place have lower ids, and the one in it has another that is no lower: none has this id
+pub other_around : (low limit : ℕ) (jobs : List Job) (id at : ℕ) → IdsRise low limit jobs → ((k : ℕ) (d : Job) → k < at → (slice_index_or jobs k d).id < id)
+    → (at < length jobs → (d : Job) → id ≤ (slice_index_or jobs at d).id) → (at < length jobs → (d : Job) → (slice_index_or jobs at d).id ≡ id → ⊥) → IsOther jobs id
+other_around low limit jobs id at r below above differs k d less is =
+    ⊎_elim
+    (λ from.
+    let on : at < length jobs = omega (arith, from.1, less) in
+    let up = rises low limit jobs at k d r from.1 less in
+    let high = above on d in
+    differs on d (omega (arith, up, high, is)))
+    (λ before. let low_id = below k d before.1 in omega (arith, low_id, is))
+    (leb_tells at k)
+
+pub ids_rise : (low limit : ℕ) (jobs : List Job) → IdsRise low limit jobs → IsNonDecreasingBy (λ (job : Job). job.id) jobs
+ids_rise low limit jobs r = λ i j d le less. rises low limit jobs i j d r le less
+
+-- the jobs before a place are moved up by one, over the job in it
+pub moved_up : (xs : List Job) (s at : ℕ) → s + at < length xs → drop (s + 1) (paste xs (s + 1) (drop s xs) at) ≡ take at (drop s xs) ++ drop (at + 1) (drop s xs)
+moved_up xs s at within =
+    let front = take (s + 1) xs in
+    let long : length front ≡ s + 1 = length-take-le (s + 1) xs (omega (arith, within)) in
+    let on : s + 1 + at ≡ s + (at + 1) = omega arith in
+    ap (λ l. drop (s + 1) l) (append_assoc front (take at (drop s xs)) (drop (s + 1 + at) xs))
+    ∙ ap (λ n. drop n (front ++ (take at (drop s xs) ++ drop (s + 1 + at) xs))) (sym long)
+    ∙ drop-append_seam front (take at (drop s xs) ++ drop (s + 1 + at) xs)
+    ∙ ap (λ n. take at (drop s xs) ++ drop n xs) on
+    ∙ ap (λ l. take at (drop s xs) ++ l) (sym (drop-drop (at + 1) s xs))
+
+-- the jobs behind a place are moved down by one, over the job in it
+pub moved_down : (xs : List Job) (s at : ℕ) → s + at < length xs → drop s (take (s + at) xs ++ drop (s + at + 1) xs) ≡ take at (drop s xs) ++ drop (at + 1) (drop s xs)
+moved_down xs s at within =
+    let long : length (take (s + at) xs) ≡ s + at = length-take-le (s + at) xs (omega (arith, within)) in
+    let on : s + at + 1 ≡ s + (at + 1) = omega arith in
+    drop-append-le s (take (s + at) xs) (drop (s + at + 1) xs) (omega (arith, long))
+    ∙ ap (λ l. l ++ drop (s + at + 1) xs) (drop-take s at xs)
+    ∙ ap (λ n. take at (drop s xs) ++ drop n xs) on
+    ∙ ap (λ l. take at (drop s xs) ++ l) (sym (drop-drop (at + 1) s xs))
+
+-- where the search of an id ends, as `partition_point` says it
+pub low_before : (jobs : List Job) (id at : ℕ) → IsPartitionPoint (λ (job : Job). ltb job.id id ≡ true) (λ (job : Job). ltb job.id id ≡ false) jobs at
+    → (k : ℕ) (d : Job) → k < at → (slice_index_or jobs k d).id < id
+low_before jobs id at point k d before = ltb-true (slice_index_or jobs k d).id id (point.0 k d (omega arith) before)
+
+not_lower : (a b : ℕ) → ltb a b ≡ false → b ≤ a
+not_lower a b not_less = grind (arith, nat_tests, not_less)
+
+pub high_from : (jobs : List Job) (id at : ℕ) → IsPartitionPoint (λ (job : Job). ltb job.id id ≡ true) (λ (job : Job). ltb job.id id ≡ false) jobs at
+    → at < length jobs → (d : Job) → id ≤ (slice_index_or jobs at d).id
+high_from jobs id at point on d = not_lower (slice_index_or jobs at d).id id (point.1 at d (omega arith) on)
+
+-- the search ended past the last job, or at a job of another id
+pub other_found : (limit : ℕ) (jobs : List Job) (id at : ℕ) → IdsRise 0 limit jobs
+    → IsPartitionPoint (λ (job : Job). ltb job.id id ≡ true) (λ (job : Job). ltb job.id id ≡ false) jobs at
+    → (at < length jobs → (e : Job) × ((slice_index_or jobs at e).id ≡ id → ⊥)) → IsOther jobs id
+other_found limit jobs id at r point differs =
+    other_around 0 limit jobs id at r (low_before jobs id at point) (high_from jobs id at point)
+    (λ on d is. let e = differs on in e.1 (ap (λ (job : Job). job.id) (get_or_default jobs at e.0 d on) ∙ is))
+
+-- one job more behind those that stand below it
+pub placed : (later room capacity start : ℕ) (before after jobs : List Job) (job : Job) → after ≡ before ++ job ∷ [] → start ≤ length before → drop start before ≡ jobs
+    → IsInOrder jobs job.id → job.id < later → capacity ≡ 2 * room → HasPlaces later room after capacity start
+placed later room capacity start before after jobs job is le same rise below twice = record {
+  within = omega (arith, ap (λ (xs : List Job). length xs) is, length-append before (job ∷ []), le);
+  in_order = subst (λ xs. IsInOrder (drop start xs) later) (sym is)
+      (subst (λ xs. IsInOrder xs later) (sym (drop-append-le start before (job ∷ []) le ∙ ap (λ xs. xs ++ job ∷ []) same))
+      (IdsRise-append 0 later jobs job (omega arith) below rise));
+  twice = twice;
+}

@@ -1,0 +1,53 @@
+-- Which events take memory. Every other event is never refused for want of it.
+use Rattle.std.specs.Prelude.{◌≡◌, ℕ, ◌==◌, Bool, true, false, not, ◌&&◌, ◌||◌, Result, Ok, Err}
+use Rattle.group_task.specs.Group.{same_group}
+use Rattle.group_task.specs.Ids.{has}
+use Rattle.wire_msg.specs.declared.body.Body.{Body}
+use Rattle.wire_msg.specs.declared.body.Body.TheVariants as says
+use Rattle.node_core.specs.declared.event.Event.{Event}
+use Rattle.node_core.specs.declared.event.Event.TheVariants as on
+use Rattle.node_core.specs.declared.fault.CoreFault.{CoreFault}
+use Rattle.node_core.specs.declared.fault.CoreFault.TheVariants.{NoMemory}
+use Rattle.node_core.specs.declared.plan.Plan.{Plan}
+use Rattle.node_core.specs.State.{State, is_down, is_election, is_reorganization, is_normal}
+use Rattle.node_core.specs.Words.{leads, members_of, owner, holds}
+use Rattle.node_core.specs.Timers.{merges, awaits_ready, follows}
+use Rattle.node_core.specs.Messages.{was_probed, takes_invitation, is_told}
+use Rattle.node_core.specs.Planned.{gain_of}
+
+-- where its guard holds, a message takes memory for its answer or for its change, but for those that give the group up or
+-- that only the disk hears of
+abbrev pub delivered_takes : ℕ → ℕ → Body → State → Bool
+delivered_takes self from says.AreYouCoordinator s = not (is_down s.phase)
+delivered_takes self from (says.Coordinator agreed) s = agreed && merges self s
+delivered_takes self from (says.AreYouThere group) s = not (is_down s.phase)
+delivered_takes self from (says.Here group agreed) s = was_probed from group s && agreed
+delivered_takes self from (says.Invitation group) s = takes_invitation self group s
+delivered_takes self from (says.Accept group) s = is_election s.phase && s.coordinator == self && same_group group s.group
+delivered_takes self from (says.Ready task) s = is_told self from task s && (is_reorganization s.phase || is_normal s.phase)
+delivered_takes self from (says.ReadyAck group) s = awaits_ready self s && same_group group s.group
+delivered_takes self from (says.Work group id queue payload) s =
+    is_normal s.phase && same_group group s.group && has (members_of s.task) from && owner s queue == self && not (holds s.hand from id)
+delivered_takes self from (says.Done id) s = false
+
+abbrev pub takes_memory : ℕ → Event → State → Bool
+takes_memory self on.CheckTimer s = leads self s
+takes_memory self on.MergeTimer s = merges self s
+takes_memory self on.AcceptTimer s = is_election s.phase && s.coordinator == self
+takes_memory self on.ReadyTimer s = false
+takes_memory self on.CoordTimer s = follows self s && not s.probing
+takes_memory self on.DispatchTimer s = is_normal s.phase
+takes_memory self (on.Deliver m) s = delivered_takes self m.sender m.body s
+takes_memory self (on.Submit queue payload) s = true
+takes_memory self (on.Finish origin id) s = true
+takes_memory self on.Recover s = false
+
+-- where the row takes no memory, it is planned, and its plan needs no room in the hand
+abbrev pub Spares : {E : Type 0} → Bool → Result Plan E → Type 0
+Spares takes (Ok plan) = takes ≡ false → gain_of plan.act ≡ 0
+Spares takes (Err e) = takes ≡ true
+
+-- likewise where an event may also be refused by the table
+abbrev pub SparesMemory : Bool → Result Plan CoreFault → Type 0
+SparesMemory takes (Ok plan) = takes ≡ false → gain_of plan.act ≡ 0
+SparesMemory takes (Err fault) = fault ≡ NoMemory → takes ≡ true

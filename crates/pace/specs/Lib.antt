@@ -1,0 +1,4 @@
+pub mod Timers
+pub mod Sights
+pub mod Policy
+pub mod Laws

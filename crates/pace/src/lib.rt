@@ -1,0 +1,22 @@
+//! When a node's timers fire: a policy that is told the time and what is seen of a node, and names the event that is due.
+//!
+//! The protocol bears any firing, so nothing that is promised of nodes rests on a policy. How soon nodes become one group
+//! does, and how seldom they give one up without need. Nothing here reads a clock: the caller does, and makes the events.
+#![tactic(auto)]
+
+mod deadline;
+mod laws;
+mod pace;
+mod setting;
+mod sight;
+mod timer;
+
+pub use deadline::Deadline;
+pub use laws::fires_once;
+pub use pace::Pace;
+pub use setting::Setting;
+pub use sight::Sight;
+pub use timer::Timer;
+
+#[cfg(test)]
+mod tests;

@@ -1,0 +1,60 @@
+ghost use Rattle.std.specs.Prelude.{◌≡◌};
+ghost use Rattle.node_core.specs.State.{state_of};
+ghost use Rattle.pace.specs.Timers.{timer_of};
+ghost use Rattle.pace.specs.Sights.{sight_of};
+
+use crate::timer::Timer;
+use group_task::{GroupNo, Members, NodeId};
+use node_core::{Phase, Vector};
+
+/// What a policy sees of a node.
+#[derive(Clone, Copy, Debug, PartialEq, Eq)]
+pub struct Sight {
+    pub phase: Phase,
+    /// Whether the node is the coordinator of its group.
+    pub is_coordinator: bool,
+    pub group: GroupNo,
+    /// Those of its task; none where it has no task.
+    pub members: Members,
+    pub checking: bool,
+    pub probing: bool,
+    /// Where other coordinators were found: by how much the greatest of them is above the node.
+    pub merge_wait: Option<u64>,
+}
+
+impl Sight {
+    /// What is seen of a node by its state vector and its [`merge_wait`](node_core::NodeCore::merge_wait).
+    pub fn of(id: NodeId, vector: &Vector, merge_wait: Option<u64>) -> Sight
+        ensures { result ≡ sight_of id (state_of vector.now) merge_wait }
+    {
+        let members = match &vector.task {
+            Some(task) => task.members(),
+            None => Members::new(),
+        };
+        Sight {
+            phase: vector.phase,
+            is_coordinator: vector.coordinator.is(id),
+            group: vector.group,
+            members,
+            checking: vector.checking,
+            probing: vector.probing,
+            merge_wait,
+        }
+    }
+
+    /// The timer that runs at the node. None at a node that is Down: who restarts a node recovers it.
+    pub fn timer(&self) -> Option<Timer>
+        ensures { result ≡ timer_of self.now }
+    {
+        match self.phase {
+            Phase::Down => None,
+            Phase::Election => Some(Timer::Accept),
+            Phase::Reorganization if self.is_coordinator => Some(Timer::Ready),
+            Phase::Normal if self.is_coordinator && self.checking => Some(Timer::Merge),
+            Phase::Normal if self.is_coordinator => Some(Timer::Check),
+            Phase::Reorganization | Phase::Normal if self.probing => Some(Timer::Answer),
+            Phase::Reorganization => Some(Timer::Task),
+            Phase::Normal => Some(Timer::Coordinator),
+        }
+    }
+}

@@ -1,0 +1,194 @@
+ghost use Rattle.std.specs.Prelude.{◌≤◌};
+ghost use Rattle.group_task.specs.declared.node.TheConstants.{NODES};
+
+use crate::link::Link;
+use crate::node::Node;
+use crate::options::{Options, UNIT};
+use group_task::{Members, NodeId};
+use rand_core::utils::NextWord;
+use rand_pcg::Pcg32;
+use std::alloc::Global;
+use wire_msg::Message;
+
+/// How far the clock goes at a time. It is less than any message takes, so answers come in their order.
+const STEP: u64 = 100;
+/// Each node's timers are looked at in one of so many steps: twice a round trip.
+const STEPS: u64 = 5;
+/// The nodes come up within so many round trips of each other.
+const START: u32 = 10;
+
+/// A node, the step of the clock in which it starts, counted from 1, and how far its own steps are before the others'.
+#[derive(Drop)]
+struct Place {
+    node: Node,
+    starts: u64,
+    offset: u64,
+}
+
+/// The nodes of a cluster, the link between them, and the clock.
+#[derive(Drop)]
+pub struct Cluster {
+    places: Vec<Place>,
+    link: Link,
+    step: u64,
+}
+
+impl Cluster {
+    /// All nodes are Down.
+    pub fn new(
+        alloc: Global,
+        options: &Options,
+        nodes: u8,
+        loss: u8,
+        seed: u64,
+    ) -> anyhow::Result<Cluster>
+        requires { nodes ≤ NODES }
+    {
+        let mut random = Pcg32::new(seed, 2_000);
+        let mut places = Vec::new(alloc);
+        for number in 0..nodes {
+            let id = NodeId::numbered(number);
+            places.push(Place {
+                node: Node::new(alloc, id, nodes, options.setting, seed)?,
+                starts: 1 + u64::from(random.next_word() % (START * u32::from(UNIT))) / STEP,
+                offset: u64::from(random.next_word()) % STEPS,
+            })?;
+        }
+        Ok(Cluster {
+            places,
+            link: Link::new(alloc, options, loss, seed),
+            step: 0,
+        })
+    }
+
+    /// The time since all began, in round trips.
+    pub fn time(&self) -> u64 {
+        self.step.saturating_mul(STEP) / u64::from(UNIT)
+    }
+
+    /// How many messages were sent so far.
+    pub fn sent(&self) -> u64 {
+        self.link.sent()
+    }
+
+    /// How many groups were started so far.
+    pub fn groups(&self) -> u64 {
+        let mut groups = 0u64;
+        for place in &self.places {
+            groups = groups.saturating_add(place.node.count());
+        }
+        groups
+    }
+
+    /// The nodes that aren't dead.
+    pub fn live(&self) -> Members {
+        let mut live = Members::new();
+        for place in &self.places {
+            if !place.node.is_dead() {
+                live.insert(place.node.id());
+            }
+        }
+        live
+    }
+
+    /// The coordinator of the one group that all live nodes are Normal in.
+    pub fn leader(&self) -> Option<NodeId> {
+        let live = self.live();
+        let first = live.first()?;
+        let group = self.places.get(usize::from(first.number()))?.node.group();
+        for place in &self.places {
+            if !place.node.is_dead() && !place.node.works_in(group, live) {
+                return None;
+            }
+        }
+        Some(group.creator())
+    }
+
+    pub fn kill(&mut self, id: NodeId) {
+        if let Some(place) = self.places.get_mut(usize::from(id.number())) {
+            place.node.die();
+        }
+    }
+
+    /// Runs until all live nodes are one group, for so many round trips at most. It answers its coordinator.
+    pub fn run_until_one(&mut self, most: u16) -> anyhow::Result<Option<NodeId>> {
+        for _unit in 0..most {
+            self.run(1)?;
+            let leader = self.leader();
+            if leader.is_some() {
+                return Ok(leader);
+            }
+        }
+        Ok(None)
+    }
+
+    /// Runs for so many round trips.
+    pub fn run(&mut self, units: u16) -> anyhow::Result<()> {
+        for _unit in 0..units {
+            for _step in 0..u64::from(UNIT) / STEP {
+                self.run_step()?;
+            }
+        }
+        Ok(())
+    }
+
+    fn run_step(&mut self) -> anyhow::Result<()> {
+        self.step = self.step.saturating_add(1);
+        let now = self.step.saturating_mul(STEP);
+        for _arrival in 0..u64::MAX {
+            let Some((at, message)) = self.link.arrival(now) else {
+                break;
+            };
+            self.deliver(at, message)?;
+        }
+        for place in 0..self.places.len() {
+            self.wake(place, now)?;
+        }
+        Ok(())
+    }
+
+    fn deliver(&mut self, at: u64, message: Message) -> anyhow::Result<()> {
+        let receiver = usize::from(message.receiver().number());
+        if let Some(place) = self.places.get_mut(receiver) {
+            if !place.node.is_dead() {
+                let answers = place.node.deliver(message)?;
+                self.send(at, &answers)?;
+            }
+        }
+        Ok(())
+    }
+
+    /// Starts a node, or looks at its timers, where this step is its own.
+    fn wake(&mut self, number: usize, now: u64) -> anyhow::Result<()> {
+        let step = self.step;
+        let Some(place) = self.places.get_mut(number) else {
+            return Ok(());
+        };
+        if place.node.is_dead() || step < place.starts {
+            return Ok(());
+        }
+        if step == place.starts {
+            place.node.start()?;
+        } else if step.saturating_add(place.offset) % STEPS == 0 {
+            if let Some(sent) = place.node.tick(now)? {
+                self.send(now, &sent)?;
+            }
+        }
+        Ok(())
+    }
+
+    fn send(&mut self, now: u64, messages: &[Message]) -> anyhow::Result<()> {
+        for message in messages {
+            let is_dead = self.is_dead(message.receiver());
+            self.link.send(now, message, is_dead)?;
+        }
+        Ok(())
+    }
+
+    fn is_dead(&self, id: NodeId) -> bool {
+        match self.places.get(usize::from(id.number())) {
+            Some(place) => place.node.is_dead(),
+            None => true,
+        }
+    }
+}

@@ -1,0 +1,76 @@
+use anyhow::{Context, bail};
+use pace::Setting;
+
+/// A round trip, in ticks of the simulated clock.
+pub const UNIT: u16 = 1_000;
+
+/// What the command line asks for.
+#[derive(Clone, Copy, Debug)]
+pub struct Options {
+    /// `seeds`: how many trials for each row.
+    pub seeds: u64,
+    /// `nodes`, `loss`: this size or this loss alone, of those that are in the table.
+    nodes: Option<u8>,
+    loss: Option<u8>,
+    /// `resends`: how often the link sends a message again at most.
+    pub resends: u16,
+    /// `slow`: the link takes so many times longer than the setting says.
+    pub slow: u16,
+    /// `quiet`: how many round trips a group is watched with no fault but loss.
+    pub quiet: u16,
+    /// `check`, `check_jitter`, and so on: the fields of a setting but its unit.
+    pub setting: Setting,
+}
+
+impl Options {
+    pub fn new() -> Options {
+        Options {
+            seeds: 10,
+            nodes: None,
+            loss: None,
+            resends: 6,
+            slow: 1,
+            quiet: 1_000,
+            setting: Setting::measured(UNIT),
+        }
+    }
+
+    /// Whether this row was asked for.
+    pub fn has(&self, nodes: u8, loss: u8) -> bool {
+        self.nodes.unwrap_or(nodes) == nodes && self.loss.unwrap_or(loss) == loss
+    }
+
+    /// Reads one word, as `seeds=100`.
+    pub fn read(&mut self, word: &str) -> anyhow::Result<()> {
+        let (name, value) = word.split_once('=').context("NAME=VALUE?")?;
+        match name {
+            "seeds" => self.seeds = value.parse()?,
+            "nodes" => self.nodes = Some(value.parse()?),
+            "loss" => self.loss = Some(value.parse()?),
+            "resends" => self.resends = value.parse()?,
+            "slow" => self.slow = value.parse()?,
+            "quiet" => self.quiet = value.parse()?,
+            "silent_checks" => self.setting.silent_checks = value.parse()?,
+            _ => self.read_wait(name, value.parse()?)?,
+        }
+        Ok(())
+    }
+
+    fn read_wait(&mut self, name: &str, units: u16) -> anyhow::Result<()> {
+        match name {
+            "check" => self.setting.check = units,
+            "check_jitter" => self.setting.check_jitter = units,
+            "merge" => self.setting.merge = units,
+            "merge_jitter" => self.setting.merge_jitter = units,
+            "turn" => self.setting.turn = units,
+            "accept" => self.setting.accept = units,
+            "ready" => self.setting.ready = units,
+            "task" => self.setting.task = units,
+            "coordinator" => self.setting.coordinator = units,
+            "coordinator_jitter" => self.setting.coordinator_jitter = units,
+            "answer" => self.setting.answer = units,
+            _ => bail!("no such option"),
+        }
+        Ok(())
+    }
+}

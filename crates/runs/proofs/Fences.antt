@@ -1,0 +1,56 @@
+-- Group numbers as fences: one leader, one owner of each queue, one list of members.
+use Rattle.std.proofs.Common.{◌≡◌, ◌⊎◌, ℕ, true, List, sym, ◌∙◌, ap, subst, inl, inr, Option, Some, None}
+use Rattle.group_task.specs.Group.{Group}
+use Rattle.group_task.specs.Assignment.{Assignment, owner_of}
+use Rattle.group_task.specs.Ids.{has}
+use Rattle.node_core.specs.declared.phase.Phase.{Phase}
+use Rattle.node_core.specs.declared.phase.Phase.TheVariants.{Reorganization, Normal}
+use Rattle.node_core.specs.State.{State}
+use Rattle.node_core.specs.Words.{members_of}
+use Rattle.histories.specs.Book.{IsTaskOf, AgreesIn, IsInGroup, members_in}
+use Rattle.runs.specs.Reporting.{Report}
+use Rattle.runs.specs.Headline.{IsShown, HasBook}
+use Rattle.runs.specs.Uses.{Shows, ShowsWorking, OneLeader, OneOwnerEach, MembersAgree, OneWorkerEach}
+use Rattle.runs.proofs.Found.{among_at}
+
+-- what the report shows is shown to the headline
+pub is_shown : (r : Report) (n : ℕ) (s : State) → Shows r n s → IsShown r n s
+is_shown r n s shows = elim shows [
+  | inl first ↦ inl first
+  | inr it ↦ (let place = among_at it.0 r.moments it.1 in inr (place.0, it.0, place.1, it.2, it.3))
+]
+
+in_group : (s : State) → ((s.phase ≡ Normal) ⊎ (s.phase ≡ Reorganization)) → IsInGroup s.phase
+in_group s either = elim either [ inl e ↦ rw e tt | inr e ↦ rw e tt ]
+
+pub one_leader : OneLeader
+one_leader nodes slots acts r h n m s t by_s by_t same =
+    sym by_s.2 ∙ (h.one_coordinator n m s t (is_shown r n s by_s.0) (is_shown r m t by_t.0) (in_group s by_s.1) (in_group t by_t.1) same ∙ by_t.2)
+
+pub one_owner_each : OneOwnerEach
+one_owner_each nodes slots acts r h n m s t by_s by_t same queue =
+    ap (λ (task : Option Assignment). owner_of (members_of task) queue) (h.one_task n m s t (is_shown r n s by_s.0) (is_shown r m t by_t.0) by_s.1 by_t.1 same)
+
+-- a node that works has the members of the book, and is one of them
+members_told : (book : List Assignment) (n : ℕ) (g : Group) (task : Option Assignment) → IsTaskOf book n g task → (members_in book g ≡ Some (members_of task)) × (has (members_of task) n ≡ true)
+members_told book n g None h = absurd h
+members_told book n g (Some t) h = (h.1, h.2)
+
+told_by : (r : Report) (h : HasBook r) (n : ℕ) (s : State) → ShowsWorking r n s → (members_in h.book s.group ≡ Some (members_of s.task)) × (has (members_of s.task) n ≡ true)
+told_by r h n s by =
+    let agrees = subst (λ (p : Phase). AgreesIn p h.book n s) by.1 (h.agrees n s (is_shown r n s by.0)) in
+    members_told h.book n s.group s.task agrees.1
+
+same_some : {A : Type 0} (x y : A) → Some x ≡ Some y → x ≡ y
+same_some x y e = cc e
+
+pub members_agree : MembersAgree
+members_agree nodes slots acts r h n m s t by_s by_t same =
+    let of_s = told_by r h.has_book n s by_s in
+    let of_t = told_by r h.has_book m t by_t in
+    let equal : members_of s.task ≡ members_of t.task = same_some _ _ (sym of_s.0 ∙ (ap (λ (g : Group). members_in h.has_book.book g) same ∙ of_t.0)) in
+    (equal, of_s.1, rw equal of_t.1)
+
+pub one_worker_each : OneWorkerEach
+one_worker_each nodes slots acts r h n m s t by_s by_t same a b in_s in_t queue =
+    h.one_worker n m s t (is_shown r n s by_s.0) (is_shown r m t by_t.0) by_s.1 by_t.1 same a b in_s in_t queue

@@ -1,0 +1,135 @@
+-- Only an act `finish` tells a node that a job is finished.
+use Rattle.std.proofs.Common.{◌≡◌, ℕ, Bool, true, false, List, [], ◌∷◌, ◌++◌, slice_get, refl, sym, ◌∙◌, ap, subst, inl, inr}
+use Rattle.std.specs.Prelude.{if◌then◌else◌, ◌==◌, ◌&&◌, nat_lt, Result, Ok, Err}
+use Rattle.wire_msg.specs.Envelope.{Envelope}
+use Rattle.node_core.specs.declared.event.Event.{Event}
+use Rattle.node_core.specs.declared.event.Event.TheVariants as on
+use Rattle.histories.specs.Lists.{IsAmong}
+use Rattle.histories.specs.What.{What, Did, Refused, Faulted, Nothing, Rests, Crashed, Recovered, MountFailed, RaiseFailed, RaiseRefused}
+use Rattle.histories.specs.Owners.{acted, acted_in}
+use Rattle.histories.proofs.Among.{among_either}
+use Rattle.histories.proofs.Tests.{eq_nat}
+use Rattle.schedule.specs.declared.act.Act.{Act}
+use Rattle.schedule.specs.declared.act.Act.TheVariants as act
+use Rattle.sim_net.specs.declared.fault.NetFault.{NetFault}
+use Rattle.sim_net.specs.Network.{found, delivery}
+use Rattle.runs.specs.World.{World}
+use Rattle.runs.specs.Step.{Step, Takes, Loses, Cuts, Mends, Denies, sent_after, world_after}
+use Rattle.runs.specs.Run.{history_in}
+use Rattle.runs.specs.Acts.{IsOf, IsRecovery, IsCompaction, At, Brings, lost_step, if_known, IsStepOf, IsRunOf}
+
+abbrev SaysFinished : What → ℕ → ℕ → Type 0
+SaysFinished what origin id = IsAmong (on.Finish origin id) (acted what)
+
+pub taken_there : (known : Bool) (n k : ℕ) (P : What → Type 0) (m number : ℕ) (what : What) → At known n k P (Takes m number what) → (m ≡ n) × P what
+taken_there true n k P m number what h =
+    let step : Takes m number what ≡ Takes n k h.0 = h.1 in
+    let node : m ≡ n = cc step in
+    let same : what ≡ h.0 = cc step in
+    (node, rw same h.2)
+taken_there false n k P m number what h = absurd cc
+
+event_said : (event : Event) (what : What) (origin id : ℕ) → IsOf event what → SaysFinished what origin id → event ≡ on.Finish origin id
+event_said event (Did e) origin id is i = elim i [ inl same ↦ sym is ∙ sym same | inr none ↦ absurd none ]
+event_said event (Refused e fault) origin id is i = absurd i
+event_said event (Faulted e) origin id is i = elim i [ inl same ↦ sym is ∙ sym same | inr none ↦ absurd none ]
+event_said event (Rests rest) origin id is i = absurd i
+event_said event Crashed origin id is i = absurd i
+event_said event (Recovered kept) origin id is i = absurd i
+event_said event MountFailed origin id is i = absurd i
+event_said event (RaiseFailed kept) origin id is i = absurd i
+event_said event (RaiseRefused kept) origin id is i = absurd i
+
+recovery_said : (what : What) (origin id : ℕ) → IsRecovery what → SaysFinished what origin id → ⊥
+recovery_said (Did e) origin id is i = elim i [ inl same ↦ (let bad : on.Finish origin id ≡ on.Recover = same ∙ is in absurd cc) | inr none ↦ absurd none ]
+recovery_said (Refused e fault) origin id is i = i
+recovery_said (Faulted e) origin id is i = elim i [ inl same ↦ (let bad : on.Finish origin id ≡ on.Recover = same ∙ is in absurd cc) | inr none ↦ absurd none ]
+recovery_said (Rests rest) origin id is i = i
+recovery_said Crashed origin id is i = i
+recovery_said (Recovered kept) origin id is i = i
+recovery_said MountFailed origin id is i = i
+recovery_said (RaiseFailed kept) origin id is i = i
+recovery_said (RaiseRefused kept) origin id is i = i
+
+compaction_said : (what : What) (origin id : ℕ) → IsCompaction what → SaysFinished what origin id → ⊥
+compaction_said (Did e) origin id is i = is
+compaction_said (Refused e fault) origin id is i = i
+compaction_said (Faulted e) origin id is i = is
+compaction_said (Rests rest) origin id is i = i
+compaction_said Crashed origin id is i = i
+compaction_said (Recovered kept) origin id is i = i
+compaction_said MountFailed origin id is i = i
+compaction_said (RaiseFailed kept) origin id is i = i
+compaction_said (RaiseRefused kept) origin id is i = i
+
+-- the act of a step that says so is `finish`
+by_event : (a : Act) (known : Bool) (n k : ℕ) (event : Event) (m number : ℕ) (what : What) (origin id : ℕ) → (event ≡ on.Finish origin id → a ≡ act.Finish n origin id)
+    → At known n k (IsOf event) (Takes m number what) → SaysFinished what origin id → a ≡ act.Finish m origin id
+by_event a known n k event m number what origin id only h i =
+    let there = taken_there known n k (IsOf event) m number what h in
+    rw there.0 (only (event_said event what origin id there.1 i))
+
+at_rest : (known : Bool) (n k : ℕ) (P : What → Type 0) (m number : ℕ) (what : What) (origin id : ℕ) → (P what → SaysFinished what origin id → ⊥)
+    → At known n k P (Takes m number what) → SaysFinished what origin id → ⊥
+at_rest known n k P m number what origin id none h i = none (taken_there known n k P m number what h).1 i
+
+brings_none : (nodes k : ℕ) (d : Result Envelope NetFault) (m number : ℕ) (what : What) (origin id : ℕ) → Brings nodes k d (Takes m number what) → SaysFinished what origin id → ⊥
+brings_none nodes k (Ok x) m number what origin id h i =
+    let there = taken_there (nat_lt x.receiver nodes) x.receiver k (IsOf (on.Deliver x)) m number what h in
+    let bad : on.Deliver x ≡ on.Finish origin id = event_said (on.Deliver x) what origin id there.1 i in absurd cc
+brings_none nodes k (Err why) m number what origin id h i = absurd cc
+
+pub loses_none : (k : ℕ) (d : Result Envelope NetFault) (m number : ℕ) (what : What) → Takes m number what ≡ lost_step k d → ⊥
+loses_none k (Ok x) m number what h = absurd cc
+loses_none k (Err why) m number what h = absurd cc
+
+pub link_none : (known : Bool) (step : Step) (m number : ℕ) (what : What) → (Takes m number what ≡ step → ⊥) → Takes m number what ≡ if_known known step → ⊥
+link_none true step m number what none h = none h
+link_none false step m number what none h = absurd cc
+
+same_finish : (n origin id o i : ℕ) → on.Finish origin id ≡ on.Finish o i → act.Finish n origin id ≡ act.Finish n o i
+same_finish n origin id o i e = (let of_origin : origin ≡ o = cc e in let of_id : id ≡ i = cc e in rw (of_origin, of_id) refl)
+
+finish_act : (nodes : ℕ) (w : World) (a : Act) (m number : ℕ) (what : What) (origin id : ℕ) → IsStepOf nodes w a (Takes m number what) → SaysFinished what origin id → a ≡ act.Finish m origin id
+finish_act nodes w (act.Check n) m number what o i h says = by_event (act.Check n) (nat_lt n nodes) n 0 on.CheckTimer m number what o i (λ e. absurd cc) h says
+finish_act nodes w (act.Merge n) m number what o i h says = by_event (act.Merge n) (nat_lt n nodes) n 0 on.MergeTimer m number what o i (λ e. absurd cc) h says
+finish_act nodes w (act.Accept n) m number what o i h says = by_event (act.Accept n) (nat_lt n nodes) n 0 on.AcceptTimer m number what o i (λ e. absurd cc) h says
+finish_act nodes w (act.Ready n) m number what o i h says = by_event (act.Ready n) (nat_lt n nodes) n 0 on.ReadyTimer m number what o i (λ e. absurd cc) h says
+finish_act nodes w (act.Coord n) m number what o i h says = by_event (act.Coord n) (nat_lt n nodes) n 0 on.CoordTimer m number what o i (λ e. absurd cc) h says
+finish_act nodes w (act.Dispatch n) m number what o i h says = by_event (act.Dispatch n) (nat_lt n nodes) n 0 on.DispatchTimer m number what o i (λ e. absurd cc) h says
+finish_act nodes w (act.Deliver k) m number what o i h says = absurd (brings_none nodes k (delivery w.net k) m number what o i h says)
+finish_act nodes w (act.Lose k) m number what o i h says = absurd (loses_none k (found w.net k) m number what h)
+finish_act nodes w (act.Cut x y) m number what o i h says = absurd (link_none (nat_lt x nodes && nat_lt y nodes) (Cuts x y) m number what (λ e. absurd cc) h)
+finish_act nodes w (act.Mend x y) m number what o i h says = absurd (link_none (nat_lt x nodes && nat_lt y nodes) (Mends x y) m number what (λ e. absurd cc) h)
+finish_act nodes w (act.Submit n queue payload) m number what o i h says = by_event (act.Submit n queue payload) (nat_lt n nodes) n 0 (on.Submit queue payload) m number what o i (λ e. absurd cc) h says
+finish_act nodes w (act.Finish n origin id) m number what o i h says = by_event (act.Finish n origin id) (nat_lt n nodes) n 0 (on.Finish origin id) m number what o i (same_finish n origin id o i) h says
+finish_act nodes w (act.Arm n calls) m number what o i h says =
+    absurd (at_rest (nat_lt n nodes) n 0 (λ (x : What). x ≡ Rests Nothing) m number what o i (λ is j. subst (λ (x : What). SaysFinished x o i) is j) h says)
+finish_act nodes w (act.Crash n fill) m number what o i h says =
+    absurd (at_rest (nat_lt n nodes) n 0 (λ (x : What). x ≡ Crashed) m number what o i (λ is j. subst (λ (x : What). SaysFinished x o i) is j) h says)
+finish_act nodes w (act.Recover n) m number what o i h says = absurd (at_rest (nat_lt n nodes) n 0 IsRecovery m number what o i (recovery_said what o i) h says)
+finish_act nodes w (act.Compact n) m number what o i h says = absurd (at_rest (nat_lt n nodes) n 0 IsCompaction m number what o i (compaction_said what o i) h says)
+
+-- and so in a whole run
+pub told_by_act : (nodes slots worker origin id : ℕ) (acts : List Act) (steps : List Step) (w : World) → IsRunOf nodes slots w acts steps
+    → IsAmong (on.Finish origin id) (acted_in (history_in worker nodes w steps)) → IsAmong (act.Finish worker origin id) acts
+told_by_act nodes slots worker origin id [] [] w run i = absurd i
+told_by_act nodes slots worker origin id [] (step ∷ steps) w run i = absurd run
+told_by_act nodes slots worker origin id (a ∷ acts) [] w run i = absurd run
+told_by_act nodes slots worker origin id (a ∷ acts) (Takes m number what ∷ steps) w run i =
+    by_node (m == worker) refl i (λ j. told_by_act nodes slots worker origin id acts steps (world_after nodes w (Takes m number what)) run.3 j)
+  where
+    by_node : (b : Bool) → (m == worker) ≡ b
+        → IsAmong (on.Finish origin id) (acted_in ((if b then record { what = what; sent = sent_after m nodes (slice_get w.states m) what } ∷ [] else []) ++ history_in worker nodes (world_after nodes w (Takes m number what)) steps))
+        → (IsAmong (on.Finish origin id) (acted_in (history_in worker nodes (world_after nodes w (Takes m number what)) steps)) → IsAmong (act.Finish worker origin id) acts)
+        → IsAmong (act.Finish worker origin id) (a ∷ acts)
+    by_node true is i rest = elim (among_either (on.Finish origin id) (acted what) (acted_in (history_in worker nodes (world_after nodes w (Takes m number what)) steps)) i) [
+      | inl now ↦ (let it : a ≡ act.Finish m origin id = finish_act nodes w a m number what origin id run.0 now in
+          inl (sym (it ∙ ap (λ (n : ℕ). act.Finish n origin id) (eq_nat m worker is))))
+      | inr later ↦ inr (rest later)
+    ]
+    by_node false is i rest = inr (rest i)
+told_by_act nodes slots worker origin id (a ∷ acts) (Loses k ∷ steps) w run i = inr (told_by_act nodes slots worker origin id acts steps (world_after nodes w (Loses k)) run.3 i)
+told_by_act nodes slots worker origin id (a ∷ acts) (Cuts x y ∷ steps) w run i = inr (told_by_act nodes slots worker origin id acts steps (world_after nodes w (Cuts x y)) run.3 i)
+told_by_act nodes slots worker origin id (a ∷ acts) (Mends x y ∷ steps) w run i = inr (told_by_act nodes slots worker origin id acts steps (world_after nodes w (Mends x y)) run.3 i)
+told_by_act nodes slots worker origin id (a ∷ acts) (Denies why ∷ steps) w run i = inr (told_by_act nodes slots worker origin id acts steps w run.3 i)

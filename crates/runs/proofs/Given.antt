@@ -1,0 +1,265 @@
+-- The groups that a run names were given before, each of them once.
+use Rattle.std.proofs.Common.{◌≡◌, ◌≢◌, ℕ, zero, suc, ◌+◌, ◌<◌, ◌≤◌, Bool, true, false, List, [], ◌∷◌, ◌++◌, slice_get, refl, sym, ◌∙◌, ap, subst, inl, inr, arith, Option, Some, None, append_assoc}
+use Rattle.std.proofs.lemmas.List.{append-nil}
+use Rattle.std.specs.Prelude.{◌==◌}
+use Rattle.std.proofs.lemmas.Bool.Decides.{nat_tests}
+use Rattle.group_task.specs.Group.{Group}
+use Rattle.group_task.specs.Assignment.{Assignment}
+use Rattle.job_model.specs.Command.{Command, Raise, Put, Done}
+use Rattle.job_model.specs.Durable.{Durable}
+use Rattle.job_model.specs.Fold.{after_wanted}
+use Rattle.wire_msg.specs.Envelope.{Envelope}
+use Rattle.wire_msg.specs.declared.body.Body.{Body}
+use Rattle.wire_msg.specs.declared.body.Body.TheVariants.{AreYouCoordinator, Coordinator, AreYouThere, Here, Invitation, Accept, Ready, ReadyAck, Work as WorkMessage, Done as DoneMessage}
+use Rattle.node_core.specs.declared.event.Event.{Event}
+use Rattle.node_core.specs.declared.phase.Phase.{Phase}
+use Rattle.node_core.specs.declared.phase.Phase.TheVariants.{Down, Election, Reorganization, Normal}
+use Rattle.node_core.specs.Words.{own_group}
+use Rattle.histories.specs.Lists.{IsAmong}
+use Rattle.histories.specs.NodeState.{NodeState, opening, wants_at, settled}
+use Rattle.histories.specs.What.{What, Did, Refused, Faulted, Rests, Crashed, Recovered, MountFailed, RaiseFailed, RaiseRefused, event_of, brought}
+use Rattle.histories.specs.After.{after, sent_at, given_at, raised}
+use Rattle.histories.specs.Named.{BodyHolds, AllHold, TaskHolds, PlaceHolds, StateHolds}
+use Rattle.histories.proofs.Tests.{eq_nat}
+use Rattle.histories.proofs.Among.{among_left, among_right, among_either, each_append, each_at, each_of, each_more}
+use Rattle.histories.proofs.Anything.{AnyWork, any_pending}
+use Rattle.histories.proofs.Moves.{GivenHold, Knows, SaysIn, Says}
+use Rattle.histories.proofs.Entries.{entry_does}
+use Rattle.runs.specs.World.{World, openings, start}
+use Rattle.runs.specs.Step.{Step, Takes, Loses, Cuts, Mends, Denies, state_after, sent_after, world_after}
+use Rattle.runs.specs.Run.{IsBrought, IsAllowed, RunFrom, world_at}
+use Rattle.runs.specs.Given.{numbered, given_by, groups_at, groups_from, opening_groups, AllGiven, GivenBefore, IsOnceEach, NoneTwice}
+use Rattle.runs.proofs.Runs.{brought_sent, state_here, state_elsewhere, opened}
+
+-- what is said names groups
+says_names : (P : Group → Type 0) (J : ℕ → ℕ → ℕ → Type 0) (self sender receiver : ℕ) (made : List Assignment) (event : Option Event) (body : Body) → SaysIn P J self made event sender receiver body → BodyHolds P body
+says_names P J self sender receiver made event AreYouCoordinator h = tt
+says_names P J self sender receiver made event (Coordinator agreed) h = tt
+says_names P J self sender receiver made event (AreYouThere group) h = h
+says_names P J self sender receiver made event (Here group agreed) h = h
+says_names P J self sender receiver made event (Invitation group) h = h
+says_names P J self sender receiver made event (Accept group) h = h
+says_names P J self sender receiver made event (Ready task) h = h.2
+says_names P J self sender receiver made event (ReadyAck group) h = h
+says_names P J self sender receiver made event (WorkMessage group id queue payload) h = h.0
+says_names P J self sender receiver made event (DoneMessage id) h = tt
+
+abbrev pub Stronger : (Group → Type 0) → (Group → Type 0) → Type 0
+Stronger P Q = (g : Group) → P g → Q g
+
+task_more : (P Q : Group → Type 0) (t : Option Assignment) → Stronger P Q → TaskHolds P t → TaskHolds Q t
+task_more P Q None sub h = tt
+task_more P Q (Some t) sub h = sub t.group h
+
+place_more : (P Q : Group → Type 0) (p : Phase) (g : Group) (t : Option Assignment) → Stronger P Q → PlaceHolds P p g t → PlaceHolds Q p g t
+place_more P Q Down g t sub h = tt
+place_more P Q Election g t sub h = (sub g h.0, task_more P Q t sub h.1)
+place_more P Q Reorganization g t sub h = (sub g h.0, task_more P Q t sub h.1)
+place_more P Q Normal g t sub h = (sub g h.0, task_more P Q t sub h.1)
+
+body_more : (P Q : Group → Type 0) (b : Body) → Stronger P Q → BodyHolds P b → BodyHolds Q b
+body_more P Q AreYouCoordinator sub h = tt
+body_more P Q (Coordinator positive) sub h = tt
+body_more P Q (AreYouThere group) sub h = sub group h
+body_more P Q (Here group positive) sub h = sub group h
+body_more P Q (Invitation group) sub h = sub group h
+body_more P Q (Accept group) sub h = sub group h
+body_more P Q (Ready task) sub h = sub task.group h
+body_more P Q (ReadyAck group) sub h = sub group h
+body_more P Q (WorkMessage group id queue payload) sub h = sub group h
+body_more P Q (DoneMessage id) sub h = tt
+
+all_more : (P Q : Group → Type 0) (ms : List Envelope) → Stronger P Q → AllHold P ms → AllHold Q ms
+all_more P Q ms sub h = each_more (λ (m : Envelope). BodyHolds P m.body) (λ (m : Envelope). BodyHolds Q m.body) ms (λ m b. body_more P Q m.body sub b) h
+
+-- what is brought names what was sent
+brought_holds : (P : Group → Type 0) (w : World) (k : ℕ) (ms : List Envelope) → AllHold P w.net.sent → IsBrought w k ms → AllHold P ms
+brought_holds P w k ms h b = each_of (λ (m : Envelope). BodyHolds P m.body) ms (λ m i. each_at (λ (m : Envelope). BodyHolds P m.body) w.net.sent m h (brought_sent w k ms m b i))
+
+given_holds : (P : Group → Type 0) (n : ℕ) (ks : List ℕ) → ((g : Group) → IsAmong g (numbered n ks) → P g) → GivenHold P n ks
+given_holds P n [] h = tt
+given_holds P n (k ∷ ks) h = (h (own_group n k) (inl refl), given_holds P n ks (λ g i. h g (inr i)))
+
+-- the groups so far, in every node and on the way
+step_given : (nodes : ℕ) (w : World) (step : Step) (given : List Group) → AllGiven w given → IsAllowed nodes w step → AllGiven (world_after nodes w step) (given ++ groups_at nodes w step)
+step_given nodes w (Takes n number what) given all may =
+    let s : NodeState = may.0 in
+    let now : List Group = given ++ given_by n nodes (slice_get w.states n) what in
+    let P : Group → Type 0 = λ g. IsAmong g given in
+    let Q : Group → Type 0 = λ g. IsAmong g now in
+    let sub : Stronger P Q = λ g i. among_left g given (given_by n nodes (slice_get w.states n) what) i in
+    let new : (g : Group) → IsAmong g (numbered n (given_at n nodes s what)) → Q g =
+    λ g i. among_right g given (given_by n nodes (slice_get w.states n) what) (rw may.1 i) in
+    let row = entry_does Q AnyWork AnyWork n nodes s what may.2 in
+    let knows : Knows Q n s.state (given_at n nodes s what) (brought (event_of what)) = record {
+      place = place_more P Q s.state.phase s.state.group s.state.task sub (all.vectors n s may.1);
+      fresh = given_holds Q n (given_at n nodes s what) new;
+      heard = all_more P Q (brought (event_of what)) sub (brought_holds P w number (brought (event_of what)) all.messages may.3);
+    } in
+    let said : AllHold Q (sent_at n nodes s what) = each_more (Says Q AnyWork n row.made (event_of what)) (λ (m : Envelope). BodyHolds Q m.body) (sent_at n nodes s what)
+    (λ m h. says_names Q AnyWork n m.sender m.receiver row.made (event_of what) m.body h) (row.says knows (any_pending n s.durable.pending) (any_pending n (after n nodes s what).durable.pending)) in record {
+      vectors = λ j t at. by_node j t at (n == j) refl (row.names knows) (λ x was. place_more P Q x.state.phase x.state.group x.state.task sub (all.vectors j x was));
+      messages = each_append (λ (m : Envelope). BodyHolds Q m.body) w.net.sent (sent_after n nodes (slice_get w.states n) what) (all_more P Q w.net.sent sub all.messages) (subst (λ (o : Option NodeState). AllHold Q (sent_after n nodes o what)) (sym may.1) said);
+    }
+  where
+    by_node : (j : ℕ) (t : NodeState) → slice_get (state_after n nodes (slice_get w.states n) what w.states) j ≡ Some t → (b : Bool) → (n == j) ≡ b
+        → StateHolds (λ g. IsAmong g (given ++ given_by n nodes (slice_get w.states n) what)) (after n nodes may.0 what).state
+        → ((x : NodeState) → slice_get w.states j ≡ Some x → StateHolds (λ g. IsAmong g (given ++ given_by n nodes (slice_get w.states n) what)) x.state)
+        → StateHolds (λ g. IsAmong g (given ++ given_by n nodes (slice_get w.states n) what)) t.state
+    by_node j t at true is here other =
+        let same : n ≡ j = eq_nat n j is in
+        let mine : slice_get w.states j ≡ Some may.0 = subst (λ (x : ℕ). slice_get w.states x ≡ Some may.0) same may.1 in
+        let new : slice_get (state_after n nodes (slice_get w.states n) what w.states) j ≡ Some (after j nodes may.0 what) = state_here n j nodes what w.states may.0 same mine in
+        let it : after j nodes may.0 what ≡ t = cc (new, at) in
+        subst (λ (x : NodeState). StateHolds (λ g. IsAmong g (given ++ given_by n nodes (slice_get w.states n) what)) x.state) it
+        (subst (λ (x : ℕ). StateHolds (λ g. IsAmong g (given ++ given_by n nodes (slice_get w.states n) what)) (after x nodes may.0 what).state) same here)
+    by_node j t at false is here other =
+        let ne : j ≢ n = grind (arith, nat_tests) in
+        other t (sym (state_elsewhere n j nodes what (slice_get w.states n) w.states ne) ∙ at)
+step_given nodes w (Loses k) given all may = rw append-nil (record { vectors = all.vectors; messages = all.messages })
+step_given nodes w (Cuts a b) given all may = rw append-nil (record { vectors = all.vectors; messages = all.messages })
+step_given nodes w (Mends a b) given all may = rw append-nil (record { vectors = all.vectors; messages = all.messages })
+step_given nodes w (Denies why) given all may = rw append-nil all
+
+run_given : (nodes : ℕ) (steps : List Step) (w : World) (given : List Group) → AllGiven w given → RunFrom nodes w steps → AllGiven (world_at nodes w steps) (given ++ groups_from nodes w steps)
+run_given nodes [] w given all run = rw append-nil all
+run_given nodes (step ∷ steps) w given all run =
+    rw (← append_assoc) (run_given nodes steps (world_after nodes w step) (given ++ groups_at nodes w step) (step_given nodes w step given all run.0) run.1)
+
+opening_among : (k i j m : ℕ) (s : NodeState) → m ≡ i + j → slice_get (openings i k) j ≡ Some s → IsAmong (own_group m 1) (opening_groups i k)
+opening_among zero i j m s is at = absurd cc
+opening_among (suc k) i zero m s is at = inl (let number : m ≡ i = omega (arith, is) in ap (λ (x : ℕ). own_group x 1) number)
+opening_among (suc k) i (suc j) m s is at = inr (opening_among k (suc i) j m s (omega (arith, is)) at)
+
+pub given_before : GivenBefore
+given_before nodes steps run = run_given nodes steps (start nodes) (opening_groups 0 nodes) (record {
+  vectors = λ n s at.
+      (let is : s ≡ opening n = opened nodes 0 n s n (omega arith) at in
+      let among = opening_among nodes 0 n n s (omega arith) at in
+      subst (λ (x : NodeState). StateHolds (λ g. IsAmong g (opening_groups 0 nodes)) x.state) (sym is) (among, among));
+  messages = tt;
+}) run
+
+-- the counts that an entry gives, between the counter before it and the counter after it
+record Raises (self : ℕ) (low high : ℕ) (ks : List ℕ) : Type 0 where
+  grows : low ≤ high
+  between : (k : ℕ) → IsAmong k ks → (low < k) × (k ≤ high)
+  once : IsOnceEach (numbered self ks)
+
+none_raised : (self low high : ℕ) → low ≤ high → Raises self low high []
+none_raised self low high le = record { grows = le; between = λ k i. absurd i; once = tt }
+
+one_raised : (self low k : ℕ) → low < k → Raises self low k (k ∷ [])
+one_raised self low k lt = record {
+  grows = omega arith;
+  between = λ j i. elim i [ inl e ↦ (omega (arith, e, lt), omega (arith, e)) | inr none ↦ absurd none ];
+  once = (λ (none : ⊥). none, tt);
+}
+
+wanted_raises : (self : ℕ) (d : Durable) (wants : Option Command) → Raises self d.counter (after_wanted d wants).counter (raised d wants)
+wanted_raises self d None = none_raised self d.counter d.counter (omega arith)
+wanted_raises self d (Some Raise) = one_raised self d.counter (d.counter + 1) (omega arith)
+wanted_raises self d (Some (Put queue payload)) = none_raised self d.counter d.counter (omega arith)
+wanted_raises self d (Some (Done id)) = none_raised self d.counter d.counter (omega arith)
+
+settled_grows : (kept : Bool) (self : ℕ) (s : NodeState) → s.durable.counter ≤ (settled kept s).counter
+settled_grows true self s = (wanted_raises self s.durable s.doubt).grows
+settled_grows false self s = omega arith
+
+entry_raises : (self nodes : ℕ) (s : NodeState) (what : What) → Raises self s.durable.counter (after self nodes s what).durable.counter (given_at self nodes s what)
+entry_raises self nodes s (Did event) = wanted_raises self s.durable (wants_at self nodes s event)
+entry_raises self nodes s (Refused event fault) = none_raised self s.durable.counter s.durable.counter (omega arith)
+entry_raises self nodes s (Rests why) = none_raised self s.durable.counter s.durable.counter (omega arith)
+entry_raises self nodes s (Faulted event) = none_raised self s.durable.counter s.durable.counter (omega arith)
+entry_raises self nodes s Crashed = none_raised self s.durable.counter s.durable.counter (omega arith)
+entry_raises self nodes s (Recovered kept) = one_raised self s.durable.counter ((settled kept s).counter + 1) (omega (arith, settled_grows kept self s))
+entry_raises self nodes s MountFailed = none_raised self s.durable.counter s.durable.counter (omega arith)
+entry_raises self nodes s (RaiseFailed kept) = none_raised self s.durable.counter (settled kept s).counter (settled_grows kept self s)
+entry_raises self nodes s (RaiseRefused kept) = none_raised self s.durable.counter s.durable.counter (omega arith)
+
+once_append : (xs ys : List Group) → IsOnceEach xs → IsOnceEach ys → ((g : Group) → IsAmong g xs → IsAmong g ys → ⊥) → IsOnceEach (xs ++ ys)
+once_append [] ys h k apart = k
+once_append (x ∷ xs) ys h k apart = (
+  λ i. elim (among_either x xs ys i) [ inl l ↦ h.0 l | inr r ↦ apart x (inl refl) r ],
+  once_append xs ys h.1 k (λ g i j. apart g (inr i) j),
+)
+
+numbered_parts : (n : ℕ) (ks : List ℕ) (g : Group) → IsAmong g (numbered n ks) → (g.creator ≡ n) × IsAmong g.count ks
+numbered_parts n [] g i = absurd i
+numbered_parts n (k ∷ ks) g i = elim i [
+  | inl e ↦ (ap (λ (x : Group). x.creator) e, inl (ap (λ (x : Group). x.count) e))
+  | inr j ↦ (let rest = numbered_parts n ks g j in (rest.0, inr rest.1))
+]
+
+-- each group's count is at most its creator's durable counter, and no group was given twice
+record Bounded (w : World) (given : List Group) : Type 0 where
+  bound : (g : Group) → IsAmong g given → (s : NodeState) × (slice_get w.states g.creator ≡ Some s) × (g.count ≤ s.durable.counter)
+  once : IsOnceEach given
+
+step_bounded : (nodes : ℕ) (w : World) (step : Step) (given : List Group) → Bounded w given → IsAllowed nodes w step → Bounded (world_after nodes w step) (given ++ groups_at nodes w step)
+step_bounded nodes w (Takes n number what) given all may =
+    let s : NodeState = may.0 in
+    let ks : List ℕ = given_at n nodes s what in
+    let raises : Raises n s.durable.counter (after n nodes s what).durable.counter ks = entry_raises n nodes s what in
+    let mine : slice_get (world_after nodes w (Takes n number what)).states n ≡ Some (after n nodes s what) = state_here n n nodes what w.states s refl may.1 in
+    let these : given_by n nodes (slice_get w.states n) what ≡ numbered n ks = ap (λ (o : Option NodeState). given_by n nodes o what) may.1 in
+    subst (λ (gs : List Group). Bounded (world_after nodes w (Takes n number what)) (given ++ gs)) (sym these) (record {
+      bound = λ g i. elim (among_either g given (numbered n ks) i) [
+        | inl old ↦ old_bound g (n == g.creator) refl (all.bound g old) mine raises.grows
+        | inr new ↦ (let parts = numbered_parts n ks g new in
+            (after n nodes s what, subst (λ (c : ℕ). slice_get (world_after nodes w (Takes n number what)).states c ≡ Some (after n nodes s what)) (sym parts.0) mine, (raises.between g.count parts.1).1))
+      ];
+      once = once_append given (numbered n ks) all.once raises.once (λ g old new.
+          (let parts = numbered_parts n ks g new in
+          let was = all.bound g old in
+          let at : slice_get w.states n ≡ Some was.0 = subst (λ (c : ℕ). slice_get w.states c ≡ Some was.0) parts.0 was.1 in
+          let same : was.0 ≡ s = cc (at, may.1) in
+          let low : g.count ≤ s.durable.counter = subst (λ (x : NodeState). g.count ≤ x.durable.counter) same was.2 in
+          let above : s.durable.counter < g.count = (raises.between g.count parts.1).0 in
+          omega (arith, low, above)));
+    })
+  where
+    old_bound : (g : Group) (b : Bool) → (n == g.creator) ≡ b → ((x : NodeState) × (slice_get w.states g.creator ≡ Some x) × (g.count ≤ x.durable.counter))
+        → slice_get (world_after nodes w (Takes n number what)).states n ≡ Some (after n nodes may.0 what)
+        → may.0.durable.counter ≤ (after n nodes may.0 what).durable.counter
+        → (x : NodeState) × (slice_get (world_after nodes w (Takes n number what)).states g.creator ≡ Some x) × (g.count ≤ x.durable.counter)
+    old_bound g true is was mine grows =
+        let same : n ≡ g.creator = eq_nat n g.creator is in
+        let here : slice_get w.states n ≡ Some was.0 = subst (λ (c : ℕ). slice_get w.states c ≡ Some was.0) (sym same) was.1 in
+        let it : was.0 ≡ may.0 = cc (here, may.1) in
+        let low : g.count ≤ may.0.durable.counter = subst (λ (x : NodeState). g.count ≤ x.durable.counter) it was.2 in
+        (after n nodes may.0 what, subst (λ (c : ℕ). slice_get (world_after nodes w (Takes n number what)).states c ≡ Some (after n nodes may.0 what)) same mine, omega (arith, low, grows))
+    old_bound g false is was mine grows =
+        let ne : g.creator ≢ n = grind (arith, nat_tests) in
+        (was.0, state_elsewhere n g.creator nodes what (slice_get w.states n) w.states ne ∙ was.1, was.2)
+step_bounded nodes w (Loses k) given all may = rw append-nil (record { bound = all.bound; once = all.once })
+step_bounded nodes w (Cuts a b) given all may = rw append-nil (record { bound = all.bound; once = all.once })
+step_bounded nodes w (Mends a b) given all may = rw append-nil (record { bound = all.bound; once = all.once })
+step_bounded nodes w (Denies why) given all may = rw append-nil all
+
+run_bounded : (nodes : ℕ) (steps : List Step) (w : World) (given : List Group) → Bounded w given → RunFrom nodes w steps → Bounded (world_at nodes w steps) (given ++ groups_from nodes w steps)
+run_bounded nodes [] w given all run = rw append-nil all
+run_bounded nodes (step ∷ steps) w given all run =
+    rw (← append_assoc) (run_bounded nodes steps (world_after nodes w step) (given ++ groups_at nodes w step) (step_bounded nodes w step given all run.0) run.1)
+
+openings_bound : (k i : ℕ) (g : Group) → IsAmong g (opening_groups i k) → (j : ℕ) × (g ≡ own_group (i + j) 1) × (slice_get (openings i k) j ≡ Some (opening (i + j)))
+openings_bound zero i g h = absurd h
+openings_bound (suc k) i g h = elim h [
+  | inl e ↦ (0, e ∙ ap (λ (x : ℕ). own_group x 1) (let n : i ≡ i + 0 = omega arith in n), ap (λ (x : ℕ). Some (opening x)) (let n : i ≡ i + 0 = omega arith in n))
+  | inr j ↦ (let rest = openings_bound k (suc i) g j in
+      let n : suc i + rest.0 ≡ i + suc rest.0 = omega arith in
+      (suc rest.0, rest.1 ∙ ap (λ (x : ℕ). own_group x 1) n, rest.2 ∙ ap (λ (x : ℕ). Some (opening x)) n))
+]
+
+openings_once : (k i : ℕ) → IsOnceEach (opening_groups i k)
+openings_once zero i = tt
+openings_once (suc k) i = (λ h. (let it = openings_bound k (suc i) (own_group i 1) h in let c : i ≡ suc i + it.0 = ap (λ (x : Group). x.creator) it.1 in absurd (omega (arith, c))), openings_once k (suc i))
+
+pub none_twice : NoneTwice
+none_twice nodes steps run = (run_bounded nodes steps (start nodes) (opening_groups 0 nodes) (record {
+  bound = λ g h.
+      (let it = openings_bound nodes 0 g h in
+      let creator : g.creator ≡ it.0 = ap (λ (x : Group). x.creator) it.1 ∙ (let n : 0 + it.0 ≡ it.0 = omega arith in n) in
+      (opening (0 + it.0), subst (λ (c : ℕ). slice_get (openings 0 nodes) c ≡ Some (opening (0 + it.0))) (sym creator) it.2, omega (arith, ap (λ (x : Group). x.count) it.1)));
+  once = openings_once nodes 0;
+}) run).once

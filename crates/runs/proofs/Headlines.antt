@@ -1,0 +1,181 @@
+-- Every run of a schedule keeps groups and jobs.
+use Rattle.std.proofs.Common.{◌≡◌, ℕ, suc, ◌<◌, List, [], ◌++◌, take, drop, slice_get, refl, sym, ◌∙◌, ap, subst, inl, inr, arith, rules, Option, Some, None}
+use Rattle.std.proofs.lemmas.List.{take-append-drop}
+use Rattle.job_model.specs.Command.{Done}
+use Rattle.group_task.specs.Group.{Group}
+use Rattle.group_task.specs.Assignment.{Assignment}
+use Rattle.wire_msg.specs.Envelope.{Envelope}
+use Rattle.node_core.specs.declared.phase.Phase.{Phase}
+use Rattle.node_core.specs.declared.phase.Phase.TheVariants.{Down, Normal}
+use Rattle.node_core.specs.declared.in_hand.InHand.{InHand}
+use Rattle.node_core.specs.State.{State}
+use Rattle.histories.specs.Lists.{IsAmong}
+use Rattle.histories.specs.NodeState.{NodeState, opening}
+use Rattle.histories.specs.What.{Entry}
+use Rattle.histories.specs.Named.{BodyHolds, StateHolds}
+use Rattle.histories.specs.Book.{IsTaskOf, AgreesIn, AgreesAt, IsInGroup}
+use Rattle.histories.specs.Rising.{Rises}
+use Rattle.histories.specs.Kept.{Kept, Tried}
+use Rattle.histories.specs.Marks.{commands_of, marks_of, opening_marks}
+use Rattle.histories.specs.Owners.{FinishedBy}
+use Rattle.histories.proofs.Counts.{counts_rise}
+use Rattle.histories.specs.Moments.{IsMoment}
+use Rattle.histories.proofs.Owners.{owner_finishes, one_worker}
+use Rattle.schedule.specs.declared.act.Act.{Act}
+use Rattle.runs.specs.World.{openings, start}
+use Rattle.runs.specs.Step.{Step}
+use Rattle.runs.specs.Run.{RunFrom, world_at, history_in, histories_of}
+use Rattle.runs.specs.Given.{AllGiven, groups_of}
+use Rattle.runs.specs.Tagged.{own, run_marks}
+use Rattle.histories.specs.Counts.{IsShort}
+use Rattle.runs.specs.Reporting.{Moment, TriedAt, moments_from, state_at, state_or_down, commands_in, mountings_in, own_commands, own_mountings, own_counts, marks_of_run, report_of}
+use Rattle.runs.specs.Headline.{IsShown, groups_within, commands_within, NamesGiven, HasBook, EverySchedule}
+use Rattle.runs.proofs.Runs.{history_at, how_many, runs_are_bundles}
+use Rattle.runs.proofs.RunBooks.{state_moment, run_book}
+use Rattle.runs.proofs.Given.{given_before, none_twice}
+use Rattle.runs.proofs.Tagged.{runs_are_kept}
+use Rattle.runs.proofs.Exact.{all_acts_run}
+use Rattle.runs.proofs.Picked.{own_tried, own_mounted, own_marks, own_history, starts_opened, among_own, own_counts_of}
+use Rattle.runs.proofs.Moments.{run_front, as_many, moment_state, moment_says, opening_shown}
+use Rattle.histories.proofs.OneBooks.{agreed_coordinator, same_task}
+
+-- ---- 2
+
+each_kept : (nodes : ℕ) (steps : List Step) → RunFrom nodes (start nodes) steps → IsShort steps → (n : ℕ) → n < nodes
+    → Kept (own_commands n (commands_in (marks_of_run nodes steps))) (own_mountings n (mountings_in (marks_of_run nodes steps)))
+each_kept nodes steps run few n lt =
+    let marks : own n (marks_of_run nodes steps) ≡ opening_marks ++ own n (run_marks nodes (start nodes) (λ (k : ℕ). 1) steps) = own_marks nodes n steps lt in
+    rw (own_tried n (marks_of_run nodes steps), own_mounted n (marks_of_run nodes steps), marks) (runs_are_kept nodes steps run few n (opening n) (starts_opened nodes n lt))
+
+-- ---- 3
+
+each_rises : (nodes : ℕ) (steps : List Step) (n : ℕ) → n < nodes → Rises 0 (own_counts n (groups_of nodes steps))
+each_rises nodes steps n lt =
+    rw (own_counts_of nodes n steps lt) (omega arith, counts_rise n nodes (opening n) (history_in n nodes (start nodes) steps) 1 (omega arith))
+
+down_or_given : (P : Group → Type 0) (o : Option NodeState) → ((s : NodeState) → o ≡ Some s → StateHolds P s.state) → StateHolds P (state_or_down o)
+down_or_given P None h = tt
+down_or_given P (Some s) h = h s refl
+
+moment_given : (nodes : ℕ) (acts : List Act) (steps : List Step) → RunFrom nodes (start nodes) steps → (k : ℕ) (m : Moment) → slice_get (moments_from nodes (start nodes) acts steps) k ≡ Some m
+    → NamesGiven (groups_within nodes (suc k) steps) m
+moment_given nodes acts steps run k m at =
+    let front : List Step = take (suc k) steps in
+    let given : List Group = groups_of nodes front in
+    let all : AllGiven (world_at nodes (start nodes) front) given = given_before nodes front (run_front (suc k) nodes steps (start nodes) run) in
+    record {
+      by_state = rw (moment_state k nodes acts steps (start nodes) m at)
+          (down_or_given (λ (g : Group). IsAmong g given) (slice_get (world_at nodes (start nodes) front).states m.node) (λ s here. all.vectors m.node s here));
+      by_messages = moment_says (λ (x : Envelope). BodyHolds (λ (g : Group). IsAmong g given) x.body) k nodes acts steps (start nodes) m at all.messages;
+    }
+
+-- ---- 4
+
+down_or_agrees : (book : List Assignment) (n : ℕ) (o : Option NodeState) → ((s : NodeState) → o ≡ Some s → AgreesAt book n s.state) → AgreesAt book n (state_or_down o)
+down_or_agrees book n None h = tt
+down_or_agrees book n (Some s) h = h s refl
+
+its_book : (nodes : ℕ) (acts : List Act) (steps : List Step) → RunFrom nodes (start nodes) steps → HasBook (report_of nodes acts steps)
+its_book nodes acts steps run =
+    let law = run_book nodes steps run in
+    record {
+      book = law.0;
+      agrees = λ n s shown. elim shown [
+        | inl first ↦ (let it = opening_shown (openings 0 nodes) n s first in
+            subst (λ (x : State). AgreesAt law.0 n x) it.2 (law.1 [] steps refl n it.0 it.1))
+        | inr moment ↦ (
+            let k : ℕ = moment.0 in
+            let m : Moment = moment.1 in
+            let front : List Step = take (suc k) steps in
+            let agrees : AgreesAt law.0 m.node (state_at (world_at nodes (start nodes) front).states m.node) =
+            down_or_agrees law.0 m.node (slice_get (world_at nodes (start nodes) front).states m.node)
+            (λ x here. law.1 front (drop (suc k) steps) (take-append-drop (suc k) steps) m.node x here) in
+            subst (λ (x : State). AgreesAt law.0 n x) moment.4
+            (subst (λ (j : ℕ). AgreesAt law.0 j m.state) moment.3 (rw (moment_state k nodes acts steps (start nodes) m moment.2) agrees)))
+      ];
+    }
+
+-- ---- 5
+
+coordinator_of_two : (book : List Assignment) (n m : ℕ) (s t : State) → AgreesAt book n s → AgreesAt book m t → IsInGroup s.phase → IsInGroup t.phase → s.group ≡ t.group → s.coordinator ≡ t.coordinator
+coordinator_of_two book n m s t a b in_s in_t same =
+    agreed_coordinator s.phase book n s in_s a ∙ (ap (λ (g : Group). g.creator) same ∙ sym (agreed_coordinator t.phase book m t in_t b))
+
+task_of_two : (book : List Assignment) (n m : ℕ) (s t : State) → AgreesAt book n s → AgreesAt book m t → s.phase ≡ Normal → t.phase ≡ Normal → s.group ≡ t.group → s.task ≡ t.task
+task_of_two book n m s t a b in_s in_t same =
+    let by_s = subst (λ (p : Phase). AgreesIn p book n s) in_s a in
+    let by_t = subst (λ (p : Phase). AgreesIn p book m t) in_t b in
+    same_task book n m t.group s.task t.task (subst (λ (g : Group). IsTaskOf book n g s.task) same by_s.1) by_t.1
+
+shown_coordinator : (nodes : ℕ) (acts : List Act) (steps : List Step) (h : HasBook (report_of nodes acts steps)) (n m : ℕ) (s t : State)
+    → IsShown (report_of nodes acts steps) n s → IsShown (report_of nodes acts steps) m t → IsInGroup s.phase → IsInGroup t.phase → s.group ≡ t.group → s.coordinator ≡ t.coordinator
+shown_coordinator nodes acts steps h n m s t a b in_s in_t same = coordinator_of_two h.book n m s t (h.agrees n s a) (h.agrees m t b) in_s in_t same
+
+shown_task : (nodes : ℕ) (acts : List Act) (steps : List Step) (h : HasBook (report_of nodes acts steps)) (n m : ℕ) (s t : State)
+    → IsShown (report_of nodes acts steps) n s → IsShown (report_of nodes acts steps) m t → s.phase ≡ Normal → t.phase ≡ Normal → s.group ≡ t.group → s.task ≡ t.task
+shown_task nodes acts steps h n m s t a b in_s in_t same = task_of_two h.book n m s t (h.agrees n s a) (h.agrees m t b) in_s in_t same
+
+-- ---- jobs
+
+finished_by : (nodes : ℕ) (steps : List Step) → RunFrom nodes (start nodes) steps → (t : TriedAt) (id : ℕ) → IsAmong t (commands_in (marks_of_run nodes steps)) → t.node < nodes
+    → t.tried.command ≡ Done id → FinishedBy (histories_of nodes steps) t.node id
+finished_by nodes steps run t id among lt done =
+    let n : ℕ = t.node in
+    let h : List Entry = history_in n nodes (start nodes) steps in
+    let at : slice_get (histories_of nodes steps) n ≡ Some h = history_at nodes 0 n nodes steps (opening n) n (omega arith) (starts_opened nodes n lt) in
+    let mine : IsAmong t.tried (own_commands n (commands_in (marks_of_run nodes steps))) = among_own n t (commands_in (marks_of_run nodes steps)) refl among in
+    let marks : own_commands n (commands_in (marks_of_run nodes steps)) ≡ commands_of (marks_of n nodes h) = own_tried n (marks_of_run nodes steps) ∙ ap commands_of (own_history nodes n steps lt) in
+    let tried : IsAmong t.tried (commands_of (marks_of n nodes h)) = subst (λ (ts : List Tried). IsAmong t.tried ts) marks mine in
+    owner_finishes (histories_of nodes steps) (runs_are_bundles nodes steps run) n h at t.tried id
+    (subst (λ (j : ℕ). IsAmong t.tried (commands_of (marks_of n j h))) (sym (how_many nodes 0 nodes steps)) tried) done
+
+finished_at : (nodes : ℕ) (steps : List Step) → RunFrom nodes (start nodes) steps → (k : ℕ) (t : TriedAt) (id : ℕ) → IsAmong t (commands_within nodes k steps) → t.node < nodes
+    → t.tried.command ≡ Done id → FinishedBy (histories_of nodes (take k steps)) t.node id
+finished_at nodes steps run k t id among lt done = finished_by nodes (take k steps) (run_front k nodes steps (start nodes) run) t id among lt done
+
+-- a state that is shown in Normal is a moment of the node's history
+shown_moment : (nodes : ℕ) (acts : List Act) (steps : List Step) (n : ℕ) (s : State) → IsShown (report_of nodes acts steps) n s → s.phase ≡ Normal → IsMoment (histories_of nodes steps) n s
+shown_moment nodes acts steps n s shown normal = elim shown [
+  | inl first ↦ (let it = opening_shown (openings 0 nodes) n s first in
+      subst (λ (x : State). IsMoment (histories_of nodes steps) n x) it.2 (state_moment nodes steps [] steps refl n it.0 it.1))
+  | inr moment ↦ (
+      let k : ℕ = moment.0 in
+      let m : Moment = moment.1 in
+      let front : List Step = take (suc k) steps in
+      let o : Option NodeState = slice_get (world_at nodes (start nodes) front).states m.node in
+      let here : state_or_down o ≡ s = sym (moment_state k nodes acts steps (start nodes) m moment.2) ∙ moment.4 in
+      subst (λ (j : ℕ). IsMoment (histories_of nodes steps) j s) moment.3
+      (is_up m.node o here (λ x at. state_moment nodes steps front (drop (suc k) steps) (take-append-drop (suc k) steps) m.node x at)))
+]
+  where
+    is_up : (j : ℕ) (o : Option NodeState) → state_or_down o ≡ s → ((x : NodeState) → o ≡ Some x → IsMoment (histories_of nodes steps) j x.state) → IsMoment (histories_of nodes steps) j s
+    is_up j None here at = (let none : Down ≡ Normal = ap (λ (x : State). x.phase) here ∙ normal in absurd cc)
+    is_up j (Some x) here at = subst (λ (y : State). IsMoment (histories_of nodes steps) j y) here (at x refl)
+
+worker_of_two : (nodes : ℕ) (acts : List Act) (steps : List Step) → RunFrom nodes (start nodes) steps → (n m : ℕ) (s t : State)
+    → IsShown (report_of nodes acts steps) n s → IsShown (report_of nodes acts steps) m t → s.phase ≡ Normal → t.phase ≡ Normal → s.group ≡ t.group
+    → (a b : InHand) → IsAmong a s.hand → IsAmong b t.hand → a.queue ≡ b.queue → n ≡ m
+worker_of_two nodes acts steps run n m s t at_s at_t normal_s normal_t same a b in_s in_t queue =
+    one_worker (histories_of nodes steps) (runs_are_bundles nodes steps run) n m s t (shown_moment nodes acts steps n s at_s normal_s) (shown_moment nodes acts steps m t at_t normal_t)
+    normal_s normal_t same a b in_s in_t queue
+
+-- each part by its law, which may take fewer premises than the part has
+pub every_schedule : EverySchedule
+every_schedule nodes slots acts steps short is_run =
+    let run : RunFrom nodes (start nodes) steps = all_acts_run nodes slots (start nodes) acts steps is_run in
+    let few : IsShort steps = omega (arith, short, as_many nodes slots acts steps (start nodes) is_run) in
+    let the_book : HasBook (report_of nodes acts steps) = its_book nodes acts steps run in
+    record {
+      steps = steps;
+      is_run = search (rules, is_run);
+      reported = search rules;
+      kept = search (rules, each_kept nodes steps run few);
+      rising = search (rules, each_rises nodes steps);
+      once = search (rules, none_twice nodes steps run);
+      given = search (rules, moment_given nodes acts steps run);
+      has_book = search (rules, the_book);
+      one_coordinator = search (rules, shown_coordinator nodes acts steps the_book);
+      one_task = search (rules, shown_task nodes acts steps the_book);
+      one_worker = search (rules, worker_of_two nodes acts steps run);
+      finished = search (rules, finished_at nodes steps run);
+    }

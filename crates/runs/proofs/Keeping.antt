@@ -1,0 +1,31 @@
+-- What each node keeps at its own steps, every node keeps.
+use Rattle.std.proofs.Common.{◌≡◌, ◌≢◌, ℕ, Bool, true, false, slice_get, refl, sym, ◌∙◌, subst, arith, Some}
+use Rattle.std.specs.Prelude.{◌==◌}
+use Rattle.std.proofs.lemmas.Bool.Decides.{nat_tests}
+use Rattle.histories.specs.NodeState.{NodeState}
+use Rattle.histories.specs.What.{What}
+use Rattle.histories.specs.After.{after}
+use Rattle.histories.proofs.Tests.{eq_nat}
+use Rattle.runs.specs.World.{World}
+use Rattle.runs.specs.Step.{Takes, world_after}
+use Rattle.runs.proofs.Runs.{state_here, state_elsewhere}
+
+-- P holds of each node and its state
+abbrev pub AllStates : (ℕ → NodeState → Type 0) → World → Type 0
+AllStates P w = (n : ℕ) (s : NodeState) → slice_get w.states n ≡ Some s → P n s
+
+-- where it holds of a node after its step, it holds of all nodes after that step
+pub states_keep : (P : ℕ → NodeState → Type 0) (nodes : ℕ) (w : World) (m number : ℕ) (what : What) (s : NodeState) → slice_get w.states m ≡ Some s → P m (after m nodes s what)
+    → AllStates P w → AllStates P (world_after nodes w (Takes m number what))
+states_keep P nodes w m number what s at kept all n t at_n = by_place (m == n) refl
+  where
+    by_place : (b : Bool) → (m == n) ≡ b → P n t
+    by_place true is =
+        let same : m ≡ n = eq_nat m n is in
+        let now = state_here m m nodes what w.states s refl at in
+        let at_m : slice_get (world_after nodes w (Takes m number what)).states m ≡ Some t = subst (λ (j : ℕ). slice_get (world_after nodes w (Takes m number what)).states j ≡ Some t) (sym same) at_n in
+        let is_after : after m nodes s what ≡ t = cc (now, at_m) in
+        subst (λ (j : ℕ). P j t) same (subst (λ (x : NodeState). P m x) is_after kept)
+    by_place false is =
+        let ne : n ≢ m = grind (arith, nat_tests) in
+        all n t (sym (state_elsewhere m n nodes what (slice_get w.states m) w.states ne) ∙ at_n)

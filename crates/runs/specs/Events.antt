@@ -1,0 +1,24 @@
+-- The acts that are an event at a node, whatever the network holds.
+use Rattle.std.specs.Prelude.{ℕ, Option, Some, None}
+use Rattle.node_core.specs.declared.event.Event.{Event}
+use Rattle.node_core.specs.declared.event.Event.TheVariants as on
+use Rattle.schedule.specs.declared.act.Act.{Act}
+use Rattle.schedule.specs.declared.act.Act.TheVariants as act
+
+abbrev pub event_at : Act → Option (ℕ × Event)
+event_at (act.Check n) = Some (n, on.CheckTimer)
+event_at (act.Merge n) = Some (n, on.MergeTimer)
+event_at (act.Accept n) = Some (n, on.AcceptTimer)
+event_at (act.Ready n) = Some (n, on.ReadyTimer)
+event_at (act.Coord n) = Some (n, on.CoordTimer)
+event_at (act.Dispatch n) = Some (n, on.DispatchTimer)
+event_at (act.Deliver k) = None
+event_at (act.Lose k) = None
+event_at (act.Cut a b) = None
+event_at (act.Mend a b) = None
+event_at (act.Submit n queue payload) = Some (n, on.Submit queue payload)
+event_at (act.Finish n origin id) = Some (n, on.Finish origin id)
+event_at (act.Arm n calls) = None
+event_at (act.Crash n fill) = None
+event_at (act.Recover n) = Some (n, on.Recover)
+event_at (act.Compact n) = None

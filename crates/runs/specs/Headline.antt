@@ -1,0 +1,70 @@
+-- What is promised of every schedule.
+use Rattle.std.specs.Prelude.{ℕ, suc, ◌≡◌, ◌⊎◌, ◌<◌, List, take, slice_get, Some}
+use Rattle.job_model.specs.Command.{Done}
+use Rattle.group_task.specs.Group.{Group}
+use Rattle.group_task.specs.Assignment.{Assignment}
+use Rattle.node_core.specs.declared.phase.Phase.TheVariants.{Normal}
+use Rattle.node_core.specs.declared.in_hand.InHand.{InHand}
+use Rattle.node_core.specs.State.{State}
+use Rattle.histories.specs.Lists.{IsAmong}
+use Rattle.histories.specs.Named.{AllHold, StateHolds}
+use Rattle.histories.specs.Book.{AgreesAt, IsInGroup}
+use Rattle.histories.specs.Counts.{IsShort}
+use Rattle.histories.specs.Kept.{Kept}
+use Rattle.histories.specs.Rising.{Rises}
+use Rattle.histories.specs.Owners.{FinishedBy}
+use Rattle.schedule.specs.declared.act.Act.{Act}
+use Rattle.runs.specs.World.{start}
+use Rattle.runs.specs.Step.{Step}
+use Rattle.runs.specs.Run.{histories_of}
+use Rattle.runs.specs.Acts.{IsRunOf}
+use Rattle.runs.specs.Given.{groups_of, IsOnceEach}
+use Rattle.runs.specs.Reporting.{Moment, TriedAt, Report, own_commands, own_mountings, own_counts, commands_in, marks_of_run, report_of}
+
+-- a state that the report shows: of a node's opening, or of the moment of an act
+abbrev pub IsShown : Report → ℕ → State → Type 0
+IsShown r n s = (slice_get r.opening n ≡ Some s) ⊎ ((k : ℕ) × (m : Moment) × (slice_get r.moments k ≡ Some m) × (m.node ≡ n) × (m.state ≡ s))
+
+-- the groups that were given in the openings or in the first acts, so many of them
+abbrev pub groups_within : ℕ → ℕ → List Step → List Group
+groups_within nodes count steps = groups_of nodes (take count steps)
+
+-- the commands that were tried in the openings or in the first acts, so many of them
+abbrev pub commands_within : ℕ → ℕ → List Step → List TriedAt
+commands_within nodes count steps = commands_in (marks_of_run nodes (take count steps))
+
+-- the groups that a moment names were given then or before
+pub record NamesGiven (given : List Group) (m : Moment) : Type 0 where
+  pub by_state : StateHolds (λ g. IsAmong g given) m.state
+  pub by_messages : AllHold (λ g. IsAmong g given) m.sent
+
+-- one book agrees with all states that are shown
+pub record HasBook (r : Report) : Type 0 where
+  pub book : List Assignment
+  pub agrees : (n : ℕ) (s : State) → IsShown r n s → AgreesAt book n s
+
+-- the report is that of a run of the acts, and keeps groups and jobs
+pub record Headline (nodes slots : ℕ) (acts : List Act) (r : Report) : Type 0 where
+  -- 1: it is a run
+  pub steps : List Step
+  pub is_run : IsRunOf nodes slots (start nodes) acts steps
+  pub reported : r ≡ report_of nodes acts steps
+  -- 2: each mounting finds the fold of the node's commands, every acknowledged one included
+  pub kept : (n : ℕ) → n < nodes → Kept (own_commands n r.commands) (own_mountings n r.mounted)
+  -- 3: the counts of each node rise, no group is given twice, and none is named before it is given
+  pub rising : (n : ℕ) → n < nodes → Rises 0 (own_counts n r.groups)
+  pub once : IsOnceEach r.groups
+  pub given : (k : ℕ) (m : Moment) → slice_get r.moments k ≡ Some m → NamesGiven (groups_within nodes (suc k) steps) m
+  -- 4: there is one book of groups
+  pub has_book : HasBook r
+  -- 5: so two states in one group have one coordinator, and one task where both nodes work
+  pub one_coordinator : (n m : ℕ) (s t : State) → IsShown r n s → IsShown r m t → IsInGroup s.phase → IsInGroup t.phase → s.group ≡ t.group → s.coordinator ≡ t.coordinator
+  pub one_task : (n m : ℕ) (s t : State) → IsShown r n s → IsShown r m t → s.phase ≡ Normal → t.phase ≡ Normal → s.group ≡ t.group → s.task ≡ t.task
+  -- so jobs of one queue are in the hand of one node where two nodes work in one group
+  pub one_worker : (n m : ℕ) (s t : State) → IsShown r n s → IsShown r m t → s.phase ≡ Normal → t.phase ≡ Normal → s.group ≡ t.group → (a b : InHand) → IsAmong a s.hand → IsAmong b t.hand → a.queue ≡ b.queue → n ≡ m
+  -- and a job is done only once an owner of its queue finished it: in each front of the run that has the command
+  pub finished : (k : ℕ) (t : TriedAt) (id : ℕ) → IsAmong t (commands_within nodes k steps) → t.node < nodes → t.tried.command ≡ Done id → FinishedBy (histories_of nodes (take k steps)) t.node id
+
+-- whatever run of its acts a schedule has, its report keeps groups and jobs
+abbrev pub EverySchedule : Type 0
+EverySchedule = (nodes slots : ℕ) (acts : List Act) (steps : List Step) → IsShort acts → IsRunOf nodes slots (start nodes) acts steps → Headline nodes slots acts (report_of nodes acts steps)

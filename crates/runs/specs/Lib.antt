@@ -1,0 +1,13 @@
+pub mod World
+pub mod Step
+pub mod Run
+pub mod Acts
+pub mod Exact
+pub mod Given
+pub mod Tagged
+pub mod Reporting
+pub mod Headline
+pub mod Growth
+pub mod Events
+pub mod Strangers
+pub mod Uses

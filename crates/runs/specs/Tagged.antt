@@ -1,0 +1,45 @@
+-- The commands and mountings of a run, each with its node, in the order of the steps.
+use Rattle.std.specs.Prelude.{ℕ, ◌+◌, ◌≡◌, ◌==◌, List, [], ◌∷◌, ◌++◌, map, length, slice_get, if◌then◌else◌, Option, Some, None}
+use Rattle.histories.specs.NodeState.{NodeState}
+use Rattle.histories.specs.What.{What}
+use Rattle.histories.specs.Counts.{IsShort}
+use Rattle.histories.specs.Kept.{Kept}
+use Rattle.histories.specs.Marks.{Mark, commands_of, mountings_of, marks_at, opening_marks}
+use Rattle.runs.specs.World.{World, start}
+use Rattle.runs.specs.Step.{Step, Takes, Loses, Cuts, Mends, Denies, world_after}
+use Rattle.runs.specs.Run.{RunFrom}
+
+abbrev pub tagged : ℕ → List Mark → List (ℕ × Mark)
+tagged n ms = map (λ m. (n, m)) ms
+
+-- those of one node
+abbrev pub own : ℕ → List (ℕ × Mark) → List Mark
+own n [] = []
+own n (p ∷ ps) = if p.0 == n then p.1 ∷ own n ps else own n ps
+
+-- what comes at node n leaves these marks, if there is such a node: it gave so many commands before
+abbrev pub marks_for : ℕ → ℕ → Option NodeState → ℕ → What → List Mark
+marks_for n nodes None count what = []
+marks_for n nodes (Some s) count what = marks_at n nodes s count what
+
+-- the marks of a step, where each node has given so many commands
+abbrev pub step_marks : ℕ → World → (ℕ → ℕ) → Step → List (ℕ × Mark)
+step_marks nodes w counts (Takes n number what) = tagged n (marks_for n nodes (slice_get w.states n) (counts n) what)
+step_marks nodes w counts (Loses k) = []
+step_marks nodes w counts (Cuts a b) = []
+step_marks nodes w counts (Mends a b) = []
+step_marks nodes w counts (Denies why) = []
+
+-- how many commands each node gave, once these marks came too
+abbrev pub counts_after : (ℕ → ℕ) → List (ℕ × Mark) → ℕ → ℕ
+counts_after counts marks n = counts n + length (commands_of (own n marks))
+
+-- the marks of a run, from w on
+abbrev pub run_marks : ℕ → World → (ℕ → ℕ) → List Step → List (ℕ × Mark)
+run_marks nodes w counts [] = []
+run_marks nodes w counts (step ∷ steps) = step_marks nodes w counts step ++ run_marks nodes (world_after nodes w step) (counts_after counts (step_marks nodes w counts step)) steps
+
+-- each node's commands and mountings in a run are kept; the opening's raise came first
+abbrev pub RunsAreKept : Type 0
+RunsAreKept = (nodes : ℕ) (steps : List Step) → RunFrom nodes (start nodes) steps → IsShort steps → (n : ℕ) (s : NodeState) → slice_get (start nodes).states n ≡ Some s →
+    Kept (commands_of (opening_marks ++ own n (run_marks nodes (start nodes) (λ k. 1) steps))) (mountings_of (opening_marks ++ own n (run_marks nodes (start nodes) (λ k. 1) steps)))

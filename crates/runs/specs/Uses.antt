@@ -1,0 +1,131 @@
+-- What a user of a cluster takes from the headline, each in words of its own.
+use Rattle.std.specs.Prelude.{ℕ, suc, ◌≡◌, ◌⊎◌, ◌<◌, ◌≤◌, true, List, [], ◌∷◌, length, map, take, slice_get, Some, None}
+use Rattle.job_model.specs.Command.{Raise, Put, Done}
+use Rattle.group_task.specs.Group.{Group}
+use Rattle.group_task.specs.Ids.{has}
+use Rattle.wire_msg.specs.Envelope.{Envelope}
+use Rattle.wire_msg.specs.declared.body.Body.{Body}
+use Rattle.wire_msg.specs.declared.body.Body.TheVariants.{AreYouCoordinator, Coordinator, AreYouThere, Here, Invitation, Accept, Ready, ReadyAck, Work as WorkMessage, Done as DoneMessage}
+use Rattle.node_core.specs.declared.phase.Phase.TheVariants.{Down, Reorganization, Normal}
+use Rattle.node_core.specs.declared.in_hand.InHand.{InHand}
+use Rattle.node_core.specs.State.{State}
+use Rattle.node_core.specs.Start.{alone}
+use Rattle.node_core.specs.Words.{members_of, owner}
+use Rattle.histories.specs.Lists.{IsAmong}
+use Rattle.histories.specs.Kept.{Tried}
+use Rattle.schedule.specs.declared.act.Act.{Act}
+use Rattle.schedule.specs.declared.act.Act.TheVariants as act
+use Rattle.runs.specs.Reporting.{Moment, TriedAt, MountedAt, Report, own_commands, commands_in, marks_of_run}
+use Rattle.runs.specs.Given.{groups_of}
+use Rattle.runs.specs.Headline.{Headline}
+
+-- ---- what is told
+
+-- each act is told, in order, and each node opens Normal, alone in the group of its first count
+abbrev pub ActsAreTold : Type 0
+ActsAreTold = (nodes slots : ℕ) (acts : List Act) (r : Report) → Headline nodes slots acts r →
+    (map (λ (m : Moment). m.act) r.moments ≡ acts) × (length r.opening ≡ nodes) × ((n : ℕ) → n < nodes → slice_get r.opening n ≡ Some (alone n 1))
+
+-- ---- what a disk keeps
+
+-- an acknowledged raise is found: no later mounting of the node finds a smaller count than the raise gave
+abbrev pub RaisesAreFound : Type 0
+RaisesAreFound = (nodes slots : ℕ) (acts : List Act) (r : Report) → Headline nodes slots acts r → (w : MountedAt) → IsAmong w r.mounted → w.node < nodes →
+    (k count : ℕ) → slice_get (own_commands w.node r.commands) k ≡ Some (record { command = Raise; acked = Some count }) → k < w.mounting.before →
+    count ≤ w.mounting.state.counter
+
+-- an acknowledged job is found: each later mounting of the node finds it pending, with its queue and payload, unless its Done was
+-- tried between
+abbrev pub JobsAreFound : Type 0
+JobsAreFound = (nodes slots : ℕ) (acts : List Act) (r : Report) → Headline nodes slots acts r → (w : MountedAt) → IsAmong w r.mounted → w.node < nodes →
+    (k queue id : ℕ) (payload : List ℕ) → slice_get (own_commands w.node r.commands) k ≡ Some (record { command = Put queue payload; acked = Some id }) → k < w.mounting.before →
+    ((j : ℕ) (t : Tried) → k < j → j < w.mounting.before → slice_get (own_commands w.node r.commands) j ≡ Some t → t.command ≡ Done id → ⊥) →
+    IsAmong (record { id = id; queue = queue; payload = payload }) w.mounting.state.pending
+
+-- a command that wasn't acknowledged is the last of its life: a mounting of the node comes before its next command
+abbrev pub DoubtsApart : Type 0
+DoubtsApart = (nodes slots : ℕ) (acts : List Act) (r : Report) → Headline nodes slots acts r → (n : ℕ) → n < nodes →
+    (j k : ℕ) (t u : Tried) → j < k → slice_get (own_commands n r.commands) j ≡ Some t → t.acked ≡ None → slice_get (own_commands n r.commands) k ≡ Some u →
+    (w : MountedAt) × IsAmong w r.mounted × (w.node ≡ n) × (j < w.mounting.before) × (w.mounting.before ≤ k)
+
+-- ---- group numbers
+
+-- no group number stands at two places
+abbrev pub GivenAtOnePlace : Type 0
+GivenAtOnePlace = (nodes slots : ℕ) (acts : List Act) (r : Report) → Headline nodes slots acts r →
+    (i j : ℕ) (g : Group) → slice_get r.groups i ≡ Some g → slice_get r.groups j ≡ Some g → i ≡ j
+
+-- of two groups of one node, the one that was given later has the greater count
+abbrev pub LaterIsGreater : Type 0
+LaterIsGreater = (nodes slots : ℕ) (acts : List Act) (r : Report) → Headline nodes slots acts r →
+    (i j : ℕ) (g h : Group) → i < j → slice_get r.groups i ≡ Some g → slice_get r.groups j ≡ Some h → g.creator ≡ h.creator → g.creator < nodes → g.count < h.count
+
+-- the groups that a message names
+abbrev pub groups_in : Body → List Group
+groups_in AreYouCoordinator = []
+groups_in (Coordinator positive) = []
+groups_in (AreYouThere group) = group ∷ []
+groups_in (Here group positive) = group ∷ []
+groups_in (Invitation group) = group ∷ []
+groups_in (Accept group) = group ∷ []
+groups_in (Ready task) = task.group ∷ []
+groups_in (ReadyAck group) = group ∷ []
+groups_in (WorkMessage group id queue payload) = group ∷ []
+groups_in (DoneMessage id) = []
+
+-- what a moment shows is no number that was yet to be given: the group of a node that is up, and each group in a message,
+-- were given in the openings, by an earlier act or by this one
+abbrev pub NamedWasGiven : Type 0
+NamedWasGiven = (nodes slots : ℕ) (acts : List Act) (r : Report) (h : Headline nodes slots acts r) (k : ℕ) (m : Moment) → slice_get r.moments k ≡ Some m →
+    ((m.state.phase ≡ Down) ⊎ IsAmong m.state.group (groups_of nodes (take (suc k) h.steps)))
+    × ((x : Envelope) (g : Group) → IsAmong x m.sent → IsAmong g (groups_in x.body) → IsAmong g (groups_of nodes (take (suc k) h.steps)))
+
+-- ---- fences
+
+-- the report shows this state of the node, in its opening or at some moment
+abbrev pub Shows : Report → ℕ → State → Type 0
+Shows r n s = (slice_get r.opening n ≡ Some s) ⊎ ((m : Moment) × IsAmong m r.moments × (m.node ≡ n) × (m.state ≡ s))
+
+-- the report shows this state of the node, which works in a group
+abbrev pub ShowsWorking : Report → ℕ → State → Type 0
+ShowsWorking r n s = Shows r n s × (s.phase ≡ Normal)
+
+-- the report shows this state of the node, which leads the group that it works in or brings together
+abbrev pub ShowsLeading : Report → ℕ → State → Type 0
+ShowsLeading r n s = Shows r n s × ((s.phase ≡ Normal) ⊎ (s.phase ≡ Reorganization)) × (s.coordinator ≡ n)
+
+-- a group number is a fence: two moments, of any nodes, that lead one group are of one node
+abbrev pub OneLeader : Type 0
+OneLeader = (nodes slots : ℕ) (acts : List Act) (r : Report) → Headline nodes slots acts r →
+    (n m : ℕ) (s t : State) → ShowsLeading r n s → ShowsLeading r m t → s.group ≡ t.group → n ≡ m
+
+-- two moments, of any nodes, that work in one group tell one owner of each queue
+abbrev pub OneOwnerEach : Type 0
+OneOwnerEach = (nodes slots : ℕ) (acts : List Act) (r : Report) → Headline nodes slots acts r →
+    (n m : ℕ) (s t : State) → ShowsWorking r n s → ShowsWorking r m t → s.group ≡ t.group → (queue : ℕ) → owner s queue ≡ owner t queue
+
+-- two moments that work in one group have the same members, each of the two nodes among them
+abbrev pub MembersAgree : Type 0
+MembersAgree = (nodes slots : ℕ) (acts : List Act) (r : Report) → Headline nodes slots acts r → (n m : ℕ) (s t : State) → ShowsWorking r n s → ShowsWorking r m t → s.group ≡ t.group →
+    (members_of s.task ≡ members_of t.task) × (has (members_of s.task) n ≡ true) × (has (members_of s.task) m ≡ true)
+
+-- two moments, of any nodes, that work in one group and have jobs of one queue in hand are of one node
+abbrev pub OneWorkerEach : Type 0
+OneWorkerEach = (nodes slots : ℕ) (acts : List Act) (r : Report) → Headline nodes slots acts r →
+    (n m : ℕ) (s t : State) → ShowsWorking r n s → ShowsWorking r m t → s.group ≡ t.group →
+    (a b : InHand) → IsAmong a s.hand → IsAmong b t.hand → a.queue ≡ b.queue → n ≡ m
+
+-- ---- jobs
+
+-- the report as it was after the first acts, so many of them, as far as it shows states
+abbrev pub first_moments : ℕ → Report → Report
+first_moments k r = record r { moments = take k r.moments }
+
+-- no job is taken out of a journal before an owner of its queue finished it: where a Done was tried in the first acts, so many of
+-- them, one of them is `finish` of its job at a worker, and by then a state of the worker is shown that works in a group, owns
+-- the job's queue and has the job in hand
+abbrev pub DoneWasFinished : Type 0
+DoneWasFinished = (nodes slots : ℕ) (acts : List Act) (r : Report) (h : Headline nodes slots acts r) →
+    (k : ℕ) (t : TriedAt) (id : ℕ) → IsAmong t (commands_in (marks_of_run nodes (take k h.steps))) → t.node < nodes → t.tried.command ≡ Done id →
+    (worker : ℕ) × IsAmong (act.Finish worker t.node id) (take k acts)
+    × ((s : State) × (work : InHand) × ShowsWorking (first_moments k r) worker s × IsAmong work s.hand × (work.origin ≡ t.node) × (work.id ≡ id) × (owner s work.queue ≡ worker))

@@ -1,0 +1,12 @@
+//! Runs of a whole cluster, as one list of steps of its nodes and its network, what a run reports, and the laws of all runs.
+//!
+//! The definitions stand in `specs/`, over the histories of nodes, and speak of no disk and of no code. The laws are contracts of
+//! functions that do nothing.
+#![tactic(auto)]
+
+mod laws;
+
+pub use laws::{
+    acknowledged_is_found, acts_are_exact, acts_are_told, every_schedule, goes_on, groups_given,
+    jobs_have_one_worker, kept, left_by_a_run, no_strangers, number_is_a_fence, numbers_are_new,
+};

@@ -1,0 +1,65 @@
+-- Unsealing slots one behind another.
+use Rattle.std.proofs.Common.{◌≡◌, ◌+◌, ◌*◌, ◌<◌, ◌≤◌, ◌⊎◌, inl, inr, ⊎_elim, ℕ, zero, suc, None, sym, ◌∙◌, ap, subst, refl, arith, IsTrue}
+use Rattle.sector_disk.specs.Disk.{DiskState, Laws, Counts, Touches}
+use Rattle.sector_disk.specs.Run.{Run}
+use Rattle.sector_disk.proofs.Runs.{same_image, run_of_two, run_widen, write_run}
+use Rattle.slot_gate.specs.Slot.{slot_at, InSlots}
+use Rattle.slot_gate.proofs.Slots.{slot_same}
+
+-- the disk after so many slots were unsealed
+pub record Erased (first slots : ℕ) (old now : DiskState) (erased : ℕ) : Type 0 where
+  pub sectors : now.sectors ≡ old.sectors
+  pub honest : now.honest ≡ old.honest
+  pub failures : now.failures ≡ old.failures
+  pub run : IsTrue old.honest → Run (InSlots first slots) old now
+  pub unsealed : IsTrue old.honest → (k : ℕ) → k < erased → slot_at now.contents (first + 2 * k) ≡ None
+
+pub erased_start : (first slots : ℕ) (disk : DiskState) → (IsTrue disk.honest → Laws disk) → Erased first slots disk disk 0
+erased_start first slots disk laws = record {
+  sectors = refl;
+  honest = refl;
+  failures = refl;
+  run = λ honest. (let l = laws honest in record {
+    later = omega arith;
+    splits = λ t c le since. inl since;
+    keeps = λ t c le was. was;
+    earlier = l.earlier;
+    ends = λ c now. l.counts_now disk.moment c (omega arith) now;
+    follows = λ c since. (c, l.only_now c since, same_image (InSlots first slots) c);
+    contents = same_image (InSlots first slots) disk.contents;
+  });
+  unsealed = λ honest k less. absurd (omega (arith, less));
+}
+
+pub erased_run : (first slots erased : ℕ) (old mid new : DiskState) → erased < slots → Erased first slots old mid erased
+    → (IsTrue mid.honest → Run (λ k. k ≡ first + 2 * erased + 1) mid new) → IsTrue old.honest → Run (InSlots first slots) old new
+erased_run first slots erased old mid new less so_far run honest =
+    run_of_two (InSlots first slots) old mid new (so_far.run honest)
+    (run_widen (λ k. k ≡ first + 2 * erased + 1) (InSlots first slots) mid new (λ k is. (omega (arith, is), omega (arith, is, less))) (run (subst (λ b. IsTrue b) (sym so_far.honest) honest)))
+
+others_kept : (first erased k : ℕ) (mid new : DiskState) → k < erased → Run (λ j. j ≡ first + 2 * erased + 1) mid new → slot_at new.contents (first + 2 * k) ≡ slot_at mid.contents (first + 2 * k)
+others_kept first erased k mid new less run =
+    slot_same new.contents mid.contents (first + 2 * k) (run.contents.same (first + 2 * k + 1) (λ is. omega (arith, is, less))) (run.contents.same (first + 2 * k) (λ is. omega (arith, is, less)))
+
+pub erased_more : (first slots erased : ℕ) (old mid new : DiskState) (failed done : Type 0) → done → erased < slots → Erased first slots old mid erased → Counts mid new failed done
+    → (IsTrue mid.honest → Run (λ k. k ≡ first + 2 * erased + 1) mid new) → (IsTrue mid.honest → slot_at new.contents (first + 2 * erased) ≡ None) → Erased first slots old new (erased + 1)
+erased_more first slots erased old mid new failed done ok less so_far counts run none = record {
+  sectors = counts.sectors ∙ so_far.sectors;
+  honest = counts.honest ∙ so_far.honest;
+  failures = counts.unchanged ok ∙ so_far.failures;
+  run = erased_run first slots erased old mid new less so_far run;
+  unsealed = λ honest k within. (let still = subst (λ b. IsTrue b) (sym so_far.honest) honest in
+      ⊎_elim
+      (λ before. others_kept first erased k mid new before (run still) ∙ so_far.unsealed honest k before)
+      (λ here. ap (λ j. slot_at new.contents (first + 2 * j)) here ∙ none still)
+      (below_or_here k erased within));
+}
+  where
+    below_or_here : (k n : ℕ) → k < n + 1 → (k < n) ⊎ (k ≡ n)
+    below_or_here k n less = ⊎_elim (λ h. inl h) (λ h. inr h) (split k n less)
+      where
+        split : (k n : ℕ) → k < n + 1 → (k < n) ⊎ (k ≡ n)
+        split zero zero less = inr refl
+        split zero (suc n) less = inl (omega arith)
+        split (suc k) zero less = absurd (omega (arith, less))
+        split (suc k) (suc n) less = ⊎_elim (λ h. inl (omega (arith, h))) (λ h. inr (ap (λ m. suc m) h)) (split k n (omega (arith, less)))

@@ -1,0 +1,30 @@
+// Slots that stand one behind another, unsealed together.
+ghost use Rattle.std.specs.Prelude.{◌≡◌, ◌<◌, ◌≤◌, ◌+◌, ◌*◌, ◌^◌, ℕ, IsTrue, IsOk, IsErrOf, None};
+ghost use Rattle.sector_disk.specs.Disk.{Counts, AllSettled};
+ghost use Rattle.sector_disk.specs.Run.{Run};
+ghost use Rattle.slot_gate.specs.Slot.{slot_at, InSlots};
+
+use sector_disk::{DiskFault, SectorDisk};
+
+/// Unseals so many slots, one behind another from this body sector on, whatever their gates hold: one write
+/// for each gate, in rising order, and one sync behind all of them. Until then a crash may leave any of
+/// the slots sealed, over whatever its body holds: it is meant for slots that nobody reads yet.
+pub fn unseal_all<D: SectorDisk>(disk: &mut D, first: u64, slots: u64) -> Result<(), DiskFault>
+    requires on_disk { first + 2 * slots ≤ (D.state disk.old).sectors }
+    requires fits { first + 2 * slots < 2 ^ 64 }
+
+    ensures counts { Counts (D.state disk.old) (D.state disk.new)
+        (IsErrOf result DiskFault.Device) (IsOk result) }
+    ensures in_range { IsErrOf result DiskFault.OutOfRange → ⊥ }
+    ensures run { IsTrue (D.state disk.old).honest
+        → Run (InSlots first slots) (D.state disk.old) (D.state disk.new) }
+    ensures unsealed { IsTrue (D.state disk.old).honest → IsOk result
+        → (k : ℕ) → k < slots → slot_at (D.state disk.new).contents (first + 2 * k) ≡ None }
+    ensures settled { IsTrue (D.state disk.old).honest → IsOk result
+        → AllSettled (D.state disk.new) }
+{
+    for unsealed in 0..slots {
+        disk.write(first + 2 * unsealed + 1, &[0; 512])?;
+    }
+    disk.sync()
+}

@@ -1,0 +1,121 @@
+-- What a request is answered, by what is mounted.
+use Rattle.std.specs.Prelude.{◌≡◌, ◌⊎◌, ℕ, ◌+◌, List, [], ◌∷◌, ◌++◌, flat_map, Option, Some, None, IsTrue, IsFalse, Result, Ok, Err, codes, decimal}
+use Rattle.job_model.specs.Command.{Command, Raise, Put, Done}
+use Rattle.job_model.specs.Durable.{Durable}
+use Rattle.job_model.specs.declared.job.Job.{Job}
+use Rattle.job_model.specs.declared.command.Command.TheVariants as change
+use Rattle.file_disk.specs.File.{FileState}
+use Rattle.node_store.specs.Store.{StoreState, durable_of, append_refusal, compaction_refusal, raise_refusal, Changed}
+use Rattle.node_store.specs.Told.{IsMountFault}
+use Rattle.node_store.specs.declared.fault.StoreFault.{StoreFault}
+use Rattle.console_text.specs.Ends.{line}
+use Rattle.console_text.specs.Words.{bytes_text}
+use Rattle.store_console.specs.declared.request.Request.{Request}
+use Rattle.store_console.specs.declared.request.Request.TheVariants as request
+use Rattle.store_console.specs.declared.reply.Reply.{Reply}
+use Rattle.store_console.specs.declared.reply.Reply.TheVariants as reply
+
+-- what is mounted, if anything is
+abbrev pub Mounted : Type 0
+Mounted = Option (StoreState FileState)
+
+-- ---- a change of a mounted store
+
+-- Some change of the store was made, or its device failed: then the store shows what it showed before, and is broken.
+abbrev pub Attempted : (StoreState FileState → Type 0) → Durable → Reply → StoreState FileState → Type 0
+Attempted Made before answered new = Made new ⊎ ((answered ≡ reply.Refused StoreFault.Device) × (durable_of new ≡ before) × IsTrue new.broken)
+
+-- The store stays mounted. Where the change is refused for what the store knows, nothing changes.
+abbrev pub Tries : (StoreState FileState → Type 0) → Option StoreFault → StoreState FileState → Reply → Mounted → Type 0
+Tries Made refusal old answered None = ⊥
+Tries Made (Some fault) old answered (Some new) = (answered ≡ reply.Refused fault) × (new ≡ old)
+Tries Made None old answered (Some new) = Attempted Made (durable_of old) answered new
+
+-- the command was made, and it is answered so
+abbrev pub Commanded : StoreState FileState → Command → (ℕ → Reply) → Reply → StoreState FileState → Type 0
+Commanded old command told answered new = (answer : ℕ) × (answered ≡ told answer) × Changed old new command answer
+
+-- a compaction was made, which changes nothing that is shown
+abbrev pub Compacted : StoreState FileState → Reply → StoreState FileState → Type 0
+Compacted old answered new = (answered ≡ reply.Done) × (durable_of new ≡ durable_of old) × IsFalse new.broken
+
+-- ---- the file
+
+-- what making the file is answered; nothing is mounted then
+abbrev pub IsFormatted : Reply → Type 0
+IsFormatted reply.Done = Unit {0}
+IsFormatted (reply.Refused fault) = fault ≡ StoreFault.Device
+IsFormatted reply.Locked = Unit {0}
+IsFormatted (reply.Value n) = ⊥
+IsFormatted reply.Listed = ⊥
+
+-- what a mounting is answered: a store whose device hasn't failed is mounted, or nothing is
+abbrev pub IsMounted : Reply → Mounted → Type 0
+IsMounted reply.Done (Some new) = IsFalse new.broken
+IsMounted (reply.Refused fault) None = IsMountFault fault
+IsMounted reply.Locked None = Unit {0}
+IsMounted reply.Done None = ⊥
+IsMounted (reply.Refused fault) (Some new) = ⊥
+IsMounted reply.Locked (Some new) = ⊥
+IsMounted (reply.Value n) new = ⊥
+IsMounted reply.Listed new = ⊥
+
+-- ---- a request
+
+-- a number, or why there is none
+abbrev pub valued : Result ℕ StoreFault → Reply
+valued (Ok n) = reply.Value n
+valued (Err fault) = reply.Refused fault
+
+-- where nothing is mounted
+abbrev pub IsBroken : Reply → Mounted → Type 0
+IsBroken answered new = (answered ≡ reply.Refused StoreFault.Broken) × (new ≡ None)
+
+-- what a request is answered, and what is mounted then
+abbrev pub Replies : Mounted → Request → Reply → Mounted → Type 0
+Replies old (request.Format slots) answered new = IsFormatted answered × (new ≡ None)
+Replies old request.Mount answered new = IsMounted answered new
+Replies None request.Raise answered new = IsBroken answered new
+Replies None (request.Put queue payload) answered new = IsBroken answered new
+Replies None (request.Done id) answered new = IsBroken answered new
+Replies None request.Compact answered new = IsBroken answered new
+Replies None request.List answered new = IsBroken answered new
+Replies (Some old) request.Raise answered new = Tries (Commanded old Raise reply.Value answered) (raise_refusal old) old answered new
+Replies (Some old) (request.Put queue payload) answered new =
+    Tries (Commanded old (Put queue payload) reply.Value answered) (append_refusal old (change.Put queue payload)) old answered new
+Replies (Some old) (request.Done id) answered new =
+    Tries (Commanded old (Done id) (λ _. reply.Done) answered) (append_refusal old (change.Done id)) old answered new
+Replies (Some old) request.Compact answered new = Tries (Compacted old answered) (compaction_refusal old) old answered new
+Replies (Some old) request.List answered new = (answered ≡ reply.Listed) × (new ≡ Some old)
+
+-- ---- as text
+
+abbrev pub fault_text : StoreFault → List ℕ
+fault_text StoreFault.Device = codes "Device"
+fault_text StoreFault.Broken = codes "Broken"
+fault_text StoreFault.Exhausted = codes "Exhausted"
+fault_text StoreFault.NotFormatted = codes "NotFormatted"
+fault_text (StoreFault.Damaged sector) = codes "Damaged " ++ decimal sector
+fault_text StoreFault.Full = codes "Full"
+fault_text StoreFault.NoSuchJob = codes "NoSuchJob"
+fault_text StoreFault.NoMemory = codes "NoMemory"
+fault_text StoreFault.TooSmall = codes "TooSmall"
+
+abbrev pub job_text : Job → List ℕ
+job_text job = codes "job " ++ decimal job.id ++ codes " " ++ decimal job.queue ++ codes " " ++ bytes_text job.payload
+
+-- the counter, the next id, and the jobs in the order of their ids
+abbrev pub list_text : Durable → List ℕ
+list_text state = line (codes "count " ++ decimal state.counter ++ codes " next " ++ decimal state.next) ++ flat_map (λ job. line (job_text job)) state.pending
+
+abbrev pub mounted_text : Mounted → List ℕ
+mounted_text None = []
+mounted_text (Some store) = list_text (durable_of store)
+
+-- what is printed for a reply, with what is mounted then
+abbrev pub reply_text : Mounted → Reply → List ℕ
+reply_text mounted reply.Done = line (codes "ok")
+reply_text mounted (reply.Value n) = line (codes "ok " ++ decimal n)
+reply_text mounted (reply.Refused fault) = line (codes "refused " ++ fault_text fault)
+reply_text mounted reply.Locked = line (codes "refused Locked")
+reply_text mounted reply.Listed = mounted_text mounted

@@ -1,0 +1,86 @@
+-- The requests that lines spell.
+use Rattle.std.specs.Prelude.{ℕ, ◌+◌, List, [], ◌∷◌, ◌++◌, length, nat_lt, nat_le, Bool, false, bytes_eq, codes, if◌then◌else◌, Option, Some, None, option_map, Result, Ok, Err}
+use Rattle.job_model.specs.declared.queue.TheConstants.{QUEUES}
+use Rattle.job_model.specs.declared.payload.TheConstants.{PAYLOAD_CAPACITY}
+use Rattle.line_words.specs.Words.{number_of, words_of}
+use Rattle.line_words.specs.Lines.{bytes_of, lines_of}
+use Rattle.store_console.specs.declared.request.TheConstants.{LEAST_SLOTS, MOST_SLOTS}
+use Rattle.store_console.specs.declared.request.Request.{Request}
+use Rattle.store_console.specs.declared.request.Request.TheVariants as request
+
+-- ---- fields: what is past the range of its type can't be read
+
+abbrev pub kept_if : {A : Type 0} → (A → Bool) → Option A → Option A
+kept_if test None = None
+kept_if test (Some x) = if test x then Some x else None
+
+abbrev pub queue_of : List ℕ → Option ℕ
+queue_of word = kept_if (λ n. nat_lt n QUEUES) (number_of word)
+
+abbrev pub payload_of : List ℕ → Option (List ℕ)
+payload_of word = kept_if (λ bytes. nat_le (length bytes) PAYLOAD_CAPACITY) (bytes_of word)
+
+abbrev pub slots_of : List ℕ → Option ℕ
+slots_of word = kept_if (λ n. if nat_le LEAST_SLOTS n then nat_le n MOST_SLOTS else false) (number_of word)
+
+-- ---- lines
+
+-- a name alone
+abbrev pub alone_of : List ℕ → Option Request
+alone_of name =
+    if bytes_eq name (codes "mount") then Some request.Mount else
+    if bytes_eq name (codes "raise") then Some request.Raise else
+    if bytes_eq name (codes "compact") then Some request.Compact else
+    if bytes_eq name (codes "list") then Some request.List else None
+
+-- a name with one field
+abbrev pub with_one : List ℕ → List ℕ → Option Request
+with_one name field =
+    if bytes_eq name (codes "format") then option_map request.Format (slots_of field) else
+    if bytes_eq name (codes "done") then option_map request.Done (number_of field) else None
+
+abbrev pub put_of : Option ℕ → Option (List ℕ) → Option Request
+put_of None payload = None
+put_of (Some queue) payload = option_map (request.Put queue) payload
+
+-- a name with two fields
+abbrev pub with_two : List ℕ → List ℕ → List ℕ → Option Request
+with_two name first second = if bytes_eq name (codes "put") then put_of (queue_of first) (payload_of second) else None
+
+-- the request of these words
+abbrev pub request_of : List (List ℕ) → Option Request
+request_of [] = None
+request_of (name ∷ []) = alone_of name
+request_of (name ∷ a ∷ []) = with_one name a
+request_of (name ∷ a ∷ b ∷ []) = with_two name a b
+request_of (name ∷ a ∷ b ∷ c ∷ rest) = None
+
+-- ---- the whole input
+
+-- the request of the line n in front of those of later lines; the first line that can't be read is the one that counts
+abbrev pub in_front : ℕ → Option Request → Result (List Request) ℕ → Result (List Request) ℕ
+in_front n None later = Err n
+in_front n (Some request) (Ok requests) = Ok (request ∷ requests)
+in_front n (Some request) (Err m) = Err m
+
+-- the requests of these lines, where n lines came before; empty lines are passed over
+abbrev pub requests_from : ℕ → List (List ℕ) → Result (List Request) ℕ
+requests_from n [] = Ok []
+requests_from n ([] ∷ lines) = requests_from (n + 1) lines
+requests_from n ((c ∷ line) ∷ lines) = in_front (n + 1) (request_of (words_of (c ∷ line))) (requests_from (n + 1) lines)
+
+-- the requests that an input is, or the number of the first line that can't be read
+abbrev pub requests_of : List ℕ → Result (List Request) ℕ
+requests_of input = requests_from 0 (lines_of input)
+
+-- ---- for the code
+
+-- requests, and the request of a line behind them; an empty line has none
+abbrev pub onto : List Request → List ℕ → Option (List Request)
+onto requests [] = Some requests
+onto requests (c ∷ line) = option_map (λ request. requests ++ request ∷ []) (request_of (words_of (c ∷ line)))
+
+-- requests in front of those of later lines
+abbrev pub behind : List Request → Result (List Request) ℕ → Result (List Request) ℕ
+behind requests (Ok more) = Ok (requests ++ more)
+behind requests (Err n) = Err n

@@ -1,0 +1,28 @@
+-- The text of the command `store`.
+use Rattle.std.specs.Prelude.{◌≡◌, ℕ, List, [], ◌∷◌, ◌++◌, None, codes, decimal, true, Result, Ok, Err}
+use Rattle.console_text.specs.Ends.{Outcome, refused}
+use Rattle.store_console.specs.declared.request.Request.{Request}
+use Rattle.store_console.specs.declared.reply.Reply.{Reply}
+use Rattle.store_console.specs.Requests.{requests_of}
+use Rattle.store_console.specs.Replies.{Mounted, Replies, reply_text}
+
+-- The text is what these requests were answered, one after the other, from what is mounted on.
+abbrev pub Answers : Mounted → List Request → List ℕ → Type 0
+Answers mounted [] text = text ≡ []
+Answers mounted (request ∷ requests) text =
+    (reply : Reply) × (new : Mounted) × (rest : List ℕ) × Replies mounted request reply new × Answers new requests rest × (text ≡ reply_text new reply ++ rest)
+
+abbrev pub TellsRequests : Result (List Request) ℕ → Outcome → Type 0
+TellsRequests (Err n) outcome = outcome ≡ refused (codes "bad line " ++ decimal n)
+TellsRequests (Ok requests) outcome = (outcome.good ≡ true) × Answers None requests outcome.text
+
+-- What `store` prints for an input: where a line can't be read, nothing is done. Else each request is answered in turn, and nothing is
+-- mounted at first.
+abbrev pub IsSession : List ℕ → Outcome → Type 0
+IsSession input outcome = TellsRequests (requests_of input) outcome
+
+-- ---- for the code
+
+-- whatever the requests that are left are answered, behind this text it is what all of them are answered
+abbrev pub GoesOn : List Request → Mounted → List Request → List ℕ → Type 0
+GoesOn requests mounted left text = (rest : List ℕ) → Answers mounted left rest → Answers None requests (text ++ rest)

@@ -1,0 +1,93 @@
+//! The command.
+
+ghost use Rattle.std.specs.Prelude.{◌∷◌, List, IfOk, OnOk, None};
+ghost use Rattle.console_text.specs.Ends.{outcome_of, Prints};
+ghost use Rattle.store_console.specs.declared.request.Request.{Request as Asked};
+ghost use Rattle.store_console.specs.Session.{Answers, GoesOn, IsSession};
+
+use crate::acting::reply;
+use crate::reading::read_requests;
+use crate::request::Request;
+use crate::text::push_reply;
+use console_text::{Ending, Printout, Trouble, bad_line, print, read_input};
+use file_disk::FileDisk;
+use line_words::LineFault;
+use node_store::NodeStore;
+use std::alloc::{AllocError, Global};
+use std::fs::{File, Files};
+use std::io::{Read, Write};
+use std::path::AsPath;
+
+/// Reads lines that ask something of the store in the file of this path, does what they ask, and prints what each was answered. The whole
+/// input is read first; where a line can't be read, nothing is done. What was done stays done where memory runs out in a mounting, or
+/// printing fails.
+pub fn store<P: AsPath, R: Read, W: Write>(
+    rt: &impl Files<File = File>,
+    alloc: Global,
+    path: P,
+    input: &mut R,
+    output: &mut W,
+) -> Ending
+    ensures { Prints IsSession (R.remaining input.old) (W.contents output.old) (W.contents output.new) result }
+{
+    let outcome = match read_input(alloc, input) {
+        Ok(bytes) => store_to(rt, alloc, &path, &bytes).map_err(Trouble::from),
+        Err(trouble) => Err(trouble),
+    };
+    print(output, outcome)
+}
+
+/// What `store` prints for an input.
+fn store_to<P: AsPath>(
+    rt: &impl Files<File = File>,
+    alloc: Global,
+    path: &P,
+    input: &[u8],
+) -> Result<Printout, AllocError>
+    ensures { IfOk result (λ printout. IsSession input.now (outcome_of printout)) }
+{
+    match read_requests(alloc, input) {
+        Ok(requests) => {
+            let text = answer(rt, alloc, path, &requests)?;
+            Ok(Printout { text, good: true })
+        }
+        Err(LineFault::BadLine(number)) => bad_line(alloc, number),
+        Err(LineFault::NoMemory) => Err(AllocError),
+    }
+}
+
+/// What the requests are answered, one after the other.
+fn answer<P: AsPath>(
+    rt: &impl Files<File = File>,
+    alloc: Global,
+    path: &P,
+    requests: &[Request],
+) -> Result<Vec<u8>, AllocError>
+    ensures { IfOk result (λ text. Answers None requests.now text.items) }
+{
+    let mut text = Vec::new(alloc);
+    let mut mounted = None;
+    let mut left = requests;
+    while let Some((request, behind)) = left.split_first() {
+        answer_one(rt, alloc, path, request, &mut mounted, &mut text)?;
+        left = behind;
+    }
+    Ok(text)
+}
+
+/// Adds what one request is answered.
+#[tactic(auto, using(crate::proofs::Sessions::one_more))]
+fn answer_one<P: AsPath>(
+    rt: &impl Files<File = File>,
+    alloc: Global,
+    path: &P,
+    request: &Request,
+    mounted: &mut Option<NodeStore<FileDisk>>,
+    text: &mut Vec<u8>,
+) -> Result<(), AllocError>
+    ensures { (requests left : List Asked) → GoesOn requests mounted.old (request.now ∷ left) text.old.items
+        → OnOk result (GoesOn requests mounted.new left text.new.items) }
+{
+    let reply = reply(rt, alloc, path, mounted, request)?;
+    push_reply(text, mounted, reply)
+}

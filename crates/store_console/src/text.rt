@@ -1,0 +1,93 @@
+//! Replies as text.
+
+ghost use Rattle.std.specs.Prelude.{◌≡◌, ◌++◌, OnOk, flat_map};
+ghost use Rattle.job_model.specs.Table.{durable_of};
+ghost use Rattle.console_text.specs.Ends.{line};
+ghost use Rattle.store_console.specs.Replies.{fault_text, job_text, list_text, reply_text};
+
+use crate::reply::Reply;
+use console_text::{push_bytes_text, push_number, push_text};
+use file_disk::FileDisk;
+use job_model::{Job, JobTable};
+use node_store::{NodeStore, StoreFault};
+use std::alloc::AllocError;
+
+/// Adds a reply, with what is mounted then.
+pub fn push_reply(
+    text: &mut Vec<u8>,
+    mounted: &Option<NodeStore<FileDisk>>,
+    reply: Reply,
+) -> Result<(), AllocError>
+    ensures { OnOk result (text.new.items ≡ text.old.items ++ reply_text mounted.now reply) }
+{
+    match reply {
+        Reply::Done => push_text(text, "ok\n"),
+        Reply::Value(value) => {
+            push_text(text, "ok ")?;
+            push_number(text, value)?;
+            push_text(text, "\n")
+        }
+        Reply::Refused(fault) => {
+            push_text(text, "refused ")?;
+            push_fault(text, fault)?;
+            push_text(text, "\n")
+        }
+        Reply::Locked => push_text(text, "refused Locked\n"),
+        Reply::Listed => match mounted {
+            None => Ok(()),
+            Some(store) => push_list(text, store.counter(), store.table()),
+        },
+    }
+}
+
+fn push_fault(text: &mut Vec<u8>, fault: StoreFault) -> Result<(), AllocError>
+    ensures { OnOk result (text.new.items ≡ text.old.items ++ fault_text fault) }
+{
+    match fault {
+        StoreFault::Device => push_text(text, "Device"),
+        StoreFault::Broken => push_text(text, "Broken"),
+        StoreFault::Exhausted => push_text(text, "Exhausted"),
+        StoreFault::NotFormatted => push_text(text, "NotFormatted"),
+        StoreFault::Damaged(sector) => {
+            push_text(text, "Damaged ")?;
+            push_number(text, sector)
+        }
+        StoreFault::Full => push_text(text, "Full"),
+        StoreFault::NoSuchJob => push_text(text, "NoSuchJob"),
+        StoreFault::NoMemory => push_text(text, "NoMemory"),
+        StoreFault::TooSmall => push_text(text, "TooSmall"),
+    }
+}
+
+/// Adds a line on the counter and the next id, and one for each pending job.
+fn push_list(text: &mut Vec<u8>, count: u64, table: &JobTable) -> Result<(), AllocError>
+    ensures { OnOk result (text.new.items ≡ text.old.items ++ list_text (durable_of count table.now)) }
+{
+    push_text(text, "count ")?;
+    push_number(text, count)?;
+    push_text(text, " next ")?;
+    push_number(text, table.next())?;
+    push_text(text, "\n")?;
+    push_jobs(text, table.pending())
+}
+
+fn push_jobs(text: &mut Vec<u8>, jobs: &[Job]) -> Result<(), AllocError>
+    ensures { OnOk result (text.new.items ≡ text.old.items ++ flat_map (λ job. line (job_text job)) jobs.now) }
+{
+    for job in jobs {
+        push_job(text, job)?;
+    }
+    Ok(())
+}
+
+fn push_job(text: &mut Vec<u8>, job: &Job) -> Result<(), AllocError>
+    ensures { OnOk result (text.new.items ≡ text.old.items ++ line (job_text job.now)) }
+{
+    push_text(text, "job ")?;
+    push_number(text, job.id)?;
+    push_text(text, " ")?;
+    push_number(text, u64::from(job.queue.number()))?;
+    push_text(text, " ")?;
+    push_bytes_text(text, job.payload.as_slice())?;
+    push_text(text, "\n")
+}
