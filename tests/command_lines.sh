@@ -115,6 +115,25 @@ prints 0 'mount\nlist\ndone 0\ndone 0\nlist\n' 'ok\ncount 1 next 1\njob 0 1 6869
 prints 0 'mount\n' 'refused Device\n' store "$room/none"
 prints 1 'mount\nmout\n' 'bad line 2\n' store "$file"
 
+# Another process has the file locked, and it stays as it was.
+exec {lock}<>"$file"
+flock "$lock"
+prints 0 'mount\nraise\nformat 9\n' 'refused Locked\nrefused Broken\nrefused Locked\n' store "$file"
+exec {lock}>&-
+prints 0 'mount\nlist\n' 'ok\ncount 1 next 1\n' store "$file"
+
+# What is no regular file, and what may not be read and written.
+mkfifo "$room/pipe"
+prints 0 'format 4\nmount\n' 'refused Device\nrefused Device\n' store "$room/pipe"
+prints 0 'format 4\nmount\n' 'refused Device\nrefused Device\n' store "$room"
+prints 0 'format 4\nmount\n' 'refused Device\nrefused Device\n' store /dev/full
+chmod a-w "$file"
+if [ ! -w "$file" ]; then
+    prints 0 'mount\nformat 4\n' 'refused Device\nrefused Device\n' store "$file"
+fi
+chmod u+w "$file"
+prints 0 'mount\nlist\n' 'ok\ncount 1 next 1\n' store "$file"
+
 full '010102000000\n' answer 0 3
 full '010102000000\n' show
 full 'cluster 1 4\n' sim
