@@ -81,8 +81,8 @@ refused answer 3
 refused answer 0 3 4
 refused answer 3 3
 refused answer 0 0
-refused answer 0 65
-refused answer 64 65
+refused answer 0 129
+refused answer 128 129
 refused answer 00 3
 refused answer 0 03
 refused answer +0 3
@@ -95,7 +95,9 @@ refused store
 refused store a b
 
 prints 0 '010102000000\n' '01020002000101\n' answer 0 3
-prints 0 '010102000000\n' '01020002000101\n' answer 0 64
+prints 0 '010102000000\n' '01020002000101\n' answer 0 128
+prints 0 '020102400000\n' '02024002000101\n' answer 64 128
+prints 1 '020102000000\n' 'malformed\n' answer 0 128
 prints 1 '01010200000100\n' 'malformed\n' answer 0 3
 prints 1 '\n\nzz\n' 'bad line 3\n' answer 0 3
 prints 0 '010102000000\n' '2>0 AreYouCoordinator\n' show
@@ -107,6 +109,13 @@ prints 0 'cluster 1 4\ndeliver 0\n' "0 refused NoSuch\n$opening" sim
 prints 1 'cluster 0 4\n' 'bad line 1\n' sim
 prints 1 'cluster 1 4\n\nchek 0\n' 'bad line 3\n' sim
 prints 1 '' 'bad line 1\n' sim
+
+# The greatest cluster.
+every=''
+for ((node = 0; node < 128; node++)); do
+    every+="node $node Normal coord $node group $node:1 up - members $node count 1 pending - hand -\\n"
+done
+prints 0 'cluster 128 4\ncut 127 0\n' "0 ok\n$every" sim
 
 # Two runs over one file: what the first was answered, the second finds.
 file=$room/store

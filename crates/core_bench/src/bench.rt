@@ -3,12 +3,15 @@ ghost use Rattle.job_model.specs.Command.{Raise};
 ghost use Rattle.node_core.specs.Planned.{wanted_by};
 
 use anyhow::{Context, bail};
-use group_task::{GroupNo, NODES, NodeId};
+use group_task::{GroupNo, NodeId};
 use job_model::{Command, JobTable, Payload, QUEUES, Queue};
 use node_core::{Durable, Event, NodeCore};
 use std::alloc::Global;
 use std::mem;
 use wire_msg::{Body, Message};
+
+/// How many nodes the measured cluster has.
+const CLUSTER: u8 = 64;
 
 /// A core with its counter and its table of jobs.
 #[derive(Drop)]
@@ -22,11 +25,11 @@ struct Node {
 }
 
 impl Node {
-    /// Node 0 of the greatest cluster, alone in its group, with room for so many pending jobs.
+    /// Node 0 of the cluster, alone in its group, with room for so many pending jobs.
     fn new(alloc: Global, jobs: usize) -> anyhow::Result<Node> {
         Ok(Node {
             alloc,
-            core: NodeCore::new(alloc, NodeId::numbered(0), NODES, 1),
+            core: NodeCore::new(alloc, NodeId::numbered(0), CLUSTER, 1),
             table: JobTable::with_room(alloc, jobs)?,
             count: 1,
             room: Vec::new(alloc),
@@ -81,7 +84,7 @@ impl Node {
 
     /// Delivers this from each other node.
     fn hear_all(&mut self, body: Body) -> anyhow::Result<()> {
-        for number in 1..NODES {
+        for number in 1..CLUSTER {
             self.deliver(&letter(number, body)?)?;
         }
         Ok(())

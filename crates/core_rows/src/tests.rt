@@ -406,42 +406,42 @@ fn merge_waits(rt: HostRuntime) -> Result<(), Fail> {
     Ok(())
 }
 
-/// All 64 nodes join one group: each of the six rounds brings a message to or from each of the 63 others.
+/// All 128 nodes join one group: each of the six rounds brings a message to or from each of the 127 others.
 #[test]
 fn greatest_group(rt: HostRuntime) -> Result<(), Fail> {
     let mut cluster = Cluster::new(&rt, rt.alloc(), NODES)?;
     cluster.run(&[Act::Check(0)])?;
-    cluster.deliver_all(0, 126)?;
+    cluster.deliver_all(0, 254)?;
     cluster.run(&[Act::Merge(0)])?;
-    cluster.deliver_all(126, 252)?;
+    cluster.deliver_all(254, 508)?;
     cluster.run(&[Act::Accept(0)])?;
     check_task(&rt, rt.alloc(), &cluster)?;
-    cluster.deliver_all(252, 378)?;
+    cluster.deliver_all(508, 762)?;
     check_group(&rt, &cluster)
 }
 
-/// The first message that tells the task of 64 members: its length is 74.
+/// The first message that tells the task of 128 members: its length is 138.
 fn check_task(rt: &impl Abort, alloc: Global, cluster: &Cluster) -> Result<(), Fail> {
-    let ready = cluster.sent.get(252).ok_or("no task is sent")?;
+    let ready = cluster.sent.get(508).ok_or("no task is sent")?;
     let bytes = encode(alloc, ready)?;
-    assert_eq!(rt; bytes.len(), 80);
+    assert_eq!(rt; bytes.len(), 144);
     assert!(rt;
         bytes.starts_with(
-            b"\x01\x07\x00\x01\x00\x4a\x00\x00\x00\x00\x00\x00\x00\x00\x02\x40\x00\x01\x02"
+            b"\x02\x07\x00\x01\x00\x8a\x00\x00\x00\x00\x00\x00\x00\x00\x02\x80\x00\x01\x02"
         )
     );
     Ok(())
 }
 
 fn check_group(rt: &impl Abort, cluster: &Cluster) -> Result<(), Fail> {
-    assert_eq!(rt; cluster.sent.len(), 378);
+    assert_eq!(rt; cluster.sent.len(), 762);
     let fifteen = Queue::new(15).ok_or("no such queue")?;
     for node in cluster.nodes.iter() {
         let vector = node.core.vector();
         let task = vector.task.ok_or("no task")?;
         assert!(rt; vector.phase == Phase::Normal);
         assert_eq!(rt; vector.coordinator.number(), 0);
-        assert_eq!(rt; task.members().len(), 64);
+        assert_eq!(rt; task.members().len(), 128);
         assert_eq!(rt; owner(&task, fifteen).number(), 15);
     }
     Ok(())

@@ -41,6 +41,6 @@ word_of-ids_from (suc n) low w lt =
     (λ e. ap (λ x. 2 ^ low + x) ih ∙ odd_word (2 ^ low) w (eqb-true (w % 2) 1 e))
     (λ e. ih ∙ even_word (2 ^ low) w (eqb-false (w % 2) 1 e))
 
-pub word_of-ids_of : (w : ℕ) → w < 2 ^ 64 → word_of (ids_of w) ≡ w
+pub word_of-ids_of : (w : ℕ) → w < 2 ^ NODES → word_of (ids_of w) ≡ w
 unfolding ids_of
-word_of-ids_of w lt = word_of-ids_from 64 0 w lt ∙ omega arith
+word_of-ids_of w lt = word_of-ids_from NODES 0 w lt ∙ omega arith

@@ -4,8 +4,8 @@ ghost use Rattle.std.specs.Prelude.{◌≡◌, ◌≤◌, ℕ, List, length};
 ghost use Rattle.group_task.specs.Ids.{IsSet};
 ghost use Rattle.group_task.specs.declared.node.TheConstants.{NODES};
 
-/// A cluster has at most 64 nodes, and so has a set of them.
+/// A cluster has at most 128 nodes, and so has a set of them.
 pub fn limits()
-    ensures nodes { NODES ≡ 64 }
-    ensures members { (members : List ℕ) → IsSet members → length members ≤ 64 }
+    ensures nodes { NODES ≡ 128 }
+    ensures members { (members : List ℕ) → IsSet members → length members ≤ 128 }
 {}

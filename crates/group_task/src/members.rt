@@ -1,6 +1,6 @@
 ghost use Rattle.std.specs.Prelude.{◌≡◌, ◌<◌, ◌≤◌, [], ◌∷◌, length, slice_index, MatchOption, IsTrue, ◌↔◌, true};
 ghost use Rattle.std.specs.Iterator.{YieldsFirst, item_count};
-ghost use Rattle.group_task.specs.Ids.{IsSet, has, with_id, without_id, either_of, ids_below};
+ghost use Rattle.group_task.specs.Ids.{IsSet, has, with_id, without_id, either_of, ids_below, are_below};
 ghost use Rattle.group_task.specs.declared.node.TheConstants.{NODES};
 
 use crate::node::NodeId;
@@ -11,19 +11,20 @@ use std::marker::Model;
 /// Bit `i` of the word stands for node `i`.
 #[derive(Clone, Copy, Debug)]
 pub struct Members {
-    word: u64,
+    word: u128,
 }
 
 impl Model for Members {
     ghost use Rattle.std.specs.Prelude.{ℕ, List, ◌<◌, ◌^◌};
     ghost use Rattle.group_task.specs.Bits.{ids_of, word_of, word_of-ids_of};
+    ghost use Rattle.group_task.specs.declared.node.TheConstants.{NODES};
     ghost use Rattle.std.proofs.Common.{ap};
 
     ghost Value = { List ℕ };
 
     ghost view = { λ a. ids_of a.word };
 
-    ghost invariant = { λ a. a.word < 2 ^ 64 };
+    ghost invariant = { λ a. a.word < 2 ^ NODES };
 
     ghost inverse = { λ xs. record { word = word_of xs } };
 
@@ -83,6 +84,14 @@ impl Members {
         ensures { result ≡ has self.now id }
     {
         self.word >> id.number() & 1 == 1
+    }
+
+    /// Whether all nodes of the set are below this one.
+    #[inline]
+    pub fn are_below(&self, limit: NodeId) -> bool
+        ensures { result ≡ are_below limit self.now }
+    {
+        self.word >> limit.number() == 0
     }
 
     /// The node of the least identifier: the others are the set without it.

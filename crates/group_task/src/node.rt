@@ -4,7 +4,7 @@ ghost use Rattle.group_task.specs.declared.node.TheConstants.{NODES};
 use std::marker::Model;
 
 /// How many nodes a cluster has at most; the identifiers are the numbers below it.
-pub const NODES: u8 = 64;
+pub const NODES: u8 = 128;
 
 /// The identifier of a node.
 ///

@@ -33,7 +33,14 @@ fn check_owner(rt: &impl Abort, nodes: Members, number: u8, want: u8) {
 
 #[test]
 fn node_limit(rt: HostRuntime) {
-    for (number, there) in [(0, true), (63, true), (64, false), (255, false)] {
+    for (number, there) in [
+        (0, true),
+        (63, true),
+        (64, true),
+        (127, true),
+        (128, false),
+        (255, false),
+    ] {
         assert_eq!(rt; NodeId::new(number).is_some(), there, "node {number}");
     }
     assert!(rt; NodeId::numbered(63).is(NodeId::numbered(63)));
@@ -60,30 +67,46 @@ fn group_limit(rt: HostRuntime) {
 
 #[test]
 fn sets_of_nodes(rt: HostRuntime) {
-    let some = members(&[63, 0, 7, 0]);
+    let some = members(&[127, 0, 7, 64, 0]);
     for (ids, want) in [
-        (some, [0, 7, 63].as_slice()),
-        (some.with(NodeId::numbered(62)), &[0, 7, 62, 63]),
-        (some.without(NodeId::numbered(7)), &[0, 63]),
-        (some.without(NodeId::numbered(8)), &[0, 7, 63]),
-        (some.or(members(&[1, 7])), &[0, 1, 7, 63]),
+        (some, [0, 7, 64, 127].as_slice()),
+        (some.with(NodeId::numbered(63)), &[0, 7, 63, 64, 127]),
+        (some.without(NodeId::numbered(7)), &[0, 64, 127]),
+        (some.without(NodeId::numbered(8)), &[0, 7, 64, 127]),
+        (some.or(members(&[1, 7, 126])), &[0, 1, 7, 64, 126, 127]),
         (Members::below(3), &[0, 1, 2]),
         (Members::below(0), &[]),
     ] {
         check_numbers(&rt, ids, want);
         assert_eq!(rt; ids.is_empty(), want.is_empty());
     }
-    assert!(rt; some.contains(NodeId::numbered(63)));
-    assert!(rt; !some.contains(NodeId::numbered(62)));
-    assert_eq!(rt; Members::below(64).len(), 64);
+    assert!(rt; some.contains(NodeId::numbered(127)));
+    assert!(rt; !some.contains(NodeId::numbered(63)));
+    assert_eq!(rt; Members::below(128).len(), 128);
+}
+
+#[test]
+fn sets_below_a_node(rt: HostRuntime) {
+    for (numbers, limit, below) in [
+        ([0, 7, 63].as_slice(), 64, true),
+        (&[0, 7, 64], 64, false),
+        (&[64, 127], 64, false),
+        (&[127], 127, false),
+        (&[0, 126], 127, true),
+        (&[0], 0, false),
+        (&[], 0, true),
+    ] {
+        let ids = members(numbers);
+        assert_eq!(rt; ids.are_below(NodeId::numbered(limit)), below);
+    }
 }
 
 #[test]
 fn least_nodes(rt: HostRuntime) {
-    let mut left = members(&[63, 5]);
+    let mut left = members(&[127, 5]);
     assert_eq!(rt; left.first(), Some(NodeId::numbered(5)));
     assert_eq!(rt; left.pop_first(), Some(NodeId::numbered(5)));
-    assert_eq!(rt; left.pop_first(), Some(NodeId::numbered(63)));
+    assert_eq!(rt; left.pop_first(), Some(NodeId::numbered(127)));
     assert_eq!(rt; left.pop_first(), None);
     left.insert(NodeId::numbered(9));
     assert!(rt; left == members(&[9]));
@@ -93,12 +116,16 @@ fn least_nodes(rt: HostRuntime) {
 
 #[test]
 fn owners_of_queues(rt: HostRuntime) {
-    let all = Members::below(64);
+    let all = Members::below(128);
     check_owner(&rt, all, 0, 0);
     check_owner(&rt, all, 15, 15);
-    let last = members(&[62, 63]);
-    check_owner(&rt, last, 0, 62);
-    check_owner(&rt, last, 15, 63);
+    let half = members(&[62, 63]);
+    check_owner(&rt, half, 0, 62);
+    check_owner(&rt, half, 15, 63);
+    let last = members(&[126, 127]);
+    check_owner(&rt, last, 0, 126);
+    check_owner(&rt, last, 15, 127);
+    check_owner(&rt, members(&[0, 64]), 1, 64);
     check_owner(&rt, members(&[5]), 15, 5);
     check_owner(&rt, members(&[1, 4, 9]), 8, 9);
 }

@@ -3,6 +3,7 @@
 #![tactic(auto)]
 
 ghost use Rattle.std.specs.Prelude.{◌<◌, ◌≤◌};
+ghost use Rattle.group_task.specs.declared.node.TheConstants.{NODES};
 
 use clap::{Arg, ArgMatches, Command};
 use group_task::{NODES, NodeId};
@@ -29,7 +30,7 @@ struct Place {
     id: NodeId,
     nodes: u8,
     ghost within: { id < nodes },
-    ghost limit: { nodes ≤ 64 },
+    ghost limit: { nodes ≤ NODES },
 }
 
 fn main(rt: HostRuntime) -> ExitCode {
@@ -69,8 +70,8 @@ fn task_of<'a>(rt: &HostRuntime, words: &'a [String]) -> io::Result<Option<Task>
             if let Some(task) = task_in(alloc, &matches)? {
                 return Ok(Some(task));
             }
-            rt.print(
-                "error: SELF and NODES are decimal numbers, NODES from 1 to 64, and SELF is below NODES\n\n",
+            println!(rt;
+                "error: SELF and NODES are decimal numbers, NODES from 1 to {NODES}, and SELF is below NODES\n"
             )?;
         }
         Err(error) => {

@@ -114,7 +114,7 @@ const BAD_LINES: [(&str, &str); 8] = [
     ("check 0\ncluster 3 8\n", "bad line 1\n"),
     ("cluster 3 8\n\ncluster 3 8\n", "bad line 3\n"),
     ("cluster 3 8\r\n", "bad line 1\n"),
-    ("cluster 3 8\ncheck 64\n", "bad line 2\n"),
+    ("cluster 3 8\ncheck 128\n", "bad line 2\n"),
     ("cluster 3 8\ncheck 0\ndeliver 00", "bad line 3\n"),
     ("cluster 3 8\nsubmit 0 16 -\n", "bad line 2\n"),
 ];

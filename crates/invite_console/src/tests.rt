@@ -145,6 +145,20 @@ fn own_invitation(rt: HostRuntime) -> Result<(), Fail> {
 }
 
 #[test]
+fn second_wire_version(rt: HostRuntime) -> Result<(), Fail> {
+    for (id, nodes, input, want, status) in [
+        (64, 128, "020102400000", "02024002000101\n", 0),
+        (0, 128, "020102000000", "malformed\n", 1),
+        (0, 128, "020180000000", "malformed\n", 1),
+        (0, 3, "020140000000", "refused Stranger\n", 1),
+    ] {
+        let mut reader = input.as_bytes();
+        check_answer(&rt, rt.alloc(), id, nodes, &mut reader, want, status)?;
+    }
+    Ok(())
+}
+
+#[test]
 fn stranger_after_an_answer(rt: HostRuntime) -> Result<(), Fail> {
     check_answers(
         &rt,

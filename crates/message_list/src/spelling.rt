@@ -3,13 +3,13 @@
 ghost use Rattle.std.specs.Prelude.{◌≡◌, ◌∷◌, ◌++◌, [], ℕ, List, true, IfOk, OnOk, OnErr};
 ghost use Rattle.std.specs.Int.{w64, to_be_bytes};
 ghost use Rattle.group_task.specs.Assignment.{Assignment};
-ghost use Rattle.wire_msg.specs.Spelling.{spelling, truth};
+ghost use Rattle.wire_msg.specs.Spelling.{spelling, truth, version_naming};
 ghost use Rattle.message_list.specs.declared.letter.KeptWork.{KeptWork as Kept};
 ghost use Rattle.message_list.specs.Letters.{is_whole, message_of};
 
 use crate::letter::{Kind, Letter};
 use std::alloc::AllocError;
-use wire_msg::{Message, encode_into};
+use wire_msg::{Message, encode_into, version_between, version_naming};
 
 /// Writes the spelling of a letter's message in place of what `bytes` held. False says that the letter isn't the whole message.
 pub fn spell_letter(bytes: &mut Vec<u8>, letter: &Letter) -> Result<bool, AllocError>
@@ -18,14 +18,14 @@ pub fn spell_letter(bytes: &mut Vec<u8>, letter: &Letter) -> Result<bool, AllocE
         → bytes.new.items ≡ spelling (message_of tasks works payloads letter.now)) }
 {
     match letter.kind {
-        Kind::AreYouCoordinator => begin(bytes, letter, 1, 0)?,
+        Kind::AreYouCoordinator => begin(bytes, letter, version_without_group(letter), 1, 0)?,
         Kind::Coordinator(answer) => {
-            begin(bytes, letter, 2, 1)?;
+            begin(bytes, letter, version_without_group(letter), 2, 1)?;
             push_truth(bytes, answer)?;
         }
         Kind::AreYouThere => spell_group(bytes, letter, 3)?,
         Kind::Here(answer) => {
-            begin(bytes, letter, 4, 10)?;
+            begin(bytes, letter, version_with_group(letter), 4, 10)?;
             push_group(bytes, letter)?;
             push_truth(bytes, answer)?;
         }
@@ -33,7 +33,7 @@ pub fn spell_letter(bytes: &mut Vec<u8>, letter: &Letter) -> Result<bool, AllocE
         Kind::Accept => spell_group(bytes, letter, 6)?,
         Kind::ReadyAck => spell_group(bytes, letter, 8)?,
         Kind::Done => {
-            begin(bytes, letter, 10, 8)?;
+            begin(bytes, letter, version_without_group(letter), 10, 8)?;
             bytes.extend_from_slice(&letter.number.to_be_bytes())?;
         }
         Kind::Ready | Kind::Work => return Ok(false),
@@ -53,11 +53,17 @@ pub fn spell_message(bytes: &mut Vec<u8>, message: &Message) -> Result<(), Alloc
 }
 
 /// A spelling up to its body: version, kind, sender, receiver, and how many bytes the body has.
-fn begin(bytes: &mut Vec<u8>, letter: &Letter, kind: u8, len: u8) -> Result<(), AllocError>
-    ensures { OnOk result (bytes.new.items ≡ 1 ∷ kind ∷ letter.now.sender ∷ letter.now.receiver ∷ 0 ∷ len ∷ []) }
+fn begin(
+    bytes: &mut Vec<u8>,
+    letter: &Letter,
+    version: u8,
+    kind: u8,
+    len: u8,
+) -> Result<(), AllocError>
+    ensures { OnOk result (bytes.new.items ≡ version ∷ kind ∷ letter.now.sender ∷ letter.now.receiver ∷ 0 ∷ len ∷ []) }
 {
     let head = [
-        1,
+        version,
         kind,
         letter.sender.number(),
         letter.receiver.number(),
@@ -68,12 +74,26 @@ fn begin(bytes: &mut Vec<u8>, letter: &Letter, kind: u8, len: u8) -> Result<(), 
     bytes.extend_from_slice(&head)
 }
 
+/// The version of a letter whose body names no node.
+fn version_without_group(letter: &Letter) -> u8
+    ensures { result ≡ version_naming (letter.now.sender ∷ letter.now.receiver ∷ []) }
+{
+    version_between(letter.sender, letter.receiver)
+}
+
+/// The version of a letter whose body names the creator of a group.
+fn version_with_group(letter: &Letter) -> u8
+    ensures { result ≡ version_naming (letter.now.sender ∷ letter.now.receiver ∷ letter.now.creator ∷ []) }
+{
+    version_naming(letter.sender, letter.receiver, letter.creator)
+}
+
 /// The spelling of a message that says a group alone.
 fn spell_group(bytes: &mut Vec<u8>, letter: &Letter, kind: u8) -> Result<(), AllocError>
     ensures { OnOk result (bytes.new.items
-        ≡ 1 ∷ kind ∷ letter.now.sender ∷ letter.now.receiver ∷ 0 ∷ 9 ∷ letter.now.creator ∷ to_be_bytes w64 letter.now.number) }
+        ≡ version_naming (letter.now.sender ∷ letter.now.receiver ∷ letter.now.creator ∷ []) ∷ kind ∷ letter.now.sender ∷ letter.now.receiver ∷ 0 ∷ 9 ∷ letter.now.creator ∷ to_be_bytes w64 letter.now.number) }
 {
-    begin(bytes, letter, kind, 9)?;
+    begin(bytes, letter, version_with_group(letter), kind, 9)?;
     push_group(bytes, letter)
 }
 

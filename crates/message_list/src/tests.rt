@@ -72,6 +72,43 @@ const SPELLINGS: [&[u8]; 10] = [
     b"\x01\x0a\x00\x01\x00\x08\x00\x00\x00\x00\x00\x00\x00\x05",
 ];
 
+/// Spellings of messages that name node 64: as an end, as the creator of a group, and in a task.
+const WIDE_SPELLINGS: [&[u8]; 3] = [
+    b"\x02\x02\x00\x40\x00\x01\x01",
+    b"\x02\x06\x01\x00\x00\x09\x40\x00\x00\x00\x00\x00\x00\x00\x02",
+    b"\x02\x07\x00\x40\x00\x0c\x40\x00\x00\x00\x00\x00\x00\x00\x02\x02\x00\x40",
+];
+
+fn wide_message(place: usize) -> Option<Message> {
+    let [zero, one, high] = [NodeId::new(0)?, NodeId::new(1)?, NodeId::new(64)?];
+    let group = GroupNo::new(high, 2)?;
+    let members = Members::new().with(zero).with(high);
+    if !members.contains(group.creator()) {
+        return None;
+    }
+    match place {
+        0 => Message::new(zero, high, Body::Coordinator(true)),
+        1 => Message::new(one, zero, Body::Accept(group)),
+        _ => Message::new(zero, high, Body::Ready(share(group, members))),
+    }
+}
+
+#[test]
+fn wide_letters_are_spelled(rt: HostRuntime) -> Result<(), Fail> {
+    let mut list = MessageList::new(rt.alloc());
+    let mut bytes = Vec::new(rt.alloc());
+    for place in 0..3usize {
+        list.reserve(1)?;
+        list.push(&wide_message(place).ok_or("a message")?);
+    }
+    for (place, expected) in WIDE_SPELLINGS.iter().enumerate() {
+        assert!(rt; place < list.len());
+        list.spell(place, &mut bytes)?;
+        assert_eq!(rt; bytes.as_slice(), *expected, "message {place}");
+    }
+    Ok(())
+}
+
 #[test]
 fn each_kind_is_spelled(rt: HostRuntime) -> Result<(), Fail> {
     let list = twice_each_kind(rt.alloc())?;

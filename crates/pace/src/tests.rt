@@ -1,5 +1,5 @@
 use crate::{Pace, Setting, Sight, Timer};
-use group_task::{GroupNo, Members, NodeId};
+use group_task::{GroupNo, Members, NODES, NodeId};
 use node_core::{Event, NodeCore, Phase};
 use std::process::Abort;
 
@@ -177,7 +177,7 @@ fn the_clocks_end(rt: HostRuntime) {
 
 /// When the first check of this node fires, of a coordinator seen from time 0 on.
 fn first_check(setting: Setting, number: u8, seed: u64) -> u64 {
-    let mut pace = Pace::new(setting, NodeId::numbered(number % 64), seed);
+    let mut pace = Pace::new(setting, NodeId::numbered(number % NODES), seed);
     let sight = alone();
     for now in 0..40_000u64 {
         if pace.tick(now, &sight) == Some(Event::CheckTimer) {

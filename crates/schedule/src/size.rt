@@ -12,7 +12,7 @@ pub const MOST_ACTS: u64 = 65_536;
 /// The size of a cluster.
 #[derive(Clone, Copy, Debug, PartialEq, Eq)]
 pub struct Size {
-    /// How many nodes it has: 1 to 64.
+    /// How many nodes it has: 1 to 128.
     pub nodes: u8,
     /// How many slots each node's journal has: 4 to 4,096.
     pub slots: u64,

@@ -9,6 +9,7 @@ mod laws;
 mod message;
 mod reading;
 mod stream;
+mod version;
 mod writing;
 
 pub use body::{BODY_CAPACITY, Body};
@@ -17,6 +18,7 @@ pub use laws::{any_cutting, limits, message_of_spelling, one_reading, one_spelli
 pub use message::Message;
 pub use reading::decode;
 pub use stream::Stream;
+pub use version::{NARROW_NODES, version_between, version_naming};
 pub use writing::{encode, encode_into};
 
 #[cfg(test)]

@@ -9,6 +9,7 @@ ghost use Rattle.wire_msg.specs.Reading.{seen, byte_at, number_at, below_at, tru
 use crate::body::Body;
 use crate::fault::WireFault;
 use crate::message::Message;
+use crate::version::version_of;
 use group_task::{GroupNo, Members, NodeId, Task, share};
 use job_model::{Payload, Queue};
 
@@ -178,11 +179,14 @@ pub(crate) fn read(bytes: &[u8], body: &mut Body) -> Option<(NodeId, NodeId)>
     let sender = reader.node()?;
     let receiver = reader.node()?;
     let len = reader.u16()?;
-    if version != 1 || reader.rest.len() != usize::from(len) {
+    if reader.rest.len() != usize::from(len) {
         return None;
     }
     reader.body(kind, body)?;
     if !reader.rest.is_empty() || sender == receiver {
+        return None;
+    }
+    if version != version_of(sender, receiver, body) {
         return None;
     }
     Some((sender, receiver))

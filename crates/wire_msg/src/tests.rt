@@ -1,15 +1,16 @@
 use super::*;
-use group_task::{GroupNo, Members, NodeId, share};
+use group_task::{GroupNo, Members, NODES, NodeId, share};
 use job_model::{Payload, Queue};
 use std::alloc::Global;
 use std::process::Abort;
 use std::test::Fail;
 
-const KINDS: usize = 11;
+const MESSAGES: usize = 16;
 
-/// One message of each kind, and both answers of a coordinator, in the order of the kinds.
+/// One message of each kind, and both answers of a coordinator, in the order of the kinds; and then some that name node 64.
 fn message(place: usize) -> Option<Message> {
     let [zero, one, two] = [NodeId::new(0)?, NodeId::new(1)?, NodeId::new(2)?];
+    let high = NodeId::new(64)?;
     let group = GroupNo::new(zero, 2)?;
     match place {
         0 => Message::new(two, zero, Body::AreYouCoordinator),
@@ -22,7 +23,12 @@ fn message(place: usize) -> Option<Message> {
         7 => Message::new(zero, one, ready(group, one)?),
         8 => Message::new(one, zero, Body::ReadyAck(group)),
         9 => Message::new(zero, one, work(group)?),
-        _ => Message::new(one, zero, Body::Done(0)),
+        10 => Message::new(one, zero, Body::Done(0)),
+        11 => Message::new(two, high, Body::AreYouCoordinator),
+        12 => Message::new(high, two, Body::Coordinator(true)),
+        13 => Message::new(one, zero, Body::Accept(GroupNo::new(high, 2)?)),
+        14 => Message::new(zero, one, ready(group, high)?),
+        _ => Message::new(zero, high, work(group)?),
     }
 }
 
@@ -59,7 +65,14 @@ fn spelling(place: usize) -> &'static [u8] {
         8 => b"\x01\x08\x01\x00\x00\x09\x00\x00\x00\x00\x00\x00\x00\x00\x02".as_slice(),
         9 =>
             b"\x01\x09\x00\x01\x00\x16\x00\x00\x00\x00\x00\x00\x00\x00\x02\x00\x00\x00\x00\x00\x00\x00\x00\x01\x00\x02\x68\x69".as_slice(),
-        _ => b"\x01\x0a\x01\x00\x00\x08\x00\x00\x00\x00\x00\x00\x00\x00".as_slice(),
+        10 => b"\x01\x0a\x01\x00\x00\x08\x00\x00\x00\x00\x00\x00\x00\x00".as_slice(),
+        11 => b"\x02\x01\x02\x40\x00\x00".as_slice(),
+        12 => b"\x02\x02\x40\x02\x00\x01\x01".as_slice(),
+        13 => b"\x02\x06\x01\x00\x00\x09\x40\x00\x00\x00\x00\x00\x00\x00\x02".as_slice(),
+        14 =>
+            b"\x02\x07\x00\x01\x00\x0c\x00\x00\x00\x00\x00\x00\x00\x00\x02\x02\x00\x40".as_slice(),
+        _ =>
+            b"\x02\x09\x00\x40\x00\x16\x00\x00\x00\x00\x00\x00\x00\x00\x02\x00\x00\x00\x00\x00\x00\x00\x00\x01\x00\x02\x68\x69".as_slice(),
     }
 }
 
@@ -70,23 +83,40 @@ fn non_message(place: usize) -> (&'static [u8], &'static str) {
             b"\x01\x01\x00\x00\x00\x00".as_slice(),
             "the sender is the receiver",
         ),
-        1 => (b"\x01\x01\x40\x00\x00\x00".as_slice(), "sender 64"),
+        1 => (
+            b"\x01\x01\x40\x00\x00\x00".as_slice(),
+            "sender 64 in version 1",
+        ),
         2 => (b"\x01\x02\x00\x02\x00\x01\x02".as_slice(), "truth 2"),
         3 => (
             b"\x01\x06\x00\x01\x00\x09\x00\x00\x00\x00\x00\x00\x00\x00\x00".as_slice(),
             "count 0",
         ),
-        _ => (
+        4 => (
             b"\x01\x01\x02\x00\x00\x00\x00".as_slice(),
             "a byte behind the body",
         ),
+        5 => (
+            b"\x02\x01\x02\x00\x00\x00".as_slice(),
+            "version 2 with ids below 64 alone",
+        ),
+        6 => (b"\x02\x01\x80\x00\x00\x00".as_slice(), "sender 128"),
+        7 => (
+            b"\x01\x06\x01\x00\x00\x09\x40\x00\x00\x00\x00\x00\x00\x00\x02".as_slice(),
+            "creator 64 in version 1",
+        ),
+        8 => (
+            b"\x01\x07\x00\x01\x00\x0c\x00\x00\x00\x00\x00\x00\x00\x00\x02\x02\x00\x40".as_slice(),
+            "member 64 in version 1",
+        ),
+        _ => (b"\x03\x01\x02\x40\x00\x00".as_slice(), "version 3"),
     }
 }
 
 #[test]
 fn vectors(rt: HostRuntime) -> Result<(), Fail> {
     let mut again = Vec::new(rt.alloc());
-    for place in 0..KINDS {
+    for place in 0..MESSAGES {
         let message = message(place).ok_or("a message")?;
         let bytes = encode(rt.alloc(), &message)?;
         assert_eq!(rt; bytes.as_slice(), spelling(place), "{place} is written");
@@ -103,7 +133,7 @@ fn vectors(rt: HostRuntime) -> Result<(), Fail> {
 
 #[test]
 fn non_messages(rt: HostRuntime) {
-    for place in 0..5usize {
+    for place in 0..10usize {
         let (bytes, why) = non_message(place);
         assert!(rt; decode(bytes) == Err(WireFault::Malformed), "{why}");
     }
@@ -112,14 +142,30 @@ fn non_messages(rt: HostRuntime) {
 /// All of the spellings, one behind the other.
 fn all_spellings(alloc: Global) -> Result<Vec<u8>, Fail> {
     let mut bytes = Vec::new(alloc);
-    for place in 0..KINDS {
+    for place in 0..MESSAGES {
         bytes.extend_from_slice(spelling(place))?;
     }
     Ok(bytes)
 }
 
+/// A task of all nodes is told in 138 bytes, and its whole spelling has six more.
+#[test]
+fn task_of_all_nodes(rt: HostRuntime) -> Result<(), Fail> {
+    let [zero, one] = [NodeId::numbered(0), NodeId::numbered(1)];
+    let all = Members::below(NODES);
+    assert!(rt; all.contains(zero));
+    let task = share(GroupNo::numbered(zero, 2), all);
+    let message = Message::between(zero, one, Body::Ready(task));
+    let bytes = encode(rt.alloc(), &message)?;
+    assert_eq!(rt; bytes.len(), 144);
+    assert_eq!(rt; &bytes[..6], b"\x02\x07\x00\x01\x00\x8a".as_slice());
+    assert_eq!(rt; bytes[143], 127);
+    assert!(rt; decode(&bytes) == Ok(message));
+    Ok(())
+}
+
 fn expect_all(rt: &impl Abort, out: &[Message]) -> Result<(), Fail> {
-    assert_eq!(rt; out.len(), KINDS);
+    assert_eq!(rt; out.len(), MESSAGES);
     for (place, given) in out.iter().enumerate() {
         assert!(rt; Some(*given) == message(place), "{place}");
     }

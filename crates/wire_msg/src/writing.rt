@@ -4,6 +4,7 @@ ghost use Rattle.wire_msg.specs.Spelling.{group as group_bytes, task as task_byt
 use crate::body::Body;
 use crate::fault::WireFault;
 use crate::message::Message;
+use crate::version::version_of;
 use group_task::{GroupNo, Task};
 use job_model::{Payload, Queue};
 use std::alloc::{AllocError, Global};
@@ -132,8 +133,9 @@ fn spell(out: &mut Vec<u8>, message: &Message) -> Result<(), AllocError>
     let receiver = message.receiver().number();
     let body = message.body();
     let len = len_of(body);
+    let version = version_of(message.sender(), message.receiver(), body);
     out.reserve(6 + usize::from(len))?;
-    out.push(1)?;
+    out.push(version)?;
     out.push(kind_of(body))?;
     out.push(sender)?;
     out.push(receiver)?;

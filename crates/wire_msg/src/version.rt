@@ -1,0 +1,71 @@
+//! Which version spells a message.
+
+ghost use Rattle.std.specs.Prelude.{◌≡◌, ◌∷◌, [], nat_lt};
+ghost use Rattle.wire_msg.specs.Spelling.{version_naming, version_of};
+ghost use Rattle.wire_msg.specs.declared.version.TheConstants.{NARROW_NODES};
+
+use crate::body::Body;
+use group_task::{NodeId, Task};
+
+/// Version 1 names the nodes below this number alone. Version 2 names every node, and spells just the messages that name one that
+/// version 1 can't.
+pub const NARROW_NODES: u8 = 64;
+
+fn is_narrow(id: NodeId) -> bool
+    ensures { result ≡ nat_lt id NARROW_NODES }
+{
+    id.number() < NARROW_NODES
+}
+
+/// The version of a message between these nodes whose body names no node.
+#[inline]
+pub fn version_between(sender: NodeId, receiver: NodeId) -> u8
+    ensures { result ≡ version_naming (sender ∷ receiver ∷ []) }
+{
+    if is_narrow(sender) && is_narrow(receiver) {
+        1
+    } else {
+        2
+    }
+}
+
+/// The version of a message between these nodes whose body names this node alone, as the creator of its group.
+#[inline]
+pub fn version_naming(sender: NodeId, receiver: NodeId, creator: NodeId) -> u8
+    ensures { result ≡ version_naming (sender ∷ receiver ∷ creator ∷ []) }
+{
+    if is_narrow(creator) {
+        version_between(sender, receiver)
+    } else {
+        2
+    }
+}
+
+/// The version of a message that tells this task.
+fn version_telling(sender: NodeId, receiver: NodeId, task: &Task) -> u8
+    ensures { result ≡ version_naming (sender ∷ receiver ∷ task.now.group.creator ∷ task.now.members) }
+{
+    if task.members().are_below(NodeId::numbered(NARROW_NODES)) {
+        version_naming(sender, receiver, task.group().creator())
+    } else {
+        2
+    }
+}
+
+/// The version of a message between these nodes that says this.
+pub(crate) fn version_of(sender: NodeId, receiver: NodeId, body: &Body) -> u8
+    ensures { result ≡ version_of (record { sender = sender; receiver = receiver; body = body.now }) }
+{
+    match body {
+        Body::AreYouCoordinator | Body::Coordinator(_) | Body::Done(_) => {
+            version_between(sender, receiver)
+        }
+        Body::AreYouThere(group)
+        | Body::Here(group, _)
+        | Body::Invitation(group)
+        | Body::Accept(group)
+        | Body::ReadyAck(group)
+        | Body::Work { group, .. } => version_naming(sender, receiver, group.creator()),
+        Body::Ready(task) => version_telling(sender, receiver, task),
+    }
+}
