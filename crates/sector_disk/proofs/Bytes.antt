@@ -1,18 +1,19 @@
 -- A sector without its last zeros, and back.
-use Rattle.std.proofs.Common.{◌≡◌, ◌<◌, ◌+◌, ◌-◌, ◌≤◌, ⊎_elim, ℕ, suc, List, ◌∷◌, ◌++◌, length, get_or, take, drop, replicate, min, sym, ◌∙◌, ap, arith, take-append-drop}
-use Rattle.std.proofs.lemmas.List.{take_all, drop_all, drop_more, drop-replicate, length-take}
+use Rattle.std.proofs.Common.{◌≡◌, ◌<◌, ◌+◌, ◌-◌, ◌≤◌, ⊎_elim, ℕ, List, ◌++◌, length, take, drop, replicate, min, sym, ◌∙◌, ap, arith, take-append-drop}
+use Rattle.std.proofs.lemmas.List.{take_all, drop_all, drop-replicate, length-take, replicate-append-replicate, drop-drop}
 use Rattle.std.proofs.lemmas.Bool.{cases_lt}
 use Rattle.sector_disk.specs.Undo.{whole}
 use Rattle.sector_disk.specs.Crash.{filled}
 
-pub trim_step : (s : List ℕ) (n : ℕ) → 0 < n → n ≤ 512 → length s ≡ 512 → get_or s (n - 1) 0 ≡ 0 → drop n s ≡ replicate (512 - n) 0 → drop (n - 1) s ≡ replicate (512 - (n - 1)) 0
-trim_step s n some most long last rest =
-    let next : n - 1 + 1 ≡ n = omega (arith, some) in
-    let count : suc (512 - n) ≡ 512 - (n - 1) = omega (arith, some, most) in
-    drop_more s (n - 1) 0 (omega (arith, some, most, long))
-    ∙ ap (λ x. x ∷ drop (n - 1 + 1) s) last
-    ∙ ap (λ k. 0 ∷ drop k s) next
-    ∙ ap (λ (l : List ℕ). 0 ∷ l) rest
+pub trim_step : (s : List ℕ) (n : ℕ) → 32 ≤ n → n ≤ 512 → take (n - (n - 32)) (drop (n - 32) s) ≡ replicate 32 0 → drop n s ≡ replicate (512 - n) 0 → drop (n - 32) s ≡ replicate (512 - (n - 32)) 0
+trim_step s n some most block rest =
+    let size : n - (n - 32) ≡ 32 = omega (arith, some) in
+    let next : n - 32 + (n - (n - 32)) ≡ n = omega (arith, some) in
+    let count : 32 + (512 - n) ≡ 512 - (n - 32) = omega (arith, some, most) in
+    sym (take-append-drop (n - (n - 32)) (drop (n - 32) s))
+    ∙ ap (λ (l : List ℕ). l ++ drop (n - (n - 32)) (drop (n - 32) s)) block
+    ∙ ap (λ (l : List ℕ). replicate 32 0 ++ l) (drop-drop (n - (n - 32)) (n - 32) s ∙ ap (λ k. drop k s) next ∙ rest)
+    ∙ replicate-append-replicate 32 (512 - n) 0
     ∙ ap (λ k. replicate k 0) count
 
 pub trim_done : (s : List ℕ) (n : ℕ) → n ≤ 512 → length s ≡ 512 → drop n s ≡ replicate (512 - n) 0 → whole (take n s) ≡ s

@@ -1,5 +1,5 @@
 // A sector, and its bytes without the zeros at its end.
-ghost use Rattle.std.specs.Prelude.{◌≡◌, ◌≤◌, ◌↔◌, IsTrue, drop, replicate};
+ghost use Rattle.std.specs.Prelude.{◌≡◌, ◌≤◌, ◌↔◌, IsTrue, drop, length, replicate};
 ghost use Rattle.sector_disk.specs.Blank.{is_blank};
 ghost use Rattle.sector_disk.specs.Crash.{filled};
 ghost use Rattle.sector_disk.specs.Undo.{whole};
@@ -22,12 +22,21 @@ pub fn is_zero(sector: &Sector) -> bool
     *sector == [0; 512]
 }
 
+// Whether a block of bytes is all zeros.
+fn is_zero_block(block: &[u8]) -> bool
+    requires { length block.now ≡ 32 }
+    ensures { IsTrue result → block.now ≡ replicate 32 0 }
+{
+    block == [0; 32].as_slice()
+}
+
+// The bytes of a sector without the blocks of 32 zeros at its end.
 pub fn trimmed(sector: &Sector) -> &[u8]
     ensures { whole result.now ≡ sector.now }
 {
     let mut len = 512usize;
-    while len > 0 && sector[len - 1] == 0 {
-        len -= 1;
+    while len >= 32 && is_zero_block(&sector[len - 32..len]) {
+        len -= 32;
     }
     &sector[..len]
 }
