@@ -1,1 +1,2 @@
 mod Consumed
+mod Hexes

@@ -23,19 +23,21 @@ pub fn push_number(text: &mut Vec<u8>, number: u64) -> Result<(), AllocError>
     push_text(text, digits.format(number))
 }
 
+/// The digits of hex texts.
+const DIGITS: [u8; 16] = *b"0123456789abcdef";
+
 /// Adds bytes in hex digits.
 pub fn push_hex(text: &mut Vec<u8>, bytes: &[u8]) -> Result<(), AllocError>
     ensures { OnOk result (text.new.items ≡ text.old.items ++ encode_lower bytes.now) }
 {
-    let start = text.len();
     let Some(digits) = bytes.len().checked_mul(2) else {
         return Err(AllocError);
     };
-    let Some(end) = start.checked_add(digits) else {
-        return Err(AllocError);
-    };
-    text.resize(end, 0)?;
-    let _ = hex::encode_to_slice(bytes, &mut text[start..]);
+    text.reserve(digits)?;
+    for byte in bytes {
+        text.push_reserved(DIGITS[usize::from(byte / 16)]);
+        text.push_reserved(DIGITS[usize::from(byte % 16)]);
+    }
     Ok(())
 }
 
