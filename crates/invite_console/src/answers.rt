@@ -31,32 +31,47 @@ pub fn answer<R: Read, W: Write>(
     ensures { Prints (IsFixed (answer_text id nodes)) (R.remaining input.old) (W.contents output.old) (W.contents output.new) result }
 {
     let outcome = match read_input(alloc, input) {
-        Ok(bytes) => answer_to(alloc, id, nodes, &bytes).map_err(Trouble::from),
+        Ok(bytes) => answer_to(alloc, id, nodes, bytes).map_err(Trouble::from),
         Err(trouble) => Err(trouble),
     };
     print(output, outcome)
 }
 
-/// What `answer` prints for an input.
-fn answer_to(alloc: Global, id: NodeId, nodes: u8, input: &[u8]) -> Result<Printout, AllocError>
+/// What `answer` prints for an input. The text is written in the input's memory.
+fn answer_to(
+    alloc: Global,
+    id: NodeId,
+    nodes: u8,
+    mut input: Vec<u8>,
+) -> Result<Printout, AllocError>
     requires within { id < nodes }
     requires limit { nodes ≤ NODES }
-    ensures { IfOk result (λ printout. outcome_of printout ≡ answer_text id nodes input.now) }
+    ensures { IfOk result (λ printout. outcome_of printout ≡ answer_text id nodes input.items) }
 {
-    match hex_lines(alloc, input) {
-        Ok(bytes) => answers_to(alloc, id, nodes, &bytes),
+    match hex_lines(alloc, &input) {
+        Ok(bytes) => {
+            input.clear();
+            answers_to(alloc, id, nodes, &bytes, input)
+        }
         Err(LineFault::BadLine(number)) => bad_line(alloc, number),
         Err(LineFault::NoMemory) => Err(AllocError),
     }
 }
 
-/// The answers to the messages of a stream.
-fn answers_to(alloc: Global, id: NodeId, nodes: u8, bytes: &[u8]) -> Result<Printout, AllocError>
+/// The answers to the messages of a stream, written into `text`, which is empty.
+fn answers_to(
+    alloc: Global,
+    id: NodeId,
+    nodes: u8,
+    bytes: &[u8],
+    text: Vec<u8>,
+) -> Result<Printout, AllocError>
     requires within { id < nodes }
     requires limit { nodes ≤ NODES }
+    requires empty { text.items ≡ [] }
     ensures { IfOk result (λ printout. outcome_of printout ≡ answers_to id nodes bytes.now) }
 {
-    let mut session = Session::new(alloc, id, nodes)?;
+    let mut session = Session::new(alloc, id, nodes, text)?;
     let mut stream = Stream::new(alloc);
     let mut messages = Vec::new(alloc);
     let mut fed = 0;

@@ -49,17 +49,23 @@ impl Model for Session {
 }
 
 impl Session {
-    /// A node that is Normal in its own group, and has printed nothing.
-    pub fn new(alloc: Global, id: NodeId, nodes: u8) -> Result<Session, AllocError>
+    /// A node that is Normal in its own group, and has printed nothing. It prints into `text`, which is empty.
+    pub fn new(
+        alloc: Global,
+        id: NodeId,
+        nodes: u8,
+        text: Vec<u8>,
+    ) -> Result<Session, AllocError>
         requires within { id < nodes }
         requires limit { nodes ≤ NODES }
+        requires empty { text.items ≡ [] }
         ensures { IfOk result (λ session. session ≡ record { id = id; nodes = nodes; state = alone id FIRST_COUNT; text = [] }) }
     {
         Ok(Session {
             alloc,
             core: NodeCore::new(alloc, id, nodes, FIRST_COUNT),
             table: JobTable::with_room(alloc, 0)?,
-            text: Vec::new(alloc),
+            text,
             bytes: Vec::new(alloc),
             room: Vec::new(alloc),
         })

@@ -1,4 +1,4 @@
-ghost use Rattle.std.specs.Prelude.{◌≡◌, ◌++◌, IfOk, OnOk, codes};
+ghost use Rattle.std.specs.Prelude.{◌≡◌, ◌++◌, [], IfOk, OnOk, codes};
 ghost use Rattle.console_text.specs.Ends.{line, outcome_of, IsFixed, Prints};
 ghost use Rattle.invite_console.specs.Show.{body_text, group_text, message_text, rest_text, shown, shown_of, show_text, task_text, truth_text, work_text};
 
@@ -21,28 +21,31 @@ pub fn show<R: Read, W: Write>(alloc: Global, input: &mut R, output: &mut W) -> 
     ensures { Prints (IsFixed show_text) (R.remaining input.old) (W.contents output.old) (W.contents output.new) result }
 {
     let outcome = match read_input(alloc, input) {
-        Ok(bytes) => show_to(alloc, &bytes).map_err(Trouble::from),
+        Ok(bytes) => show_to(alloc, bytes).map_err(Trouble::from),
         Err(trouble) => Err(trouble),
     };
     print(output, outcome)
 }
 
-/// What `show` prints for an input.
-fn show_to(alloc: Global, input: &[u8]) -> Result<Printout, AllocError>
-    ensures { IfOk result (λ printout. outcome_of printout ≡ show_text input.now) }
+/// What `show` prints for an input. The text is written in the input's memory.
+fn show_to(alloc: Global, mut input: Vec<u8>) -> Result<Printout, AllocError>
+    ensures { IfOk result (λ printout. outcome_of printout ≡ show_text input.items) }
 {
-    match hex_lines(alloc, input) {
-        Ok(bytes) => show_stream(alloc, &bytes),
+    match hex_lines(alloc, &input) {
+        Ok(bytes) => {
+            input.clear();
+            show_stream(alloc, &bytes, input)
+        }
         Err(LineFault::BadLine(number)) => bad_line(alloc, number),
         Err(LineFault::NoMemory) => Err(AllocError),
     }
 }
 
-/// The messages of a stream as text.
-fn show_stream(alloc: Global, bytes: &[u8]) -> Result<Printout, AllocError>
+/// The messages of a stream as text, written into `text`, which is empty.
+fn show_stream(alloc: Global, bytes: &[u8], mut text: Vec<u8>) -> Result<Printout, AllocError>
+    requires { text.items ≡ [] }
     ensures { IfOk result (λ printout. outcome_of printout ≡ shown_of bytes.now) }
 {
-    let mut text = Vec::new(alloc);
     let mut stream = Stream::new(alloc);
     let mut messages = Vec::new(alloc);
     let mut fed = 0;

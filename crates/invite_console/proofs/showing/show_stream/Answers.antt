@@ -14,7 +14,7 @@ loop-fed-init c = record {
   within = omega arith;
   stream = c.new-stream.ensures ∙ sym empty_unfinished;
   whole = ap is_some c.new-stream.ensures;
-  printed = c.new-text.ensures.items ∙ shown_none;
+  printed = c.requires ∙ shown_none;
 }
 
 -- what was printed after the turn
