@@ -1,4 +1,4 @@
-use crate::tests::{expect_sector, temporary};
+use crate::tests::{expect_count, expect_sector, temporary};
 use crate::{FileDisk, OpenFault, Stride};
 use sector_disk::SectorDisk;
 use std::fs::{File, Files};
@@ -38,24 +38,33 @@ fn never_made_over_a_file(rt: HostRuntime) -> Result<(), Fail> {
     Ok(())
 }
 
+// Expects that a disk of so many sectors is too long to be made.
+fn expect_too_long(
+    rt: &(impl Abort + Files<File = File>),
+    path: Path<'_>,
+    sectors: u64,
+    stride: Stride,
+) {
+    let made = match stride {
+        Stride::Packed => FileDisk::create(rt, path, sectors),
+        Stride::Spaced => FileDisk::create_new(rt, path, sectors, stride),
+    };
+    assert_eq!(rt; made.err(), Some(OpenFault::Device), "{sectors} sectors");
+}
+
 // Lengths of 2^63 bytes, of 2^64 and of more.
 #[test]
 fn too_long(rt: HostRuntime) -> Result<(), Fail> {
     let path = temporary(&rt, "long")?;
     fs::write(&rt, path.as_path(), [0x55u8; 5000])?;
-    let device = Some(OpenFault::Device);
     for sectors in [1 << 54, 1 << 55, (1 << 55) + 1, u64::MAX] {
-        let made = FileDisk::create(&rt, path.as_path(), sectors);
-        assert_eq!(rt; made.err(), device, "{sectors} sectors");
+        expect_too_long(&rt, path.as_path(), sectors, Stride::Packed);
     }
-    let bytes = fs::read(&rt, path.as_path())?;
-    assert_eq!(rt; bytes.len(), 5000);
-    assert_eq!(rt; bytes.iter().filter(|byte| **byte == 0x55).count(), 5000);
+    expect_count(&rt, &fs::read(&rt, path.as_path())?, 5000, 0x55, 5000);
     fs::remove_file(&rt, path.as_path())?;
 
     for sectors in [1 << 51, 1 << 52, (1 << 52) + 1, u64::MAX] {
-        let made = FileDisk::create_new(&rt, path.as_path(), sectors, Stride::Spaced);
-        assert_eq!(rt; made.err(), device, "{sectors} sectors");
+        expect_too_long(&rt, path.as_path(), sectors, Stride::Spaced);
     }
     assert!(rt; !fs::exists(&rt, path.as_path())?);
     Ok(())

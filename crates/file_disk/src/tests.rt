@@ -1,9 +1,9 @@
 use crate::disk::over;
 use crate::{FileDisk, OpenFault, Stride};
 use sector_disk::{DiskFault, SectorDisk};
-use std::fs::File;
+use std::fs::{File, Files};
 use std::os::unix::fs::MetadataExt;
-use std::path::PathBuf;
+use std::path::{Path, PathBuf};
 use std::process::Abort;
 use std::test::Fail;
 use std::{env, fs, process};
@@ -23,6 +23,36 @@ pub fn expect_sector<D: SectorDisk>(rt: &impl Abort, disk: &mut D, at: u64, byte
     let mut sector = [0xee; 512];
     assert_eq!(rt; disk.read(at, &mut sector), Ok(()), "reading {at}");
     assert!(rt; sector == [byte; 512], "sector {at}");
+}
+
+// Expects a disk of so many sectors, each of whose bytes is the one that stands at its place.
+fn expect_sectors<D: SectorDisk>(rt: &impl Abort, disk: &mut D, want: &[u8]) {
+    assert_eq!(rt; disk.sectors(), want.len() as u64);
+    for (at, byte) in want.iter().enumerate() {
+        expect_sector(rt, disk, at as u64, *byte);
+    }
+}
+
+// Writes this byte all over each of these sectors, and syncs.
+fn write_sectors<D: SectorDisk>(rt: &impl Abort, disk: &mut D, bytes: &[(u64, u8)]) {
+    for (at, byte) in bytes {
+        assert_eq!(rt; disk.write(*at, &[*byte; 512]), Ok(()), "writing {at}");
+    }
+    assert_eq!(rt; disk.sync(), Ok(()));
+}
+
+// Expects so many bytes, of which so many are this one.
+pub fn expect_count(rt: &impl Abort, bytes: &[u8], length: usize, byte: u8, count: usize) {
+    assert_eq!(rt; bytes.len(), length);
+    let found = bytes.iter().filter(|other| **other == byte).count();
+    assert_eq!(rt; found, count, "of {byte}");
+}
+
+// Expects these bytes at these places.
+fn expect_bytes(rt: &impl Abort, bytes: &[u8], want: &[(usize, u8)]) {
+    for (at, byte) in want {
+        assert_eq!(rt; bytes.get(*at).copied(), Some(*byte), "byte {at}");
+    }
 }
 
 // Expects that neither call is done or counted.
@@ -53,15 +83,10 @@ fn zeros_when_made(rt: HostRuntime) -> Result<(), Fail> {
 
     // Two pieces of zeros, and a part of a third.
     let mut disk = FileDisk::create(&rt, path.as_path(), 300)?;
-    assert_eq!(rt; disk.sectors(), 300);
     assert_eq!(rt; disk.failures(), 0);
-    for at in 0..300 {
-        expect_sector(&rt, &mut disk, at, 0);
-    }
+    expect_sectors(&rt, &mut disk, &[0; 300]);
     assert_eq!(rt; disk.sync(), Ok(()));
-    let bytes = fs::read(&rt, path.as_path())?;
-    assert_eq!(rt; bytes.len(), 153_600);
-    assert!(rt; bytes.iter().filter(|byte| **byte != 0).count() == 0);
+    expect_count(&rt, &fs::read(&rt, path.as_path())?, 153_600, 0, 153_600);
 
     // They take the room that later writes need: a file of holes would have none.
     assert!(rt; fs::metadata(&rt, path.as_path())?.blocks() >= 300);
@@ -73,34 +98,27 @@ fn zeros_when_made(rt: HostRuntime) -> Result<(), Fail> {
 fn written_sector_is_read_again(rt: HostRuntime) -> Result<(), Fail> {
     let path = temporary(&rt, "written")?;
     let mut disk = FileDisk::create(&rt, path.as_path(), 4)?;
-    assert_eq!(rt; disk.write(3, &[0x33; 512]), Ok(()));
-    assert_eq!(rt; disk.write(1, &[0x11; 512]), Ok(()));
-    for (at, byte) in [(0, 0), (1, 0x11), (2, 0), (3, 0x33)] {
-        expect_sector(&rt, &mut disk, at, byte);
-    }
-    assert_eq!(rt; disk.sync(), Ok(()));
+    write_sectors(&rt, &mut disk, &[(3, 0x33), (1, 0x11)]);
+    expect_sectors(&rt, &mut disk, &[0, 0x11, 0, 0x33]);
     drop(disk);
 
-    let mut disk = FileDisk::open(&rt, path.as_path())?;
-    assert_eq!(rt; disk.sectors(), 4);
-    assert_eq!(rt; disk.failures(), 0);
-    for (at, byte) in [(0, 0), (1, 0x11), (2, 0), (3, 0x33)] {
-        expect_sector(&rt, &mut disk, at, byte);
-    }
-
     // Sector 1 is the bytes from 512 on.
-    let bytes = fs::read(&rt, path.as_path())?;
-    assert_eq!(rt; bytes.len(), 2048);
-    for (at, byte) in [
-        (511, 0),
-        (512, 0x11),
-        (1023, 0x11),
-        (1024, 0),
-        (1535, 0),
-        (1536, 0x33),
-    ] {
-        assert_eq!(rt; bytes.get(at).copied(), Some(byte), "byte {at}");
-    }
+    expect_count(&rt, &fs::read(&rt, path.as_path())?, 2048, 0, 1024);
+    expect_bytes(
+        &rt,
+        &fs::read(&rt, path.as_path())?,
+        &[
+            (511, 0),
+            (512, 0x11),
+            (1023, 0x11),
+            (1024, 0),
+            (1535, 0),
+            (1536, 0x33),
+        ],
+    );
+    let mut disk = FileDisk::open(&rt, path.as_path())?;
+    assert_eq!(rt; disk.failures(), 0);
+    expect_sectors(&rt, &mut disk, &[0, 0x11, 0, 0x33]);
     fs::remove_file(&rt, path.as_path())?;
     Ok(())
 }
@@ -109,34 +127,28 @@ fn written_sector_is_read_again(rt: HostRuntime) -> Result<(), Fail> {
 fn one_sector_in_a_block(rt: HostRuntime) -> Result<(), Fail> {
     let path = temporary(&rt, "spaced")?;
     let mut disk = FileDisk::create_new(&rt, path.as_path(), 3, Stride::Spaced)?;
-    assert_eq!(rt; disk.sectors(), 3);
-    assert_eq!(rt; disk.write(2, &[0x22; 512]), Ok(()));
-    assert_eq!(rt; disk.write(1, &[0x11; 512]), Ok(()));
-    assert_eq!(rt; disk.sync(), Ok(()));
+    write_sectors(&rt, &mut disk, &[(2, 0x22), (1, 0x11)]);
     expect_out_of_range(&rt, &mut disk, 3);
     drop(disk);
 
     // Sector 1 is the bytes from 4,096 on, and the rest of its block stays zeros.
-    let bytes = fs::read(&rt, path.as_path())?;
-    assert_eq!(rt; bytes.len(), 12_288);
-    assert_eq!(rt; bytes.iter().filter(|byte| **byte != 0).count(), 1024);
-    for (at, byte) in [
-        (4095, 0),
-        (4096, 0x11),
-        (4607, 0x11),
-        (4608, 0),
-        (8191, 0),
-        (8192, 0x22),
-        (8703, 0x22),
-        (8704, 0),
-    ] {
-        assert_eq!(rt; bytes.get(at).copied(), Some(byte), "byte {at}");
-    }
-
+    expect_count(&rt, &fs::read(&rt, path.as_path())?, 12_288, 0, 11_264);
+    expect_bytes(
+        &rt,
+        &fs::read(&rt, path.as_path())?,
+        &[
+            (4095, 0),
+            (4096, 0x11),
+            (4607, 0x11),
+            (4608, 0),
+            (8191, 0),
+            (8192, 0x22),
+            (8703, 0x22),
+            (8704, 0),
+        ],
+    );
     let mut disk = FileDisk::open_with(&rt, path.as_path(), Stride::Spaced)?;
-    for (at, byte) in [(0, 0), (1, 0x11), (2, 0x22)] {
-        expect_sector(&rt, &mut disk, at, byte);
-    }
+    expect_sectors(&rt, &mut disk, &[0, 0x11, 0x22]);
     fs::remove_file(&rt, path.as_path())?;
     Ok(())
 }
@@ -146,17 +158,17 @@ fn part_of_a_sector_belongs_to_none(rt: HostRuntime) -> Result<(), Fail> {
     let path = temporary(&rt, "part")?;
     fs::write(&rt, path.as_path(), [0x41u8; 1300])?;
     let mut disk = FileDisk::open(&rt, path.as_path())?;
-    assert_eq!(rt; disk.sectors(), 2);
-    expect_sector(&rt, &mut disk, 0, 0x41);
-    expect_sector(&rt, &mut disk, 1, 0x41);
+    expect_sectors(&rt, &mut disk, &[0x41, 0x41]);
     expect_out_of_range(&rt, &mut disk, 2);
-    assert_eq!(rt; disk.write(1, &[0x42; 512]), Ok(()));
-    let bytes = fs::read(&rt, path.as_path())?;
-    assert_eq!(rt; bytes.len(), 1300);
-    assert_eq!(rt; bytes.iter().filter(|byte| **byte == 0x41).count(), 788);
-    drop(disk);
+    write_sectors(&rt, &mut disk, &[(1, 0x42)]);
+    expect_count(&rt, &fs::read(&rt, path.as_path())?, 1300, 0x41, 788);
     fs::remove_file(&rt, path.as_path())?;
+    Ok(())
+}
 
+#[test]
+fn whole_strides_of_a_length(rt: HostRuntime) -> Result<(), Fail> {
+    let path = temporary(&rt, "lengths")?;
     for (length, packed, spaced) in [
         (0, 0, 0),
         (511, 0, 0),
@@ -184,14 +196,14 @@ fn part_of_a_sector_belongs_to_none(rt: HostRuntime) -> Result<(), Fail> {
 #[test]
 fn out_of_range_is_no_failure(rt: HostRuntime) -> Result<(), Fail> {
     let path = temporary(&rt, "range")?;
-    let mut disk = FileDisk::create(&rt, path.as_path(), 4)?;
-    for at in [4, 5, 1 << 55, u64::MAX] {
-        expect_out_of_range(&rt, &mut disk, at);
+    for sectors in [4, 0] {
+        let mut disk = FileDisk::create(&rt, path.as_path(), sectors)?;
+        for at in [sectors, 5, 1 << 55, u64::MAX] {
+            expect_out_of_range(&rt, &mut disk, at);
+        }
+        assert_eq!(rt; disk.sectors(), sectors);
+        assert_eq!(rt; fs::metadata(&rt, path.as_path())?.len(), sectors * 512);
     }
-    assert_eq!(rt; disk.sectors(), 4);
-    assert_eq!(rt; fs::metadata(&rt, path.as_path())?.len(), 2048);
-    drop(disk);
-    expect_out_of_range(&rt, &mut FileDisk::create(&rt, path.as_path(), 0)?, 0);
     fs::remove_file(&rt, path.as_path())?;
     Ok(())
 }
@@ -210,81 +222,88 @@ fn failed_sync_spends_the_disk(rt: HostRuntime) -> Result<(), Fail> {
     Ok(())
 }
 
+// Expects that a disk of sectors of 12 that can be read alone fails to be written, and is spent then.
+fn expect_write_fails<D: SectorDisk>(rt: &impl Abort, disk: &mut D) {
+    expect_sector(rt, disk, 0, 0x12);
+    assert_eq!(rt; disk.write(0, &[0; 512]), DEVICE);
+    assert_eq!(rt; disk.failures(), 1);
+    expect_spent(rt, disk);
+}
+
 #[test]
 fn failed_write_spends_the_disk(rt: HostRuntime) -> Result<(), Fail> {
     let path = temporary(&rt, "spent")?;
     fs::write(&rt, path.as_path(), [0x12u8; 1024])?;
 
     // A file that is open to read alone.
-    let mut disk = over(File::open(&rt, path.as_path())?, 1024, Stride::Packed);
-    expect_sector(&rt, &mut disk, 0, 0x12);
-    assert_eq!(rt; disk.write(0, &[0; 512]), DEVICE);
-    assert_eq!(rt; disk.failures(), 1);
-    expect_spent(&rt, &mut disk);
-    drop(disk);
+    let file = File::open(&rt, path.as_path())?;
+    expect_write_fails(&rt, &mut over(file, 1024, Stride::Packed));
 
     // Opened anew it is fit for use again.
     let mut disk = FileDisk::open(&rt, path.as_path())?;
-    expect_sector(&rt, &mut disk, 0, 0x12);
-    assert_eq!(rt; disk.write(1, &[0x13; 512]), Ok(()));
-    assert_eq!(rt; disk.sync(), Ok(()));
+    write_sectors(&rt, &mut disk, &[(1, 0x13)]);
+    expect_sectors(&rt, &mut disk, &[0x12, 0x13]);
     assert_eq!(rt; disk.failures(), 0);
     fs::remove_file(&rt, path.as_path())?;
     Ok(())
+}
+
+// Expects that of a disk of three sectors, whose file was cut behind the first, the others can't be read. A read that fails doesn't spend the disk.
+fn expect_cut_reads<D: SectorDisk>(rt: &impl Abort, disk: &mut D) {
+    for at in [1, 2] {
+        assert_eq!(rt; disk.read(at, &mut [0; 512]), DEVICE, "reading {at}");
+    }
+    assert_eq!(rt; disk.failures(), 2);
+    expect_sector(rt, disk, 0, 0x12);
+    expect_out_of_range(rt, disk, 3);
+    assert_eq!(rt; disk.sync(), Ok(()));
+    assert_eq!(rt; disk.failures(), 2);
+    assert_eq!(rt; disk.sectors(), 3);
 }
 
 #[test]
 fn file_that_shrinks(rt: HostRuntime) -> Result<(), Fail> {
     let path = temporary(&rt, "shrinks")?;
     let mut disk = FileDisk::create(&rt, path.as_path(), 3)?;
-
-    // It is cut behind its first sector, so the others can't be read; a read that fails doesn't spend the disk.
     fs::write(&rt, path.as_path(), [0x12u8; 512])?;
-    assert_eq!(rt; disk.read(1, &mut [0; 512]), DEVICE);
-    assert_eq!(rt; disk.read(2, &mut [0; 512]), DEVICE);
-    assert_eq!(rt; disk.failures(), 2);
-    expect_sector(&rt, &mut disk, 0, 0x12);
-    expect_out_of_range(&rt, &mut disk, 3);
-    assert_eq!(rt; disk.sync(), Ok(()));
-    assert_eq!(rt; disk.failures(), 2);
-    assert_eq!(rt; disk.sectors(), 3);
+    expect_cut_reads(&rt, &mut disk);
 
     // A write would leave zeros where the others were.
     assert_eq!(rt; disk.write(2, &[0x13; 512]), DEVICE);
     assert_eq!(rt; disk.failures(), 3);
-    assert_eq!(rt; fs::metadata(&rt, path.as_path())?.len(), 512);
     expect_spent(&rt, &mut disk);
+    expect_count(&rt, &fs::read(&rt, path.as_path())?, 512, 0x12, 512);
     fs::remove_file(&rt, path.as_path())?;
     Ok(())
+}
+
+// Expects that no other disk has the file of this path.
+fn expect_locked(rt: &(impl Abort + Files<File = File>), path: Path<'_>) {
+    let locked = Some(OpenFault::Locked);
+    for stride in [Stride::Packed, Stride::Spaced] {
+        assert_eq!(rt; FileDisk::open_with(rt, path, stride).err(), locked);
+    }
+    assert_eq!(rt; FileDisk::open(rt, path).err(), locked);
+    assert_eq!(rt; FileDisk::create(rt, path, 9).err(), locked);
+    let made = FileDisk::create_new(rt, path, 9, Stride::Packed);
+    assert_eq!(rt; made.err(), Some(OpenFault::Exists));
 }
 
 #[test]
 fn locked_as_long_as_the_disk_lives(rt: HostRuntime) -> Result<(), Fail> {
     let path = temporary(&rt, "locked")?;
-    let path = path.as_path();
-    let mut disk = FileDisk::create_new(&rt, path, 4, Stride::Packed)?;
-    assert_eq!(rt; disk.write(1, &[0x44; 512]), Ok(()));
-    let locked = Some(OpenFault::Locked);
-    assert_eq!(rt; FileDisk::open(&rt, path).err(), locked);
-    assert_eq!(rt;
-        FileDisk::open_with(&rt, path, Stride::Spaced).err(),
-        locked
-    );
-    assert_eq!(rt; FileDisk::create(&rt, path, 9).err(), locked);
-    assert_eq!(rt;
-        FileDisk::create_new(&rt, path, 9, Stride::Packed).err(),
-        Some(OpenFault::Exists)
-    );
+    let mut disk = FileDisk::create_new(&rt, path.as_path(), 4, Stride::Packed)?;
+    write_sectors(&rt, &mut disk, &[(1, 0x44)]);
+    expect_locked(&rt, path.as_path());
 
     // The refusals left the file as it was.
-    assert_eq!(rt; fs::metadata(&rt, path)?.len(), 2048);
-    expect_sector(&rt, &mut disk, 1, 0x44);
+    expect_sectors(&rt, &mut disk, &[0, 0x44, 0, 0]);
+    expect_count(&rt, &fs::read(&rt, path.as_path())?, 2048, 0x44, 512);
     drop(disk);
 
-    let disk = FileDisk::open(&rt, path)?;
-    assert_eq!(rt; FileDisk::open(&rt, path).err(), locked);
-    drop(disk);
-    expect_sector(&rt, &mut FileDisk::open(&rt, path)?, 1, 0x44);
-    fs::remove_file(&rt, path)?;
+    let mut disk = FileDisk::open(&rt, path.as_path())?;
+    expect_locked(&rt, path.as_path());
+    expect_sectors(&rt, &mut disk, &[0, 0x44, 0, 0]);
+    fs::remove_file(&rt, path.as_path())?;
     Ok(())
 }
