@@ -109,7 +109,7 @@ for ((session = 1; session <= sessions; session++)); do
         esac
     fi
     # About half of the sessions are to be ended.
-    if [ "$printed" = "$text" ]; then longest=$((longest * 99 / 100 + 1)); else longest=$((longest * 101 / 100 + 1)); fi
+    if [ "$printed" = "$text" ]; then longest=$((longest * 95 / 100 + 1)); else longest=$((longest * 105 / 100 + 1)); fi
     if [ -z "$problem" ]; then
         passed=$((passed + 1))
         restore "${found#ok$'\n'}"
