@@ -1,0 +1,227 @@
+-- What was kept of an entry is that entry again, and stays so whatever is kept after it.
+use Rattle.std.proofs.Common.{◌≡◌, ℕ, zero, suc, ◌+◌, ◌-◌, ◌<◌, ◌≤◌, List, [], ◌∷◌, ◌++◌, length, take, drop, map, All, slice_get, Option, Some, None, refl, sym, ap, ◌∙◌, subst, arith}
+use Rattle.std.proofs.lemmas.List.{map-append, length-append, take-append-le, drop-append-le, length-drop, length-take, length-take-le}
+use Rattle.std.proofs.Math.Nat.{min-le_left}
+use Rattle.std.proofs.lemmas.Option.{slice_get_past}
+use Rattle.std.proofs.Math.Seq.{drop-append_seam}
+use Rattle.std.proofs.lemmas.List.Elements.{All-head, All-tail, All-push, All-weaker}
+use Rattle.job_model.specs.declared.payload.TheConstants.{PAYLOAD_CAPACITY}
+use Rattle.wire_msg.specs.Envelope.{Envelope}
+use Rattle.node_core.specs.declared.event.Event.{Event}
+use Rattle.node_core.specs.declared.event.Event.TheVariants as on
+use Rattle.histories.specs.What.{brought}
+use Rattle.trace_check.specs.declared.trace.Deed.{Deed}
+use Rattle.trace_check.specs.declared.trace.Deed.TheVariants as deed
+use Rattle.trace_check.specs.declared.kept.KeptEvent.{KeptEvent}
+use Rattle.trace_check.specs.declared.kept.KeptEvent.TheVariants as kept
+use Rattle.trace_check.specs.declared.kept.KeptDeed.{KeptDeed}
+use Rattle.trace_check.specs.declared.kept.KeptDeed.TheVariants as done
+use Rattle.trace_check.specs.declared.kept.KeptEntry.{KeptEntry}
+use Rattle.trace_check.specs.Claims.{Claim, brought_by}
+use Rattle.trace_check.specs.Traces.{claim}
+use Rattle.trace_check.specs.Kept.{kept_event, kept_deed, payload_of, payload_in, delivered, part, event_said, deed_said, claim_said, EventStands, DeedStands, EntryStands}
+
+-- ---- more is kept, and an entry says what it said
+
+get_same : (ms more : List Envelope) (i : ℕ) → i < length ms → slice_get (ms ++ more) i ≡ slice_get ms i
+get_same [] more i within = absurd (omega (arith, within))
+get_same (m ∷ ms) more zero within = refl
+get_same (m ∷ ms) more (suc i) within = get_same ms more i (omega (arith, within))
+
+part_same : {A : Type 0} → (xs more : List A) (start len : ℕ) → start + len ≤ length xs → take len (drop start (xs ++ more)) ≡ take len (drop start xs)
+part_same {A} xs more start len within =
+    ap (λ (ys : List A). take len ys) (drop-append-le start xs more (omega (arith, within)))
+    ∙ take-append-le len (drop start xs) more (omega (arith, within, length-drop start xs))
+
+event_same : (ms more : List Envelope) (p bytes : List ℕ) (e : KeptEvent) → EventStands (length ms) (length p) e → event_said (ms ++ more) (p ++ bytes) e ≡ event_said ms p e
+event_same ms more p bytes kept.CheckTimer h = refl
+event_same ms more p bytes kept.MergeTimer h = refl
+event_same ms more p bytes kept.AcceptTimer h = refl
+event_same ms more p bytes kept.ReadyTimer h = refl
+event_same ms more p bytes kept.CoordTimer h = refl
+event_same ms more p bytes kept.DispatchTimer h = refl
+event_same ms more p bytes (kept.Deliver place) h = ap (λ (o : Option Envelope). delivered o) (get_same ms more place h)
+event_same ms more p bytes (kept.Submit queue start len) h = ap (λ (xs : List ℕ). on.Submit queue xs) (part_same p bytes start len h.0)
+event_same ms more p bytes (kept.Finish origin id) h = refl
+event_same ms more p bytes kept.Recover h = refl
+
+deed_same : (ms more : List Envelope) (p bytes : List ℕ) (d : KeptDeed) → DeedStands (length ms) (length p) d → deed_said (ms ++ more) (p ++ bytes) d ≡ deed_said ms p d
+deed_same ms more p bytes done.Nothing h = refl
+deed_same ms more p bytes (done.Done event) h = ap (λ (e : Event). deed.Done e) (event_same ms more p bytes event h)
+deed_same ms more p bytes (done.Faulted event) h = ap (λ (e : Event). deed.Faulted e) (event_same ms more p bytes event h)
+deed_same ms more p bytes done.Crashed h = refl
+deed_same ms more p bytes (done.Recovered kept) h = refl
+deed_same ms more p bytes (done.NotRecovered kept fault) h = refl
+
+claim_same : (ms more : List Envelope) (p bytes : List ℕ) (e : KeptEntry) → EntryStands (length ms) (length p) e → claim_said (ms ++ more) (p ++ bytes) e ≡ claim_said ms p e
+claim_same ms more p bytes e h =
+    ap (λ (d : Deed). claim d (part e.start e.end (ms ++ more))) (deed_same ms more p bytes e.deed h.deed)
+    ∙ ap (λ (xs : List Envelope). claim (deed_said ms p e.deed) xs) (part_same ms more e.start (e.end - e.start) (let front = h.sent.0 in let back = h.sent.1 in omega (arith, front, back)))
+
+claims_same : (ms more : List Envelope) (p bytes : List ℕ) (es : List KeptEntry) → All (EntryStands (length ms) (length p)) es → map (claim_said (ms ++ more) (p ++ bytes)) es ≡ map (claim_said ms p) es
+claims_same ms more p bytes [] h = refl
+claims_same ms more p bytes (e ∷ es) h =
+    ap (λ (c : Claim). c ∷ map (claim_said (ms ++ more) (p ++ bytes)) es) (claim_same ms more p bytes e (All-head (EntryStands (length ms) (length p)) e es h))
+    ∙ ap (λ (cs : List Claim). claim_said ms p e ∷ cs) (claims_same ms more p bytes es (All-tail (EntryStands (length ms) (length p)) e es h))
+
+-- ---- an entry that was kept last is read back
+
+get_again : (ms : List Envelope) (m : Envelope) → slice_get (ms ++ m ∷ []) (length ms) ≡ Some m
+get_again [] m = refl
+get_again (x ∷ ms) m = get_again ms m
+
+take_whole : {A : Type 0} → (xs : List A) → take (length xs) xs ≡ xs
+take_whole [] = refl
+take_whole {A} (x ∷ xs) = ap (λ (ys : List A). x ∷ ys) (take_whole xs)
+
+part_again : {A : Type 0} → (xs ys : List A) → take (length ys) (drop (length xs) (xs ++ ys)) ≡ ys
+part_again {A} xs ys = ap (λ (zs : List A). take (length ys) zs) (drop-append_seam xs ys) ∙ take_whole ys
+
+event_again : (ms : List Envelope) (p : List ℕ) (e : Event) → event_said (ms ++ brought (Some e)) (p ++ payload_of e) (kept_event (length ms) (length p) e) ≡ e
+event_again ms p on.CheckTimer = refl
+event_again ms p on.MergeTimer = refl
+event_again ms p on.AcceptTimer = refl
+event_again ms p on.ReadyTimer = refl
+event_again ms p on.CoordTimer = refl
+event_again ms p on.DispatchTimer = refl
+event_again ms p (on.Deliver m) = ap (λ (o : Option Envelope). delivered o) (get_again ms m)
+event_again ms p (on.Submit queue payload) = ap (λ (xs : List ℕ). on.Submit queue xs) (part_again p payload)
+event_again ms p (on.Finish origin id) = refl
+event_again ms p on.Recover = refl
+
+deed_again : (ms : List Envelope) (p : List ℕ) (d : Deed) → deed_said (ms ++ brought_by d) (p ++ payload_in d) (kept_deed (length ms) (length p) d) ≡ d
+deed_again ms p deed.Nothing = refl
+deed_again ms p (deed.Done event) = ap (λ (e : Event). deed.Done e) (event_again ms p event)
+deed_again ms p (deed.Faulted event) = ap (λ (e : Event). deed.Faulted e) (event_again ms p event)
+deed_again ms p deed.Crashed = refl
+deed_again ms p (deed.Recovered kept) = refl
+deed_again ms p (deed.NotRecovered kept fault) = refl
+
+event_stands : (ms : List Envelope) (p : List ℕ) (e : Event) → length (payload_of e) ≤ PAYLOAD_CAPACITY → EventStands (length (ms ++ brought (Some e))) (length (p ++ payload_of e)) (kept_event (length ms) (length p) e)
+event_stands ms p on.CheckTimer few = tt
+event_stands ms p on.MergeTimer few = tt
+event_stands ms p on.AcceptTimer few = tt
+event_stands ms p on.ReadyTimer few = tt
+event_stands ms p on.CoordTimer few = tt
+event_stands ms p on.DispatchTimer few = tt
+event_stands ms p (on.Deliver m) few = omega (arith, length-append ms (m ∷ []))
+event_stands ms p (on.Submit queue payload) few = (omega (arith, length-append p payload), few)
+event_stands ms p (on.Finish origin id) few = tt
+event_stands ms p on.Recover few = tt
+
+deed_stands : (ms : List Envelope) (p : List ℕ) (d : Deed) → length (payload_in d) ≤ PAYLOAD_CAPACITY → DeedStands (length (ms ++ brought_by d)) (length (p ++ payload_in d)) (kept_deed (length ms) (length p) d)
+deed_stands ms p deed.Nothing few = tt
+deed_stands ms p (deed.Done event) few = event_stands ms p event few
+deed_stands ms p (deed.Faulted event) few = event_stands ms p event few
+deed_stands ms p deed.Crashed few = tt
+deed_stands ms p (deed.Recovered kept) few = tt
+deed_stands ms p (deed.NotRecovered kept fault) few = tt
+
+-- ---- where more can be read, what could be read still can
+
+event_longer : (m m' p p' : ℕ) (e : KeptEvent) → m ≤ m' → p ≤ p' → EventStands m p e → EventStands m' p' e
+event_longer m m' p p' kept.CheckTimer a b h = tt
+event_longer m m' p p' kept.MergeTimer a b h = tt
+event_longer m m' p p' kept.AcceptTimer a b h = tt
+event_longer m m' p p' kept.ReadyTimer a b h = tt
+event_longer m m' p p' kept.CoordTimer a b h = tt
+event_longer m m' p p' kept.DispatchTimer a b h = tt
+event_longer m m' p p' (kept.Deliver place) a b h = omega (arith, a, h)
+event_longer m m' p p' (kept.Submit queue start len) a b h = (let within = h.0 in omega (arith, b, within), h.1)
+event_longer m m' p p' (kept.Finish origin id) a b h = tt
+event_longer m m' p p' kept.Recover a b h = tt
+
+deed_longer : (m m' p p' : ℕ) (d : KeptDeed) → m ≤ m' → p ≤ p' → DeedStands m p d → DeedStands m' p' d
+deed_longer m m' p p' done.Nothing a b h = tt
+deed_longer m m' p p' (done.Done event) a b h = event_longer m m' p p' event a b h
+deed_longer m m' p p' (done.Faulted event) a b h = event_longer m m' p p' event a b h
+deed_longer m m' p p' done.Crashed a b h = tt
+deed_longer m m' p p' (done.Recovered kept) a b h = tt
+deed_longer m m' p p' (done.NotRecovered kept fault) a b h = tt
+
+entry_longer : (m m' p p' : ℕ) → m ≤ m' → p ≤ p' → (e : KeptEntry) → EntryStands m p e → EntryStands m' p' e
+entry_longer m m' p p' a b e h = record { deed = deed_longer m m' p p' e.deed a b h.deed; sent = (h.sent.0, let back = h.sent.1 in omega (arith, a, back)) }
+
+-- ---- one entry more
+
+-- the entry, as it is kept behind these messages and payloads
+abbrev pub kept_entry : ℕ → ℕ → Deed → List Envelope → KeptEntry
+kept_entry messages payloads d sent = record { deed = kept_deed messages payloads d; start = messages + length (brought_by d); end = messages + length (brought_by d) + length sent }
+
+sent_again : (ms : List Envelope) (d : Deed) (sent : List Envelope) → part (length ms + length (brought_by d)) (length ms + length (brought_by d) + length sent) (ms ++ brought_by d ++ sent) ≡ sent
+sent_again ms d sent =
+    ap (λ (k : ℕ). take k (drop (length ms + length (brought_by d)) (ms ++ brought_by d ++ sent))) (let many : length ms + length (brought_by d) + length sent - (length ms + length (brought_by d)) ≡ length sent = omega arith in many)
+    ∙ ap (λ (k : ℕ). take (length sent) (drop k (ms ++ brought_by d ++ sent))) (sym (length-append ms (brought_by d)))
+    ∙ part_again (ms ++ brought_by d) sent
+
+claim_again : (ms : List Envelope) (p : List ℕ) (d : Deed) (sent : List Envelope) → length (payload_in d) ≤ PAYLOAD_CAPACITY
+    → claim_said (ms ++ brought_by d ++ sent) (p ++ payload_in d) (kept_entry (length ms) (length p) d sent) ≡ claim d sent
+claim_again ms p d sent few =
+    ap (λ (x : Deed). claim x (part (length ms + length (brought_by d)) (length ms + length (brought_by d) + length sent) (ms ++ brought_by d ++ sent)))
+    (deed_later ms p d sent few ∙ deed_again ms p d)
+    ∙ ap (λ (xs : List Envelope). claim d xs) (sent_again ms d sent)
+  where
+    deed_later : (ms : List Envelope) (p : List ℕ) (d : Deed) (sent : List Envelope) → length (payload_in d) ≤ PAYLOAD_CAPACITY
+        → deed_said (ms ++ brought_by d ++ sent) (p ++ payload_in d) (kept_deed (length ms) (length p) d) ≡ deed_said (ms ++ brought_by d) (p ++ payload_in d) (kept_deed (length ms) (length p) d)
+    deed_later ms p d sent few =
+        ap (λ (q : List ℕ). deed_said (ms ++ brought_by d ++ sent) q (kept_deed (length ms) (length p) d)) (sym (append_none (p ++ payload_in d)))
+        ∙ deed_same (ms ++ brought_by d) sent (p ++ payload_in d) [] (kept_deed (length ms) (length p) d) (deed_stands ms p d few)
+      where
+        append_none : (xs : List ℕ) → xs ++ [] ≡ xs
+        append_none [] = refl
+        append_none (x ∷ xs) = ap (λ (ys : List ℕ). x ∷ ys) (append_none xs)
+
+pub claims_more : (es : List KeptEntry) (ms : List Envelope) (p : List ℕ) (d : Deed) (sent : List Envelope) → length (payload_in d) ≤ PAYLOAD_CAPACITY → All (EntryStands (length ms) (length p)) es
+    → map (claim_said (ms ++ brought_by d ++ sent) (p ++ payload_in d)) (es ++ kept_entry (length ms) (length p) d sent ∷ []) ≡ map (claim_said ms p) es ++ claim d sent ∷ []
+claims_more es ms p d sent few h =
+    let f = claim_said (ms ++ brought_by d ++ sent) (p ++ payload_in d) in
+    map-append f es (kept_entry (length ms) (length p) d sent ∷ [])
+    ∙ ap (λ (cs : List Claim). cs ++ f (kept_entry (length ms) (length p) d sent) ∷ []) (later es h)
+    ∙ ap (λ (c : Claim). map (claim_said ms p) es ++ c ∷ []) (claim_again ms p d sent few)
+  where
+    append_twice : (a b c : List Envelope) → a ++ b ++ c ≡ a ++ (b ++ c)
+    append_twice [] b c = refl
+    append_twice (x ∷ a) b c = ap (λ (ys : List Envelope). x ∷ ys) (append_twice a b c)
+
+    later : (xs : List KeptEntry) → All (EntryStands (length ms) (length p)) xs → map (claim_said (ms ++ brought_by d ++ sent) (p ++ payload_in d)) xs ≡ map (claim_said ms p) xs
+    later xs all = rw (append_twice ms (brought_by d) sent) (claims_same ms (brought_by d ++ sent) p (payload_in d) xs all)
+
+pub all_stand_more : (es : List KeptEntry) (ms : List Envelope) (p : List ℕ) (d : Deed) (sent : List Envelope) → length (payload_in d) ≤ PAYLOAD_CAPACITY → All (EntryStands (length ms) (length p)) es
+    → All (EntryStands (length (ms ++ brought_by d ++ sent)) (length (p ++ payload_in d))) (es ++ kept_entry (length ms) (length p) d sent ∷ [])
+all_stand_more es ms p d sent few h =
+    let m' = length (ms ++ brought_by d ++ sent) in
+    let p' = length (p ++ payload_in d) in
+    let first = length-append ms (brought_by d) in
+    let second = length-append (ms ++ brought_by d) sent in
+    let bytes = length-append p (payload_in d) in
+    All-push (EntryStands m' p') es (kept_entry (length ms) (length p) d sent)
+    (All-weaker (EntryStands (length ms) (length p)) (EntryStands m' p') (entry_longer (length ms) m' (length p) p' (omega (arith, first, second)) (omega (arith, bytes))) es h)
+    (record {
+      deed = deed_longer (length (ms ++ brought_by d)) m' p' p' (kept_deed (length ms) (length p) d) (omega (arith, second)) (omega arith) (deed_stands ms p d few);
+      sent = (omega arith, omega (arith, first, second));
+    })
+
+-- ---- a part of the messages, read by place
+
+get_take : (ms : List Envelope) (n i : ℕ) → i < n → slice_get (take n ms) i ≡ slice_get ms i
+get_take ms zero i within = absurd (omega (arith, within))
+get_take [] (suc n) i within = refl
+get_take (m ∷ ms) (suc n) zero within = refl
+get_take (m ∷ ms) (suc n) (suc i) within = get_take ms n i (omega (arith, within))
+
+get_drop : (ms : List Envelope) (start i : ℕ) → slice_get (drop start ms) i ≡ slice_get ms (start + i)
+get_drop ms zero i = ap (λ (k : ℕ). slice_get ms k) (let same : i ≡ zero + i = omega arith in same)
+get_drop [] (suc start) i = refl
+get_drop (m ∷ ms) (suc start) i = get_drop ms start i ∙ ap (λ (k : ℕ). slice_get (m ∷ ms) k) (let same : suc (start + i) ≡ suc start + i = omega arith in same)
+
+pub part_within : (ms : List Envelope) (start end place : ℕ) → place < end - start → slice_get (part start end ms) place ≡ slice_get ms (start + place)
+part_within ms start end place within = get_take (drop start ms) (end - start) place within ∙ get_drop ms start place
+
+pub part_past : (ms : List Envelope) (start end place : ℕ) → end - start ≤ place → slice_get (part start end ms) place ≡ None
+part_past ms start end place past =
+    let few : length (part start end ms) ≤ end - start = subst (λ (k : ℕ). k ≤ end - start) (sym (length-take (end - start) (drop start ms))) (min-le_left (end - start) (length (drop start ms))) in
+    slice_get_past (part start end ms) place (omega (arith, few, past))
+
+pub part_length : (ms : List Envelope) (start end : ℕ) → start ≤ end → end ≤ length ms → length (part start end ms) ≡ end - start
+part_length ms start end first last =
+    let left = length-drop start ms in length-take-le (end - start) (drop start ms) (omega (arith, first, last, left))

@@ -1,0 +1,8 @@
+mod Furthest
+mod Bundles
+mod Turning
+pub mod Twins
+pub mod Keyed
+pub mod Desks
+pub mod Turns
+pub mod KeptEntries

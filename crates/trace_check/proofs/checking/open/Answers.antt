@@ -1,0 +1,38 @@
+use Rattle.std.proofs.Common.{◌≡◌, ℕ, ◌+◌, List, [], ◌∷◌, ◌++◌, length, reverse, sym, ap, ◌∙◌, subst, arith, refl, length-append}
+use Rattle.histories.specs.NodeState.{opening}
+use Rattle.trace_check.specs.declared.desk.Seat.{Seat}
+use Rattle.trace_check.specs.Twins.{Twin}
+use Rattle.trace_check.specs.Desks.{IsDesk}
+use Rattle.trace_check.proofs.Turns.{AreOpen, open_more, desk_opens, desk_same}
+use Rattle.trace_check.proofs.checking.open.Goals as goal
+
+pub loop-number-init : goal.loop-number-init
+loop-number-init c =
+    let none = c.new-seats.ensures.items in
+    (ap (λ (ss : List Seat). length ss) none, subst (λ (ss : List Seat). AreOpen c.nodes-nodes.result ss) (sym none) (λ n s at. absurd cc))
+
+pub loop-number-preserved : goal.loop-number-preserved
+loop-number-preserved c =
+    let seats = c.loop-number.seats.items in
+    let nodes = c.nodes-nodes.result in
+    let len = c.loop-number.invariant.0 in
+    let pushed = c.in_ok-push.ensures.items in
+    let here : c.numbered.result ≡ length seats = c.numbered.ensures ∙ sym len in
+    let seat : Seat = record { replica = c.in_ok-replica.replica; place = 0 } in
+    let many : length (seats ++ seat ∷ []) ≡ length seats + 1 = length-append seats (seat ∷ []) in (
+      ap (λ (ss : List Seat). length ss) pushed ∙ many ∙ ap (λ (k : ℕ). k + 1) len,
+      subst (λ (ss : List Seat). AreOpen nodes ss) (sym pushed)
+          (open_more nodes seats seat c.loop-number.invariant.1
+          (ap (λ (t : Twin). record { replica = t; place = 0 }) (c.in_ok-replica.ensures ∙ ap (λ (k : ℕ). record { id = k; nodes = nodes; node = opening k }) here))),
+    )
+
+pub returns-clause-fits : goal.returns-clause-fits
+returns-clause-fits c =
+    let hs = c.args.trace.now in
+    let size = c.nodes-nodes.ensures.value in
+    let len = c.loop-number.invariant.0 in
+    let test = c.loop-number-test.false in
+    let end = c.loop-number.auto.number-end in
+    let count : length c.loop-number.seats.items ≡ length hs = omega (arith, len, test, end, size) in
+    subst (λ (order : List ℕ). IsDesk hs c.loop-number.seats.items c.below.result c.new-2.result c.new-3.result (reverse order)) (sym c.new-4.ensures.items)
+    (desk_same hs _ _ _ _ _ _ _ _ [] refl c.below.ensures c.new-2.ensures c.new-3.ensures (desk_opens hs c.nodes-nodes.result c.loop-number.seats.items size count c.loop-number.invariant.1))

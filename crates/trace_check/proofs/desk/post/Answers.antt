@@ -1,0 +1,17 @@
+use Rattle.std.proofs.Common.{◌≡◌, ℕ, List, Bool, true, false, cond, refl, sym, ap, ◌∙◌}
+use Rattle.group_task.specs.Ids.{has, with_id}
+use Rattle.trace_check.proofs.Desks.{posts_one}
+use Rattle.trace_check.proofs.desk.post.Goals as goal
+
+second : (b : Bool) (x y : List ℕ) → b ≡ false → y ≡ cond b x y
+second true x y is = absurd cc
+second false x y is = refl
+
+pub returns-then-not-contains : goal.returns-then-not-contains
+returns-then-not-contains c =
+    let stopped = c.args.stopped.now in
+    let ready = c.args.ready.now in
+    let m = c.args.message.now in
+    posts_one stopped c.args.posted.now c.add.new.self ready c.insert.new.self m c.in_ok-add.ensures.posts
+    (c.insert.ensures ∙ ap (λ (n : ℕ). with_id ready n) c.receiver-receiver.ensures.value
+    ∙ second (has stopped m.receiver) ready (with_id ready m.receiver) (ap (λ (n : ℕ). has stopped n) (sym c.receiver-receiver.ensures.value) ∙ sym c.contains.ensures ∙ c.if-not-contains.true))

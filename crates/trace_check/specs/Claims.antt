@@ -1,0 +1,63 @@
+-- What an entry of a trace says, and where it is possible.
+use Rattle.std.specs.Prelude.{ℕ, ◌≡◌, Bool, true, false, List, [], ◌∷◌, Option, Some, None, IsSomeAnd}
+use Rattle.wire_msg.specs.Envelope.{Envelope}
+use Rattle.node_core.specs.declared.event.Event.TheVariants as on
+use Rattle.node_core.specs.State.{is_down}
+use Rattle.histories.specs.NodeState.{NodeState}
+use Rattle.histories.specs.What.{What, Did, Faulted, Rests, Nothing, Crashed, Recovered, MountFailed, RaiseFailed, brought}
+use Rattle.histories.specs.After.{after, sent_at}
+use Rattle.histories.specs.Possible.{IsPossible}
+use Rattle.trace_check.specs.declared.trace.Deed.{Deed}
+use Rattle.trace_check.specs.declared.trace.Deed.TheVariants as deed
+use Rattle.trace_check.specs.declared.trace.RecoverFault.TheVariants as recover
+
+-- an entry of a trace without where it lies in memory: what was done, and what was sent
+pub record Claim : Type 0 where
+  pub deed : Deed
+  pub sent : List Envelope
+
+-- what came of the deed at a node that was down, or wasn't. None where the deed contradicts itself
+abbrev pub what_of : Bool → Deed → Option What
+what_of down deed.Nothing = Some (Rests Nothing)
+what_of down (deed.Done event) = Some (Did event)
+what_of down (deed.Faulted event) = Some (Faulted event)
+what_of down deed.Crashed = Some Crashed
+what_of true (deed.Recovered kept) = Some (Recovered kept)
+what_of false (deed.Recovered false) = Some (Did on.Recover)
+what_of false (deed.Recovered true) = None
+what_of true (deed.NotRecovered false recover.Mount) = Some MountFailed
+what_of true (deed.NotRecovered true recover.Mount) = None
+what_of true (deed.NotRecovered kept recover.Raise) = Some (RaiseFailed kept)
+what_of false (deed.NotRecovered kept recover.Mount) = None
+what_of false (deed.NotRecovered false recover.Raise) = Some (Faulted on.Recover)
+what_of false (deed.NotRecovered true recover.Raise) = None
+
+-- and so in this state
+abbrev pub what_at : NodeState → Claim → Option What
+what_at s c = what_of (is_down s.state.phase) c.deed
+
+-- the entry is possible at a node in this state: what it says may come there, and it sends what is sent then
+abbrev pub MayCome : ℕ → ℕ → NodeState → Claim → Type 0
+MayCome self nodes s c = IsSomeAnd (what_at s c) (λ (what : What). IsPossible self nodes s what × (c.sent ≡ sent_at self nodes s what))
+
+abbrev pub after_what : ℕ → ℕ → NodeState → Option What → NodeState
+after_what self nodes s None = s
+after_what self nodes s (Some what) = after self nodes s what
+
+-- the state after an entry
+abbrev pub after_claim : ℕ → ℕ → NodeState → Claim → NodeState
+after_claim self nodes s c = after_what self nodes s (what_at s c)
+
+-- the state after these entries, from s on
+abbrev pub state_after : ℕ → ℕ → NodeState → List Claim → NodeState
+state_after self nodes s [] = s
+state_after self nodes s (c ∷ cs) = state_after self nodes (after_claim self nodes s c) cs
+
+-- the message that a deed was brought
+abbrev pub brought_by : Deed → List Envelope
+brought_by deed.Nothing = []
+brought_by (deed.Done event) = brought (Some event)
+brought_by (deed.Faulted event) = brought (Some event)
+brought_by deed.Crashed = []
+brought_by (deed.Recovered kept) = []
+brought_by (deed.NotRecovered kept fault) = []

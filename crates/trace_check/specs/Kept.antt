@@ -1,0 +1,115 @@
+-- How entries are kept: a few bytes for each, and what is longer in lists beside.
+use Rattle.std.specs.Prelude.{ℕ, ◌+◌, ◌-◌, ◌<◌, ◌≤◌, ⊤, List, [], length, take, drop, Option, Some, None, slice_get}
+use Rattle.job_model.specs.declared.payload.TheConstants.{PAYLOAD_CAPACITY}
+use Rattle.wire_msg.specs.Envelope.{Envelope}
+use Rattle.node_core.specs.declared.event.Event.{Event}
+use Rattle.node_core.specs.declared.event.Event.TheVariants as on
+use Rattle.trace_check.specs.declared.trace.Deed.{Deed}
+use Rattle.trace_check.specs.declared.trace.Deed.TheVariants as deed
+use Rattle.trace_check.specs.declared.kept.KeptEvent.{KeptEvent}
+use Rattle.trace_check.specs.declared.kept.KeptEvent.TheVariants as kept
+use Rattle.trace_check.specs.declared.kept.KeptDeed.{KeptDeed}
+use Rattle.trace_check.specs.declared.kept.KeptDeed.TheVariants as done
+use Rattle.trace_check.specs.declared.kept.KeptEntry.{KeptEntry}
+use Rattle.trace_check.specs.Claims.{Claim}
+
+-- ---- what is kept of an event, where so many messages and bytes of payloads are kept before it
+
+abbrev pub kept_event : ℕ → ℕ → Event → KeptEvent
+kept_event messages payloads on.CheckTimer = kept.CheckTimer
+kept_event messages payloads on.MergeTimer = kept.MergeTimer
+kept_event messages payloads on.AcceptTimer = kept.AcceptTimer
+kept_event messages payloads on.ReadyTimer = kept.ReadyTimer
+kept_event messages payloads on.CoordTimer = kept.CoordTimer
+kept_event messages payloads on.DispatchTimer = kept.DispatchTimer
+kept_event messages payloads (on.Deliver m) = kept.Deliver messages
+kept_event messages payloads (on.Submit queue payload) = kept.Submit queue payloads (length payload)
+kept_event messages payloads (on.Finish origin id) = kept.Finish origin id
+kept_event messages payloads on.Recover = kept.Recover
+
+abbrev pub payload_of : Event → List ℕ
+payload_of on.CheckTimer = []
+payload_of on.MergeTimer = []
+payload_of on.AcceptTimer = []
+payload_of on.ReadyTimer = []
+payload_of on.CoordTimer = []
+payload_of on.DispatchTimer = []
+payload_of (on.Deliver m) = []
+payload_of (on.Submit queue payload) = payload
+payload_of (on.Finish origin id) = []
+payload_of on.Recover = []
+
+abbrev pub kept_deed : ℕ → ℕ → Deed → KeptDeed
+kept_deed messages payloads deed.Nothing = done.Nothing
+kept_deed messages payloads (deed.Done event) = done.Done (kept_event messages payloads event)
+kept_deed messages payloads (deed.Faulted event) = done.Faulted (kept_event messages payloads event)
+kept_deed messages payloads deed.Crashed = done.Crashed
+kept_deed messages payloads (deed.Recovered kept) = done.Recovered kept
+kept_deed messages payloads (deed.NotRecovered kept fault) = done.NotRecovered kept fault
+
+abbrev pub payload_in : Deed → List ℕ
+payload_in deed.Nothing = []
+payload_in (deed.Done event) = payload_of event
+payload_in (deed.Faulted event) = payload_of event
+payload_in deed.Crashed = []
+payload_in (deed.Recovered kept) = []
+payload_in (deed.NotRecovered kept fault) = []
+
+-- ---- what it says
+
+-- the part from start up to end
+abbrev pub part : {A : Type 0} → ℕ → ℕ → List A → List A
+part start end xs = take (end - start) (drop start xs)
+
+abbrev pub delivered : Option Envelope → Event
+delivered None = on.CheckTimer
+delivered (Some m) = on.Deliver m
+
+abbrev pub event_said : List Envelope → List ℕ → KeptEvent → Event
+event_said messages payloads kept.CheckTimer = on.CheckTimer
+event_said messages payloads kept.MergeTimer = on.MergeTimer
+event_said messages payloads kept.AcceptTimer = on.AcceptTimer
+event_said messages payloads kept.ReadyTimer = on.ReadyTimer
+event_said messages payloads kept.CoordTimer = on.CoordTimer
+event_said messages payloads kept.DispatchTimer = on.DispatchTimer
+event_said messages payloads (kept.Deliver place) = delivered (slice_get messages place)
+event_said messages payloads (kept.Submit queue start len) = on.Submit queue (take len (drop start payloads))
+event_said messages payloads (kept.Finish origin id) = on.Finish origin id
+event_said messages payloads kept.Recover = on.Recover
+
+abbrev pub deed_said : List Envelope → List ℕ → KeptDeed → Deed
+deed_said messages payloads done.Nothing = deed.Nothing
+deed_said messages payloads (done.Done event) = deed.Done (event_said messages payloads event)
+deed_said messages payloads (done.Faulted event) = deed.Faulted (event_said messages payloads event)
+deed_said messages payloads done.Crashed = deed.Crashed
+deed_said messages payloads (done.Recovered kept) = deed.Recovered kept
+deed_said messages payloads (done.NotRecovered kept fault) = deed.NotRecovered kept fault
+
+abbrev pub claim_said : List Envelope → List ℕ → KeptEntry → Claim
+claim_said messages payloads e = record { deed = deed_said messages payloads e.deed; sent = part e.start e.end messages }
+
+-- ---- what can be read back, from so many messages and bytes of payloads
+
+abbrev pub EventStands : ℕ → ℕ → KeptEvent → Type 0
+EventStands messages payloads kept.CheckTimer = ⊤
+EventStands messages payloads kept.MergeTimer = ⊤
+EventStands messages payloads kept.AcceptTimer = ⊤
+EventStands messages payloads kept.ReadyTimer = ⊤
+EventStands messages payloads kept.CoordTimer = ⊤
+EventStands messages payloads kept.DispatchTimer = ⊤
+EventStands messages payloads (kept.Deliver place) = place < messages
+EventStands messages payloads (kept.Submit queue start len) = (start + len ≤ payloads) × (len ≤ PAYLOAD_CAPACITY)
+EventStands messages payloads (kept.Finish origin id) = ⊤
+EventStands messages payloads kept.Recover = ⊤
+
+abbrev pub DeedStands : ℕ → ℕ → KeptDeed → Type 0
+DeedStands messages payloads done.Nothing = ⊤
+DeedStands messages payloads (done.Done event) = EventStands messages payloads event
+DeedStands messages payloads (done.Faulted event) = EventStands messages payloads event
+DeedStands messages payloads done.Crashed = ⊤
+DeedStands messages payloads (done.Recovered kept) = ⊤
+DeedStands messages payloads (done.NotRecovered kept fault) = ⊤
+
+pub record EntryStands (messages payloads : ℕ) (e : KeptEntry) : Type 0 where
+  pub deed : DeedStands messages payloads e.deed
+  pub sent : (e.start ≤ e.end) × (e.end ≤ messages)

@@ -1,0 +1,10 @@
+pub mod Claims
+pub mod Desks
+pub mod Kept
+pub mod Keys
+pub mod Orders
+pub mod Posts
+pub mod Runs
+pub mod Traces
+pub mod Twins
+pub mod Verdicts

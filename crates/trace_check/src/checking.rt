@@ -1,0 +1,136 @@
+ghost use Rattle.std.specs.Prelude.{◌≡◌, ◌≤◌, ◌<◌, ◌+◌, [], ℕ, length, slice_get, reverse, IfOk, IsTrue, true, false, MatchOption, Ok, None};
+ghost use Rattle.group_task.specs.Ids.{has, without_id};
+ghost use Rattle.trace_check.specs.Desks.{Fits};
+ghost use Rattle.trace_check.specs.Orders.{history};
+ghost use Rattle.trace_check.specs.Verdicts.{IsVerdict, DecidesRun};
+
+use crate::desk::{Desk, Judgement, Seat, judge, post_all};
+use crate::posted::Posted;
+use crate::replica::Replica;
+use crate::trace::{Trace, Verdict};
+use group_task::{Members, NodeId};
+use std::alloc::{AllocError, Global};
+
+/// Whether some order of all entries is a run. At each turn the least node whose next entry is possible takes it.
+pub fn check(alloc: Global, trace: &Trace) -> Result<Verdict, AllocError>
+    ensures verdict { IfOk result (IsVerdict trace.now) }
+    ensures decides { IfOk result (DecidesRun trace.now) }
+{
+    let mut desk = open(alloc, trace)?;
+    for _turn in 0..u64::MAX {
+        if !take_turn(trace, &mut desk)? {
+            return Ok(decided(trace, desk));
+        }
+    }
+    unreachable!()
+}
+
+/// All nodes opened, and no entry is taken.
+fn open(alloc: Global, trace: &Trace) -> Result<Desk, AllocError>
+    ensures fits { IfOk result (Fits trace.now) }
+    ensures order { IfOk result (λ desk. desk.order.items ≡ []) }
+{
+    let nodes = trace.nodes();
+    let mut seats = Vec::new(alloc);
+    for number in 0..nodes {
+        let replica = Replica::new(alloc, NodeId::numbered(number), nodes)?;
+        seats.push(Seat { replica, place: 0 })?;
+    }
+    Ok(Desk {
+        seats,
+        ready: Members::below(nodes),
+        stopped: Members::new(),
+        posted: Posted::new(alloc),
+        order: Vec::new(alloc),
+    })
+}
+
+/// The least node that can takes its next entry. False where none can.
+fn take_turn(trace: &Trace, desk: &mut Desk) -> Result<bool, AllocError>
+    requires { Fits trace.now desk.old }
+    ensures fits { IfOk result (λ _. Fits trace.now desk.new) }
+    ensures more { IfOk result (λ more. more ≡ true → length desk.new.order.items ≡ length desk.old.order.items + 1) }
+    ensures none { IfOk result (λ more. more ≡ false → (desk.new.ready ≡ []) × (desk.new.order.items ≡ desk.old.order.items)) }
+{
+    while let Some(id) = least(&desk.ready) {
+        if take_next(trace, desk, id)? {
+            return Ok(true);
+        }
+    }
+    Ok(false)
+}
+
+/// The least node of the set.
+fn least(ready: &Members) -> Option<NodeId>
+    ensures { MatchOption result (ready.now ≡ []) (λ id. (has ready.now id ≡ true) × ((m : ℕ) → m < id → has ready.now m ≡ false) × (length (without_id ready.now id) < length ready.now)) }
+{
+    let _len = ready.len();
+    ready.first()
+}
+
+/// The node takes its next entry, if it can.
+fn take_next(trace: &Trace, desk: &mut Desk, id: NodeId) -> Result<bool, AllocError>
+    requires fits { Fits trace.now desk.old }
+    requires ready { has desk.old.ready id ≡ true }
+    requires least { (m : ℕ) → m < id → has desk.old.ready m ≡ false }
+    ensures fits { IfOk result (λ _. Fits trace.now desk.new) }
+    ensures more { IfOk result (λ more. more ≡ true → length desk.new.order.items ≡ length desk.old.order.items + 1) }
+    ensures none { IfOk result (λ more. more ≡ false → (desk.new.ready ≡ without_id desk.old.ready id) × (desk.new.order.items ≡ desk.old.order.items)) }
+{
+    let index = usize::from(id.number());
+    if index >= desk.seats.len() {
+        desk.ready.remove(id);
+        return Ok(false);
+    }
+    let place = desk.seats[index].place;
+    match judge(trace, &mut desk.posted, &mut desk.seats[index], id)? {
+        Judgement::Stops => {
+            desk.ready.remove(id);
+            desk.stopped.insert(id);
+            Ok(false)
+        }
+        Judgement::Waits => {
+            desk.ready.remove(id);
+            Ok(false)
+        }
+        Judgement::Takes => {
+            let Some(entry) = trace.entry(id, place) else {
+                unreachable!()
+            };
+            post_all(
+                &mut desk.posted,
+                &mut desk.ready,
+                &desk.stopped,
+                &entry.sent,
+            )?;
+            desk.order.push(id)?;
+            Ok(true)
+        }
+    }
+}
+
+/// The verdict, which decides whether some order is a run.
+fn decided(trace: &Trace, desk: Desk) -> Verdict
+    requires fits { Fits trace.now desk }
+    requires none { desk.ready ≡ [] }
+    ensures verdict { IsVerdict trace.now result }
+    ensures decides { DecidesRun trace.now result }
+{
+    verdict(trace, desk)
+}
+
+/// The verdict, once no entry more can be taken.
+fn verdict(trace: &Trace, desk: Desk) -> Verdict
+    requires fits { Fits trace.now desk }
+    requires none { desk.ready ≡ [] }
+    ensures { IsVerdict trace.now result }
+{
+    for number in 0..trace.nodes() {
+        let id = NodeId::numbered(number);
+        let index = desk.seats[usize::from(number)].place;
+        if trace.entry(id, index).is_some() {
+            return Verdict::NotARun(id, index);
+        }
+    }
+    Verdict::Run(desk.order)
+}

@@ -1,0 +1,116 @@
+ghost use Rattle.std.specs.Prelude.{◌≡◌, ◌≤◌, ◌<◌, ◌+◌, ◌∷◌, [], ℕ, length, cond, IfOk, OnOk, IfSome, IsNone, IsTrue, true, false, MatchOption};
+ghost use Rattle.group_task.specs.Ids.{has, with_id, without_id};
+ghost use Rattle.trace_check.specs.Claims.{brought_by};
+ghost use Rattle.trace_check.specs.Desks.{Fits, Judges, PostsAll};
+
+use crate::history::Sent;
+use crate::posted::Posted;
+use crate::replica::Replica;
+use crate::trace::{Deed, Trace};
+use group_task::{Members, NodeId};
+use node_core::Event;
+use std::alloc::AllocError;
+use wire_msg::Message;
+
+/// A node of the trace: its replica, and the index of its next entry.
+#[derive(Drop)]
+pub(crate) struct Seat {
+    pub(crate) replica: Replica,
+    pub(crate) place: usize,
+}
+
+/// A check that is under way.
+#[derive(Drop)]
+pub(crate) struct Desk {
+    pub(crate) seats: Vec<Seat>,
+    /// The nodes whose next entry may be possible: the others' isn't, before more is sent.
+    pub(crate) ready: Members,
+    /// The nodes whose next entry isn't possible, whatever is sent. Their replicas are spoiled.
+    pub(crate) stopped: Members,
+    pub(crate) posted: Posted,
+    /// The nodes in the order in which their entries were taken.
+    pub(crate) order: Vec<NodeId>,
+}
+
+/// What can be said of a node's next entry.
+pub(crate) enum Judgement {
+    /// It isn't possible, or there is none.
+    Stops,
+    /// What it was brought isn't sent yet.
+    Waits,
+    Takes,
+}
+
+/// What can be said of the node's next entry. If it can be taken, it is.
+pub(crate) fn judge(
+    trace: &Trace,
+    posted: &mut Posted,
+    seat: &mut Seat,
+    id: NodeId,
+) -> Result<Judgement, AllocError>
+    ensures posted { posted.new ≡ posted.old }
+    ensures judges { IfOk result (Judges trace.now posted.old id seat.old seat.new) }
+{
+    let Some(entry) = trace.entry(id, seat.place) else {
+        return Ok(Judgement::Stops);
+    };
+    if let Some(message) = brought_by(&entry.deed) {
+        if message.receiver() != id {
+            return Ok(Judgement::Stops);
+        }
+        if !posted.contains(message)? {
+            return Ok(Judgement::Waits);
+        }
+    }
+    if !seat.replica.take(&entry)? {
+        return Ok(Judgement::Stops);
+    }
+    seat.place += 1;
+    Ok(Judgement::Takes)
+}
+
+/// The message that a deed was brought.
+fn brought_by(deed: &Deed) -> Option<&Message>
+    ensures { MatchOption result (brought_by deed.now ≡ []) (λ message. brought_by deed.now ≡ message.now ∷ []) }
+{
+    match deed {
+        Deed::Done(Event::Deliver(message)) => Some(message),
+        Deed::Faulted(Event::Deliver(message)) => Some(message),
+        _ => None,
+    }
+}
+
+/// The messages are sent: who waits for one of them may go on.
+pub(crate) fn post_all(
+    posted: &mut Posted,
+    ready: &mut Members,
+    stopped: &Members,
+    sent: &Sent<'_>,
+) -> Result<(), AllocError>
+    ensures { OnOk result (PostsAll stopped.now posted.old posted.new ready.old ready.new sent.now) }
+{
+    for place in 0..sent.len() {
+        let Some(message) = sent.get(place) else {
+            unreachable!()
+        };
+        post(posted, ready, stopped, &message)?;
+    }
+    Ok(())
+}
+
+/// A message is sent.
+fn post(
+    posted: &mut Posted,
+    ready: &mut Members,
+    stopped: &Members,
+    message: &Message,
+) -> Result<(), AllocError>
+    ensures { OnOk result (PostsAll stopped.now posted.old posted.new ready.old ready.new (message.now ∷ [])) }
+{
+    posted.add(message)?;
+    let receiver = message.receiver();
+    if !stopped.contains(receiver) {
+        ready.insert(receiver);
+    }
+    Ok(())
+}

@@ -1,0 +1,154 @@
+ghost use Rattle.std.specs.Prelude.{◌≡◌, ◌≤◌, ◌<◌, ◌+◌, ◌^◌, [], ◌∷◌, ◌++◌, length, slice_get, Some, None, IfSome, IsNone, IsTrue, ◌↔◌, OnOk, OnErr};
+ghost use Rattle.trace_check.specs.Traces.{claim, claim_seen};
+
+use crate::kept::{KeptEntry, deed_said, keep_deed};
+use crate::trace::Deed;
+use job_model::PAYLOAD_CAPACITY;
+use message_list::MessageList;
+use std::alloc::{AllocError, Global};
+use std::marker::Model;
+use wire_msg::Message;
+
+/// The entries of one node, in their order.
+///
+/// An entry takes 48 bytes or less. The message that it was brought and those that it sent stand in a list of messages, which
+/// takes 16 bytes for most, and the payload of a job in a list of bytes.
+#[derive(Drop)]
+pub struct History {
+    entries: Vec<KeptEntry>,
+    messages: MessageList,
+    payloads: Vec<u8>,
+}
+
+impl Model for History {
+    ghost use Rattle.std.specs.Prelude.{List, map, length, All};
+    ghost use Rattle.trace_check.specs.Claims.{Claim};
+    ghost use Rattle.trace_check.specs.Kept.{claim_said, EntryStands};
+
+    ghost Value = { List Claim };
+
+    ghost view = { λ a. map (claim_said a.messages.messages a.payloads.items) a.entries.items };
+
+    ghost invariant = { λ a. All (EntryStands (length a.messages.messages) (length a.payloads.items)) a.entries.items };
+}
+
+impl History {
+    /// A history of no entries. It takes no memory.
+    pub fn new(alloc: Global) -> History
+        ensures { result ≡ [] }
+    {
+        History {
+            entries: Vec::new(alloc),
+            messages: MessageList::new(alloc),
+            payloads: Vec::new(alloc),
+        }
+    }
+
+    /// How many entries there are.
+    pub fn len(&self) -> usize
+        ensures { result ≡ length self.now }
+    {
+        self.entries.len()
+    }
+
+    /// Adds an entry: what was done, and the messages sent in their order.
+    pub fn push(&mut self, deed: &Deed, sent: &[Message]) -> Result<(), AllocError>
+        ensures added { OnOk result (self.new ≡ self.old ++ claim deed.now sent.now ∷ []) }
+        ensures refused { OnErr result (self.new ≡ self.old) }
+    {
+        self.entries.reserve(1)?;
+        self.payloads.reserve(PAYLOAD_CAPACITY)?;
+        self.messages.reserve(sent.len() + 1)?;
+        let deed = keep_deed(&mut self.messages, &mut self.payloads, deed);
+        let start = self.messages.len();
+        keep_messages(&mut self.messages, sent);
+        self.entries.push_reserved(KeptEntry {
+            deed,
+            start,
+            end: self.messages.len(),
+        });
+        Ok(())
+    }
+
+    /// The entry at this place.
+    pub fn entry(&self, place: usize) -> Option<EntryView<'_>>
+        ensures some { IfSome result (λ entry. slice_get self.now place ≡ Some (claim_seen entry)) }
+        ensures none { IsNone result → slice_get self.now place ≡ None }
+        ensures fits { IfSome result (λ _. place + 1 < 2 ^ 64) }
+    {
+        let kept = self.entries.get(place)?;
+        Some(EntryView {
+            deed: deed_said(&self.messages, &self.payloads, kept.deed),
+            sent: Sent {
+                messages: &self.messages,
+                start: kept.start,
+                end: kept.end,
+            },
+        })
+    }
+}
+
+/// Keeps messages, in the room that is there.
+fn keep_messages(messages: &mut MessageList, sent: &[Message])
+    requires { length sent.now ≤ messages.old.room }
+    ensures { messages.new.messages ≡ messages.old.messages ++ sent.now }
+{
+    for message in sent {
+        messages.push(message);
+    }
+}
+
+/// An entry of a history, lent.
+#[derive(Drop)]
+pub struct EntryView<'a> {
+    pub deed: Deed,
+    pub sent: Sent<'a>,
+}
+
+/// The messages that an entry sent, in their order, lent.
+#[derive(Drop)]
+pub struct Sent<'a> {
+    messages: &'a MessageList,
+    start: usize,
+    end: usize,
+}
+
+impl<'a> Model for Sent<'a> {
+    ghost use Rattle.std.specs.Prelude.{◌≤◌, List, length};
+    ghost use Rattle.trace_check.specs.Kept.{part};
+    ghost use Rattle.wire_msg.specs.Envelope.{Envelope};
+
+    ghost Value = { List Envelope };
+
+    ghost view = { λ a. part a.start a.end a.messages.now.messages };
+
+    ghost invariant = { λ a. (a.start ≤ a.end) × (a.end ≤ length a.messages.now.messages) };
+}
+
+impl<'a> Sent<'a> {
+    /// How many messages there are.
+    #[tactic(auto, using(crate::proofs::KeptEntries::part_length))]
+    pub fn len(&self) -> usize
+        ensures { result ≡ length self.now }
+    {
+        self.end - self.start
+    }
+
+    /// Whether there is none.
+    pub fn is_empty(&self) -> bool
+        ensures { IsTrue result ↔ (self.now ≡ []) }
+    {
+        self.len() == 0
+    }
+
+    /// The message at this place.
+    pub fn get(&self, place: usize) -> Option<Message>
+        ensures { result ≡ slice_get self.now place }
+    {
+        if place < self.end - self.start {
+            self.messages.get(self.start + place)
+        } else {
+            None
+        }
+    }
+}

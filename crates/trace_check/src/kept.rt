@@ -1,0 +1,140 @@
+//! Entries as they are kept: an event has over 400 bytes, since the longest message has to fit in it, so what is longer than a
+//! few bytes stands in lists beside.
+
+ghost use Rattle.std.specs.Prelude.{◌≡◌, ◌≤◌, ◌<◌, ◌+◌, ◌++◌, length, vec_len, vec_capacity, Some};
+ghost use Rattle.job_model.specs.declared.payload.TheConstants.{PAYLOAD_CAPACITY};
+ghost use Rattle.histories.specs.What.{brought};
+ghost use Rattle.trace_check.specs.Claims.{brought_by};
+ghost use Rattle.trace_check.specs.Kept.{kept_event, kept_deed, payload_of, payload_in, event_said, deed_said, EventStands, DeedStands};
+
+use crate::trace::{Deed, RecoverFault};
+use group_task::NodeId;
+use job_model::{PAYLOAD_CAPACITY, Payload, Queue};
+use message_list::MessageList;
+use node_core::Event;
+
+/// An event as it is kept.
+#[derive(Clone, Copy)]
+pub enum KeptEvent {
+    CheckTimer,
+    MergeTimer,
+    AcceptTimer,
+    ReadyTimer,
+    CoordTimer,
+    DispatchTimer,
+    /// The message stands at this place of its list.
+    Deliver(usize),
+    /// The payload begins at this place of all payloads, and has so many bytes.
+    Submit(Queue, usize, u16),
+    Finish(NodeId, u64),
+    Recover,
+}
+
+/// What was done, as it is kept.
+#[derive(Clone, Copy)]
+pub enum KeptDeed {
+    Nothing,
+    Done(KeptEvent),
+    Faulted(KeptEvent),
+    Crashed,
+    Recovered(bool),
+    NotRecovered(bool, RecoverFault),
+}
+
+/// An entry as it is kept. What it sent stands in the list of messages from start up to end.
+#[derive(Clone, Copy)]
+pub struct KeptEntry {
+    pub deed: KeptDeed,
+    pub start: usize,
+    pub end: usize,
+}
+
+/// Keeps what was done, in the room that is there.
+pub fn keep_deed(messages: &mut MessageList, payloads: &mut Vec<u8>, deed: &Deed) -> KeptDeed
+    requires room { 1 ≤ messages.old.room }
+    requires bytes { vec_len payloads.old + PAYLOAD_CAPACITY ≤ vec_capacity payloads.old }
+    ensures value { result ≡ kept_deed (length messages.old.messages) (length payloads.old.items) deed.now }
+    ensures messages { messages.new.messages ≡ messages.old.messages ++ brought_by deed.now }
+    ensures left { messages.old.room ≤ messages.new.room + 1 }
+    ensures payloads { payloads.new.items ≡ payloads.old.items ++ payload_in deed.now }
+    ensures few { length (payload_in deed.now) ≤ PAYLOAD_CAPACITY }
+{
+    match deed {
+        Deed::Nothing => KeptDeed::Nothing,
+        Deed::Done(event) => KeptDeed::Done(keep_event(messages, payloads, event)),
+        Deed::Faulted(event) => KeptDeed::Faulted(keep_event(messages, payloads, event)),
+        Deed::Crashed => KeptDeed::Crashed,
+        Deed::Recovered(kept) => KeptDeed::Recovered(*kept),
+        Deed::NotRecovered(kept, fault) => KeptDeed::NotRecovered(*kept, *fault),
+    }
+}
+
+fn keep_event(messages: &mut MessageList, payloads: &mut Vec<u8>, event: &Event) -> KeptEvent
+    requires room { 1 ≤ messages.old.room }
+    requires bytes { vec_len payloads.old + PAYLOAD_CAPACITY ≤ vec_capacity payloads.old }
+    ensures value { result ≡ kept_event (length messages.old.messages) (length payloads.old.items) event.now }
+    ensures messages { messages.new.messages ≡ messages.old.messages ++ brought (Some event.now) }
+    ensures left { messages.old.room ≤ messages.new.room + 1 }
+    ensures payloads { payloads.new.items ≡ payloads.old.items ++ payload_of event.now }
+    ensures few { length (payload_of event.now) ≤ PAYLOAD_CAPACITY }
+{
+    match event {
+        Event::CheckTimer => KeptEvent::CheckTimer,
+        Event::MergeTimer => KeptEvent::MergeTimer,
+        Event::AcceptTimer => KeptEvent::AcceptTimer,
+        Event::ReadyTimer => KeptEvent::ReadyTimer,
+        Event::CoordTimer => KeptEvent::CoordTimer,
+        Event::DispatchTimer => KeptEvent::DispatchTimer,
+        Event::Deliver(message) => {
+            let place = messages.len();
+            messages.push(message);
+            KeptEvent::Deliver(place)
+        }
+        Event::Submit(queue, payload) => {
+            let start = payloads.len();
+            let _ = payloads.extend_from_slice(payload.as_slice());
+            KeptEvent::Submit(*queue, start, payload.len() as u16)
+        }
+        Event::Finish(origin, id) => KeptEvent::Finish(*origin, *id),
+        Event::Recover => KeptEvent::Recover,
+    }
+}
+
+/// What was done, read back.
+pub fn deed_said(messages: &MessageList, payloads: &[u8], deed: KeptDeed) -> Deed
+    requires { DeedStands (length messages.now.messages) (length payloads.now) deed }
+    ensures { result ≡ deed_said messages.now.messages payloads.now deed }
+{
+    match deed {
+        KeptDeed::Nothing => Deed::Nothing,
+        KeptDeed::Done(event) => Deed::Done(event_said(messages, payloads, event)),
+        KeptDeed::Faulted(event) => Deed::Faulted(event_said(messages, payloads, event)),
+        KeptDeed::Crashed => Deed::Crashed,
+        KeptDeed::Recovered(kept) => Deed::Recovered(kept),
+        KeptDeed::NotRecovered(kept, fault) => Deed::NotRecovered(kept, fault),
+    }
+}
+
+fn event_said(messages: &MessageList, payloads: &[u8], event: KeptEvent) -> Event
+    requires { EventStands (length messages.now.messages) (length payloads.now) event }
+    ensures { result ≡ event_said messages.now.messages payloads.now event }
+{
+    match event {
+        KeptEvent::CheckTimer => Event::CheckTimer,
+        KeptEvent::MergeTimer => Event::MergeTimer,
+        KeptEvent::AcceptTimer => Event::AcceptTimer,
+        KeptEvent::ReadyTimer => Event::ReadyTimer,
+        KeptEvent::CoordTimer => Event::CoordTimer,
+        KeptEvent::DispatchTimer => Event::DispatchTimer,
+        KeptEvent::Deliver(place) => match messages.get(place) {
+            Some(message) => Event::Deliver(message),
+            None => unreachable!(),
+        },
+        KeptEvent::Submit(queue, start, len) => {
+            let bytes = &payloads[start..start + usize::from(len)];
+            Event::Submit(queue, Payload::new(bytes).unwrap())
+        }
+        KeptEvent::Finish(origin, id) => Event::Finish(origin, id),
+        KeptEvent::Recover => Event::Recover,
+    }
+}

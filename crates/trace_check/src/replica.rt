@@ -1,0 +1,264 @@
+ghost use Rattle.std.specs.Prelude.{◌≡◌, ◌<◌, ◌≤◌, ◌↔◌, true, IfOk, IfSome, IsTrue};
+ghost use Rattle.group_task.specs.declared.node.TheConstants.{NODES};
+ghost use Rattle.node_core.specs.NodeStep.{IsSpent};
+ghost use Rattle.node_core.specs.Planned.{wanted_by};
+ghost use Rattle.node_core.specs.Start.{down};
+ghost use Rattle.node_core.specs.State.{is_down};
+ghost use Rattle.histories.specs.NodeState.{opening, wants_at};
+ghost use Rattle.histories.specs.What.{Rests, Nothing, Did, Faulted, Crashed, Recovered, MountFailed, RaiseFailed};
+ghost use Rattle.histories.specs.Possible.{IsForNode};
+ghost use Rattle.trace_check.specs.Twins.{Judged, Taken, Settled, WantsOf};
+ghost use Rattle.trace_check.specs.Traces.{claim_seen};
+
+use crate::history::{EntryView, Sent};
+use crate::ledger::Ledger;
+use crate::trace::{Deed, RecoverFault};
+use group_task::NodeId;
+use node_core::{CoreFault, Durable, Event, NodeCore, Phase};
+use std::alloc::{AllocError, Global};
+use std::marker::Model;
+use wire_msg::Message;
+
+/// A node without its disk: what it knows, what its disk keeps, and the command in doubt.
+#[derive(Drop)]
+pub struct Replica {
+    alloc: Global,
+    nodes: u8,
+    core: NodeCore,
+    ledger: Ledger,
+    doubt: Durable,
+}
+
+impl Model for Replica {
+    ghost use Rattle.node_core.specs.Planned.{wanted_by};
+    ghost use Rattle.trace_check.specs.Twins.{Twin, IsReplica, twin};
+
+    ghost Value = { Twin };
+
+    ghost view = { λ a. twin a.core a.ledger (wanted_by a.doubt) };
+
+    ghost invariant = { λ a. IsReplica a.nodes (twin a.core a.ledger (wanted_by a.doubt)) };
+}
+
+impl Replica {
+    /// A node that has just opened.
+    pub fn new(alloc: Global, id: NodeId, nodes: u8) -> Result<Replica, AllocError>
+        requires within { id < nodes }
+        requires most { nodes ≤ NODES }
+        ensures { IfOk result (λ replica. replica ≡ record { id = id; nodes = nodes; node = opening id }) }
+    {
+        Ok(Replica {
+            alloc,
+            nodes,
+            core: NodeCore::new(alloc, id, nodes, 1),
+            ledger: Ledger::new(alloc)?,
+            doubt: Durable::None,
+        })
+    }
+
+    /// Takes an entry of the node's history, if it is possible here: whether a message that was delivered was sent is left
+    /// open. Where it isn't possible, the replica may be spoiled, and is of no more use.
+    pub fn take(&mut self, entry: &EntryView<'_>) -> Result<bool, AllocError>
+        ensures id { self.new.id ≡ self.old.id }
+        ensures nodes { self.new.nodes ≡ self.old.nodes }
+        ensures taken { IfOk result (Taken self.old self.new (claim_seen entry.now)) }
+    {
+        let sent = &entry.sent;
+        match &entry.deed {
+            Deed::Nothing => Ok(sent.is_empty()),
+            Deed::Done(event) => self.handle(event, sent),
+            Deed::Faulted(event) => self.fault(event, sent),
+            Deed::Crashed => Ok(self.crash(sent)),
+            Deed::Recovered(kept) => {
+                if self.is_down() {
+                    self.rise(*kept, sent)
+                } else if *kept {
+                    Ok(false)
+                } else {
+                    self.handle(&Event::Recover, sent)
+                }
+            }
+            Deed::NotRecovered(kept, RecoverFault::Mount) => {
+                Ok(self.is_down() && !*kept && sent.is_empty())
+            }
+            Deed::NotRecovered(kept, RecoverFault::Raise) => {
+                if self.is_down() {
+                    self.fail_to_rise(*kept, sent)
+                } else if *kept {
+                    Ok(false)
+                } else {
+                    self.fault(&Event::Recover, sent)
+                }
+            }
+        }
+    }
+
+    /// An event that is handled.
+    fn handle(&mut self, event: &Event, sent: &Sent<'_>) -> Result<bool, AllocError>
+        ensures id { self.new.id ≡ self.old.id }
+        ensures nodes { self.new.nodes ≡ self.old.nodes }
+        ensures judged { IfOk result (Judged self.old self.new (Did event.now) sent.now) }
+    {
+        if !self.is_for_node(event) {
+            return Ok(false);
+        }
+        let plan = match self.core.plan_step(event, self.ledger.table()) {
+            Ok(plan) => plan,
+            Err(CoreFault::NoMemory) => return Err(AllocError),
+            Err(_) => return Ok(false),
+        };
+        let wants = plan.wants();
+        if self.ledger.is_spent(&wants) {
+            return Ok(false);
+        }
+        let answer = self.ledger.take(&wants)?;
+        let told = self.core.commit_step(plan, answer);
+        Ok(same(&told, sent))
+    }
+
+    /// An event in whose command the device failed.
+    fn fault(&mut self, event: &Event, sent: &Sent<'_>) -> Result<bool, AllocError>
+        ensures id { self.new.id ≡ self.old.id }
+        ensures nodes { self.new.nodes ≡ self.old.nodes }
+        ensures judged { IfOk result (Judged self.old self.new (Faulted event.now) sent.now) }
+    {
+        if !sent.is_empty() {
+            return Ok(false);
+        }
+        let Some(wants) = self.wants(event)? else {
+            return Ok(false);
+        };
+        if matches!(wants, Durable::None) {
+            return Ok(false);
+        }
+        self.fall(wants);
+        Ok(true)
+    }
+
+    /// The command that an event wants. None where the event isn't taken.
+    fn wants(&mut self, event: &Event) -> Result<Option<Durable>, AllocError>
+        ensures same { self.new ≡ self.old }
+        ensures wants { IfOk result (WantsOf self.old event.now) }
+    {
+        if !self.is_for_node(event) {
+            return Ok(None);
+        }
+        let plan = match self.core.plan_step(event, self.ledger.table()) {
+            Ok(plan) => plan,
+            Err(CoreFault::NoMemory) => return Err(AllocError),
+            Err(_) => return Ok(None),
+        };
+        let wants = plan.wants();
+        if self.ledger.is_spent(&wants) {
+            return Ok(None);
+        }
+        Ok(Some(wants))
+    }
+
+    /// The node crashes.
+    fn crash(&mut self, sent: &Sent<'_>) -> bool
+        ensures id { self.new.id ≡ self.old.id }
+        ensures nodes { self.new.nodes ≡ self.old.nodes }
+        ensures judged { Judged self.old self.new Crashed sent.now result }
+    {
+        self.fall(self.doubt);
+        sent.is_empty()
+    }
+
+    /// The node is down, with this command in doubt.
+    fn fall(&mut self, doubt: Durable)
+        requires { IsSpent self.old.node.durable (wanted_by doubt) → ⊥ }
+        ensures { self.new ≡ record self.old { node = record self.old.node { state = down self.old.id; doubt = wanted_by doubt } } }
+    {
+        self.doubt = doubt;
+        self.core = NodeCore::down(self.alloc, self.core.id(), self.nodes);
+    }
+
+    /// A recovery of a node that is down.
+    fn rise(&mut self, kept: bool, sent: &Sent<'_>) -> Result<bool, AllocError>
+        requires { is_down self.old.node.state.phase ≡ true }
+        ensures id { self.new.id ≡ self.old.id }
+        ensures nodes { self.new.nodes ≡ self.old.nodes }
+        ensures judged { IfOk result (Judged self.old self.new (Recovered kept) sent.now) }
+    {
+        if !sent.is_empty() || !self.settle(kept)? || self.ledger.is_spent(&Durable::Raise) {
+            return Ok(false);
+        }
+        let count = self.ledger.take(&Durable::Raise)?;
+        self.core = NodeCore::new(self.alloc, self.core.id(), self.nodes, count);
+        Ok(true)
+    }
+
+    /// A recovery of a node that is down, in whose raise the device failed.
+    fn fail_to_rise(&mut self, kept: bool, sent: &Sent<'_>) -> Result<bool, AllocError>
+        requires { is_down self.old.node.state.phase ≡ true }
+        ensures id { self.new.id ≡ self.old.id }
+        ensures nodes { self.new.nodes ≡ self.old.nodes }
+        ensures judged { IfOk result (Judged self.old self.new (RaiseFailed kept) sent.now) }
+    {
+        if !sent.is_empty() || !self.settle(kept)? || self.ledger.is_spent(&Durable::Raise) {
+            return Ok(false);
+        }
+        self.doubt = Durable::Raise;
+        Ok(true)
+    }
+
+    /// Settles whether the command in doubt is on the disk. False where none is in doubt and one is said to be there.
+    fn settle(&mut self, kept: bool) -> Result<bool, AllocError>
+        requires { is_down self.old.node.state.phase ≡ true }
+        ensures id { self.new.id ≡ self.old.id }
+        ensures nodes { self.new.nodes ≡ self.old.nodes }
+        ensures settled { IfOk result (Settled self.old self.new kept) }
+    {
+        if kept {
+            if matches!(self.doubt, Durable::None) {
+                return Ok(false);
+            }
+            self.ledger.take(&self.doubt)?;
+        }
+        self.doubt = Durable::None;
+        Ok(true)
+    }
+
+    /// Whether the event is one for the node: Recover isn't where the node is down.
+    fn is_for_node(&self, event: &Event) -> bool
+        ensures { IsTrue result ↔ IsForNode self.now.node.state event.now }
+    {
+        match event {
+            Event::Recover => !self.is_down(),
+            _ => true,
+        }
+    }
+
+    /// Whether the node is down.
+    fn is_down(&self) -> bool
+        ensures { result ≡ is_down self.now.node.state.phase }
+    {
+        matches!(self.core.vector().phase, Phase::Down)
+    }
+}
+
+/// Whether these are the same messages.
+fn same(told: &[Message], sent: &Sent<'_>) -> bool
+    ensures { IsTrue result ↔ (told.now ≡ sent.now) }
+{
+    if told.len() != sent.len() {
+        return false;
+    }
+    for place in 0..told.len() {
+        let Some(message) = sent.get(place) else {
+            return false;
+        };
+        if !is_same(&told[place], &message) {
+            return false;
+        }
+    }
+    true
+}
+
+/// Whether this is the same message.
+fn is_same(told: &Message, sent: &Message) -> bool
+    ensures { IsTrue result ↔ (told.now ≡ sent.now) }
+{
+    told == sent
+}

@@ -1,0 +1,90 @@
+ghost use Rattle.std.specs.Prelude.{◌≡◌, ◌<◌, ◌≤◌, ◌+◌, ◌^◌, length, slice_get, Some, None, IfSome, IsNone, vec_len};
+ghost use Rattle.group_task.specs.declared.node.TheConstants.{NODES};
+ghost use Rattle.trace_check.specs.Orders.{history};
+ghost use Rattle.trace_check.specs.Traces.{claim_seen};
+
+use crate::history::{EntryView, History};
+use group_task::NodeId;
+use node_core::Event;
+use std::marker::Model;
+
+/// Why a recovery didn't bring its node up.
+#[derive(Clone, Copy, Debug, PartialEq, Eq)]
+pub enum RecoverFault {
+    /// The disk couldn't be mounted.
+    Mount,
+    /// The device failed in the raise.
+    Raise,
+}
+
+/// What an entry says was done.
+#[derive(Clone, Copy, Debug, PartialEq, Eq)]
+pub enum Deed {
+    /// A refused event, or a poll that found nothing.
+    Nothing,
+    /// The event was handled. It is none of Recover.
+    Done(Event),
+    /// The device failed in the event's command. It is none of Recover.
+    Faulted(Event),
+    /// The node crashed, or its device failed in a compaction.
+    Crashed,
+    /// Recover; of a node that was down, whether the command in doubt was found on the disk.
+    Recovered(bool),
+    /// Recover, which failed so.
+    NotRecovered(bool, RecoverFault),
+}
+
+/// Whether some order of all entries is a run.
+#[derive(Debug, Drop)]
+pub enum Verdict {
+    /// The nodes in the order in which their entries were taken.
+    Run(Vec<NodeId>),
+    /// The least node with entries left once none can be taken, and the index of its next.
+    NotARun(NodeId, usize),
+}
+
+/// The histories of the nodes of a cluster, without any order across nodes.
+#[derive(Drop)]
+pub struct Trace {
+    histories: Vec<History>,
+}
+
+impl Model for Trace {
+    ghost use Rattle.std.specs.Prelude.{◌≤◌, List, length};
+    ghost use Rattle.group_task.specs.declared.node.TheConstants.{NODES};
+    ghost use Rattle.trace_check.specs.Claims.{Claim};
+
+    ghost Value = { List (List Claim) };
+
+    ghost view = { λ a. a.histories.items };
+
+    ghost invariant = { λ a. length a.histories.items ≤ NODES };
+}
+
+impl Trace {
+    /// The trace of these histories, one for each node.
+    pub fn new(histories: Vec<History>) -> Trace
+        requires { vec_len histories ≤ NODES }
+        ensures { result ≡ histories.items }
+    {
+        Trace { histories }
+    }
+
+    /// How many nodes there are.
+    pub fn nodes(&self) -> u8
+        ensures value { result ≡ length self.now }
+        ensures most { result ≤ NODES }
+    {
+        self.histories.len() as u8
+    }
+
+    /// The entry of a node at this place of its history.
+    pub fn entry(&self, node: NodeId, place: usize) -> Option<EntryView<'_>>
+        ensures some { IfSome result (λ entry. slice_get (history self.now node) place ≡ Some (claim_seen entry)) }
+        ensures none { IsNone result → slice_get (history self.now node) place ≡ None }
+        ensures fits { IfSome result (λ _. place + 1 < 2 ^ 64) }
+    {
+        let history = self.histories.get(usize::from(node.number()))?;
+        history.entry(place)
+    }
+}
