@@ -1,0 +1,108 @@
+-- The entry that a JSON value stands for.
+use Rattle.std.specs.Prelude.{ℕ, Bool, true, false, List, [], ◌∷◌, Option, Some, None, option_map, option_and_then, if◌then◌else◌, nat_lt, nat_le, length, codes, Result, Ok, Err}
+use Rattle.std.specs.Str.{bytes_eq}
+use Rattle.serde_json.specs.Data.{Data, Items, no_items, item}
+use Rattle.serde_json.specs.Find.{get, as_str, as_bool, as_array, as_number, as_u64}
+use Rattle.hex.specs.Hex.{decode_of}
+use Rattle.group_task.specs.declared.node.TheConstants.{NODES}
+use Rattle.job_model.specs.declared.payload.TheConstants.{PAYLOAD_CAPACITY}
+use Rattle.job_model.specs.declared.queue.TheConstants.{QUEUES}
+use Rattle.wire_msg.specs.Envelope.{Envelope}
+use Rattle.wire_msg.specs.Reading.{message_of}
+use Rattle.node_core.specs.declared.event.Event.{Event}
+use Rattle.node_core.specs.declared.event.Event.TheVariants as on
+use Rattle.trace_check.specs.declared.trace.Deed.{Deed}
+use Rattle.trace_check.specs.declared.trace.Deed.TheVariants as deed
+use Rattle.trace_check.specs.declared.trace.RecoverFault.TheVariants as recover
+use Rattle.trace_check.specs.Claims.{Claim}
+use Rattle.trace_text.specs.declared.reading.Entry.{Entry}
+
+abbrev pub claim_of : Entry → Claim
+claim_of e = record { deed = e.deed; sent = e.sent.items }
+
+abbrev pub good : {A E : Type 0} → Result A E → Option A
+good (Ok a) = Some a
+good (Err e) = None
+
+-- bytes, as a text of hex digits
+abbrev pub bytes_in : Option Data → Option (List ℕ)
+bytes_in d = option_and_then (λ (text : List ℕ). good (decode_of text)) (option_and_then as_str d)
+
+abbrev pub message_in : Option Data → Option Envelope
+message_in d = option_and_then message_of (bytes_in d)
+
+abbrev pub with_first : {A : Type 0} → Option A → Option (List A) → Option (List A)
+with_first None xs = None
+with_first (Some x) None = None
+with_first (Some x) (Some xs) = Some (x ∷ xs)
+
+abbrev pub messages_in : Items → Option (List Envelope)
+messages_in no_items = Some []
+messages_in (item d ds) = with_first (message_in (Some d)) (messages_in ds)
+
+-- a number without sign, point or exponent
+abbrev pub number_in : Option Data → Option ℕ
+number_in d = option_and_then as_u64 (option_and_then as_number d)
+
+abbrev pub below : ℕ → ℕ → Option ℕ
+below limit n = if nat_lt n limit then Some n else None
+
+abbrev pub short : List ℕ → Option (List ℕ)
+short bytes = if nat_le (length bytes) PAYLOAD_CAPACITY then Some bytes else None
+
+-- ---- what was done
+
+abbrev pub submit_in : Data → Option Event
+submit_in d =
+    option_and_then (λ (queue : ℕ). option_map (λ (payload : List ℕ). on.Submit queue payload) (option_and_then short (bytes_in (get (codes "payload") d)))) (option_and_then (below QUEUES) (number_in (get (codes "queue") d)))
+
+abbrev pub finish_in : Data → Option Event
+finish_in d =
+    option_and_then (λ (origin : ℕ). option_map (λ (id : ℕ). on.Finish origin id) (number_in (get (codes "id") d))) (option_and_then (below NODES) (number_in (get (codes "origin") d)))
+
+abbrev pub event_in : Data → List ℕ → Option Event
+event_in d name =
+    if bytes_eq name (codes "check") then Some on.CheckTimer else
+    if bytes_eq name (codes "merge") then Some on.MergeTimer else
+    if bytes_eq name (codes "accept") then Some on.AcceptTimer else
+    if bytes_eq name (codes "ready") then Some on.ReadyTimer else
+    if bytes_eq name (codes "coord") then Some on.CoordTimer else
+    if bytes_eq name (codes "dispatch") then Some on.DispatchTimer else
+    if bytes_eq name (codes "deliver") then option_map (λ (m : Envelope). on.Deliver m) (message_in (get (codes "msg") d)) else
+    if bytes_eq name (codes "submit") then submit_in d else
+    if bytes_eq name (codes "finish") then finish_in d else None
+
+-- whether the device failed: left out where it didn't
+abbrev pub device_in : Option Data → Option Bool
+device_in None = Some false
+device_in (Some d) = option_and_then (λ (text : List ℕ). if bytes_eq text (codes "device") then Some true else None) (as_str d)
+
+abbrev pub done_in : Event → Bool → Deed
+done_in event true = deed.Faulted event
+done_in event false = deed.Done event
+
+abbrev pub failed_in : Bool → Option (List ℕ) → Option Deed
+failed_in kept None = None
+failed_in kept (Some text) =
+    if bytes_eq text (codes "mount") then Some (deed.NotRecovered kept recover.Mount) else
+    if bytes_eq text (codes "raise") then Some (deed.NotRecovered kept recover.Raise) else None
+
+abbrev pub recovered_in : Bool → Option Data → Option Deed
+recovered_in kept None = Some (deed.Recovered kept)
+recovered_in kept (Some d) = failed_in kept (as_str d)
+
+abbrev pub recover_in : Data → Option Deed
+recover_in d = option_and_then (λ (kept : Bool). recovered_in kept (get (codes "fault") d)) (option_and_then as_bool (get (codes "kept") d))
+
+abbrev pub deed_in : Data → List ℕ → Option Deed
+deed_in d name =
+    if bytes_eq name (codes "none") then Some deed.Nothing else
+    if bytes_eq name (codes "crash") then Some deed.Crashed else
+    if bytes_eq name (codes "recover") then recover_in d else
+    option_and_then (λ (event : Event). option_map (λ (failed : Bool). done_in event failed) (device_in (get (codes "fault") d))) (event_in d name)
+
+-- the entry; None where a field is missing or wrong
+abbrev pub claim_in : Data → Option Claim
+claim_in d =
+    option_and_then (λ (done : Deed). option_map (λ (sent : List Envelope). record { deed = done; sent = sent }) (option_and_then messages_in (option_and_then as_array (get (codes "sent") d))))
+    (option_and_then (deed_in d) (option_and_then as_str (get (codes "do") d)))
