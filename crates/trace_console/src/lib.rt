@@ -1,0 +1,9 @@
+//! The command `trace`: a trace in, the verdict on it out.
+#![tactic(auto)]
+
+mod judging;
+
+pub use judging::trace;
+
+#[cfg(test)]
+mod tests;

@@ -1,0 +1,335 @@
+use super::trace;
+use console_text::push_text;
+use std::alloc::{AllocError, Global};
+use std::process::Abort;
+use std::test::Fail;
+
+// Expects this text for a trace, and that the status is 0 exactly where it is a Run.
+fn expect(rt: &impl Abort, alloc: Global, text: &[u8], want: &[u8]) {
+    let mut input = text;
+    let mut output = Vec::new(alloc);
+    let ending = trace(alloc, &mut input, &mut output);
+    assert!(rt; output.as_slice() == want);
+    assert_eq!(rt; ending.status() == 0, want.starts_with(b"Run"));
+}
+
+// Traces, and what is printed for each.
+const WHOLE: [(&str, &str); 20] = [
+    (
+        r#"{"nodes":2,"histories":[[{"do":"check","sent":["010100010000"]},{"do":"deliver","msg":"01020100000101","sent":[]}],[{"do":"deliver","msg":"010100010000","sent":["01020100000101"]}]]}"#,
+        "Run 0 1 0\n",
+    ),
+    (
+        r#"{"nodes":2,"histories":[[],[{"do":"deliver","msg":"010100010000","sent":["01020100000101"]}]]}"#,
+        "NotARun 1 0\n",
+    ),
+    // A circle, of which each history by itself is lawful, and half of it.
+    (
+        r#"{"nodes":2,"histories":[[{"do":"deliver","msg":"010101000000","sent":["01020001000101"]}],[{"do":"deliver","msg":"01020001000101","sent":[]},{"do":"check","sent":["010101000000"]}]]}"#,
+        "NotARun 0 0\n",
+    ),
+    (
+        r#"{"nodes":2,"histories":[[{"do":"deliver","msg":"010101000000","sent":["01020001000101"]}],[{"do":"check","sent":["010101000000"]}]]}"#,
+        "Run 1 0\n",
+    ),
+    // A message that isn't for its node.
+    (
+        r#"{"nodes":2,"histories":[[{"do":"check","sent":["010100010000"]},{"do":"deliver","msg":"010100010000","sent":[]}],[]]}"#,
+        "NotARun 0 1\n",
+    ),
+    // No entries, keys that aren't named, equal keys, space.
+    (r#"{"nodes":1,"histories":[[]]}"#, "Run\n"),
+    (
+        r#" { "x" : [ 1.5 ] , "histories" : [ [ ] , [ ] ] , "nodes" : 2 } "#,
+        "Run\n",
+    ),
+    (
+        r#"{"nodes":3,"nodes":1,"histories":7,"histories":[[]]}"#,
+        "Run\n",
+    ),
+    // Another shape, which is judged before any entry.
+    (r#""#, "bad trace\n"),
+    (r#"[]"#, "bad trace\n"),
+    (r#"{"nodes":0,"histories":[]}"#, "bad trace\n"),
+    (r#"{"nodes":2,"histories":[[]]}"#, "bad trace\n"),
+    (r#"{"nodes":1.0,"histories":[[]]}"#, "bad trace\n"),
+    (r#"{"nodes":"1","histories":[[]]}"#, "bad trace\n"),
+    (r#"{"histories":[[]]}"#, "bad trace\n"),
+    (r#"{"nodes":1}"#, "bad trace\n"),
+    (r#"{"nodes":2,"histories":[[{"do":1}],3]}"#, "bad trace\n"),
+    (r#"{"nodes":1,"histories":[[]]} 1"#, "bad trace\n"),
+    (r#"{"nodes":1,"histories":[[]]"#, "bad trace\n"),
+    // Of several bad entries the one of the least node, and there of the least index.
+    (
+        r#"{"nodes":3,"histories":[[],[{"do":"none","sent":[]},1,{}],[{}]]}"#,
+        "bad trace 1 1\n",
+    ),
+];
+
+// Entries of the one node of a cluster, and what is printed for each.
+const ENTRIES: [(&str, &str); 36] = [
+    (r#"{"do":"none","sent":[]}"#, "Run 0\n"),
+    (r#"{"do":"none","sent":["010100010000"]}"#, "NotARun 0 0\n"),
+    (
+        r#"{"do":"none","sent":[],"kept":7,"fault":null,"msg":{"a":[1.5]}}"#,
+        "Run 0\n",
+    ),
+    (r#"{"do":"what","do":"none","sent":[]}"#, "Run 0\n"),
+    (r#"{"do":"check","sent":[]}"#, "Run 0\n"),
+    (r#"{"do":"merge","sent":[]}"#, "Run 0\n"),
+    (r#"{"do":"accept","sent":[]}"#, "Run 0\n"),
+    (r#"{"do":"ready","sent":[]}"#, "Run 0\n"),
+    (r#"{"do":"coord","sent":[]}"#, "Run 0\n"),
+    (r#"{"do":"dispatch","sent":[]}"#, "Run 0\n"),
+    (
+        r#"{"do":"check","fault":"device","sent":[]}"#,
+        "NotARun 0 0\n",
+    ),
+    (
+        r#"{"do":"deliver","msg":"010101000000","sent":["01020001000101"]}"#,
+        "NotARun 0 0\n",
+    ),
+    (
+        r#"{"do":"submit","queue":0,"payload":"","sent":[]}"#,
+        "Run 0\n",
+    ),
+    (
+        r#"{"do":"submit","queue":15,"payload":"fF","fault":"device","sent":[]}"#,
+        "Run 0\n",
+    ),
+    (
+        r#"{"do":"crash","sent":[]},{"do":"submit","queue":0,"payload":"","sent":[]}"#,
+        "NotARun 0 1\n",
+    ),
+    (
+        r#"{"do":"submit","queue":0,"payload":"","sent":[]},{"do":"finish","origin":0,"id":0,"sent":[]}"#,
+        "Run 0 0\n",
+    ),
+    (
+        r#"{"do":"submit","queue":0,"payload":"","sent":[]},{"do":"finish","origin":0,"id":0,"fault":"device","sent":[]},{"do":"recover","kept":true,"sent":[]}"#,
+        "Run 0 0 0\n",
+    ),
+    (
+        r#"{"do":"finish","origin":0,"id":0,"sent":[]}"#,
+        "NotARun 0 0\n",
+    ),
+    (
+        r#"{"do":"finish","origin":63,"id":18446744073709551615,"sent":[]}"#,
+        "NotARun 0 0\n",
+    ),
+    (r#"{"do":"crash","sent":[]}"#, "Run 0\n"),
+    (r#"{"do":"crash","sent":["010100010000"]}"#, "NotARun 0 0\n"),
+    (
+        r#"{"do":"crash","sent":[]},{"do":"recover","kept":false,"sent":[]}"#,
+        "Run 0 0\n",
+    ),
+    (
+        r#"{"do":"crash","sent":[]},{"do":"recover","kept":true,"sent":[]}"#,
+        "NotARun 0 1\n",
+    ),
+    (r#"{"do":"recover","kept":false,"sent":[]}"#, "Run 0\n"),
+    (r#"{"do":"recover","kept":true,"sent":[]}"#, "NotARun 0 0\n"),
+    (
+        r#"{"do":"recover","kept":false,"fault":"mount","sent":[]}"#,
+        "NotARun 0 0\n",
+    ),
+    (
+        r#"{"do":"crash","sent":[]},{"do":"recover","kept":false,"fault":"mount","sent":[]}"#,
+        "Run 0 0\n",
+    ),
+    (
+        r#"{"do":"crash","sent":[]},{"do":"recover","kept":true,"fault":"mount","sent":[]}"#,
+        "NotARun 0 1\n",
+    ),
+    (
+        r#"{"do":"recover","kept":false,"fault":"raise","sent":[]}"#,
+        "Run 0\n",
+    ),
+    (
+        r#"{"do":"recover","kept":true,"fault":"raise","sent":[]}"#,
+        "NotARun 0 0\n",
+    ),
+    (
+        r#"{"do":"recover","kept":false,"fault":"raise","sent":["010100010000"]}"#,
+        "NotARun 0 0\n",
+    ),
+    // A command in doubt is settled once, and stays in doubt where the disk isn't mounted or the node crashes again.
+    (
+        r#"{"do":"recover","kept":false,"fault":"raise","sent":[]},{"do":"recover","kept":true,"sent":[]}"#,
+        "Run 0 0\n",
+    ),
+    (
+        r#"{"do":"recover","kept":false,"fault":"raise","sent":[]},{"do":"recover","kept":false,"fault":"mount","sent":[]},{"do":"crash","sent":[]},{"do":"recover","kept":true,"sent":[]}"#,
+        "Run 0 0 0 0\n",
+    ),
+    (
+        r#"{"do":"recover","kept":false,"fault":"raise","sent":[]},{"do":"recover","kept":false,"sent":[]},{"do":"crash","sent":[]},{"do":"recover","kept":true,"sent":[]}"#,
+        "NotARun 0 3\n",
+    ),
+    (
+        r#"{"do":"crash","sent":[]},{"do":"recover","kept":false,"fault":"raise","sent":[]},{"do":"recover","kept":true,"sent":[]}"#,
+        "Run 0 0 0\n",
+    ),
+    (
+        r#"{"do":"recover","kept":false,"fault":"raise","sent":[]},{"do":"recover","kept":true,"fault":"raise","sent":[]},{"do":"recover","kept":true,"sent":[]}"#,
+        "Run 0 0 0\n",
+    ),
+];
+
+// Entries of which each is a bad one: a field is missing, of another type, or out of its range.
+const BAD: [&str; 42] = [
+    r#"1"#,
+    r#"null"#,
+    r#"[]"#,
+    r#"{}"#,
+    r#"{"sent":[]}"#,
+    r#"{"do":1,"sent":[]}"#,
+    r#"{"do":"Crash","sent":[]}"#,
+    r#"{"do":"none"}"#,
+    r#"{"do":"none","sent":""}"#,
+    r#"{"do":"none","sent":[1]}"#,
+    r#"{"do":"none","sent":["-"]}"#,
+    r#"{"do":"none","sent":["0"]}"#,
+    r#"{"do":"none","sent":["0x"]}"#,
+    r#"{"do":"none","sent":["010100000000"]}"#,
+    r#"{"do":"none","sent":["01010001000000"]}"#,
+    r#"{"do":"deliver","sent":[]}"#,
+    r#"{"do":"deliver","msg":1,"sent":[]}"#,
+    r#"{"do":"deliver","msg":"","sent":[]}"#,
+    r#"{"do":"deliver","msg":"0102000200010","sent":[]}"#,
+    r#"{"do":"deliver","msg":"01020002000102","sent":[]}"#,
+    r#"{"do":"submit","payload":"","sent":[]}"#,
+    r#"{"do":"submit","queue":"0","payload":"","sent":[]}"#,
+    r#"{"do":"submit","queue":16,"payload":"","sent":[]}"#,
+    r#"{"do":"submit","queue":-1,"payload":"","sent":[]}"#,
+    r#"{"do":"submit","queue":-0,"payload":"","sent":[]}"#,
+    r#"{"do":"submit","queue":1.0,"payload":"","sent":[]}"#,
+    r#"{"do":"submit","queue":1e0,"payload":"","sent":[]}"#,
+    r#"{"do":"submit","queue":0,"sent":[]}"#,
+    r#"{"do":"submit","queue":0,"payload":"-","sent":[]}"#,
+    r#"{"do":"submit","queue":0,"payload":[],"sent":[]}"#,
+    r#"{"do":"finish","id":0,"sent":[]}"#,
+    r#"{"do":"finish","origin":256,"id":0,"sent":[]}"#,
+    r#"{"do":"finish","origin":0,"sent":[]}"#,
+    r#"{"do":"finish","origin":0,"id":18446744073709551616,"sent":[]}"#,
+    r#"{"do":"recover","sent":[]}"#,
+    r#"{"do":"recover","kept":0,"sent":[]}"#,
+    r#"{"do":"recover","kept":null,"sent":[]}"#,
+    r#"{"do":"recover","kept":false,"fault":"device","sent":[]}"#,
+    r#"{"do":"recover","kept":false,"fault":null,"sent":[]}"#,
+    r#"{"do":"check","fault":"raise","sent":[]}"#,
+    r#"{"do":"check","fault":true,"sent":[]}"#,
+    r#"{"do":"finish","origin":0,"id":0,"fault":"mount","sent":[]}"#,
+];
+
+// The trace of a cluster of one node with these entries.
+fn of_one_node(alloc: Global, entries: &str) -> Result<Vec<u8>, AllocError> {
+    let mut text = Vec::new(alloc);
+    push_text(&mut text, "{\"nodes\":1,\"histories\":[[")?;
+    push_text(&mut text, entries)?;
+    push_text(&mut text, "]]}")?;
+    Ok(text)
+}
+
+#[test]
+fn whole_traces(rt: HostRuntime) {
+    for (text, want) in WHOLE.iter() {
+        expect(&rt, rt.alloc(), text.as_bytes(), want.as_bytes());
+    }
+}
+
+#[test]
+fn table_of_entries(rt: HostRuntime) -> Result<(), Fail> {
+    for (entries, want) in ENTRIES.iter() {
+        let text = of_one_node(rt.alloc(), entries)?;
+        expect(&rt, rt.alloc(), &text, want.as_bytes());
+    }
+    Ok(())
+}
+
+#[test]
+fn bad_entries(rt: HostRuntime) -> Result<(), Fail> {
+    for entry in BAD.iter() {
+        let text = of_one_node(rt.alloc(), entry)?;
+        expect(&rt, rt.alloc(), &text, b"bad trace 0 0\n");
+    }
+    Ok(())
+}
+
+// The word, so many times.
+fn push_times(text: &mut Vec<u8>, word: &str, times: u32) -> Result<(), AllocError> {
+    for _time in 0..times {
+        push_text(text, word)?;
+    }
+    Ok(())
+}
+
+// The trace of a node with no entries, with a list nested so deep under a key that isn't named.
+fn nested(alloc: Global, depth: u32) -> Result<Vec<u8>, AllocError> {
+    let mut text = Vec::new(alloc);
+    push_text(&mut text, "{\"nodes\":1,\"histories\":[[]],\"x\":")?;
+    push_times(&mut text, "[", depth)?;
+    push_times(&mut text, "]", depth)?;
+    push_text(&mut text, "}")?;
+    Ok(text)
+}
+
+#[test]
+fn levels(rt: HostRuntime) -> Result<(), Fail> {
+    let alloc = rt.alloc();
+    expect(&rt, alloc, &nested(alloc, 126)?, b"Run\n");
+    expect(&rt, alloc, &nested(alloc, 127)?, b"bad trace\n");
+    Ok(())
+}
+
+#[test]
+fn no_utf8(rt: HostRuntime) {
+    let alloc = rt.alloc();
+    expect(
+        &rt,
+        alloc,
+        b"{\"nodes\":1,\"histories\":[[]],\"x\":\"\xff\"}",
+        b"bad trace\n",
+    );
+}
+
+// The trace of a node that submits a job of so many bytes.
+fn submitted(alloc: Global, bytes: u32) -> Result<Vec<u8>, AllocError> {
+    let mut text = Vec::new(alloc);
+    push_text(
+        &mut text,
+        "{\"nodes\":1,\"histories\":[[{\"do\":\"submit\",\"queue\":0,\"payload\":\"",
+    )?;
+    push_times(&mut text, "61", bytes)?;
+    push_text(&mut text, "\",\"sent\":[]}]]}")?;
+    Ok(text)
+}
+
+#[test]
+fn payload_limit(rt: HostRuntime) -> Result<(), Fail> {
+    let alloc = rt.alloc();
+    expect(&rt, alloc, &submitted(alloc, 400)?, b"Run 0\n");
+    expect(&rt, alloc, &submitted(alloc, 401)?, b"bad trace 0 0\n");
+    Ok(())
+}
+
+// The trace of a node that rests so many times and once more, and what is printed for it.
+fn rests(alloc: Global, times: u32) -> Result<(Vec<u8>, Vec<u8>), AllocError> {
+    let mut text = Vec::new(alloc);
+    push_text(&mut text, "{\"nodes\":1,\"histories\":[[")?;
+    push_times(&mut text, "{\"do\":\"none\",\"sent\":[]},", times)?;
+    push_text(&mut text, "{\"do\":\"none\",\"sent\":[]}]]}")?;
+    let mut want = Vec::new(alloc);
+    push_text(&mut want, "Run 0")?;
+    push_times(&mut want, " 0", times)?;
+    push_text(&mut want, "\n")?;
+    Ok((text, want))
+}
+
+#[test]
+fn many_entries(rt: HostRuntime) -> Result<(), Fail> {
+    let alloc = rt.alloc();
+    let (text, want) = rests(alloc, 65_536)?;
+    expect(&rt, alloc, &text, &want);
+    Ok(())
+}
