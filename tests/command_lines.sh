@@ -45,7 +45,7 @@ refused() {
     start 'unread\n' "$room/out" "$@"
     [ "$status" -eq 2 ] || problem="status $status in place of 2"
     [ ! -s "$room/err" ] || problem='it writes to standard error'
-    for command in answer show sim store; do
+    for command in answer show sim store format node trace; do
         grep -q "^  $command " "$room/out" || problem="the usage text doesn't name $command"
     done
     cmp -s "$room/in" "$room/left" || problem='it read its input'
@@ -93,6 +93,7 @@ refused show 1
 refused sim 1
 refused store
 refused store a b
+refused trace 1
 
 prints 0 '010102000000\n' '01020002000101\n' answer 0 3
 prints 0 '010102000000\n' '01020002000101\n' answer 0 128
@@ -142,10 +143,15 @@ if [ ! -w "$file" ]; then
 fi
 chmod u+w "$file"
 prints 0 'mount\nlist\n' 'ok\ncount 1 next 1\n' store "$file"
+prints 0 '{"nodes":2,"histories":[[{"do":"check","sent":["010100010000"]}],[{"do":"deliver","msg":"010100010000","sent":["01020100000101"]}]]}' 'Run 0 1\n' trace
+prints 1 '{"nodes":2,"histories":[[],[{"do":"deliver","msg":"010100010000","sent":["01020100000101"]}]]}\n' 'NotARun 1 0\n' trace
+prints 1 '{"nodes":1,"histories":[[{"do":"none","sent":[]},{"do":"none"}]]}\n' 'bad trace 0 1\n' trace
+prints 1 '' 'bad trace\n' trace
 
 full '010102000000\n' answer 0 3
 full '010102000000\n' show
 full 'cluster 1 4\n' sim
+full '' trace
 full 'mount\n' store "$file"
 
 echo "$passed passed, $failed failed"

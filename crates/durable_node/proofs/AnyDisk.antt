@@ -46,7 +46,7 @@ module _ {Disk : Type 0} (id nodes : ℕ) (core core' : Core) (disk gone : Optio
       → Left (Err fault) (found_in (Some (durable_of mid).counter) (Some end))
   failed_with fault (inl is) failed refused =
       let f = failed is in
-      subst (λ (d : Option Durable). Left (Err fault) d) (sym (found_still (durable_of mid) end f.kept)) (f.state, inl (is, f.doubt))
+      subst (λ (d : Option Durable). Left (Err fault) d) (sym (found_still (durable_of mid) end f.kept)) (f.state, inl (is, f.doubt, f.fits))
   failed_with fault (inr other) failed refused =
       let r = refused other in
       subst (λ (d : Option Durable). Left (Err fault) d) (sym (found_still (durable_of mid) end (ap (λ (st : StoreState Disk). durable_of st) r.2))) (r.1, inr (r.0.told, r.0.spent, r.3))
@@ -59,5 +59,5 @@ module _ {Disk : Type 0} (id nodes : ℕ) (core core' : Core) (disk gone : Optio
   remounted_at (Ok step) risen failed refused =
       let up : is_down core'.state.phase ≡ false = ap (λ (v : State). is_down v.phase) risen.state in
       subst (λ (d : Option Durable). Left (Ok step) d) (sym (found_risen (durable_of mid) end risen.kept))
-      (up_kept (is_down core'.state.phase) end up ∙ ap (λ (d : Durable). Some d) risen.kept, risen.state, risen.doubt, risen.sent, risen.answer)
+      (up_kept (is_down core'.state.phase) end up ∙ ap (λ (d : Durable). Some d) risen.kept, risen.state, risen.doubt, risen.sent, risen.answer, risen.fits)
   remounted_at (Err fault) risen failed refused = failed_with fault (is_device fault) (λ e. failed (ap (λ (f : NodeFault). Err f) e)) refused

@@ -48,7 +48,7 @@ IsUnmounted node.TooSmall = Unit {0}
 abbrev pub Remounted : {Disk : Type 0} → Node Disk → Node Disk → Result Step NodeFault → Option Durable → Type 0
 Remounted old new (Ok step) None = ⊥
 Remounted old new (Ok step) (Some found) =
-    (new.kept ≡ Some (after_command found Raise)) × (new.state ≡ alone old.id (found.counter + 1)) × (new.doubt ≡ None) × (step.sent.items ≡ []) × (step.answer ≡ Some (found.counter + 1))
+    (new.kept ≡ Some (after_command found Raise)) × (new.state ≡ alone old.id (found.counter + 1)) × (new.doubt ≡ None) × (step.sent.items ≡ []) × (step.answer ≡ Some (found.counter + 1)) × (found.counter + 1 < 2 ^ 64)
 Remounted old new (Err fault) None = IsUnmounted fault × (new.state ≡ old.state) × (new.doubt ≡ old.doubt)
 Remounted old new (Err fault) (Some found) =
-    (new.state ≡ old.state) × (((fault ≡ node.Device) × (new.doubt ≡ Some (wanted.Raise, found.counter))) ⊎ ((fault ≡ node.Exhausted) × (found.counter ≡ 2 ^ 64 - 1) × (new.doubt ≡ old.doubt)))
+    (new.state ≡ old.state) × (((fault ≡ node.Device) × (new.doubt ≡ Some (wanted.Raise, found.counter)) × (found.counter + 1 < 2 ^ 64)) ⊎ ((fault ≡ node.Exhausted) × (found.counter ≡ 2 ^ 64 - 1) × (new.doubt ≡ old.doubt)))

@@ -1,5 +1,7 @@
 // The disk of a node.
-ghost use Rattle.std.specs.Prelude.{IsSome};
+ghost use Rattle.std.specs.Prelude.{◌≡◌, IsSome, true};
+ghost use Rattle.node_core.specs.Start.{down};
+ghost use Rattle.node_core.specs.State.{is_down};
 
 use crate::node::DurableNode;
 use sector_disk::SectorDisk;
@@ -10,5 +12,12 @@ impl<D: SectorDisk> DurableNode<D> {
         ensures { IsSome self.now.disk }
     {
         let _ = &self.disk;
+    }
+
+    /// A node that is Down is in the one state of a node that is Down.
+    pub fn is_fallen(&self)
+        ensures { is_down self.now.state.phase ≡ true → self.now.state ≡ down self.now.id }
+    {
+        let _ = &self.core;
     }
 }

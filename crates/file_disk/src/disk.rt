@@ -25,10 +25,10 @@ use std::path::AsPath;
 /// system. What the system then did with data that it hadn't written out isn't known, and a later sync may answer that all is well.
 #[derive(Drop)]
 pub struct FileDisk {
-    file: File,
+    pub(crate) file: File,
     sectors: u64,
     stride: Stride,
-    spent: bool,
+    pub(crate) spent: bool,
     failures: u64,
 }
 
@@ -95,8 +95,13 @@ impl FileDisk {
         Ok(over(file, length, stride))
     }
 
+    // Where the last sector ends.
+    pub(crate) fn end(&self) -> u64 {
+        self.sectors * self.stride.bytes()
+    }
+
     // Counts a call that failed.
-    fn fail(&mut self) -> Result<(), DiskFault>
+    pub(crate) fn fail(&mut self) -> Result<(), DiskFault>
         ensures device { IsErrOf result Device }
         ensures counted { self.new ≡ record self.old { failures = risen self.old.failures } }
     {
@@ -105,7 +110,7 @@ impl FileDisk {
     }
 
     // What a write or a sync answers: after one that failed the disk is spent.
-    fn answer(&mut self, done: io::Result<()>) -> Result<(), DiskFault>
+    pub(crate) fn answer(&mut self, done: io::Result<()>) -> Result<(), DiskFault>
         ensures done { IsOk result ↔ IsOk done }
         ensures device { IsOkUnless result Device }
         ensures ok { IsOk result → self.new ≡ self.old }

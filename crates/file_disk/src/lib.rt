@@ -3,6 +3,9 @@
 
 mod disk;
 mod fault;
+mod label;
+#[cfg(test)]
+mod label_tests;
 mod making;
 #[cfg(test)]
 mod making_tests;
@@ -16,4 +19,5 @@ mod zeros;
 
 pub use disk::FileDisk;
 pub use fault::OpenFault;
+pub use label::LABEL;
 pub use stride::Stride;

@@ -78,6 +78,13 @@ impl Trace {
         self.histories.len() as u8
     }
 
+    /// The histories, one for each node.
+    pub fn histories(&self) -> &[History]
+        ensures { result.now ≡ self.now }
+    {
+        &self.histories
+    }
+
     /// The entry of a node at this place of its history.
     pub fn entry(&self, node: NodeId, place: usize) -> Option<EntryView<'_>>
         ensures some { IfSome result (λ entry. slice_get (history self.now node) place ≡ Some (claim_seen entry)) }

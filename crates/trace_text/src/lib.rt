@@ -8,10 +8,12 @@
 mod fault;
 mod reading;
 mod whole;
+mod writing;
 
 pub use fault::{Spot, TraceFault};
 pub use reading::{Entry, read_entry};
 pub use whole::read;
+pub use writing::write;
 
 #[cfg(test)]
 mod tests;

@@ -1,0 +1,44 @@
+// The label of a file, behind its last sector.
+ghost use Rattle.std.specs.Prelude.{◌≡◌, IsOk, IsErrOf, IsOkUnless, true};
+ghost use Rattle.sector_disk.specs.Memory.{risen};
+ghost use Rattle.sector_disk.specs.declared.fault.DiskFault.TheVariants.{Device};
+
+use crate::disk::FileDisk;
+use crate::places::{read_at, write_at};
+use sector_disk::DiskFault;
+use std::fs::File;
+use std::io;
+
+/// How many bytes a label has. They are fewer than a sector's, so the file has as many sectors with it as without.
+pub const LABEL: usize = 16;
+
+impl FileDisk {
+    /// Writes the label behind the last sector, and syncs the file with its new length.
+    pub fn set_label(&mut self, label: &[u8; LABEL]) -> Result<(), DiskFault>
+        ensures device { IsOkUnless result Device }
+        ensures ok { IsOk result → self.new ≡ self.old }
+        ensures failed { IsErrOf result Device → self.new ≡ record self.old { spent = true; failures = risen self.old.failures } }
+    {
+        if self.spent {
+            return self.fail();
+        }
+        let done = write_label(&self.file, self.end(), label);
+        self.answer(done)
+    }
+
+    /// The label of the file; none where there aren't just so many bytes behind the last sector.
+    pub fn label(&self) -> io::Result<Option<[u8; LABEL]>> {
+        let length = self.file.metadata()?.len();
+        if length.saturating_sub(self.end()) != LABEL as u64 {
+            return Ok(None);
+        }
+        let mut label = [0u8; LABEL];
+        read_at(&self.file, self.end(), &mut label)?;
+        Ok(Some(label))
+    }
+}
+
+fn write_label(file: &File, place: u64, label: &[u8]) -> io::Result<()> {
+    write_at(file, place, label)?;
+    file.sync_all()
+}

@@ -1,0 +1,128 @@
+-- Calls of the node, one behind another.
+use Rattle.std.proofs.Common.{◌≡◌, ℕ, List, [], ◌∷◌, ◌++◌, refl, sym, ap, ◌∙◌, subst, append_assoc, append-nil, Result, Ok, Err}
+use Rattle.std.specs.Prelude.{IfOk}
+use Rattle.sector_disk.specs.Disk.{DiskState}
+use Rattle.node_core.specs.declared.event.Event.{Event}
+use Rattle.node_store.specs.Store.{slots_for}
+use Rattle.durable_node.specs.Node.{Node, Stands}
+use Rattle.histories.specs.NodeState.{NodeState}
+use Rattle.node_session.specs.declared.ended.Ended.{Ended}
+use Rattle.node_session.specs.Turns.{Turn, after_turn, end_of, IsTimer, IsTimely, IsGoing, MayComeOf}
+use Rattle.node_session.specs.Chains.{AreGoing, AreTimely, IsOne, after_turns, last_end}
+use Rattle.node_session.specs.Text.{turn_text, turns_text}
+use Rattle.node_session.specs.Serving.{Progress, IsNodeOf, Turned, Turns, Called, Calls}
+
+-- ---- one more turn behind others
+
+after_more : (self nodes : ℕ) (s : NodeState) (ts : List Turn) (t : Turn) → after_turns self nodes s (ts ++ t ∷ []) ≡ after_turn self nodes (after_turns self nodes s ts) t
+after_more self nodes s [] t = refl
+after_more self nodes s (u ∷ ts) t = after_more self nodes (after_turn self nodes s u) ts t
+
+end_more : (self nodes : ℕ) (before : Ended) (s : NodeState) (ts : List Turn) (t : Turn) → last_end self nodes before s (ts ++ t ∷ []) ≡ end_of self nodes (after_turns self nodes s ts) t
+end_more self nodes before s [] t = refl
+end_more self nodes before s (u ∷ ts) t = end_more self nodes (end_of self nodes s u) (after_turn self nodes s u) ts t
+
+going_more : (ts : List Turn) (t : Turn) → AreGoing ts → IsGoing t → AreGoing (ts ++ t ∷ [])
+going_more [] t all more = (more, tt)
+going_more (u ∷ ts) t all more = (all.0, going_more ts t all.1 more)
+
+timely_more : (self nodes slots : ℕ) (s : NodeState) (ts : List Turn) (t : Turn) → AreTimely self nodes slots s ts → IsTimely self nodes slots (after_turns self nodes s ts) t
+    → AreTimely self nodes slots s (ts ++ t ∷ [])
+timely_more self nodes slots s [] t all more = (more, tt)
+timely_more self nodes slots s (u ∷ ts) t all more = (all.0, timely_more self nodes slots (after_turn self nodes s u) ts t all.1 more)
+
+text_more : (self nodes : ℕ) (s : NodeState) (ts : List Turn) (t : Turn) → turns_text self nodes s (ts ++ t ∷ []) ≡ turns_text self nodes s ts ++ turn_text self nodes (after_turns self nodes s ts) t
+text_more self nodes s [] t = append-nil (turn_text self nodes s t)
+text_more self nodes s (u ∷ ts) t =
+    ap (λ (x : List ℕ). turn_text self nodes s u ++ x) (text_more self nodes (after_turn self nodes s u) ts t)
+    ∙ sym (append_assoc (turn_text self nodes s u) (turns_text self nodes (after_turn self nodes s u) ts) _)
+
+-- ---- the node stays the same
+
+pub node_refl : {Disk : Type 0} (disks : Disk → DiskState) (n : Node Disk) → IsNodeOf disks n n
+node_refl disks n = record { id = refl; nodes = refl; disk = λ was is. record { now = was; is = is; sectors = refl; honest = refl } }
+
+pub node_then : {Disk : Type 0} (disks : Disk → DiskState) (old mid new : Node Disk) → IsNodeOf disks old mid → IsNodeOf disks mid new → IsNodeOf disks old new
+node_then disks old mid new a b = record {
+  id = b.id ∙ a.id;
+  nodes = b.nodes ∙ a.nodes;
+  disk = λ was is. (let d = a.disk was is in
+      let e = b.disk d.now d.is in
+      record { now = e.now; is = e.is; sectors = e.sectors ∙ d.sectors; honest = e.honest ∙ d.honest });
+}
+
+-- ---- calls
+
+pub one_call : {Disk : Type 0} (disks : Disk → DiskState) (old new : Progress Disk) (May : ℕ → NodeState → Turn → Type 0) (before ended : Ended) → Turns disks old new May ended
+    → Calls disks old new (λ slots s turns. IsOne (May slots s) turns) before ended
+one_call disks old new May before ended a = record {
+  node = a.node;
+  same = a.same;
+  called = λ was s is stands. (let x = a.turned was s is stands in
+      record {
+        turns = x.turn ∷ [];
+        may = x.may;
+        honest = λ honest. (x.honest honest, tt);
+        stands = x.stands;
+        ended_so = x.ended_so;
+        text = x.text ∙ ap (λ (t : List ℕ). old.text ++ t) (sym (append-nil (turn_text old.node.id old.node.nodes s x.turn)));
+      });
+}
+
+pub no_call : {Disk : Type 0} (disks : Disk → DiskState) (p : Progress Disk) (before : Ended) → Calls disks p p (AreTimely p.node.id p.node.nodes) before before
+no_call disks p before = record {
+  node = node_refl disks p.node;
+  same = refl;
+  called = λ was s is stands. record { turns = []; may = tt; honest = λ honest. tt; stands = stands; ended_so = refl; text = sym (append-nil p.text) };
+}
+
+both_texts : (a b c x y : List ℕ) → b ≡ a ++ x → c ≡ b ++ y → c ≡ a ++ (x ++ y)
+both_texts a b c x y first second = second ∙ (ap (λ (t : List ℕ). t ++ y) first ∙ append_assoc a x y)
+
+pub call_more : {Disk : Type 0} (disks : Disk → DiskState) (old mid new : Progress Disk) (event : Event) (before between ended : Ended) → IsTimer event
+    → Calls disks old mid (AreTimely old.node.id old.node.nodes) before between → Turns disks mid new (MayComeOf mid.node.id mid.node.nodes event) ended
+    → Calls disks old new (AreTimely old.node.id old.node.nodes) before ended
+call_more {Disk} disks old mid new event before between ended timer a b = record {
+  node = node_then disks old.node mid.node new.node a.node b.node;
+  same = b.same ∙ ap (λ (p : Progress Disk). record p { node = new.node; text = new.text }) a.same;
+  called = λ was s is stands. (let x = a.called was s is stands in
+      let d = a.node.disk was is in
+      let t = after_turns old.node.id old.node.nodes s x.turns in
+      let y = b.turned d.now t d.is x.stands in
+      let id = a.node.id in
+      let nodes = a.node.nodes in
+      record {
+        turns = x.turns ++ y.turn ∷ [];
+        may = timely_more old.node.id old.node.nodes (slots_for (disks was).sectors) s x.turns y.turn x.may (record {
+          event = event;
+          timer = timer;
+          may = subst (λ (n : ℕ). MayComeOf old.node.id old.node.nodes event (slots_for n) t y.turn) d.sectors
+              (subst (λ (n : ℕ). MayComeOf old.node.id n event (slots_for (disks d.now).sectors) t y.turn) nodes
+              (subst (λ (n : ℕ). MayComeOf n mid.node.nodes event (slots_for (disks d.now).sectors) t y.turn) id y.may));
+        });
+        honest = λ honest. going_more x.turns y.turn (x.honest honest) (y.honest (d.honest ∙ honest));
+        stands = subst (λ (u : NodeState). Stands disks new.node u) (sym (after_more old.node.id old.node.nodes s x.turns y.turn))
+            (subst (λ (n : ℕ). Stands disks new.node (after_turn old.node.id n t y.turn)) nodes
+            (subst (λ (n : ℕ). Stands disks new.node (after_turn n mid.node.nodes t y.turn)) id y.stands));
+        ended_so = (y.ended_so ∙ (ap (λ (n : ℕ). end_of n mid.node.nodes t y.turn) id ∙ ap (λ (n : ℕ). end_of old.node.id n t y.turn) nodes))
+            ∙ sym (end_more old.node.id old.node.nodes before s x.turns y.turn);
+        text = both_texts old.text mid.text new.text (turns_text old.node.id old.node.nodes s x.turns) (turn_text old.node.id old.node.nodes t y.turn) x.text
+            (y.text ∙ (ap (λ (n : ℕ). mid.text ++ turn_text n mid.node.nodes t y.turn) id ∙ ap (λ (n : ℕ). mid.text ++ turn_text old.node.id n t y.turn) nodes))
+            ∙ ap (λ (z : List ℕ). old.text ++ z) (sym (text_more old.node.id old.node.nodes s x.turns y.turn));
+      });
+}
+
+-- where nothing changed in between
+pub due_more : {Disk : Type 0} (disks : Disk → DiskState) (old mid here new : Progress Disk) (event : Event) (before between ended : Ended) → IsTimer event → here ≡ mid
+    → Calls disks old mid (AreTimely old.node.id old.node.nodes) before between → Turns disks here new (MayComeOf here.node.id here.node.nodes event) ended
+    → Calls disks old new (AreTimely old.node.id old.node.nodes) before ended
+due_more {Disk} disks old mid here new event before between ended timer is a b =
+    call_more disks old mid new event before between ended timer a (subst (λ (p : Progress Disk). Turns disks p new (MayComeOf p.node.id p.node.nodes event) ended) is b)
+
+pub none_more : {Disk : Type 0} (disks : Disk → DiskState) (old mid here : Progress Disk) (before between : Ended) → here ≡ mid
+    → Calls disks old mid (AreTimely old.node.id old.node.nodes) before between → Calls disks old here (AreTimely old.node.id old.node.nodes) before between
+none_more {Disk} disks old mid here before between is a = subst (λ (p : Progress Disk). Calls disks old p (AreTimely old.node.id old.node.nodes) before between) (sym is) a
+
+pub if_ok : {T E : Type 0} (r : Result T E) (P Q : T → Type 0) → ((x : T) → P x → Q x) → IfOk r P → IfOk r Q
+if_ok (Ok x) P Q f h = f x h
+if_ok (Err e) P Q f h = tt

@@ -1,0 +1,338 @@
+-- What comes of an event, over any disk.
+use Rattle.std.proofs.Common.{◌≡◌, ◌⊎◌, inl, inr, ℕ, ◌+◌, ◌-◌, ◌^◌, ◌<◌, ◌++◌, Bool, true, false, List, [], ◌∷◌, refl, sym, ap, ◌∙◌, subst, append-nil, append_assoc, arith, Option, Some, None, Result, Ok, Err}
+use Rattle.std.specs.Prelude.{IsTrue, IsOk, IsSome}
+use Rattle.sector_disk.specs.Disk.{DiskState}
+use Rattle.job_model.specs.Durable.{Durable}
+use Rattle.wire_msg.specs.Envelope.{Envelope}
+use Rattle.node_core.specs.Start.{down as down_state}
+use Rattle.node_core.specs.State.{State, is_down}
+use Rattle.node_core.specs.declared.event.Event.{Event}
+use Rattle.node_core.specs.declared.event.Event.TheVariants as on
+use Rattle.node_core.specs.declared.durable.Durable.TheVariants as wanted
+use Rattle.node_store.specs.Store.{slots_for}
+use Rattle.durable_node.specs.declared.fault.NodeFault.{NodeFault}
+use Rattle.durable_node.specs.declared.fault.NodeFault.TheVariants as node
+use Rattle.durable_node.specs.declared.step.Step.{Step}
+use Rattle.durable_node.specs.Node.{Node, Stands, IsLeft}
+use Rattle.histories.specs.NodeState.{NodeState}
+use Rattle.histories.specs.What.{Rest, Nothing, Compacted, CompactDown, CompactWorn, event_of, What, Did, Refused, Faulted, Rests, Crashed, Recovered, MountFailed, RaiseFailed, RaiseRefused}
+use Rattle.histories.specs.After.{after, sent_at}
+use Rattle.histories.specs.Possible.{IsOfSlots}
+use Rattle.durable_node.specs.Compacting.{Compacts, CompactTold, RestTold}
+use Rattle.durable_node.specs.Stepping.{Steps, IsToldBy, CountsOf, IsMounting, is_recover, sent_by, answer_by, answer_at}
+use Rattle.durable_node.specs.Remounting.{Remounted}
+use Rattle.node_session.specs.declared.ended.Ended.{Ended}
+use Rattle.node_session.specs.declared.ended.Ended.TheVariants as end
+use Rattle.node_session.specs.Turns.{Turn, Goes, Unmounted, Begins, IsOf, MayComeOf, MayCompact, IsGoing, IsOfCompaction, after_turn, cause, compaction_end, end_at, end_of, ended_by, sent_in}
+use Rattle.node_session.specs.Changes.{Sight, changes, gone_at, gone_told, is_finish, sight_of}
+use Rattle.node_session.specs.Text.{call_text, send_lines, turn_text}
+use Rattle.node_session.specs.Serving.{Progress, IsNodeOf, Turns}
+
+-- what came of an event over a disk, and how it is told
+record Happens {Disk : Type 0} (disks : Disk → DiskState) (slots : ℕ) (old new : Node Disk) (honest : Bool) (s : NodeState) (event : Event) (result : Result Step NodeFault) : Type 0 where
+  pub turn : Turn
+  pub may : MayComeOf old.id old.nodes event slots s turn
+  pub going : IsTrue honest → IsGoing turn
+  pub stands : Stands disks new (after_turn old.id old.nodes s turn)
+  pub ended : ended_by result ≡ end_of old.id old.nodes s turn
+  pub sent : sent_by result ≡ sent_in old.id old.nodes s turn
+
+-- ---- the history goes on
+
+is_of : (event : Event) (result : Result Step NodeFault) (what : What) → IsToldBy what event result → IsOf event what
+is_of event result (Did e) told = told.0
+is_of event result (Refused e fault) told = told.0
+is_of event result (Faulted e) told = told.0
+is_of event result (Rests rest) told = absurd told
+is_of event result Crashed told = absurd told
+is_of event result (Recovered kept) told = told.0
+is_of event result MountFailed told = told.0
+is_of event result (RaiseFailed kept) told = told.0
+is_of event result (RaiseRefused kept) told = told.0
+
+done_so : (result : Result Step NodeFault) (number : Option ℕ) → IsOk result → answer_by result ≡ number → ended_by result ≡ end.Done number
+done_so (Ok step) number ok told = ap end.Done told
+done_so (Err fault) number ok told = absurd cc
+
+ends : (self nodes : ℕ) (s : NodeState) (event : Event) (result : Result Step NodeFault) (what : What) → IsToldBy what event result → answer_by result ≡ answer_at self nodes s what
+    → ended_by result ≡ end_at self nodes s what
+ends self nodes s event result (Did e) told number = done_so result _ told.1 number
+ends self nodes s event result (Refused e fault) told number = ap ended_by told.1
+ends self nodes s event result (Faulted e) told number = ap ended_by told.1
+ends self nodes s event result (Rests rest) told number = absurd told
+ends self nodes s event result Crashed told number = absurd told
+ends self nodes s event result (Recovered kept) told number = done_so result _ told.1 number
+ends self nodes s event result MountFailed told number = ap ended_by told.1
+ends self nodes s event result (RaiseFailed kept) told number = ap ended_by told.1
+ends self nodes s event result (RaiseRefused kept) told number = ap ended_by told.1
+
+goes_on : {Disk : Type 0} (disks : Disk → DiskState) (old new : Node Disk) (event : Event) (result : Result Step NodeFault) (was : Disk) (s : NodeState) → Steps disks old new event result
+    → old.disk ≡ Some was → Stands disks old s → (IsMounting old.state event → IsTrue (disks was).honest) → Happens disks (slots_for (disks was).sectors) old new (disks was).honest s event result
+goes_on disks old new event result was s steps is stands honest =
+    let step = steps was s is stands honest in
+    let what = step.0 in
+    let does = step.1 in
+    record {
+      turn = Goes what;
+      may = (is_of event result what does.told, does.possible, does.of_slots);
+      going = λ _. tt;
+      stands = step.2;
+      ended = ends old.id old.nodes s event result what does.told does.answer;
+      sent = does.sent;
+    }
+
+-- ---- a history begins
+
+-- over a disk of which nothing is known
+left_anyhow : (old new : DiskState) (s t : NodeState) → new.sectors ≡ old.sectors → new.honest ≡ false → IsLeft old s → IsLeft new t
+left_anyhow old new s t sectors dishonest left = record {
+  sectors = omega (arith, left.sectors, sectors);
+  images = λ honest. absurd cc;
+  sound = λ honest. absurd cc;
+}
+
+begins : {Disk : Type 0} (disks : Disk → DiskState) (slots : ℕ) (old new : Node Disk) (result : Result Step NodeFault) (found : Option Durable) (s : NodeState) → Remounted old new result found
+    → (is_down old.state.phase ≡ true → old.state ≡ down_state old.id) → is_down old.state.phase ≡ true → Stands disks old s → ((t : NodeState) (d : Disk) → new.disk ≡ Some d → IsLeft (disks d) t)
+    → Happens disks slots old new false s on.Recover result
+begins disks slots old new (Ok step) None s mounted fallen down stands left = absurd mounted
+begins disks slots old new (Ok step) (Some found) s mounted fallen down stands left = record {
+  turn = Begins found (Recovered false);
+  may = (refl, ap (λ (v : State). is_down v.phase) (sym stands.state) ∙ down, tt, (refl, tt, mounted.5));
+  going = λ honest. absurd cc;
+  stands = record { state = mounted.1; doubt = mounted.2; up = λ _. (mounted.0, refl); disk = left _ };
+  ended = ap end.Done mounted.4;
+  sent = mounted.3;
+}
+begins disks slots old new (Err fault) None s mounted fallen down stands left = record {
+  turn = Unmounted fault;
+  may = (refl, ap (λ (v : State). is_down v.phase) (sym stands.state) ∙ down, mounted.0);
+  going = λ honest. absurd cc;
+  stands = record {
+    state = mounted.1 ∙ stands.state;
+    doubt = mounted.2 ∙ stands.doubt;
+    up = λ up. (let same : is_down new.state.phase ≡ true = ap (λ (v : State). is_down v.phase) mounted.1 ∙ down in absurd cc);
+    disk = left s;
+  };
+  ended = refl;
+  sent = refl;
+}
+begins {Disk} disks slots old new (Err fault) (Some found) s mounted fallen down stands left = by_cases mounted.1
+  where
+    was_down : is_down s.state.phase ≡ true
+    was_down = ap (λ (v : State). is_down v.phase) (sym stands.state) ∙ down
+
+    still_down : is_down new.state.phase ≡ true
+    still_down = ap (λ (v : State). is_down v.phase) mounted.0 ∙ down
+
+    by_cases : ((fault ≡ node.Device) × (new.doubt ≡ Some (wanted.Raise, found.counter)) × (found.counter + 1 < 2 ^ 64)) ⊎ ((fault ≡ node.Exhausted) × (found.counter ≡ 2 ^ 64 - 1) × (new.doubt ≡ old.doubt)) → Happens disks slots old new false s on.Recover (Err fault)
+    by_cases (inl failed) = record {
+      turn = Begins found (RaiseFailed false);
+      may = (refl, was_down, tt, (refl, tt, failed.2));
+      going = λ honest. absurd cc;
+      stands = record { state = mounted.0 ∙ fallen down; doubt = failed.1; up = λ up. absurd cc; disk = left _ };
+      ended = ap end.Denied failed.0;
+      sent = refl;
+    }
+    by_cases (inr spent) = record {
+      turn = Begins found (RaiseRefused false);
+      may = (refl, was_down, tt, (refl, tt, spent.1));
+      going = λ honest. absurd cc;
+      stands = record { state = mounted.0 ∙ stands.state; doubt = spent.2 ∙ stands.doubt; up = λ up. absurd cc; disk = left s };
+      ended = ap end.Denied spent.0;
+      sent = refl;
+    }
+
+-- ---- any event, over any disk
+
+recovers : (event : Event) → is_recover event ≡ true → event ≡ on.Recover
+recovers on.CheckTimer is = absurd cc
+recovers on.MergeTimer is = absurd cc
+recovers on.AcceptTimer is = absurd cc
+recovers on.ReadyTimer is = absurd cc
+recovers on.CoordTimer is = absurd cc
+recovers on.DispatchTimer is = absurd cc
+recovers (on.Deliver m) is = absurd cc
+recovers (on.Submit queue payload) is = absurd cc
+recovers (on.Finish origin id) is = absurd cc
+recovers on.Recover is = refl
+
+happens : {Disk : Type 0} (disks : Disk → DiskState) (old new : Node Disk) (event : Event) (result : Result Step NodeFault) (was : Disk) (s : NodeState) → Steps disks old new event result
+    → (is_down old.state.phase ≡ true → event ≡ on.Recover → Remounted old new result new.found) → (is_down old.state.phase ≡ true → old.state ≡ down_state old.id) → old.disk ≡ Some was → Stands disks old s
+    → ((d : Disk) → new.disk ≡ Some d → ((disks d).sectors ≡ (disks was).sectors) × ((disks d).honest ≡ (disks was).honest))
+    → Happens disks (slots_for (disks was).sectors) old new (disks was).honest s event result
+happens {Disk} disks old new event result was s steps mounting fallen is stands same = by_honesty (disks was).honest refl
+  where
+    begun_at : (disks was).honest ≡ false → is_down old.state.phase ≡ true → event ≡ on.Recover → Happens disks (slots_for (disks was).sectors) old new (disks was).honest s event result
+    begun_at dishonest down recover =
+        subst (λ (e : Event). Happens disks (slots_for (disks was).sectors) old new (disks was).honest s e result) (sym recover)
+        (subst (λ (b : Bool). Happens disks (slots_for (disks was).sectors) old new b s on.Recover result) (sym dishonest)
+        (begins disks (slots_for (disks was).sectors) old new result new.found s (mounting down recover) fallen down stands
+        (λ t d at. left_anyhow (disks was) (disks d) s t (same d at).0 ((same d at).1 ∙ dishonest) (stands.disk was is))))
+
+    by_event : (disks was).honest ≡ false → (down recover : Bool) → is_down old.state.phase ≡ down → is_recover event ≡ recover
+        → Happens disks (slots_for (disks was).sectors) old new (disks was).honest s event result
+    by_event dishonest true true down recover = begun_at dishonest down (recovers event recover)
+    by_event dishonest true false down recover = goes_on disks old new event result was s steps is stands (λ both. (let bad = both.1 in absurd cc))
+    by_event dishonest false recovering down recover = goes_on disks old new event result was s steps is stands (λ both. (let bad = both.0 in absurd cc))
+
+    by_honesty : (b : Bool) → (disks was).honest ≡ b → Happens disks (slots_for (disks was).sectors) old new (disks was).honest s event result
+    by_honesty true honest = goes_on disks old new event result was s steps is stands (λ _. honest)
+    by_honesty false honest = by_event honest (is_down old.state.phase) (is_recover event) refl refl
+
+some_is : {A : Type 0} (o : Option A) → IsSome o → (x : A) × (o ≡ Some x)
+some_is None is = absurd cc
+some_is (Some x) is = (x, refl)
+
+-- the node is over the disk that it was over
+same_node : {Disk A : Type 0} (disks : Disk → DiskState) (old new : Node Disk) (result : Result A NodeFault) → new.id ≡ old.id → new.nodes ≡ old.nodes → CountsOf disks old.disk new.disk result
+    → IsSome new.disk → IsNodeOf disks old new
+same_node disks old new result id nodes counts there = record {
+  id = id;
+  nodes = nodes;
+  disk = λ was is. (let now = some_is new.disk there in
+      let same = counts was now.0 is now.1 in
+      record { now = now.0; is = now.1; sectors = same.sectors; honest = same.honest });
+}
+
+-- ---- what is told of it
+
+-- a recovery tells what no event would
+quiet_end : (event : Event) (sent : List Envelope) (x y : State) (ended : Ended) → event ≡ on.Recover → call_text (Some event) sent x y ended ≡ call_text None sent x y ended
+quiet_end event sent x y (end.Done None) recover = rw recover refl
+quiet_end event sent x y (end.Done (Some id)) recover = rw recover refl
+quiet_end event sent x y (end.Denied fault) recover = rw recover refl
+
+caused : (self nodes slots : ℕ) (s : NodeState) (event : Event) (turn : Turn) (sent : List Envelope) (x y : State) (ended : Ended) → MayComeOf self nodes event slots s turn
+    → call_text (Some event) sent x y ended ≡ call_text (cause turn) sent x y ended
+caused self nodes slots s event (Goes (Did e)) sent x y ended may = ap (λ (v : Event). call_text (Some v) sent x y ended) (sym may.0)
+caused self nodes slots s event (Goes (Refused e fault)) sent x y ended may = ap (λ (v : Event). call_text (Some v) sent x y ended) (sym may.0)
+caused self nodes slots s event (Goes (Faulted e)) sent x y ended may = ap (λ (v : Event). call_text (Some v) sent x y ended) (sym may.0)
+caused self nodes slots s event (Goes (Rests rest)) sent x y ended may = absurd may.0
+caused self nodes slots s event (Goes Crashed) sent x y ended may = absurd may.0
+caused self nodes slots s event (Goes (Recovered kept)) sent x y ended may = quiet_end event sent x y ended may.0
+caused self nodes slots s event (Goes MountFailed) sent x y ended may = quiet_end event sent x y ended may.0
+caused self nodes slots s event (Goes (RaiseFailed kept)) sent x y ended may = quiet_end event sent x y ended may.0
+caused self nodes slots s event (Goes (RaiseRefused kept)) sent x y ended may = quiet_end event sent x y ended may.0
+caused self nodes slots s event (Unmounted fault) sent x y ended may = quiet_end event sent x y ended may.0
+caused self nodes slots s event (Begins found what) sent x y ended may = quiet_end event sent x y ended may.0
+
+three_texts : (a b c d x y z : List ℕ) → b ≡ a ++ x → c ≡ b ++ y → d ≡ c ++ z → d ≡ a ++ (x ++ (y ++ z))
+three_texts a b c d x y z first second third =
+    third ∙ (ap (λ (t : List ℕ). t ++ z) second ∙ (append_assoc b y z ∙ (ap (λ (t : List ℕ). t ++ (y ++ z)) first ∙ append_assoc a x (y ++ z))))
+
+-- as the code does it
+pub event_turns : {Disk : Type 0} (disks : Disk → DiskState) (old : Progress Disk) (node' : Node Disk) (event : Event) (result : Result Step NodeFault) (sent changed text : List ℕ)
+    → node'.id ≡ old.node.id → node'.nodes ≡ old.node.nodes → Steps disks old.node node' event result
+    → (is_down old.node.state.phase ≡ true → event ≡ on.Recover → Remounted old.node node' result node'.found) → (is_down old.node.state.phase ≡ true → old.node.state ≡ down_state old.node.id)
+    → CountsOf disks old.node.disk node'.disk result → IsSome node'.disk
+    → sent ≡ old.text ++ send_lines (sent_by result) → changed ≡ sent ++ changes (is_finish (Some event)) old.node.state node'.state → text ≡ changed ++ gone_told (Some event) (ended_by result)
+    → Turns disks old (record old { node = node'; text = text }) (MayComeOf old.node.id old.node.nodes event) (ended_by result)
+event_turns {Disk} disks old node' event result sent changed text id nodes steps mounting fallen counts there first second third = record {
+  node = same_node disks old.node node' result id nodes counts there;
+  same = refl;
+  turned = λ was s is stands. (let h = happens disks old.node node' event result was s steps mounting fallen is stands
+      (λ d at. (let same = counts was d is at in (same.sectors, same.honest))) in
+      let self = old.node.id in
+      let count = old.node.nodes in
+      let t = after_turn self count s h.turn in
+      let all : text ≡ old.text ++ call_text (Some event) (sent_by result) old.node.state node'.state (ended_by result) = three_texts old.text sent changed text _ _ _ first second third in
+      record {
+        turn = h.turn;
+        may = h.may;
+        honest = h.going;
+        stands = h.stands;
+        ended_so = h.ended;
+        text = all ∙ (ap (λ (u : List ℕ). old.text ++ u) (caused self count (slots_for (disks was).sectors) s event h.turn (sent_by result) old.node.state node'.state (ended_by result) h.may)
+            ∙ (ap (λ (v : State). old.text ++ call_text (cause h.turn) (sent_by result) v node'.state (ended_by result)) stands.state
+            ∙ (ap (λ (v : State). old.text ++ call_text (cause h.turn) (sent_by result) s.state v (ended_by result)) h.stands.state
+            ∙ (ap (λ (ms : List Envelope). old.text ++ call_text (cause h.turn) ms s.state t.state (ended_by result)) h.sent
+            ∙ ap (λ (e : Ended). old.text ++ call_text (cause h.turn) (sent_in self count s h.turn) s.state t.state e) h.ended))));
+      });
+}
+
+-- by what the code keeps of the state before
+pub turn_so : {Disk : Type 0} (disks : Disk → DiskState) (old here : Progress Disk) (node' : Node Disk) (event : Event) (result : Result Step NodeFault) (ended : Ended) (finished : Bool) (seen : Sight) (before after : State)
+    (sent changed text : List ℕ) → here ≡ old → node'.id ≡ here.node.id → node'.nodes ≡ here.node.nodes → Steps disks here.node node' event result
+    → (is_down here.node.state.phase ≡ true → event ≡ on.Recover → Remounted here.node node' result node'.found) → (is_down here.node.state.phase ≡ true → here.node.state ≡ down_state here.node.id)
+    → CountsOf disks here.node.disk node'.disk result → IsSome node'.disk
+    → seen ≡ sight_of before → before ≡ here.node.state → after ≡ node'.state → finished ≡ is_finish (Some event) → ended ≡ ended_by result
+    → sent ≡ here.text ++ send_lines (sent_by result) → ((s : State) → seen ≡ sight_of s → changed ≡ sent ++ changes finished s after) → text ≡ changed ++ gone_told (Some event) ended
+    → Turns disks old (record here { node = node'; text = text }) (MayComeOf old.node.id old.node.nodes event) ended
+turn_so {Disk} disks old here node' event result ended finished seen before after sent changed text is id nodes steps mounting fallen counts there sees was now finish ends_so first second third =
+    subst (λ (p : Progress Disk). Turns disks p (record here { node = node'; text = text }) (MayComeOf p.node.id p.node.nodes event) ended) is
+    (subst (λ (e : Ended). Turns disks here (record here { node = node'; text = text }) (MayComeOf here.node.id here.node.nodes event) e) (sym ends_so)
+    (event_turns disks here node' event result sent changed text id nodes steps mounting fallen counts there first
+    (second before sees ∙ (ap (λ (b : Bool). sent ++ changes b before after) finish ∙ (ap (λ (v : State). sent ++ changes (is_finish (Some event)) v after) was
+    ∙ ap (λ (v : State). sent ++ changes (is_finish (Some event)) here.node.state v) now)))
+    (third ∙ ap (λ (e : Ended). changed ++ gone_told (Some event) e) ends_so)))
+
+-- ---- a compaction
+
+record OfCompaction {A : Type 0} (self nodes slots : ℕ) (s : NodeState) (what : What) (result : Result A NodeFault) : Type 0 where
+  pub of : IsOfCompaction what
+  pub of_slots : IsOfSlots slots self nodes s what
+  pub ended : compaction_end result ≡ end_at self nodes s what
+  pub silent : sent_at self nodes s what ≡ []
+  pub causeless : event_of what ≡ None
+
+rest_of_compaction : {A : Type 0} (self nodes slots : ℕ) (s : NodeState) (rest : Rest) (result : Result A NodeFault) → RestTold rest result → OfCompaction self nodes slots s (Rests rest) result
+rest_of_compaction self nodes slots s Nothing result told = absurd told
+rest_of_compaction self nodes slots s Compacted (Ok done) told = record { of = tt; of_slots = tt; ended = refl; silent = refl; causeless = refl }
+rest_of_compaction self nodes slots s Compacted (Err fault) told = absurd cc
+rest_of_compaction self nodes slots s CompactDown result told = record { of = tt; of_slots = tt; ended = ap compaction_end told; silent = refl; causeless = refl }
+rest_of_compaction self nodes slots s CompactWorn result told = record { of = tt; of_slots = tt; ended = ap compaction_end told; silent = refl; causeless = refl }
+
+of_compaction : {A : Type 0} (self nodes slots : ℕ) (s : NodeState) (what : What) (result : Result A NodeFault) → CompactTold what result → OfCompaction self nodes slots s what result
+of_compaction self nodes slots s (Did e) result told = absurd told
+of_compaction self nodes slots s (Refused e fault) result told = absurd told
+of_compaction self nodes slots s (Faulted e) result told = absurd told
+of_compaction self nodes slots s (Rests rest) result told = rest_of_compaction self nodes slots s rest result told
+of_compaction self nodes slots s Crashed result told = record { of = tt; of_slots = tt; ended = ap compaction_end told; silent = refl; causeless = refl }
+of_compaction self nodes slots s (Recovered kept) result told = absurd told
+of_compaction self nodes slots s MountFailed result told = absurd told
+of_compaction self nodes slots s (RaiseFailed kept) result told = absurd told
+of_compaction self nodes slots s (RaiseRefused kept) result told = absurd told
+
+silent_text : (x y : State) (ended : Ended) → changes false x y ≡ call_text None [] x y ended
+silent_text x y (end.Done None) = sym (append-nil (changes false x y))
+silent_text x y (end.Done (Some id)) = sym (append-nil (changes false x y))
+silent_text x y (end.Denied fault) = sym (append-nil (changes false x y))
+
+pub compaction_turns : {Disk A : Type 0} (disks : Disk → DiskState) (old : Progress Disk) (node' : Node Disk) (result : Result A NodeFault) (text : List ℕ)
+    → node'.id ≡ old.node.id → node'.nodes ≡ old.node.nodes → Compacts disks old.node node' result → CountsOf disks old.node.disk node'.disk result → IsSome node'.disk
+    → text ≡ old.text ++ changes false old.node.state node'.state
+    → Turns disks old (record old { node = node'; text = text }) (MayCompact old.node.id old.node.nodes) (compaction_end result)
+compaction_turns {Disk} disks old node' result text id nodes compacts counts there told = record {
+  node = same_node disks old.node node' result id nodes counts there;
+  same = refl;
+  turned = λ was s is stands. (let step = compacts was s is stands in
+      let what = step.0 in
+      let self = old.node.id in
+      let count = old.node.nodes in
+      let of = of_compaction self count (slots_for (disks was).sectors) s what result step.1 in
+      let t = after self count s what in
+      record {
+        turn = Goes what;
+        may = (of.of, step.2, of.of_slots);
+        honest = λ honest. tt;
+        stands = step.3;
+        ended_so = of.ended;
+        text = told ∙ (ap (λ (u : List ℕ). old.text ++ u) (silent_text old.node.state node'.state (compaction_end result))
+            ∙ (ap (λ (v : State). old.text ++ call_text None [] v node'.state (compaction_end result)) stands.state
+            ∙ (ap (λ (v : State). old.text ++ call_text None [] s.state v (compaction_end result)) step.3.state
+            ∙ (ap (λ (ms : List Envelope). old.text ++ call_text None ms s.state t.state (compaction_end result)) (sym of.silent)
+            ∙ (ap (λ (e : Option Event). old.text ++ call_text e (sent_at self count s what) s.state t.state (compaction_end result)) (sym of.causeless)
+            ∙ ap (λ (e : Ended). old.text ++ call_text (event_of what) (sent_at self count s what) s.state t.state e) of.ended)))));
+      });
+}
+
+pub compaction_so : {Disk A : Type 0} (disks : Disk → DiskState) (old here : Progress Disk) (node' : Node Disk) (result : Result A NodeFault) (ended : Ended) (seen : Sight) (before after : State) (text : List ℕ)
+    → here ≡ old → node'.id ≡ here.node.id → node'.nodes ≡ here.node.nodes → Compacts disks here.node node' result → CountsOf disks here.node.disk node'.disk result → IsSome node'.disk
+    → seen ≡ sight_of before → before ≡ here.node.state → after ≡ node'.state → ended ≡ compaction_end result
+    → ((s : State) → seen ≡ sight_of s → text ≡ here.text ++ changes false s after)
+    → Turns disks old (record here { node = node'; text = text }) (MayCompact old.node.id old.node.nodes) ended
+compaction_so {Disk} disks old here node' result ended seen before after text is id nodes compacts counts there sees was now ends_so told =
+    subst (λ (p : Progress Disk). Turns disks p (record here { node = node'; text = text }) (MayCompact p.node.id p.node.nodes) ended) is
+    (subst (λ (e : Ended). Turns disks here (record here { node = node'; text = text }) (MayCompact here.node.id here.node.nodes) e) (sym ends_so)
+    (compaction_turns disks here node' result text id nodes compacts counts there
+    (told before sees ∙ (ap (λ (v : State). here.text ++ changes false v after) was ∙ ap (λ (v : State). here.text ++ changes false here.node.state v) now))))

@@ -1,0 +1,245 @@
+-- Lines that are answered, one after another.
+use Rattle.std.proofs.Common.{◌≡◌, ℕ, List, [], ◌∷◌, ◌++◌, Bool, true, false, refl, sym, ap, ◌∙◌, subst, append_assoc, append-nil, ◌+◌, Some, None, Result, Ok, Err}
+use Rattle.std.specs.Prelude.{IsTrue, OnOk}
+use Rattle.sector_disk.specs.Disk.{DiskState}
+use Rattle.node_store.specs.Store.{slots_for}
+use Rattle.durable_node.specs.Node.{Stands}
+use Rattle.histories.specs.NodeState.{NodeState}
+use Rattle.node_session.specs.declared.asked.Asked.{Asked}
+use Rattle.node_session.specs.declared.asked.Asked.TheVariants as ask
+use Rattle.node_session.specs.declared.ended.Ended.{Ended}
+use Rattle.node_session.specs.declared.ended.Ended.TheVariants as end
+use Rattle.node_session.specs.Asked.{asked_of}
+use Rattle.node_core.specs.declared.event.Event.{Event}
+use Rattle.node_session.specs.Turns.{Turn, MayComeOf, MayCompact}
+use Rattle.node_session.specs.Chains.{At, AreGoing, AreTimely, Comes, MayCome, AreOf, after_by, after_line, after_lines, after_turns, is_failed, line_end, next}
+use Rattle.node_session.specs.Text.{answer, answer_at, answers, bad_line, closing, event_closing, jobs_lines, ok_line, state_line, turns_text}
+use Rattle.node_session.specs.Serving.{Progress, Serves, Calls, Turns, IsNodeOf, at_of}
+use Rattle.node_session.proofs.Calls.{node_refl, node_then, one_call}
+use Rattle.node_session.proofs.Lines.{of_both, after_both, going_both, answers_both}
+
+both_texts : (a b c x y : List ℕ) → b ≡ a ++ x → c ≡ b ++ y → c ≡ a ++ (x ++ y)
+both_texts a b c x y first second = second ∙ (ap (λ (t : List ℕ). t ++ y) first ∙ append_assoc a x y)
+
+-- lines behind lines
+pub serves_then : {Disk : Type 0} (disks : Disk → DiskState) (old mid new : Progress Disk) (ls ms : List (List ℕ)) → Serves disks old mid ls → Serves disks mid new ms → Serves disks old new (ls ++ ms)
+serves_then {Disk} disks old mid new ls ms a b = record {
+  node = node_then disks old.node mid.node new.node a.node b.node;
+  served = λ was s is stands. (let d = a.node.disk was is in
+      let x = a.served was s is stands in
+      let y = b.served d.now x.state d.is x.stands in
+      let id = old.node.id in
+      let nodes = old.node.nodes in
+      let start = at_of old s in
+      let between = after_lines id nodes start ls x.all in
+      let came : AreOf id nodes (slots_for (disks was).sectors) between ms y.all =
+      subst (λ (n : ℕ). AreOf id nodes (slots_for n) between ms y.all) d.sectors
+      (subst (λ (n : ℕ). AreOf n nodes (slots_for (disks d.now).sectors) between ms y.all) a.node.id
+      (subst (λ (n : ℕ). AreOf mid.node.id n (slots_for (disks d.now).sectors) between ms y.all) a.node.nodes
+      (subst (λ (t : At). AreOf mid.node.id mid.node.nodes (slots_for (disks d.now).sectors) t ms y.all) x.left y.came))) in
+      let left : at_of new y.state ≡ after_lines id nodes between ms y.all =
+      y.left ∙ (ap (λ (t : At). after_lines mid.node.id mid.node.nodes t ms y.all) x.left
+      ∙ (ap (λ (n : ℕ). after_lines n mid.node.nodes between ms y.all) a.node.id ∙ ap (λ (n : ℕ). after_lines id n between ms y.all) a.node.nodes)) in
+      let text : new.text ≡ mid.text ++ answers id nodes between ms y.all =
+      y.text ∙ (ap (λ (t : At). mid.text ++ answers mid.node.id mid.node.nodes t ms y.all) x.left
+      ∙ (ap (λ (n : ℕ). mid.text ++ answers n mid.node.nodes between ms y.all) a.node.id ∙ ap (λ (n : ℕ). mid.text ++ answers id n between ms y.all) a.node.nodes)) in
+      record {
+        all = x.all ++ y.all;
+        came = of_both id nodes (slots_for (disks was).sectors) start ls ms x.all y.all x.came came;
+        honest = λ honest. going_both x.all y.all (x.honest honest) (y.honest (d.honest ∙ honest));
+        state = y.state;
+        stands = y.stands;
+        left = left ∙ sym (after_both id nodes (slots_for (disks was).sectors) start ls ms x.all y.all x.came);
+        text = both_texts old.text mid.text new.text _ _ x.text text
+            ∙ ap (λ (t : List ℕ). old.text ++ t) (sym (answers_both id nodes (slots_for (disks was).sectors) start ls ms x.all y.all x.came));
+      });
+}
+
+-- no line
+pub serves_none : {Disk : Type 0} (disks : Disk → DiskState) (p : Progress Disk) → Serves disks p p []
+serves_none disks p = record {
+  node = node_refl disks p.node;
+  served = λ was s is stands. record { all = []; came = tt; honest = λ honest. tt; state = s; stands = stands; left = refl; text = sym (append-nil p.text) };
+}
+
+-- a line behind the last one that is answered
+pub stopped_line : {Disk : Type 0} (disks : Disk → DiskState) (p : Progress Disk) (line : List ℕ) → p.stopped ≡ true → Serves disks p p (line ∷ [])
+stopped_line disks p line stopped = record {
+  node = node_refl disks p.node;
+  served = λ was s is stands. record {
+    all = [] ∷ [];
+    came = (subst (λ (b : Bool). Comes p.node.id p.node.nodes (slots_for (disks was).sectors) b s (asked_of line) []) (sym stopped) tt, tt);
+    honest = λ honest. (tt, tt);
+    state = s;
+    stands = stands;
+    left = subst (λ (b : Bool). at_of p s ≡ after_by p.node.id p.node.nodes b (at_of p s) (asked_of line) []) (sym stopped) refl;
+    text = subst (λ (b : Bool). p.text ≡ p.text ++ (answer_at p.node.id p.node.nodes b (at_of p s) (asked_of line) [] ++ [])) (sym stopped) (sym (append-nil p.text));
+  };
+}
+
+-- ---- a line that is answered, by what it asks
+
+-- where it left a session, and its answer
+pub record IsAnswered {Disk : Type 0} (disks : Disk → DiskState) (old new : Progress Disk) (a : Asked) (was : Disk) (s : NodeState) : Type 0 where
+  pub turns : List Turn
+  pub may : MayCome old.node.id old.node.nodes (slots_for (disks was).sectors) s a turns
+  pub honest : IsTrue (disks was).honest → AreGoing turns
+  pub stands : Stands disks new.node (after_turns old.node.id old.node.nodes s turns)
+  pub stopped : new.stopped ≡ is_failed (line_end old.node.id old.node.nodes s turns)
+  pub count : new.count ≡ next old.count a
+  pub text : new.text ≡ old.text ++ answer old.node.id old.node.nodes (next old.count a) s a turns
+
+pub answered_line : {Disk : Type 0} (disks : Disk → DiskState) (old new : Progress Disk) (line : List ℕ) (a : Asked) → old.stopped ≡ false → asked_of line ≡ a → IsNodeOf disks old.node new.node
+    → ((was : Disk) (s : NodeState) → old.node.disk ≡ Some was → Stands disks old.node s → IsAnswered disks old new a was s) → Serves disks old new (line ∷ [])
+answered_line {Disk} disks old new line a runs asks same answered = record {
+  node = same;
+  served = λ was s is stands. (let x = answered was s is stands in
+      let id = old.node.id in
+      let nodes = old.node.nodes in
+      let slots = slots_for (disks was).sectors in
+      let t = after_turns id nodes s x.turns in
+      let left : at_of new t ≡ record { stopped = is_failed (line_end id nodes s x.turns); count = next old.count a; state = t } =
+      ap (λ (b : Bool). record { stopped = b; count = new.count; state = t }) x.stopped ∙ ap (λ (n : ℕ). record { stopped = is_failed (line_end id nodes s x.turns); count = n; state = t }) x.count in
+      let text : new.text ≡ old.text ++ (answer id nodes (next old.count a) s a x.turns ++ []) =
+      x.text ∙ ap (λ (u : List ℕ). old.text ++ u) (sym (append-nil (answer id nodes (next old.count a) s a x.turns))) in
+      record {
+        all = x.turns ∷ [];
+        came = (subst (λ (b : Bool). Comes id nodes slots b s (asked_of line) x.turns) (sym runs) (subst (λ (q : Asked). MayCome id nodes slots s q x.turns) (sym asks) x.may), tt);
+        honest = λ honest. (x.honest honest, tt);
+        state = t;
+        stands = x.stands;
+        left = subst (λ (b : Bool). at_of new t ≡ after_by id nodes b (at_of old s) (asked_of line) x.turns) (sym runs)
+            (subst (λ (q : Asked). at_of new t ≡ after_by id nodes false (at_of old s) q x.turns) (sym asks) left);
+        text = subst (λ (b : Bool). new.text ≡ old.text ++ (answer_at id nodes b (at_of old s) (asked_of line) x.turns ++ [])) (sym runs)
+            (subst (λ (q : Asked). new.text ≡ old.text ++ (answer_at id nodes false (at_of old s) q x.turns ++ [])) (sym asks) text);
+      });
+}
+
+-- a line of which calls came
+pub called_line : {Disk : Type 0} (disks : Disk → DiskState) (old here mid : Progress Disk) (line : List ℕ) (a : Asked) (number : ℕ) (ended : Ended) (close : List ℕ) (text : List ℕ)
+    → old.stopped ≡ false → asked_of line ≡ a → next old.count a ≡ old.count + 1 → number ≡ old.count + 1 → here ≡ record old { count = number }
+    → Calls disks here mid (λ slots s turns. MayCome here.node.id here.node.nodes slots s a turns) (end.Done None) ended
+    → text ≡ mid.text ++ close
+    → ((self nodes : ℕ) (s : NodeState) (turns : List Turn) → ended ≡ line_end self nodes s turns → answer self nodes number s a turns ≡ turns_text self nodes s turns ++ close)
+    → Serves disks old (record mid { stopped = is_failed ended; text = text }) (line ∷ [])
+called_line {Disk} disks old here mid line a number ended close text runs asks one counts is calls told closes =
+    let same : here.node ≡ old.node = ap (λ p. p.node) is in
+    let counted : mid.count ≡ old.count + 1 = ap (λ (p : Progress Disk). p.count) calls.same ∙ (ap (λ p. p.count) is ∙ counts) in
+    answered_line disks old (record mid { stopped = is_failed ended; text = text }) line a runs asks
+    (subst (λ n. IsNodeOf disks n mid.node) same calls.node)
+    (λ was s at stands. (let x = calls.called was s (ap (λ n. n.disk) same ∙ at) (subst (λ n. Stands disks n s) (sym same) stands) in
+    let id : here.node.id ≡ old.node.id = ap (λ n. n.id) same in
+    let nodes : here.node.nodes ≡ old.node.nodes = ap (λ n. n.nodes) same in
+    let ended_so : ended ≡ line_end old.node.id old.node.nodes s x.turns =
+    x.ended_so ∙ (ap (λ (n : ℕ). line_end n here.node.nodes s x.turns) id ∙ ap (λ (n : ℕ). line_end old.node.id n s x.turns) nodes) in
+    let mid_text : mid.text ≡ old.text ++ turns_text old.node.id old.node.nodes s x.turns =
+    x.text ∙ (ap (λ p. p.text ++ turns_text here.node.id here.node.nodes s x.turns) is
+    ∙ (ap (λ (n : ℕ). old.text ++ turns_text n here.node.nodes s x.turns) id ∙ ap (λ (n : ℕ). old.text ++ turns_text old.node.id n s x.turns) nodes)) in
+    record {
+      turns = x.turns;
+      may = subst (λ (n : ℕ). MayCome old.node.id n (slots_for (disks was).sectors) s a x.turns) nodes
+          (subst (λ (n : ℕ). MayCome n here.node.nodes (slots_for (disks was).sectors) s a x.turns) id x.may);
+      honest = x.honest;
+      stands = subst (λ (n : ℕ). Stands disks mid.node (after_turns old.node.id n s x.turns)) nodes
+          (subst (λ (n : ℕ). Stands disks mid.node (after_turns n here.node.nodes s x.turns)) id x.stands);
+      stopped = ap is_failed ended_so;
+      count = counted ∙ sym one;
+      text = both_texts old.text mid.text text (turns_text old.node.id old.node.nodes s x.turns) close mid_text told
+          ∙ ap (λ (u : List ℕ). old.text ++ u) (sym (ap (λ (n : ℕ). answer old.node.id old.node.nodes n s a x.turns) (one ∙ sym counts) ∙ closes old.node.id old.node.nodes s x.turns ended_so));
+    }))
+
+-- as the code does it: the call, the mark of a device that failed, and the closing line
+called_so : {Disk : Type 0} (disks : Disk → DiskState) (old here mid stop : Progress Disk) (line : List ℕ) (a : Asked) (number : ℕ) (ended : Ended) (close : List ℕ) (text : List ℕ)
+    → old.stopped ≡ false → asked_of line ≡ a → next old.count a ≡ old.count + 1 → number ≡ old.count + 1 → here ≡ record old { count = number }
+    → Calls disks here mid (λ slots s turns. MayCome here.node.id here.node.nodes slots s a turns) (end.Done None) ended
+    → stop ≡ record mid { stopped = is_failed ended } → text ≡ stop.text ++ close
+    → ((self nodes : ℕ) (s : NodeState) (turns : List Turn) → ended ≡ line_end self nodes s turns → answer self nodes number s a turns ≡ turns_text self nodes s turns ++ close)
+    → Serves disks old (record stop { text = text }) (line ∷ [])
+called_so {Disk} disks old here mid stop line a number ended close text runs asks one counts is calls marked told closes =
+    subst (λ (p : Progress Disk). Serves disks old (record p { text = text }) (line ∷ [])) (sym marked)
+    (called_line disks old here mid line a number ended close text runs asks one counts is calls (told ∙ ap (λ (p : Progress Disk). p.text ++ close) marked) closes)
+
+pub event_line : {Disk : Type 0} (disks : Disk → DiskState) (old here mid stop : Progress Disk) (line : List ℕ) (event : Event) (number : ℕ) (ended : Ended) (text : List ℕ)
+    → old.stopped ≡ false → asked_of line ≡ ask.Event event → number ≡ old.count + 1 → here ≡ record old { count = number } → Turns disks here mid (MayComeOf here.node.id here.node.nodes event) ended
+    → stop ≡ record mid { stopped = is_failed ended } → text ≡ stop.text ++ event_closing number event ended → Serves disks old (record stop { text = text }) (line ∷ [])
+event_line disks old here mid stop line event number ended text runs asks counts is turns marked told =
+    called_so disks old here mid stop line (ask.Event event) number ended (event_closing number event ended) text runs asks refl counts is
+    (one_call disks here mid (MayComeOf here.node.id here.node.nodes event) (end.Done None) ended turns) marked told
+    (λ self nodes s turns so. ap (λ (e : Ended). turns_text self nodes s turns ++ event_closing number event e) (sym so))
+
+pub compact_line : {Disk : Type 0} (disks : Disk → DiskState) (old here mid stop : Progress Disk) (line : List ℕ) (number : ℕ) (ended : Ended) (text : List ℕ)
+    → old.stopped ≡ false → asked_of line ≡ ask.Compact → number ≡ old.count + 1 → here ≡ record old { count = number } → Turns disks here mid (MayCompact here.node.id here.node.nodes) ended
+    → stop ≡ record mid { stopped = is_failed ended } → text ≡ stop.text ++ closing number ended → Serves disks old (record stop { text = text }) (line ∷ [])
+compact_line disks old here mid stop line number ended text runs asks counts is turns marked told =
+    called_so disks old here mid stop line ask.Compact number ended (closing number ended) text runs asks refl counts is
+    (one_call disks here mid (MayCompact here.node.id here.node.nodes) (end.Done None) ended turns) marked told
+    (λ self nodes s turns so. ap (λ (e : Ended). turns_text self nodes s turns ++ closing number e) (sym so))
+
+pub tick_line : {Disk : Type 0} (disks : Disk → DiskState) (old here mid stop : Progress Disk) (line : List ℕ) (now number : ℕ) (ended : Ended) (text : List ℕ)
+    → old.stopped ≡ false → asked_of line ≡ ask.Tick now → number ≡ old.count + 1 → here ≡ record old { count = number } → Calls disks here mid (AreTimely here.node.id here.node.nodes) (end.Done None) ended
+    → stop ≡ record mid { stopped = is_failed ended } → text ≡ stop.text ++ closing number ended → Serves disks old (record stop { text = text }) (line ∷ [])
+tick_line disks old here mid stop line now number ended text runs asks counts is calls marked told =
+    called_so disks old here mid stop line (ask.Tick now) number ended (closing number ended) text runs asks refl counts is calls marked told
+    (λ self nodes s turns so. ap (λ (e : Ended). turns_text self nodes s turns ++ closing number e) (sym so))
+
+pub loss_line : {Disk : Type 0} (disks : Disk → DiskState) (old here mid stop : Progress Disk) (line : List ℕ) (node number : ℕ) (ended : Ended) (text : List ℕ)
+    → old.stopped ≡ false → asked_of line ≡ ask.Lost node → number ≡ old.count + 1 → here ≡ record old { count = number } → Calls disks here mid (AreTimely here.node.id here.node.nodes) (end.Done None) ended
+    → stop ≡ record mid { stopped = is_failed ended } → text ≡ stop.text ++ closing number ended → Serves disks old (record stop { text = text }) (line ∷ [])
+loss_line disks old here mid stop line node number ended text runs asks counts is calls marked told =
+    called_so disks old here mid stop line (ask.Lost node) number ended (closing number ended) text runs asks refl counts is calls marked told
+    (λ self nodes s turns so. ap (λ (e : Ended). turns_text self nodes s turns ++ closing number e) (sym so))
+
+-- a line that asks nothing of the node but what it knows
+pub quiet_line : {Disk : Type 0} (disks : Disk → DiskState) (old new : Progress Disk) (line : List ℕ) (a : Asked) → old.stopped ≡ false → asked_of line ≡ a
+    → ((self nodes slots : ℕ) (s : NodeState) → MayCome self nodes slots s a [])
+    → new.node ≡ old.node → new.stopped ≡ false → new.count ≡ next old.count a
+    → ((s : NodeState) → Stands disks old.node s → new.text ≡ old.text ++ answer old.node.id old.node.nodes (next old.count a) s a [])
+    → Serves disks old new (line ∷ [])
+quiet_line {Disk} disks old new line a runs asks may same goes count text =
+    answered_line disks old new line a runs asks (subst (λ n. IsNodeOf disks old.node n) (sym same) (node_refl disks old.node))
+    (λ was s at stands. record {
+      turns = [];
+      may = may old.node.id old.node.nodes (slots_for (disks was).sectors) s;
+      honest = λ honest. tt;
+      stands = subst (λ n. Stands disks n s) (sym same) stands;
+      stopped = goes;
+      count = count;
+      text = text s stands;
+    })
+
+-- ---- as the code does it, behind the counting of the request
+
+pub on_ok : {T E P Q : Type 0} (r : Result T E) → (P → Q) → OnOk r P → OnOk r Q
+on_ok (Ok x) f h = f h
+on_ok (Err e) f h = tt
+
+-- a request that can't be read
+pub line_is_bad : {Disk : Type 0} (disks : Disk → DiskState) (old here : Progress Disk) (line : List ℕ) (number : ℕ) (text : List ℕ) → old.stopped ≡ false → asked_of line ≡ ask.Bad → number ≡ old.count + 1
+    → here ≡ record old { count = number } → text ≡ here.text ++ bad_line number → Serves disks old (record here { text = text }) (line ∷ [])
+line_is_bad disks old here line number text runs asks counts is told =
+    quiet_line disks old (record here { text = text }) line ask.Bad runs asks (λ self nodes slots s. tt) (ap (λ p. p.node) is) (ap (λ p. p.stopped) is ∙ runs) (ap (λ p. p.count) is ∙ counts)
+    (λ s stands. told ∙ (ap (λ p. p.text ++ bad_line number) is ∙ ap (λ (n : ℕ). old.text ++ bad_line n) counts))
+
+-- the state
+pub state_told : {Disk : Type 0} (disks : Disk → DiskState) (old here : Progress Disk) (line : List ℕ) (number : ℕ) (mid text : List ℕ) → old.stopped ≡ false → asked_of line ≡ ask.State → number ≡ old.count + 1
+    → here ≡ record old { count = number } → ((s : NodeState) → Stands disks here.node s → mid ≡ here.text ++ state_line s) → text ≡ mid ++ ok_line number []
+    → Serves disks old (record here { text = text }) (line ∷ [])
+state_told disks old here line number mid text runs asks counts is told ended =
+    quiet_line disks old (record here { text = text }) line ask.State runs asks (λ self nodes slots s. tt) (ap (λ p. p.node) is) (ap (λ p. p.stopped) is ∙ runs) (ap (λ p. p.count) is ∙ counts)
+    (λ s stands. both_texts old.text mid text (state_line s) (ok_line (old.count + 1) [])
+    (told s (subst (λ n. Stands disks n s) (sym (ap (λ p. p.node) is)) stands) ∙ ap (λ p. p.text ++ state_line s) is)
+    (ended ∙ ap (λ (n : ℕ). mid ++ ok_line n []) counts))
+
+-- the jobs
+pub jobs_told : {Disk : Type 0} (disks : Disk → DiskState) (old here : Progress Disk) (line : List ℕ) (number : ℕ) (mid text : List ℕ) → old.stopped ≡ false → asked_of line ≡ ask.Jobs → number ≡ old.count + 1
+    → here ≡ record old { count = number } → ((s : NodeState) → Stands disks here.node s → mid ≡ here.text ++ jobs_lines s) → text ≡ mid ++ ok_line number []
+    → Serves disks old (record here { text = text }) (line ∷ [])
+jobs_told disks old here line number mid text runs asks counts is told ended =
+    quiet_line disks old (record here { text = text }) line ask.Jobs runs asks (λ self nodes slots s. tt) (ap (λ p. p.node) is) (ap (λ p. p.stopped) is ∙ runs) (ap (λ p. p.count) is ∙ counts)
+    (λ s stands. both_texts old.text mid text (jobs_lines s) (ok_line (old.count + 1) [])
+    (told s (subst (λ n. Stands disks n s) (sym (ap (λ p. p.node) is)) stands) ∙ ap (λ p. p.text ++ jobs_lines s) is)
+    (ended ∙ ap (λ (n : ℕ). mid ++ ok_line n []) counts))
+
+-- an empty line
+pub nothing_line : {Disk : Type 0} (disks : Disk → DiskState) (old : Progress Disk) (line : List ℕ) → old.stopped ≡ false → asked_of line ≡ ask.Nothing → Serves disks old old (line ∷ [])
+nothing_line disks old line runs asks = quiet_line disks old old line ask.Nothing runs asks (λ self nodes slots s. tt) refl runs refl (λ s stands. sym (append-nil old.text))

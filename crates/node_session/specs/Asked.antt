@@ -1,0 +1,89 @@
+-- What a line asks for, as a function of its bytes.
+use Rattle.std.specs.Prelude.{ℕ, List, [], ◌∷◌, bytes_eq, codes, if◌then◌else◌, Option, Some, None, option_and_then}
+use Rattle.wire_msg.specs.Envelope.{Envelope}
+use Rattle.wire_msg.specs.Reading.{message_of}
+use Rattle.node_core.specs.declared.event.Event.TheVariants as on
+use Rattle.line_words.specs.Words.{number_of, words_of}
+use Rattle.line_words.specs.Lines.{bytes_of}
+use Rattle.schedule.specs.Fields.{node_of, queue_of, payload_of}
+use Rattle.node_session.specs.declared.asked.Asked.{Asked}
+use Rattle.node_session.specs.declared.asked.Asked.TheVariants as ask
+
+-- the events that a word by itself names
+abbrev pub timer_asked : List ℕ → Asked
+timer_asked word =
+    if bytes_eq word (codes "check") then ask.Event on.CheckTimer else
+    if bytes_eq word (codes "merge") then ask.Event on.MergeTimer else
+    if bytes_eq word (codes "accept") then ask.Event on.AcceptTimer else
+    if bytes_eq word (codes "ready") then ask.Event on.ReadyTimer else
+    if bytes_eq word (codes "coord") then ask.Event on.CoordTimer else
+    if bytes_eq word (codes "dispatch") then ask.Event on.DispatchTimer else
+    if bytes_eq word (codes "recover") then ask.Event on.Recover else ask.Bad
+
+-- a word by itself
+abbrev pub alone_asked : List ℕ → Asked
+alone_asked word =
+    if bytes_eq word (codes "state") then ask.State else
+    if bytes_eq word (codes "jobs") then ask.Jobs else
+    if bytes_eq word (codes "compact") then ask.Compact else timer_asked word
+
+abbrev pub delivered : Option Envelope → Asked
+delivered None = ask.Bad
+delivered (Some m) = ask.Event (on.Deliver m)
+
+-- the message that the bytes of a word spell
+abbrev pub delivery : List ℕ → Asked
+delivery word = delivered (option_and_then message_of (bytes_of word))
+
+abbrev pub ticked : Option ℕ → Asked
+ticked None = ask.Bad
+ticked (Some now) = ask.Tick now
+
+abbrev pub ticking : List ℕ → Asked
+ticking word = ticked (number_of word)
+
+abbrev pub lost : Option ℕ → Asked
+lost None = ask.Bad
+lost (Some node) = ask.Lost node
+
+abbrev pub loss : List ℕ → Asked
+loss word = lost (node_of word)
+
+abbrev pub submitted : Option ℕ → Option (List ℕ) → Asked
+submitted None payload = ask.Bad
+submitted (Some queue) None = ask.Bad
+submitted (Some queue) (Some payload) = ask.Event (on.Submit queue payload)
+
+abbrev pub submission : List ℕ → List ℕ → Asked
+submission queue payload = submitted (queue_of queue) (payload_of payload)
+
+abbrev pub completed : Option ℕ → Option ℕ → Asked
+completed None id = ask.Bad
+completed (Some origin) None = ask.Bad
+completed (Some origin) (Some id) = ask.Event (on.Finish origin id)
+
+abbrev pub completion : List ℕ → List ℕ → Asked
+completion origin id = completed (node_of origin) (number_of id)
+
+abbrev pub one_field : List ℕ → List ℕ → Asked
+one_field name a =
+    if bytes_eq name (codes "deliver") then delivery a else
+    if bytes_eq name (codes "tick") then ticking a else
+    if bytes_eq name (codes "lost") then loss a else ask.Bad
+
+abbrev pub two_fields : List ℕ → List ℕ → List ℕ → Asked
+two_fields name a b =
+    if bytes_eq name (codes "submit") then submission a b else
+    if bytes_eq name (codes "finish") then completion a b else ask.Bad
+
+abbrev pub asked_words : List (List ℕ) → Asked
+asked_words [] = ask.Bad
+asked_words (name ∷ []) = alone_asked name
+asked_words (name ∷ a ∷ []) = one_field name a
+asked_words (name ∷ a ∷ b ∷ []) = two_fields name a b
+asked_words (name ∷ a ∷ b ∷ c ∷ rest) = ask.Bad
+
+-- what a line asks for
+abbrev pub asked_of : List ℕ → Asked
+asked_of [] = ask.Nothing
+asked_of (c ∷ line) = asked_words (words_of (c ∷ line))

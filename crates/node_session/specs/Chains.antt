@@ -1,0 +1,140 @@
+-- What comes of each line, and the chains of histories that this makes.
+use Rattle.std.specs.Prelude.{ℕ, ◌≡◌, ◌+◌, List, [], ◌∷◌, Bool, true, false, None}
+use Rattle.node_core.specs.declared.event.Event.{Event}
+use Rattle.histories.specs.NodeState.{NodeState}
+use Rattle.histories.specs.What.{What, Entry}
+use Rattle.histories.specs.After.{sent_at}
+use Rattle.durable_node.specs.declared.fault.NodeFault.{NodeFault}
+use Rattle.durable_node.specs.declared.fault.NodeFault.TheVariants as node
+use Rattle.node_session.specs.declared.asked.Asked.{Asked}
+use Rattle.node_session.specs.declared.asked.Asked.TheVariants as ask
+use Rattle.node_session.specs.declared.ended.Ended.{Ended}
+use Rattle.node_session.specs.declared.ended.Ended.TheVariants as end
+use Rattle.node_session.specs.Asked.{asked_of}
+use Rattle.node_session.specs.Turns.{Turn, Goes, Unmounted, Begins, after_turn, end_of, MayComeOf, MayCompact, IsTimely, IsGoing}
+
+-- ---- the turns of one line
+
+-- the state that they leave
+abbrev pub after_turns : ℕ → ℕ → NodeState → List Turn → NodeState
+after_turns self nodes s [] = s
+after_turns self nodes s (turn ∷ turns) = after_turns self nodes (after_turn self nodes s turn) turns
+
+-- how the last of them ended, behind a call that ended so
+abbrev pub last_end : ℕ → ℕ → Ended → NodeState → List Turn → Ended
+last_end self nodes ended s [] = ended
+last_end self nodes ended s (turn ∷ turns) = last_end self nodes (end_of self nodes s turn) (after_turn self nodes s turn) turns
+
+-- how a line ends: well, where nothing was asked of the node
+abbrev pub line_end : ℕ → ℕ → NodeState → List Turn → Ended
+line_end self nodes s turns = last_end self nodes (end.Done None) s turns
+
+abbrev pub IsNone : List Turn → Type 0
+IsNone [] = Unit {0}
+IsNone (turn ∷ turns) = ⊥
+
+abbrev pub IsOne : (Turn → Type 0) → List Turn → Type 0
+IsOne May [] = ⊥
+IsOne May (turn ∷ []) = May turn
+IsOne May (turn ∷ next ∷ turns) = ⊥
+
+-- each came of a timer
+abbrev pub AreTimely : ℕ → ℕ → ℕ → NodeState → List Turn → Type 0
+AreTimely self nodes slots s [] = Unit {0}
+AreTimely self nodes slots s (turn ∷ turns) = IsTimely self nodes slots s turn × AreTimely self nodes slots (after_turn self nodes s turn) turns
+
+-- they may come of what a line asks
+abbrev pub MayCome : ℕ → ℕ → ℕ → NodeState → Asked → List Turn → Type 0
+MayCome self nodes slots s ask.Nothing turns = IsNone turns
+MayCome self nodes slots s (ask.Event event) turns = IsOne (MayComeOf self nodes event slots s) turns
+MayCome self nodes slots s ask.Compact turns = IsOne (MayCompact self nodes slots s) turns
+MayCome self nodes slots s (ask.Tick now) turns = AreTimely self nodes slots s turns
+MayCome self nodes slots s (ask.Lost id) turns = AreTimely self nodes slots s turns
+MayCome self nodes slots s ask.State turns = IsNone turns
+MayCome self nodes slots s ask.Jobs turns = IsNone turns
+MayCome self nodes slots s ask.Bad turns = IsNone turns
+
+-- ---- the lines
+
+-- where a session is
+pub record At : Type 0 where
+  -- the device failed: no line is answered any more
+  pub stopped : Bool
+  -- how many requests there were
+  pub count : ℕ
+  pub state : NodeState
+
+abbrev pub is_device : NodeFault → Bool
+is_device node.Device = true
+is_device fault = false
+
+abbrev pub is_failed : Ended → Bool
+is_failed (end.Done answer) = false
+is_failed (end.Denied fault) = is_device fault
+
+-- the number of the last request behind a line
+abbrev pub next : ℕ → Asked → ℕ
+next n ask.Nothing = n
+next n (ask.Event event) = n + 1
+next n ask.Compact = n + 1
+next n (ask.Tick now) = n + 1
+next n (ask.Lost id) = n + 1
+next n ask.State = n + 1
+next n ask.Jobs = n + 1
+next n ask.Bad = n + 1
+
+abbrev pub after_by : ℕ → ℕ → Bool → At → Asked → List Turn → At
+after_by self nodes true a asked turns = a
+after_by self nodes false a asked turns = record {
+  stopped = is_failed (line_end self nodes a.state turns);
+  count = next a.count asked;
+  state = after_turns self nodes a.state turns;
+}
+
+-- behind a line that asks this, of which these came
+abbrev pub after_line : ℕ → ℕ → At → Asked → List Turn → At
+after_line self nodes a asked turns = after_by self nodes a.stopped a asked turns
+
+-- behind several lines
+abbrev pub after_lines : ℕ → ℕ → At → List (List ℕ) → List (List Turn) → At
+after_lines self nodes a [] all = a
+after_lines self nodes a (line ∷ lines) [] = a
+after_lines self nodes a (line ∷ lines) (turns ∷ all) = after_lines self nodes (after_line self nodes a (asked_of line) turns) lines all
+
+-- nothing comes of a line once the device failed
+abbrev pub Comes : ℕ → ℕ → ℕ → Bool → NodeState → Asked → List Turn → Type 0
+Comes self nodes slots true s asked turns = IsNone turns
+Comes self nodes slots false s asked turns = MayCome self nodes slots s asked turns
+
+-- these came of these lines, a list for each
+abbrev pub AreOf : ℕ → ℕ → ℕ → At → List (List ℕ) → List (List Turn) → Type 0
+AreOf self nodes slots a [] [] = Unit {0}
+AreOf self nodes slots a [] (turns ∷ all) = ⊥
+AreOf self nodes slots a (line ∷ lines) [] = ⊥
+AreOf self nodes slots a (line ∷ lines) (turns ∷ all) =
+    Comes self nodes slots a.stopped a.state (asked_of line) turns × AreOf self nodes slots (after_line self nodes a (asked_of line) turns) lines all
+
+-- ---- one history
+
+abbrev pub AreGoing : List Turn → Type 0
+AreGoing [] = Unit {0}
+AreGoing (turn ∷ turns) = IsGoing turn × AreGoing turns
+
+abbrev pub AllGoing : List (List Turn) → Type 0
+AllGoing [] = Unit {0}
+AllGoing (turns ∷ all) = AreGoing turns × AllGoing all
+
+abbrev pub entry_in_front : ℕ → ℕ → NodeState → Turn → List Entry → List Entry
+entry_in_front self nodes s (Goes what) later = record { what = what; sent = sent_at self nodes s what } ∷ later
+entry_in_front self nodes s (Unmounted fault) later = later
+entry_in_front self nodes s (Begins found what) later = later
+
+-- the entries by which the history went on in one line, in front of others
+abbrev pub entries_of : ℕ → ℕ → NodeState → List Turn → List Entry → List Entry
+entries_of self nodes s [] later = later
+entries_of self nodes s (turn ∷ turns) later = entry_in_front self nodes s turn (entries_of self nodes (after_turn self nodes s turn) turns later)
+
+-- and in several
+abbrev pub entries_in : ℕ → ℕ → NodeState → List (List Turn) → List Entry
+entries_in self nodes s [] = []
+entries_in self nodes s (turns ∷ all) = entries_of self nodes s turns (entries_in self nodes (after_turns self nodes s turns) all)

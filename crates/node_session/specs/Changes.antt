@@ -1,0 +1,117 @@
+-- What a service that follows the node is told: that its group changed, and the jobs that came into its hand or left it.
+use Rattle.std.specs.Prelude.{ℕ, ◌==◌, ◌&&◌, List, [], ◌∷◌, ◌++◌, map, codes, decimal, bytes_eq, Bool, true, false, if◌then◌else◌, Option, Some, None}
+use Rattle.std.specs.List.{list_any}
+use Rattle.console_text.specs.Words.{bytes_text}
+use Rattle.wire_msg.specs.declared.body.Body.{Body}
+use Rattle.wire_msg.specs.declared.body.Body.TheVariants as says
+use Rattle.node_core.specs.declared.event.Event.{Event}
+use Rattle.node_core.specs.declared.event.Event.TheVariants as on
+use Rattle.node_core.specs.declared.in_hand.InHand.{InHand}
+use Rattle.node_core.specs.State.{State, is_down}
+use Rattle.node_core.specs.Words.{holds, members_of}
+use Rattle.node_session.specs.declared.ended.Ended.{Ended}
+use Rattle.node_session.specs.declared.ended.Ended.TheVariants as end
+use Rattle.node_session.specs.Words.{group_text, ids_text, phase_text}
+
+-- ---- the group
+
+-- phase, coordinator, number and members; of a node that is down its phase alone
+abbrev pub group_by : Bool → State → List ℕ
+group_by true s = codes "group Down\n"
+group_by false s = codes "group " ++ phase_text s.phase ++ codes " " ++ decimal s.coordinator ++ codes " " ++ group_text s.group ++ codes " " ++ ids_text (members_of s.task) ++ codes "\n"
+
+abbrev pub group_line : State → List ℕ
+group_line s = group_by (is_down s.phase) s
+
+-- the line is told where it isn't the one of before
+abbrev pub group_told : List ℕ → List ℕ → List ℕ
+group_told old new = if bytes_eq old new then [] else new
+
+-- ---- the hand
+
+-- a job in hand, as the node that keeps it and its id there
+abbrev pub held_by : InHand → ℕ × ℕ
+held_by job = (job.origin, job.id)
+
+abbrev pub pair_in : List (ℕ × ℕ) → ℕ → ℕ → Bool
+pair_in pairs origin id = list_any (λ pair. pair.0 == origin && pair.1 == id) pairs
+
+-- with its queue and its payload
+abbrev pub held_text : InHand → List ℕ
+held_text job = decimal job.origin ++ codes " " ++ decimal job.id ++ codes " " ++ decimal job.queue ++ codes " " ++ bytes_text job.payload
+
+abbrev pub take_line : InHand → List ℕ
+take_line job = codes "take " ++ held_text job ++ codes "\n"
+
+abbrev pub drop_line : ℕ × ℕ → List ℕ
+drop_line pair = codes "drop " ++ decimal pair.0 ++ codes " " ++ decimal pair.1 ++ codes "\n"
+
+abbrev pub gone_line : ℕ → List ℕ
+gone_line id = codes "gone " ++ decimal id ++ codes "\n"
+
+abbrev pub take_told : List (ℕ × ℕ) → InHand → List ℕ
+take_told old job = if pair_in old job.origin job.id then [] else take_line job
+
+-- those that weren't in hand before
+abbrev pub takes : List (ℕ × ℕ) → List InHand → List ℕ
+takes old [] = []
+takes old (job ∷ jobs) = take_told old job ++ takes old jobs
+
+abbrev pub drop_told : List InHand → ℕ × ℕ → List ℕ
+drop_told new pair = if holds new pair.0 pair.1 then [] else drop_line pair
+
+-- those that aren't in hand any more
+abbrev pub drops : List InHand → List (ℕ × ℕ) → List ℕ
+drops new [] = []
+drops new (pair ∷ pairs) = drop_told new pair ++ drops new pairs
+
+abbrev pub is_finish : Option Event → Bool
+is_finish (Some (on.Finish origin id)) = true
+is_finish event = false
+
+-- who finishes a job knows that it left the hand
+abbrev pub drops_by : Bool → List InHand → List (ℕ × ℕ) → List ℕ
+drops_by true new old = []
+drops_by false new old = drops new old
+
+-- ---- the own jobs
+
+abbrev pub gone_by : Body → ℕ → List ℕ
+gone_by (says.Done job) id = gone_line id
+gone_by says.AreYouCoordinator id = []
+gone_by (says.Coordinator agreed) id = []
+gone_by (says.AreYouThere group) id = []
+gone_by (says.Here group agreed) id = []
+gone_by (says.Invitation group) id = []
+gone_by (says.Accept group) id = []
+gone_by (says.Ready task) id = []
+gone_by (says.ReadyAck group) id = []
+gone_by (says.Work group job queue payload) id = []
+
+-- the answer to a command that takes a job out of the table is its id
+abbrev pub gone_at : Option Event → ℕ → List ℕ
+gone_at (Some (on.Finish origin job)) id = gone_line id
+gone_at (Some (on.Deliver m)) id = gone_by m.body id
+gone_at event id = []
+
+abbrev pub gone_told : Option Event → Ended → List ℕ
+gone_told event (end.Done (Some id)) = gone_at event id
+gone_told event (end.Done None) = []
+gone_told event (end.Denied fault) = []
+
+-- ---- all
+
+-- what another state tells; finished: whether a job was
+abbrev pub changes : Bool → State → State → List ℕ
+changes finished old new =
+    group_told (group_line old) (group_line new) ++ (takes (map held_by old.hand) new.hand ++ drops_by finished new.hand (map held_by old.hand))
+
+-- ---- for the code
+
+-- what is kept of a state while a call is made
+pub record Sight : Type 0 where
+  pub group : List ℕ
+  pub held : List (ℕ × ℕ)
+
+abbrev pub sight_of : State → Sight
+sight_of s = record { group = group_line s; held = map held_by s.hand }

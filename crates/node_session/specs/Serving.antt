@@ -1,0 +1,140 @@
+-- A session, and what feeding it does.
+use Rattle.std.specs.Prelude.{ℕ, ◌≡◌, ◌≤◌, ◌++◌, List, [], ◌∷◌, Bool, true, false, IsTrue, IsFalse, Option, Some, None}
+use Rattle.sector_disk.specs.Disk.{DiskState}
+use Rattle.job_model.specs.Durable.{Durable}
+use Rattle.node_core.specs.Start.{down}
+use Rattle.node_store.specs.Store.{slots_for}
+use Rattle.durable_node.specs.Node.{Node, Stands}
+use Rattle.histories.specs.NodeState.{NodeState}
+use Rattle.histories.specs.What.{What}
+use Rattle.histories.specs.After.{after}
+use Rattle.histories.specs.History.{Follows, FollowsSlots, replay}
+use Rattle.line_words.specs.Lines.{lines_of}
+use Rattle.node_session.specs.Turns.{Turn, Goes, Begins, begun, after_begun, after_turn, end_of, IsGoing}
+use Rattle.node_session.specs.Chains.{At, AreOf, AllGoing, AreGoing, after_lines, after_turns, entries_of, entries_in, last_end}
+use Rattle.node_session.specs.Text.{answers, turn_text, turns_text}
+use Rattle.node_session.specs.declared.ended.Ended.{Ended}
+
+pub record Progress (Disk : Type 0) : Type 0 where
+  pub node : Node Disk
+  -- the device failed: no line is answered any more
+  pub stopped : Bool
+  -- how many requests there were
+  pub count : ℕ
+  -- what was answered since the last clearing
+  pub text : List ℕ
+  -- the beginning of the line that isn't whole
+  pub rest : List ℕ
+
+abbrev pub at_of : {Disk : Type 0} → Progress Disk → NodeState → At
+at_of p s = record { stopped = p.stopped; count = p.count; state = s }
+
+-- These lines were answered, at a node that stood for this state over this disk.
+pub record Served {Disk : Type 0} (disks : Disk → DiskState) (old new : Progress Disk) (lines : List (List ℕ)) (was : Disk) (s : NodeState) : Type 0 where
+  -- of each line came some of the things that may come of it
+  pub all : List (List Turn)
+  pub came : AreOf old.node.id old.node.nodes (slots_for (disks was).sectors) (at_of old s) lines all
+  -- over an honest disk it is one history
+  pub honest : IsTrue (disks was).honest → AllGoing all
+  -- the node stands for the state that this leaves
+  pub state : NodeState
+  pub stands : Stands disks new.node state
+  pub left : at_of new state ≡ after_lines old.node.id old.node.nodes (at_of old s) lines all
+  -- and these are the answers
+  pub text : new.text ≡ old.text ++ answers old.node.id old.node.nodes (at_of old s) lines all
+
+-- the disk is there, as large and as honest as it was
+pub record IsDiskOf {Disk : Type 0} (disks : Disk → DiskState) (was : Disk) (new : Option Disk) : Type 0 where
+  pub now : Disk
+  pub is : new ≡ Some now
+  pub sectors : (disks now).sectors ≡ (disks was).sectors
+  pub honest : (disks now).honest ≡ (disks was).honest
+
+-- the node is the same, over the same disk
+pub record IsNodeOf {Disk : Type 0} (disks : Disk → DiskState) (old new : Node Disk) : Type 0 where
+  pub id : new.id ≡ old.id
+  pub nodes : new.nodes ≡ old.nodes
+  pub disk : (was : Disk) → old.disk ≡ Some was → IsDiskOf disks was new.disk
+
+-- these lines were answered, whatever state the node stood for
+pub record Serves {Disk : Type 0} (disks : Disk → DiskState) (old new : Progress Disk) (lines : List (List ℕ)) : Type 0 where
+  pub node : IsNodeOf disks old.node new.node
+  pub served : (was : Disk) (s : NodeState) → old.node.disk ≡ Some was → Stands disks old.node s → Served disks old new lines was s
+
+-- a piece was fed: its whole lines were answered, the first behind what was kept, and what is behind the last of them is kept
+pub record Fed {Disk : Type 0} (disks : Disk → DiskState) (old : Progress Disk) (piece : List ℕ) (new : Progress Disk) : Type 0 where
+  pub lines : List (List ℕ)
+  pub cut : lines_of (old.rest ++ piece) ≡ lines ++ new.rest ∷ []
+  pub serves : Serves disks old new lines
+
+-- ---- one call of the node
+
+-- This came of it.
+pub record Turned {Disk : Type 0} (disks : Disk → DiskState) (old new : Progress Disk) (May : ℕ → NodeState → Turn → Type 0) (ended : Ended) (was : Disk) (s : NodeState) : Type 0 where
+  pub turn : Turn
+  pub may : May (slots_for (disks was).sectors) s turn
+  pub honest : IsTrue (disks was).honest → IsGoing turn
+  pub stands : Stands disks new.node (after_turn old.node.id old.node.nodes s turn)
+  pub ended_so : ended ≡ end_of old.node.id old.node.nodes s turn
+  pub text : new.text ≡ old.text ++ turn_text old.node.id old.node.nodes s turn
+
+-- whatever state the node stood for; it changes the node and the text alone
+pub record Turns {Disk : Type 0} (disks : Disk → DiskState) (old new : Progress Disk) (May : ℕ → NodeState → Turn → Type 0) (ended : Ended) : Type 0 where
+  pub node : IsNodeOf disks old.node new.node
+  pub same : new ≡ record old { node = new.node; text = new.text }
+  pub turned : (was : Disk) (s : NodeState) → old.node.disk ≡ Some was → Stands disks old.node s → Turned disks old new May ended was s
+
+-- ---- several calls, of one line
+
+-- These came of them.
+pub record Called {Disk : Type 0} (disks : Disk → DiskState) (old new : Progress Disk) (May : ℕ → NodeState → List Turn → Type 0) (before ended : Ended) (was : Disk) (s : NodeState) : Type 0 where
+  pub turns : List Turn
+  pub may : May (slots_for (disks was).sectors) s turns
+  pub honest : IsTrue (disks was).honest → AreGoing turns
+  pub stands : Stands disks new.node (after_turns old.node.id old.node.nodes s turns)
+  pub ended_so : ended ≡ last_end old.node.id old.node.nodes before s turns
+  pub text : new.text ≡ old.text ++ turns_text old.node.id old.node.nodes s turns
+
+-- whatever state the node stood for
+pub record Calls {Disk : Type 0} (disks : Disk → DiskState) (old new : Progress Disk) (May : ℕ → NodeState → List Turn → Type 0) (before ended : Ended) : Type 0 where
+  pub node : IsNodeOf disks old.node new.node
+  pub same : new ≡ record old { node = new.node; text = new.text }
+  pub called : (was : Disk) (s : NodeState) → old.node.disk ≡ Some was → Stands disks old.node s → Called disks old new May before ended was s
+
+-- ---- laws
+
+-- two pieces, one after the other, are one
+abbrev pub AnyCutting : {Disk : Type 0} → (Disk → DiskState) → Type 0
+AnyCutting {Disk} disks =
+    (old mid new : Progress Disk) (first second : List ℕ) → Fed disks old first mid → Fed disks mid second new → Fed disks old (first ++ second) new
+
+-- where no history begins, the entries follow each other, and the state is the one that they replay to
+abbrev pub OneHistory : Type 0
+OneHistory =
+    (self nodes slots : ℕ) (a : At) (lines : List (List ℕ)) (all : List (List Turn)) → AreOf self nodes slots a lines all → AllGoing all →
+    Follows self nodes a.state (entries_in self nodes a.state all) × FollowsSlots slots self nodes a.state (entries_in self nodes a.state all) ×
+    (replay self nodes a.state (entries_in self nodes a.state all) ≡ (after_lines self nodes a lines all).state)
+
+-- where a history begins in the only call of a line and no other after it, its entries follow each other from what was found on: the
+-- mounting, and then the others. The one mounting that begins none is that of a counter that can't be raised
+abbrev pub BegunHistory : Type 0
+BegunHistory =
+    (self nodes slots : ℕ) (a : At) (line : List ℕ) (lines : List (List ℕ)) (found : Durable) (what : What) (all : List (List Turn)) →
+    AreOf self nodes slots a (line ∷ lines) ((Begins found what ∷ []) ∷ all) → AllGoing all → after_begun self nodes a.state found what ≡ after self nodes (begun self found) what →
+    Follows self nodes (begun self found) (entries_in self nodes (begun self found) ((Goes what ∷ []) ∷ all)) ×
+    (replay self nodes (begun self found) (entries_in self nodes (begun self found) ((Goes what ∷ []) ∷ all)) ≡ (after_lines self nodes a (line ∷ lines) ((Begins found what ∷ []) ∷ all)).state)
+
+abbrev pub opened : {Disk : Type 0} → ℕ → ℕ → Disk → Progress Disk
+opened id nodes disk = record {
+  node = record { id = id; nodes = nodes; state = down id; disk = Some disk; kept = None; area = None; doubt = None; found = None };
+  stopped = false;
+  count = 0;
+  text = [];
+  rest = [];
+}
+
+-- over a disk of which nothing is known, a new session stands for any jobs and counter
+abbrev pub BeginsAnywhere : {Disk : Type 0} → (Disk → DiskState) → Type 0
+BeginsAnywhere {Disk} disks =
+    (id nodes : ℕ) (disk : Disk) (d : Durable) → IsFalse (disks disk).honest → 24 ≤ (disks disk).sectors →
+    Stands disks (opened id nodes disk).node (record { state = down id; durable = d; doubt = None })

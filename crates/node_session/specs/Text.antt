@@ -1,0 +1,169 @@
+-- What a node answers, as text.
+use Rattle.std.specs.Prelude.{ℕ, List, [], ◌∷◌, ◌++◌, codes, decimal, length, Bool, true, false, Option, Some, None}
+use Rattle.std.specs.List.{flat_map}
+use Rattle.hex.specs.Hex.{encode_lower}
+use Rattle.console_text.specs.Words.{bytes_text}
+use Rattle.job_model.specs.declared.job.Job.{Job}
+use Rattle.job_model.specs.Durable.{Durable}
+use Rattle.wire_msg.specs.Envelope.{Envelope}
+use Rattle.wire_msg.specs.Spelling.{spelling}
+use Rattle.node_core.specs.declared.event.Event.{Event}
+use Rattle.node_core.specs.declared.event.Event.TheVariants as on
+use Rattle.node_core.specs.declared.fault.CoreFault.{CoreFault}
+use Rattle.node_core.specs.declared.fault.CoreFault.TheVariants as core
+use Rattle.node_core.specs.declared.in_hand.InHand.{InHand}
+use Rattle.node_core.specs.State.{State, is_down}
+use Rattle.node_core.specs.Words.{members_of}
+use Rattle.durable_node.specs.declared.fault.NodeFault.{NodeFault}
+use Rattle.durable_node.specs.declared.fault.NodeFault.TheVariants as node
+use Rattle.histories.specs.NodeState.{NodeState}
+use Rattle.node_session.specs.declared.asked.Asked.{Asked}
+use Rattle.node_session.specs.declared.asked.Asked.TheVariants as ask
+use Rattle.node_session.specs.declared.ended.Ended.{Ended}
+use Rattle.node_session.specs.declared.ended.Ended.TheVariants as end
+use Rattle.node_session.specs.Asked.{asked_of}
+use Rattle.node_session.specs.Words.{group_text, ids_text, phase_text, truth_text}
+use Rattle.node_session.specs.Turns.{Turn, after_turn, cause, end_of, sent_in}
+use Rattle.node_session.specs.Chains.{At, after_line, line_end, next}
+use Rattle.node_session.specs.Changes.{changes, gone_told, held_text, is_finish}
+
+-- ---- words
+
+abbrev pub core_name : CoreFault → List ℕ
+core_name core.Stranger = codes "Stranger"
+core_name core.Down = codes "Down"
+core_name (core.NotCoordinator id) = codes "NotCoordinator " ++ decimal id
+core_name core.NotNormal = codes "NotNormal"
+core_name core.UnknownJob = codes "UnknownJob"
+core_name core.NoMemory = codes "NoMemory"
+
+abbrev pub fault_name : NodeFault → List ℕ
+fault_name (node.Core fault) = core_name fault
+fault_name node.Full = codes "Full"
+fault_name node.Exhausted = codes "Exhausted"
+fault_name node.Device = codes "Device"
+fault_name node.NotFormatted = codes "NotFormatted"
+fault_name (node.Damaged sector) = codes "Damaged " ++ decimal sector
+fault_name node.TooSmall = codes "TooSmall"
+
+-- a failed device is a fault, and everything else is refused
+abbrev pub denial_word : NodeFault → List ℕ
+denial_word (node.Core fault) = codes "refused "
+denial_word node.Full = codes "refused "
+denial_word node.Exhausted = codes "refused "
+denial_word node.Device = codes "fault "
+denial_word node.NotFormatted = codes "refused "
+denial_word (node.Damaged sector) = codes "refused "
+denial_word node.TooSmall = codes "refused "
+
+-- ---- the turns of a line
+
+abbrev pub send_line : Envelope → List ℕ
+send_line m = codes "send " ++ decimal m.receiver ++ codes " " ++ encode_lower (spelling m) ++ codes "\n"
+
+abbrev pub send_lines : List Envelope → List ℕ
+send_lines [] = []
+send_lines (m ∷ ms) = send_line m ++ send_lines ms
+
+-- what is told of a call: the messages, what changed, and the job that left the table
+abbrev pub call_text : Option Event → List Envelope → State → State → Ended → List ℕ
+call_text event sent old new ended = send_lines sent ++ (changes (is_finish event) old new ++ gone_told event ended)
+
+abbrev pub turn_text : ℕ → ℕ → NodeState → Turn → List ℕ
+turn_text self nodes s turn = call_text (cause turn) (sent_in self nodes s turn) s.state (after_turn self nodes s turn).state (end_of self nodes s turn)
+
+abbrev pub turns_text : ℕ → ℕ → NodeState → List Turn → List ℕ
+turns_text self nodes s [] = []
+turns_text self nodes s (turn ∷ turns) = turn_text self nodes s turn ++ turns_text self nodes (after_turn self nodes s turn) turns
+
+-- ---- the closing line
+
+-- request n was made
+abbrev pub ok_line : ℕ → List ℕ → List ℕ
+ok_line n more = codes "ok " ++ decimal n ++ more ++ codes "\n"
+
+abbrev pub denial_line : ℕ → NodeFault → List ℕ
+denial_line n fault = denial_word fault ++ decimal n ++ codes " " ++ fault_name fault ++ codes "\n"
+
+abbrev pub bad_line : ℕ → List ℕ
+bad_line n = codes "bad " ++ decimal n ++ codes "\n"
+
+abbrev pub id_text : Option ℕ → List ℕ
+id_text None = []
+id_text (Some id) = codes " id " ++ decimal id
+
+-- the id of a submitted job, which nothing else tells
+abbrev pub answer_text : Event → Option ℕ → List ℕ
+answer_text (on.Submit queue payload) answer = id_text answer
+answer_text event answer = []
+
+abbrev pub closing : ℕ → Ended → List ℕ
+closing n (end.Done answer) = ok_line n []
+closing n (end.Denied fault) = denial_line n fault
+
+abbrev pub event_closing : ℕ → Event → Ended → List ℕ
+event_closing n event (end.Done answer) = ok_line n (answer_text event answer)
+event_closing n event (end.Denied fault) = denial_line n fault
+
+-- ---- the state and the jobs
+
+abbrev pub group_part : State → List ℕ
+group_part s = codes " coord " ++ decimal s.coordinator ++ codes " group " ++ group_text s.group
+
+abbrev pub sets_part : State → List ℕ
+sets_part s =
+    codes " members " ++ ids_text (members_of s.task) ++ codes " found " ++ ids_text s.found ++ codes " unready " ++ ids_text s.unready
+
+abbrev pub asks_part : State → List ℕ
+asks_part s = codes " checking " ++ truth_text s.checking ++ codes " probing " ++ truth_text s.probing
+
+abbrev pub jobs_part : State → Durable → List ℕ
+jobs_part s d = codes " count " ++ decimal d.counter ++ codes " pending " ++ decimal (length d.pending) ++ codes " hand " ++ decimal (length s.hand)
+
+abbrev pub up_line : State → Durable → List ℕ
+up_line s d = codes "state " ++ phase_text s.phase ++ group_part s ++ sets_part s ++ asks_part s ++ jobs_part s d ++ codes "\n"
+
+abbrev pub state_by : Bool → NodeState → List ℕ
+state_by true s = codes "state Down\n"
+state_by false s = up_line s.state s.durable
+
+abbrev pub state_line : NodeState → List ℕ
+state_line s = state_by (is_down s.state.phase) s
+
+abbrev pub pending_line : Job → List ℕ
+pending_line job = codes "pending " ++ decimal job.id ++ codes " " ++ decimal job.queue ++ codes " " ++ bytes_text job.payload ++ codes "\n"
+
+abbrev pub hand_line : InHand → List ℕ
+hand_line job = codes "hand " ++ held_text job ++ codes "\n"
+
+-- what the node keeps, and then what it works on
+abbrev pub jobs_by : Bool → NodeState → List ℕ
+jobs_by true s = []
+jobs_by false s = flat_map pending_line s.durable.pending ++ flat_map hand_line s.state.hand
+
+abbrev pub jobs_lines : NodeState → List ℕ
+jobs_lines s = jobs_by (is_down s.state.phase) s
+
+-- ---- all answers
+
+-- the answer to the n-th request, which asks this of a node in this state; these came of it
+abbrev pub answer : ℕ → ℕ → ℕ → NodeState → Asked → List Turn → List ℕ
+answer self nodes n s ask.Nothing turns = []
+answer self nodes n s (ask.Event event) turns = turns_text self nodes s turns ++ event_closing n event (line_end self nodes s turns)
+answer self nodes n s ask.Compact turns = turns_text self nodes s turns ++ closing n (line_end self nodes s turns)
+answer self nodes n s (ask.Tick now) turns = turns_text self nodes s turns ++ closing n (line_end self nodes s turns)
+answer self nodes n s (ask.Lost id) turns = turns_text self nodes s turns ++ closing n (line_end self nodes s turns)
+answer self nodes n s ask.State turns = state_line s ++ ok_line n []
+answer self nodes n s ask.Jobs turns = jobs_lines s ++ ok_line n []
+answer self nodes n s ask.Bad turns = bad_line n
+
+-- no line is answered once the device failed
+abbrev pub answer_at : ℕ → ℕ → Bool → At → Asked → List Turn → List ℕ
+answer_at self nodes true a asked turns = []
+answer_at self nodes false a asked turns = answer self nodes (next a.count asked) a.state asked turns
+
+abbrev pub answers : ℕ → ℕ → At → List (List ℕ) → List (List Turn) → List ℕ
+answers self nodes a [] all = []
+answers self nodes a (line ∷ lines) [] = []
+answers self nodes a (line ∷ lines) (turns ∷ all) =
+    answer_at self nodes a.stopped a (asked_of line) turns ++ answers self nodes (after_line self nodes a (asked_of line) turns) lines all

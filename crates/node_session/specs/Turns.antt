@@ -1,0 +1,179 @@
+-- What comes of one call of the node, over any disk.
+use Rattle.std.specs.Prelude.{ℕ, ◌≡◌, [], List, true, None, Option, Result, Ok, Err}
+use Rattle.job_model.specs.Durable.{Durable}
+use Rattle.wire_msg.specs.Envelope.{Envelope}
+use Rattle.node_core.specs.declared.event.Event.{Event}
+use Rattle.node_core.specs.declared.event.Event.TheVariants as on
+use Rattle.node_core.specs.Start.{down}
+use Rattle.node_core.specs.State.{is_down}
+use Rattle.node_core.specs.declared.fault.CoreFault.TheVariants as core
+use Rattle.histories.specs.NodeState.{NodeState}
+use Rattle.histories.specs.What.{Rest, Nothing, Compacted, CompactDown, CompactWorn, What, Did, Refused, Faulted, Rests, Crashed, Recovered, MountFailed, RaiseFailed, RaiseRefused, event_of}
+use Rattle.histories.specs.After.{after, sent_at}
+use Rattle.histories.specs.Possible.{IsPossible, IsOfSlots}
+use Rattle.durable_node.specs.declared.fault.NodeFault.{NodeFault}
+use Rattle.durable_node.specs.declared.fault.NodeFault.TheVariants as node
+use Rattle.durable_node.specs.declared.step.Step.{Step}
+use Rattle.durable_node.specs.Faults.{shown}
+use Rattle.durable_node.specs.Remounting.{IsUnmounted}
+use Rattle.durable_node.specs.Stepping.{answer_at}
+use Rattle.node_session.specs.declared.ended.Ended.{Ended}
+use Rattle.node_session.specs.declared.ended.Ended.TheVariants as end
+
+pub data Turn : Type 0 where
+  -- the node's history went on by this
+  Goes : (what : What) → Turn
+  -- the disk couldn't be mounted, and all is as it was
+  Unmounted : (fault : NodeFault) → Turn
+  -- the disk was mounted and this was found there: a history begins with it, and its first entry is this one
+  Begins : (found : Durable) (what : What) → Turn
+
+-- where a history begins: a node that is down, over a disk that keeps this
+abbrev pub begun : ℕ → Durable → NodeState
+begun self found = record { state = down self; durable = found; doubt = None }
+
+-- a counter that can't be raised leaves all as it was
+abbrev pub after_begun : ℕ → ℕ → NodeState → Durable → What → NodeState
+after_begun self nodes s found (Did event) = s
+after_begun self nodes s found (Refused event fault) = s
+after_begun self nodes s found (Faulted event) = s
+after_begun self nodes s found (Rests rest) = s
+after_begun self nodes s found Crashed = s
+after_begun self nodes s found (Recovered kept) = after self nodes (begun self found) (Recovered kept)
+after_begun self nodes s found MountFailed = s
+after_begun self nodes s found (RaiseFailed kept) = after self nodes (begun self found) (RaiseFailed kept)
+after_begun self nodes s found (RaiseRefused kept) = s
+
+-- the state after a call
+abbrev pub after_turn : ℕ → ℕ → NodeState → Turn → NodeState
+after_turn self nodes s (Goes what) = after self nodes s what
+after_turn self nodes s (Unmounted fault) = s
+after_turn self nodes s (Begins found what) = after_begun self nodes s found what
+
+-- the messages that it hands out
+abbrev pub sent_in : ℕ → ℕ → NodeState → Turn → List Envelope
+sent_in self nodes s (Goes what) = sent_at self nodes s what
+sent_in self nodes s (Unmounted fault) = []
+sent_in self nodes s (Begins found what) = []
+
+-- the event that was handled, refused or faulted
+abbrev pub cause : Turn → Option Event
+cause (Goes what) = event_of what
+cause (Unmounted fault) = None
+cause (Begins found what) = None
+
+-- ---- how it ends
+
+abbrev pub rest_end : Rest → Ended
+rest_end Nothing = end.Done None
+rest_end Compacted = end.Done None
+rest_end CompactDown = end.Denied (node.Core core.Down)
+rest_end CompactWorn = end.Denied node.Exhausted
+
+abbrev pub end_at : ℕ → ℕ → NodeState → What → Ended
+end_at self nodes s (Did event) = end.Done (answer_at self nodes s (Did event))
+end_at self nodes s (Refused event fault) = end.Denied (shown fault)
+end_at self nodes s (Faulted event) = end.Denied node.Device
+end_at self nodes s (Rests rest) = rest_end rest
+end_at self nodes s Crashed = end.Denied node.Device
+end_at self nodes s (Recovered kept) = end.Done (answer_at self nodes s (Recovered kept))
+end_at self nodes s MountFailed = end.Denied node.Device
+end_at self nodes s (RaiseFailed kept) = end.Denied node.Device
+end_at self nodes s (RaiseRefused kept) = end.Denied node.Exhausted
+
+abbrev pub end_of : ℕ → ℕ → NodeState → Turn → Ended
+end_of self nodes s (Goes what) = end_at self nodes s what
+end_of self nodes s (Unmounted fault) = end.Denied fault
+end_of self nodes s (Begins found what) = end_at self nodes (begun self found) what
+
+-- ---- what may come
+
+-- it came of this event
+abbrev pub IsOf : Event → What → Type 0
+IsOf event (Did e) = e ≡ event
+IsOf event (Refused e fault) = e ≡ event
+IsOf event (Faulted e) = e ≡ event
+IsOf event (Rests rest) = ⊥
+IsOf event Crashed = ⊥
+IsOf event (Recovered kept) = event ≡ on.Recover
+IsOf event MountFailed = event ≡ on.Recover
+IsOf event (RaiseFailed kept) = event ≡ on.Recover
+IsOf event (RaiseRefused kept) = event ≡ on.Recover
+
+-- a history may begin with it
+abbrev pub MayBegin : What → Type 0
+MayBegin (Did event) = ⊥
+MayBegin (Refused event fault) = ⊥
+MayBegin (Faulted event) = ⊥
+MayBegin (Rests rest) = ⊥
+MayBegin Crashed = ⊥
+MayBegin (Recovered kept) = Unit {0}
+MayBegin MountFailed = ⊥
+MayBegin (RaiseFailed kept) = Unit {0}
+MayBegin (RaiseRefused kept) = Unit {0}
+
+-- it may come of an event at a node in this state, over a disk of so many slots
+abbrev pub MayComeOf : ℕ → ℕ → Event → ℕ → NodeState → Turn → Type 0
+MayComeOf self nodes event slots s (Goes what) = IsOf event what × IsPossible self nodes s what × IsOfSlots slots self nodes s what
+MayComeOf self nodes event slots s (Unmounted fault) = (event ≡ on.Recover) × (is_down s.state.phase ≡ true) × IsUnmounted fault
+MayComeOf self nodes event slots s (Begins found what) =
+    (event ≡ on.Recover) × (is_down s.state.phase ≡ true) × MayBegin what × IsPossible self nodes (begun self found) what
+
+-- a compaction was done or refused
+abbrev pub IsCompaction : Rest → Type 0
+IsCompaction Nothing = ⊥
+IsCompaction Compacted = Unit {0}
+IsCompaction CompactDown = Unit {0}
+IsCompaction CompactWorn = Unit {0}
+
+-- it came of a compaction; the device failed where the node crashed
+abbrev pub IsOfCompaction : What → Type 0
+IsOfCompaction (Did event) = ⊥
+IsOfCompaction (Refused event fault) = ⊥
+IsOfCompaction (Faulted event) = ⊥
+IsOfCompaction (Rests rest) = IsCompaction rest
+IsOfCompaction Crashed = Unit {0}
+IsOfCompaction (Recovered kept) = ⊥
+IsOfCompaction MountFailed = ⊥
+IsOfCompaction (RaiseFailed kept) = ⊥
+IsOfCompaction (RaiseRefused kept) = ⊥
+
+abbrev pub MayCompact : ℕ → ℕ → ℕ → NodeState → Turn → Type 0
+MayCompact self nodes slots s (Goes what) = IsOfCompaction what × IsPossible self nodes s what × IsOfSlots slots self nodes s what
+MayCompact self nodes slots s (Unmounted fault) = ⊥
+MayCompact self nodes slots s (Begins found what) = ⊥
+
+-- an event that a policy of timers makes
+abbrev pub IsTimer : Event → Type 0
+IsTimer on.CheckTimer = Unit {0}
+IsTimer on.MergeTimer = Unit {0}
+IsTimer on.AcceptTimer = Unit {0}
+IsTimer on.ReadyTimer = Unit {0}
+IsTimer on.CoordTimer = Unit {0}
+IsTimer on.DispatchTimer = Unit {0}
+IsTimer (on.Deliver m) = ⊥
+IsTimer (on.Submit queue payload) = ⊥
+IsTimer (on.Finish origin id) = ⊥
+IsTimer on.Recover = Unit {0}
+
+-- it came of such an event
+pub record IsTimely (self nodes slots : ℕ) (s : NodeState) (turn : Turn) : Type 0 where
+  pub event : Event
+  pub timer : IsTimer event
+  pub may : MayComeOf self nodes event slots s turn
+
+-- no history began
+abbrev pub IsGoing : Turn → Type 0
+IsGoing (Goes what) = Unit {0}
+IsGoing (Unmounted fault) = ⊥
+IsGoing (Begins found what) = ⊥
+
+-- ---- for the code
+
+abbrev pub ended_by : Result Step NodeFault → Ended
+ended_by (Ok step) = end.Done step.answer
+ended_by (Err fault) = end.Denied fault
+
+abbrev pub compaction_end : {A : Type 0} → Result A NodeFault → Ended
+compaction_end (Ok done) = end.Done None
+compaction_end (Err fault) = end.Denied fault

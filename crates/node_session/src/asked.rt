@@ -1,0 +1,208 @@
+// What a line asks for.
+ghost use Rattle.std.specs.Prelude.{◌≡◌, IfOk, bytes_eq};
+ghost use Rattle.line_words.specs.Words.{words_of};
+ghost use Rattle.schedule.specs.Fields.{node_of, queue_of, payload_of};
+ghost use Rattle.wire_msg.specs.Reading.{message_of};
+ghost use Rattle.node_session.specs.Asked.{alone_asked, asked_of, asked_words, completion, delivered, delivery, loss, one_field, submission, ticking, timer_asked, two_fields};
+
+use group_task::NodeId;
+use job_model::{Payload, Queue};
+use line_words::{bytes, cut_word, number};
+use node_core::Event;
+use std::alloc::{AllocError, Global};
+use wire_msg::decode;
+
+/// What a line asks for.
+#[derive(Clone, Copy, Debug, PartialEq, Eq)]
+pub enum Asked {
+    /// The line is empty: it is no request.
+    Nothing,
+    /// An event at the node.
+    Event(Event),
+    /// The journal is to be compacted.
+    Compact,
+    /// The timers that are due at this time, in milliseconds of any clock that doesn't fall back.
+    Tick(u64),
+    /// The transport gave this node up.
+    Lost(NodeId),
+    /// The node's state is to be told.
+    State,
+    /// The jobs that the node keeps, and those that it works on, are to be told.
+    Jobs,
+    /// The line can't be read.
+    Bad,
+}
+
+/// What a line asks for.
+pub fn read_line(alloc: Global, line: &[u8]) -> Result<Asked, AllocError>
+    ensures { IfOk result (λ asked. asked ≡ asked_of line.now) }
+{
+    match line {
+        [] => Ok(Asked::Nothing),
+        _ => words(alloc, line),
+    }
+}
+
+#[tactic(auto, using(crate::proofs::Reading::too_many))]
+fn words(alloc: Global, line: &[u8]) -> Result<Asked, AllocError>
+    ensures { IfOk result (λ asked. asked ≡ asked_words (words_of line.now)) }
+{
+    let Some((name, fields)) = cut_word(line) else {
+        return Ok(alone(line));
+    };
+    let Some((first, more)) = cut_word(fields) else {
+        return one_field(alloc, name, fields);
+    };
+    match cut_word(more) {
+        None => two_fields(alloc, name, first, more),
+        Some(_) => Ok(Asked::Bad),
+    }
+}
+
+/// Whether a word is this name.
+fn is(word: &[u8], name: &str) -> bool
+    ensures { result ≡ bytes_eq word.now name.now }
+{
+    word == name.as_bytes()
+}
+
+fn alone(word: &[u8]) -> Asked
+    ensures { result ≡ alone_asked word.now }
+{
+    if is(word, "state") {
+        Asked::State
+    } else if is(word, "jobs") {
+        Asked::Jobs
+    } else if is(word, "compact") {
+        Asked::Compact
+    } else {
+        timer(word)
+    }
+}
+
+/// The events that a word by itself names.
+fn timer(word: &[u8]) -> Asked
+    ensures { result ≡ timer_asked word.now }
+{
+    if is(word, "check") {
+        Asked::Event(Event::CheckTimer)
+    } else if is(word, "merge") {
+        Asked::Event(Event::MergeTimer)
+    } else if is(word, "accept") {
+        Asked::Event(Event::AcceptTimer)
+    } else if is(word, "ready") {
+        Asked::Event(Event::ReadyTimer)
+    } else if is(word, "coord") {
+        Asked::Event(Event::CoordTimer)
+    } else if is(word, "dispatch") {
+        Asked::Event(Event::DispatchTimer)
+    } else if is(word, "recover") {
+        Asked::Event(Event::Recover)
+    } else {
+        Asked::Bad
+    }
+}
+
+fn one_field(alloc: Global, name: &[u8], field: &[u8]) -> Result<Asked, AllocError>
+    ensures { IfOk result (λ asked. asked ≡ one_field name.now field.now) }
+{
+    if is(name, "deliver") {
+        delivery(alloc, field)
+    } else if is(name, "tick") {
+        Ok(ticking(field))
+    } else if is(name, "lost") {
+        Ok(loss(field))
+    } else {
+        Ok(Asked::Bad)
+    }
+}
+
+fn two_fields(alloc: Global, name: &[u8], first: &[u8], second: &[u8]) -> Result<Asked, AllocError>
+    ensures { IfOk result (λ asked. asked ≡ two_fields name.now first.now second.now) }
+{
+    if is(name, "submit") {
+        submission(alloc, first, second)
+    } else if is(name, "finish") {
+        Ok(completion(first, second))
+    } else {
+        Ok(Asked::Bad)
+    }
+}
+
+fn delivery(alloc: Global, field: &[u8]) -> Result<Asked, AllocError>
+    ensures { IfOk result (λ asked. asked ≡ delivery field.now) }
+{
+    let Some(bytes) = bytes(alloc, field)? else {
+        return Ok(Asked::Bad);
+    };
+    Ok(message(&bytes))
+}
+
+fn message(bytes: &[u8]) -> Asked
+    ensures { result ≡ delivered (message_of bytes.now) }
+{
+    match decode(bytes) {
+        Ok(message) => Asked::Event(Event::Deliver(message)),
+        Err(_) => Asked::Bad,
+    }
+}
+
+fn ticking(field: &[u8]) -> Asked
+    ensures { result ≡ ticking field.now }
+{
+    match number(field) {
+        Some(now) => Asked::Tick(now),
+        None => Asked::Bad,
+    }
+}
+
+fn loss(field: &[u8]) -> Asked
+    ensures { result ≡ loss field.now }
+{
+    match node_in(field) {
+        Some(node) => Asked::Lost(node),
+        None => Asked::Bad,
+    }
+}
+
+fn submission(alloc: Global, queue: &[u8], payload: &[u8]) -> Result<Asked, AllocError>
+    ensures { IfOk result (λ asked. asked ≡ submission queue.now payload.now) }
+{
+    let Some(queue) = queue_in(queue) else {
+        return Ok(Asked::Bad);
+    };
+    match payload_in(alloc, payload)? {
+        Some(payload) => Ok(Asked::Event(Event::Submit(queue, payload))),
+        None => Ok(Asked::Bad),
+    }
+}
+
+fn completion(origin: &[u8], id: &[u8]) -> Asked
+    ensures { result ≡ completion origin.now id.now }
+{
+    match (node_in(origin), number(id)) {
+        (Some(origin), Some(id)) => Asked::Event(Event::Finish(origin, id)),
+        _ => Asked::Bad,
+    }
+}
+
+fn node_in(word: &[u8]) -> Option<NodeId>
+    ensures { result ≡ node_of word.now }
+{
+    NodeId::new(u8::try_from(number(word)?).ok()?)
+}
+
+fn queue_in(word: &[u8]) -> Option<Queue>
+    ensures { result ≡ queue_of word.now }
+{
+    Queue::new(u8::try_from(number(word)?).ok()?)
+}
+
+fn payload_in(alloc: Global, word: &[u8]) -> Result<Option<Payload>, AllocError>
+    ensures { IfOk result (λ payload. payload ≡ payload_of word.now) }
+{
+    match bytes(alloc, word)? {
+        Some(bytes) => Ok(Payload::new(&bytes)),
+        None => Ok(None),
+    }
+}

@@ -1,0 +1,125 @@
+// The line that closes the answer to a request.
+ghost use Rattle.std.specs.Prelude.{◌≡◌, ◌++◌, [], OnOk, decimal};
+ghost use Rattle.node_session.specs.Text.{answer_text, bad_line, closing, core_name, denial_line, denial_word, event_closing, fault_name, ok_line};
+
+use crate::ended::Ended;
+use console_text::{push_number, push_text};
+use durable_node::NodeFault;
+use node_core::{CoreFault, Event};
+use std::alloc::AllocError;
+
+/// Adds how request `number` ended, which asked this event.
+pub(crate) fn push_event_closing(
+    text: &mut Vec<u8>,
+    number: u64,
+    event: &Event,
+    ended: &Ended,
+) -> Result<(), AllocError>
+    ensures { OnOk result (text.new.items ≡ text.old.items ++ event_closing number event.now ended.now) }
+{
+    match ended {
+        Ended::Done(answer) => {
+            push_text(text, "ok ")?;
+            push_number(text, number)?;
+            push_answer(text, event, *answer)?;
+            push_text(text, "\n")
+        }
+        Ended::Denied(fault) => push_denial(text, number, fault),
+    }
+}
+
+/// Adds how request `number` ended, which asked something else of the node.
+pub(crate) fn push_closing(text: &mut Vec<u8>, number: u64, ended: &Ended) -> Result<(), AllocError>
+    ensures { OnOk result (text.new.items ≡ text.old.items ++ closing number ended.now) }
+{
+    match ended {
+        Ended::Done(_) => push_ok(text, number),
+        Ended::Denied(fault) => push_denial(text, number, fault),
+    }
+}
+
+/// Adds that request `number` was made, of which nothing else is told.
+pub(crate) fn push_ok(text: &mut Vec<u8>, number: u64) -> Result<(), AllocError>
+    ensures { OnOk result (text.new.items ≡ text.old.items ++ ok_line number []) }
+{
+    push_text(text, "ok ")?;
+    push_number(text, number)?;
+    push_text(text, "\n")
+}
+
+/// Adds that request `number` can't be read.
+pub(crate) fn push_bad(text: &mut Vec<u8>, number: u64) -> Result<(), AllocError>
+    ensures { OnOk result (text.new.items ≡ text.old.items ++ bad_line number) }
+{
+    push_text(text, "bad ")?;
+    push_number(text, number)?;
+    push_text(text, "\n")
+}
+
+/// Adds the id of a submitted job.
+fn push_answer(text: &mut Vec<u8>, event: &Event, answer: Option<u64>) -> Result<(), AllocError>
+    ensures { OnOk result (text.new.items ≡ text.old.items ++ answer_text event.now answer) }
+{
+    match (event, answer) {
+        (Event::Submit(_, _), Some(id)) => {
+            push_text(text, " id ")?;
+            push_number(text, id)
+        }
+        _ => Ok(()),
+    }
+}
+
+fn push_denial(text: &mut Vec<u8>, number: u64, fault: &NodeFault) -> Result<(), AllocError>
+    ensures { OnOk result (text.new.items ≡ text.old.items ++ denial_line number fault.now) }
+{
+    push_text(text, denial_word(fault))?;
+    push_number(text, number)?;
+    push_text(text, " ")?;
+    push_fault(text, *fault)?;
+    push_text(text, "\n")
+}
+
+fn denial_word(fault: &NodeFault) -> &'static str
+    ensures { result.now ≡ denial_word fault.now }
+{
+    match fault {
+        NodeFault::Device => "fault ",
+        _ => "refused ",
+    }
+}
+
+fn push_fault(text: &mut Vec<u8>, fault: NodeFault) -> Result<(), AllocError>
+    ensures { OnOk result (text.new.items ≡ text.old.items ++ fault_name fault) }
+{
+    match fault {
+        NodeFault::Core(fault) => push_core_fault(text, fault),
+        NodeFault::Full => push_text(text, "Full"),
+        NodeFault::Exhausted => push_text(text, "Exhausted"),
+        NodeFault::Device => push_text(text, "Device"),
+        NodeFault::NotFormatted => push_text(text, "NotFormatted"),
+        NodeFault::Damaged(sector) => push_named_number(text, "Damaged ", sector),
+        NodeFault::TooSmall => push_text(text, "TooSmall"),
+    }
+}
+
+fn push_core_fault(text: &mut Vec<u8>, fault: CoreFault) -> Result<(), AllocError>
+    ensures { OnOk result (text.new.items ≡ text.old.items ++ core_name fault) }
+{
+    match fault {
+        CoreFault::Stranger => push_text(text, "Stranger"),
+        CoreFault::Down => push_text(text, "Down"),
+        CoreFault::NotCoordinator(id) => {
+            push_named_number(text, "NotCoordinator ", u64::from(id.number()))
+        }
+        CoreFault::NotNormal => push_text(text, "NotNormal"),
+        CoreFault::UnknownJob => push_text(text, "UnknownJob"),
+        CoreFault::NoMemory => push_text(text, "NoMemory"),
+    }
+}
+
+fn push_named_number(text: &mut Vec<u8>, name: &str, number: u64) -> Result<(), AllocError>
+    ensures { OnOk result (text.new.items ≡ text.old.items ++ (name.now ++ decimal number)) }
+{
+    push_text(text, name)?;
+    push_number(text, number)
+}

@@ -1,0 +1,18 @@
+//! A node that is asked by lines of text and answers by lines. A session is a value: it is fed with bytes, however they are cut, and its
+//! text is what is to be written.
+#![tactic(auto)]
+
+mod asked;
+mod closing;
+mod ended;
+mod laws;
+mod seen;
+mod sending;
+mod session;
+mod showing;
+mod words;
+
+pub use asked::{Asked, read_line};
+pub use ended::Ended;
+pub use laws::{any_cutting, begins_anywhere, begun_history, one_history};
+pub use session::Session;

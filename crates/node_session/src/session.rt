@@ -1,0 +1,406 @@
+// A node that is fed with lines, and what it answers.
+ghost use Rattle.std.specs.Prelude.{◌≡◌, ◌<◌, ◌≤◌, ◌+◌, ◌++◌, ◌∷◌, ◌↔◌, List, ℕ, [], IfOk, IfSome, OnOk, IsTrue, Err, None, false};
+ghost use Rattle.group_task.specs.declared.node.TheConstants.{NODES};
+ghost use Rattle.job_journal.specs.Journal.{IsSound};
+ghost use Rattle.node_store.specs.Store.{slots_for};
+ghost use Rattle.node_core.specs.declared.fault.CoreFault.TheVariants.{NoMemory};
+ghost use Rattle.line_words.specs.Lines.{lines_of};
+ghost use Rattle.node_session.specs.declared.asked.Asked.TheVariants as ask;
+ghost use Rattle.node_session.specs.declared.ended.Ended.TheVariants as end;
+ghost use Rattle.node_session.specs.Asked.{asked_of};
+ghost use Rattle.node_session.specs.Chains.{AreTimely, MayCome, is_failed};
+ghost use Rattle.node_session.specs.Serving.{opened, Calls, Fed, Serves, Turns};
+ghost use Rattle.durable_node.specs.Stepping.{sent_by};
+ghost use Rattle.node_session.specs.Text.{send_lines};
+ghost use Rattle.node_session.specs.Turns.{compaction_end, ended_by, IsTimely, IsTimer, MayComeOf, MayCompact};
+
+use crate::asked::{Asked, read_line};
+use crate::closing::{push_bad, push_closing, push_event_closing, push_ok};
+use crate::ended::Ended;
+use crate::seen::{Seen, is_finish, push_gone};
+use crate::sending::push_messages;
+use crate::showing::{push_all_jobs, push_state};
+use durable_node::{DurableNode, NodeFault, Step};
+use group_task::NodeId;
+use line_words::cut_line;
+use node_core::{CoreFault, Event, Phase, Vector};
+use pace::{Pace, Setting, Sight};
+use sector_disk::SectorDisk;
+use std::alloc::{AllocError, Global};
+use std::marker::Model;
+use std::mem;
+
+/// At most so many timers fire in one tick; what is due beyond that fires in the next.
+const MOST_FIRED: u32 = 16;
+
+/// A node over its disk, and what it has answered so far.
+#[derive(Drop)]
+pub struct Session<D: SectorDisk> {
+    alloc: Global,
+    id: NodeId,
+    node: DurableNode<D>,
+    pace: Pace,
+    stopped: bool,
+    count: u64,
+    text: Vec<u8>,
+    // the beginning of the line that isn't whole
+    unread: Vec<u8>,
+    // room for the spelling of a message, and for what the node was before a call
+    bytes: Vec<u8>,
+    seen: Seen,
+}
+
+impl<D: SectorDisk> Model for Session<D> {
+    ghost use Rattle.node_session.specs.Serving.{Progress};
+
+    ghost Value = { Progress D };
+
+    ghost view = { λ a. record { node = a.node; stopped = a.stopped; count = a.count; text = a.text.items; rest = a.unread.items } };
+}
+
+impl<D: SectorDisk> Session<D> {
+    /// A session of a node that is Down over its disk. The setting and the seed say which timers fire in a tick.
+    pub fn new(
+        alloc: Global,
+        id: NodeId,
+        nodes: u8,
+        disk: D,
+        setting: Setting,
+        seed: u64,
+    ) -> Session<D>
+        requires within { id < nodes }
+        requires most { nodes ≤ NODES }
+        requires sound { IsSound (slots_for (D.state disk).sectors) (D.state disk) }
+        ensures { result ≡ opened id nodes disk }
+    {
+        Session {
+            alloc,
+            id,
+            node: DurableNode::down(alloc, id, nodes, disk),
+            pace: Pace::new(setting, id, seed),
+            stopped: false,
+            count: 0,
+            text: Vec::new(alloc),
+            unread: Vec::new(alloc),
+            bytes: Vec::new(alloc),
+            seen: Seen::new(alloc),
+        }
+    }
+
+    /// What was answered since the last clearing.
+    pub fn text(&self) -> &[u8]
+        ensures { result.now ≡ self.now.text }
+    {
+        &self.text
+    }
+
+    /// What was answered is written, and forgotten.
+    pub fn clear(&mut self)
+        ensures { self.new ≡ record self.old { text = [] } }
+    {
+        self.text.clear();
+    }
+
+    /// Whether the device failed. The answer that tells it is the last one.
+    pub fn has_stopped(&self) -> bool
+        ensures { result ≡ self.now.stopped }
+    {
+        self.stopped
+    }
+}
+
+impl<D: SectorDisk + Drop> Session<D> {
+    /// Takes a piece of the input, and answers each line that is whole now. Where memory runs out, it says so, and
+    /// nothing more is to be written.
+    pub fn feed(&mut self, piece: &[u8]) -> Result<(), AllocError>
+        ensures { OnOk result (Fed D.state self.old piece.now self.new) }
+    {
+        self.unread.extend_from_slice(piece)?;
+        let whole = mem::replace(&mut self.unread, Vec::new(self.alloc));
+        let left = self.answer_lines(&whole)?;
+        self.unread.extend_from_slice(left)?;
+        Ok(())
+    }
+
+    /// Answers the whole lines of a text, and gives what stands behind the last.
+    fn answer_lines<'a>(&mut self, whole: &'a [u8]) -> Result<&'a [u8], AllocError>
+        ensures rest { self.new.rest ≡ self.old.rest }
+        ensures lines { IfOk result (λ left. (lines : List (List ℕ)) × (lines_of whole.now ≡ lines ++ left.now ∷ []) × Serves D.state self.old self.new lines) }
+    {
+        let mut left = whole;
+        while let Some((line, behind)) = cut_line(left) {
+            self.answer_line(line)?;
+            left = behind;
+        }
+        Ok(left)
+    }
+
+    fn answer_line(&mut self, line: &[u8]) -> Result<(), AllocError>
+        ensures rest { self.new.rest ≡ self.old.rest }
+        ensures line { OnOk result (Serves D.state self.old self.new (line.now ∷ [])) }
+    {
+        if self.stopped {
+            return Ok(());
+        }
+        match read_line(self.alloc, line)? {
+            Asked::Nothing => Ok(()),
+            Asked::Event(event) => self.answer_event(&event),
+            Asked::Compact => self.answer_compaction(),
+            Asked::Tick(now) => self.answer_tick(now),
+            Asked::Lost(node) => self.answer_loss(node),
+            Asked::State => self.answer_state(),
+            Asked::Jobs => self.answer_jobs(),
+            Asked::Bad => self.answer_bad(),
+        }
+    }
+
+    fn answer_event(&mut self, event: &Event) -> Result<(), AllocError>
+        requires { self.old.stopped ≡ false }
+        ensures rest { self.new.rest ≡ self.old.rest }
+        ensures line { (line : List ℕ) → asked_of line ≡ ask.Event event.now → OnOk result (Serves D.state self.old self.new (line ∷ [])) }
+    {
+        let number = self.next_number()?;
+        self.hear(event);
+        let ended = self.turn(event)?;
+        self.stop_where_failed(&ended);
+        push_event_closing(&mut self.text, number, event, &ended)
+    }
+
+    fn answer_compaction(&mut self) -> Result<(), AllocError>
+        requires { self.old.stopped ≡ false }
+        ensures rest { self.new.rest ≡ self.old.rest }
+        ensures line { (line : List ℕ) → asked_of line ≡ ask.Compact → OnOk result (Serves D.state self.old self.new (line ∷ [])) }
+    {
+        let number = self.next_number()?;
+        let ended = self.compact()?;
+        self.stop_where_failed(&ended);
+        push_closing(&mut self.text, number, &ended)
+    }
+
+    fn answer_tick(&mut self, now: u64) -> Result<(), AllocError>
+        requires { self.old.stopped ≡ false }
+        ensures rest { self.new.rest ≡ self.old.rest }
+        ensures line { (line : List ℕ) → asked_of line ≡ ask.Tick now → OnOk result (Serves D.state self.old self.new (line ∷ [])) }
+    {
+        let number = self.next_number()?;
+        let ended = self.fire_due(now)?;
+        self.stop_where_failed(&ended);
+        push_closing(&mut self.text, number, &ended)
+    }
+
+    fn answer_loss(&mut self, node: NodeId) -> Result<(), AllocError>
+        requires { self.old.stopped ≡ false }
+        ensures rest { self.new.rest ≡ self.old.rest }
+        ensures line { (line : List ℕ) → asked_of line ≡ ask.Lost node → OnOk result (Serves D.state self.old self.new (line ∷ [])) }
+    {
+        let number = self.next_number()?;
+        let ended = self.give_up(node)?;
+        self.stop_where_failed(&ended);
+        push_closing(&mut self.text, number, &ended)
+    }
+
+    fn answer_state(&mut self) -> Result<(), AllocError>
+        requires { self.old.stopped ≡ false }
+        ensures rest { self.new.rest ≡ self.old.rest }
+        ensures line { (line : List ℕ) → asked_of line ≡ ask.State → OnOk result (Serves D.state self.old self.new (line ∷ [])) }
+    {
+        let number = self.next_number()?;
+        push_state(&mut self.text, &self.node)?;
+        push_ok(&mut self.text, number)
+    }
+
+    fn answer_jobs(&mut self) -> Result<(), AllocError>
+        requires { self.old.stopped ≡ false }
+        ensures rest { self.new.rest ≡ self.old.rest }
+        ensures line { (line : List ℕ) → asked_of line ≡ ask.Jobs → OnOk result (Serves D.state self.old self.new (line ∷ [])) }
+    {
+        let number = self.next_number()?;
+        push_all_jobs(&mut self.text, &self.node)?;
+        push_ok(&mut self.text, number)
+    }
+
+    fn answer_bad(&mut self) -> Result<(), AllocError>
+        requires { self.old.stopped ≡ false }
+        ensures rest { self.new.rest ≡ self.old.rest }
+        ensures line { (line : List ℕ) → asked_of line ≡ ask.Bad → OnOk result (Serves D.state self.old self.new (line ∷ [])) }
+    {
+        let number = self.next_number()?;
+        push_bad(&mut self.text, number)
+    }
+
+    /// Counts one request more. No program lives to count 2^64 of them.
+    fn next_number(&mut self) -> Result<u64, AllocError>
+        ensures number { IfOk result (λ number. (number ≡ self.old.count + 1) × (self.new ≡ record self.old { count = number })) }
+        ensures same { self.new.rest ≡ self.old.rest }
+    {
+        let Some(number) = self.count.checked_add(1) else {
+            return Err(AllocError);
+        };
+        self.count = number;
+        Ok(number)
+    }
+
+    /// Once the device failed, no line is answered any more.
+    fn stop_where_failed(&mut self, ended: &Ended)
+        ensures { self.new ≡ record self.old { stopped = is_failed ended.now } }
+    {
+        self.stopped = matches!(ended, Ended::Denied(NodeFault::Device));
+    }
+
+    /// Makes the events that are due at this time.
+    fn fire_due(&mut self, now: u64) -> Result<Ended, AllocError>
+        ensures rest { self.new.rest ≡ self.old.rest }
+        ensures calls { IfOk result (λ ended. Calls D.state self.old self.new (AreTimely self.old.node.id self.old.node.nodes) (end.Done None) ended) }
+    {
+        let mut ended = Ended::Done(None);
+        for _fired in 0..MOST_FIRED {
+            let Some(event) = self.due(now) else {
+                return Ok(ended);
+            };
+            ended = self.turn(&event)?;
+            if matches!(ended, Ended::Denied(_)) {
+                return Ok(ended);
+            }
+        }
+        Ok(ended)
+    }
+
+    /// The event that is due at this time.
+    fn due(&mut self, now: u64) -> Option<Event>
+        ensures same { self.new ≡ self.old }
+        ensures timer { IfSome result IsTimer }
+    {
+        let sight = Sight::of(
+            self.id,
+            self.node.vector(),
+            merge_wait(self.id, self.node.vector()),
+        );
+        self.pace.tick(now, &sight)
+    }
+
+    /// A node that the transport gave up isn't waited for: its coordinator leaves the group, and a member asks or leaves.
+    fn give_up(&mut self, node: NodeId) -> Result<Ended, AllocError>
+        ensures rest { self.new.rest ≡ self.old.rest }
+        ensures calls { IfOk result (λ ended. Calls D.state self.old self.new (AreTimely self.old.node.id self.old.node.nodes) (end.Done None) ended) }
+    {
+        match loss_of(self.id, self.node.vector(), node) {
+            Some(event) => self.turn(&event),
+            None => Ok(Ended::Done(None)),
+        }
+    }
+
+    /// The policy of timers is told what an event says to it.
+    fn hear(&mut self, event: &Event)
+        ensures { self.new ≡ self.old }
+    {
+        match event {
+            Event::Deliver(message) => self.pace.heard(message.sender()),
+            Event::Submit(_, _) | Event::Finish(_, _) => self.pace.worked(),
+            _ => {}
+        }
+    }
+}
+
+// One call of the node.
+impl<D: SectorDisk + Drop> Session<D> {
+    /// Makes an event, and tells what came of it. All that the session asks of a node's step stands here.
+    fn turn(&mut self, event: &Event) -> Result<Ended, AllocError>
+        ensures rest { self.new.rest ≡ self.old.rest }
+        ensures turn { IfOk result (λ ended. Turns D.state self.old self.new (MayComeOf self.old.node.id self.old.node.nodes event.now) ended) }
+    {
+        self.seen.look(self.node.vector())?;
+        self.node.has_disk();
+        self.node.is_fallen();
+        let reply = self.node.step(event);
+        self.node.has_disk();
+        if ran_out(&reply) {
+            return Err(AllocError);
+        }
+        push_sent(&mut self.text, &mut self.bytes, &reply)?;
+        let ended = ended_by(&reply);
+        self.seen
+            .push_changes(&mut self.text, is_finish(event), self.node.vector())?;
+        push_gone(&mut self.text, event, &ended)?;
+        Ok(ended)
+    }
+
+    /// Compacts the journal, and tells what came of it.
+    fn compact(&mut self) -> Result<Ended, AllocError>
+        ensures rest { self.new.rest ≡ self.old.rest }
+        ensures turn { IfOk result (λ ended. Turns D.state self.old self.new (MayCompact self.old.node.id self.old.node.nodes) ended) }
+    {
+        self.seen.look(self.node.vector())?;
+        self.node.has_disk();
+        let done = self.node.compact();
+        self.node.has_disk();
+        self.seen
+            .push_changes(&mut self.text, false, self.node.vector())?;
+        Ok(compaction_end(&done))
+    }
+}
+
+/// Adds the messages that a step hands out. `bytes` is room for a spelling.
+fn push_sent(
+    text: &mut Vec<u8>,
+    bytes: &mut Vec<u8>,
+    reply: &Result<Step, NodeFault>,
+) -> Result<(), AllocError>
+    ensures { OnOk result (text.new.items ≡ text.old.items ++ send_lines (sent_by reply.now)) }
+{
+    match reply {
+        Ok(step) => push_messages(text, bytes, &step.sent),
+        Err(_) => Ok(()),
+    }
+}
+
+/// How a step ended.
+fn ended_by(reply: &Result<Step, NodeFault>) -> Ended
+    ensures { result ≡ ended_by reply.now }
+{
+    match reply {
+        Ok(step) => Ended::Done(step.answer),
+        Err(fault) => Ended::Denied(*fault),
+    }
+}
+
+/// How a compaction ended.
+fn compaction_end(done: &Result<(), NodeFault>) -> Ended
+    ensures { result ≡ compaction_end done.now }
+{
+    match done {
+        Ok(()) => Ended::Done(None),
+        Err(fault) => Ended::Denied(*fault),
+    }
+}
+
+/// Whether there was no memory for a call.
+fn ran_out(reply: &Result<Step, NodeFault>) -> bool
+    ensures { IsTrue result ↔ (reply.now ≡ Err (NodeFault.Core NoMemory)) }
+{
+    matches!(reply, Err(NodeFault::Core(CoreFault::NoMemory)))
+}
+
+/// By how much the greatest coordinator that was found is above the node; none where none was found.
+fn merge_wait(id: NodeId, vector: &Vector) -> Option<u64> {
+    let mut greatest = None;
+    for found in vector.found.iter() {
+        greatest = Some(u64::from(found.number().saturating_sub(id.number())));
+    }
+    greatest
+}
+
+/// What a node makes of it that the transport gave another node up.
+fn loss_of(id: NodeId, vector: &Vector, lost: NodeId) -> Option<Event>
+    ensures { IfSome result IsTimer }
+{
+    if lost.is(id) || matches!(vector.phase, Phase::Down | Phase::Election) {
+        return None;
+    }
+    if vector.coordinator.is(lost) {
+        return Some(Event::CoordTimer);
+    }
+    if vector.coordinator.is(id) && vector.members().contains(lost) {
+        return Some(Event::Recover);
+    }
+    None
+}

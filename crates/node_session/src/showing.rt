@@ -1,0 +1,157 @@
+// What a node tells of itself, as lines.
+ghost use Rattle.std.specs.Prelude.{◌≡◌, ◌++◌, OnOk};
+ghost use Rattle.std.specs.List.{flat_map};
+ghost use Rattle.job_model.specs.Table.{durable_of};
+ghost use Rattle.node_core.specs.State.{state_of};
+ghost use Rattle.durable_node.specs.Node.{Stands};
+ghost use Rattle.histories.specs.NodeState.{NodeState};
+ghost use Rattle.node_session.specs.Changes.{held_text};
+ghost use Rattle.node_session.specs.Text.{asks_part, group_part, hand_line, jobs_lines, jobs_part, pending_line, sets_part, state_line, up_line};
+
+use crate::words::{phase_word, push_group, push_ids, push_truth};
+use console_text::{push_bytes_text, push_number, push_text};
+use durable_node::DurableNode;
+use job_model::{Job, JobTable};
+use node_core::{InHand, Phase, Vector};
+use sector_disk::SectorDisk;
+use std::alloc::AllocError;
+
+/// Adds the node's state as a line.
+pub(crate) fn push_state<D: SectorDisk>(
+    text: &mut Vec<u8>,
+    node: &DurableNode<D>,
+) -> Result<(), AllocError>
+    ensures { (s : NodeState) → Stands D.state node.now s → OnOk result (text.new.items ≡ text.old.items ++ state_line s) }
+{
+    let vector = node.vector();
+    match node.durable() {
+        Some((count, table)) if !matches!(vector.phase, Phase::Down) => {
+            push_up(text, vector, count, table)
+        }
+        _ => push_text(text, "state Down\n"),
+    }
+}
+
+/// Adds a line for each job that the node keeps, and for each that it works on. Of a node that is Down, nothing.
+pub(crate) fn push_all_jobs<D: SectorDisk>(
+    text: &mut Vec<u8>,
+    node: &DurableNode<D>,
+) -> Result<(), AllocError>
+    ensures { (s : NodeState) → Stands D.state node.now s → OnOk result (text.new.items ≡ text.old.items ++ jobs_lines s) }
+{
+    let vector = node.vector();
+    match node.durable() {
+        Some((_count, table)) if !matches!(vector.phase, Phase::Down) => {
+            push_pending(text, table.pending())?;
+            push_hand(text, vector.hand.jobs())
+        }
+        _ => Ok(()),
+    }
+}
+
+fn push_pending(text: &mut Vec<u8>, jobs: &[Job]) -> Result<(), AllocError>
+    ensures { OnOk result (text.new.items ≡ text.old.items ++ flat_map pending_line jobs.now) }
+{
+    for job in jobs {
+        push_kept(text, job)?;
+    }
+    Ok(())
+}
+
+fn push_kept(text: &mut Vec<u8>, job: &Job) -> Result<(), AllocError>
+    ensures { OnOk result (text.new.items ≡ text.old.items ++ pending_line job.now) }
+{
+    push_text(text, "pending ")?;
+    push_number(text, job.id)?;
+    push_text(text, " ")?;
+    push_number(text, u64::from(job.queue.number()))?;
+    push_text(text, " ")?;
+    push_bytes_text(text, job.payload.as_slice())?;
+    push_text(text, "\n")
+}
+
+fn push_hand(text: &mut Vec<u8>, jobs: &[InHand]) -> Result<(), AllocError>
+    ensures { OnOk result (text.new.items ≡ text.old.items ++ flat_map hand_line jobs.now) }
+{
+    for job in jobs {
+        push_text(text, "hand ")?;
+        push_held(text, job)?;
+        push_text(text, "\n")?;
+    }
+    Ok(())
+}
+
+/// Adds a job in hand: the node that keeps it, its id there, its queue and its payload.
+pub(crate) fn push_held(text: &mut Vec<u8>, job: &InHand) -> Result<(), AllocError>
+    ensures { OnOk result (text.new.items ≡ text.old.items ++ held_text job.now) }
+{
+    push_number(text, u64::from(job.origin.number()))?;
+    push_text(text, " ")?;
+    push_number(text, job.id)?;
+    push_text(text, " ")?;
+    push_number(text, u64::from(job.queue.number()))?;
+    push_text(text, " ")?;
+    push_bytes_text(text, job.payload.as_slice())
+}
+
+fn push_up(
+    text: &mut Vec<u8>,
+    vector: &Vector,
+    count: u64,
+    table: &JobTable,
+) -> Result<(), AllocError>
+    ensures { OnOk result (text.new.items ≡ text.old.items ++ up_line (state_of vector.now) (durable_of count table.now)) }
+{
+    push_text(text, "state ")?;
+    push_text(text, phase_word(vector.phase))?;
+    push_group_part(text, vector)?;
+    push_sets(text, vector)?;
+    push_asks(text, vector)?;
+    push_jobs(text, vector, count, table)?;
+    push_text(text, "\n")
+}
+
+fn push_group_part(text: &mut Vec<u8>, vector: &Vector) -> Result<(), AllocError>
+    ensures { OnOk result (text.new.items ≡ text.old.items ++ group_part (state_of vector.now)) }
+{
+    push_text(text, " coord ")?;
+    push_number(text, u64::from(vector.coordinator.number()))?;
+    push_text(text, " group ")?;
+    push_group(text, vector.group)
+}
+
+fn push_sets(text: &mut Vec<u8>, vector: &Vector) -> Result<(), AllocError>
+    ensures { OnOk result (text.new.items ≡ text.old.items ++ sets_part (state_of vector.now)) }
+{
+    push_text(text, " members ")?;
+    push_ids(text, vector.members())?;
+    push_text(text, " found ")?;
+    push_ids(text, vector.found)?;
+    push_text(text, " unready ")?;
+    push_ids(text, vector.unready)
+}
+
+fn push_asks(text: &mut Vec<u8>, vector: &Vector) -> Result<(), AllocError>
+    ensures { OnOk result (text.new.items ≡ text.old.items ++ asks_part (state_of vector.now)) }
+{
+    push_text(text, " checking ")?;
+    push_truth(text, vector.checking)?;
+    push_text(text, " probing ")?;
+    push_truth(text, vector.probing)
+}
+
+fn push_jobs(
+    text: &mut Vec<u8>,
+    vector: &Vector,
+    count: u64,
+    table: &JobTable,
+) -> Result<(), AllocError>
+    ensures { OnOk result (text.new.items ≡ text.old.items ++ jobs_part (state_of vector.now) (durable_of count table.now)) }
+{
+    push_text(text, " count ")?;
+    push_number(text, count)?;
+    push_text(text, " pending ")?;
+    push_number(text, table.pending().len() as u64)?;
+    push_text(text, " hand ")?;
+    push_number(text, vector.hand.jobs().len() as u64)
+}

@@ -1,0 +1,128 @@
+-- The tokens of a trace are those of its JSON value.
+use Rattle.std.proofs.Common.{◌≡◌, ◌≤◌, ◌+◌, ℕ, List, [], ◌∷◌, ◌++◌, length, drop, map, slice_get, Some, codes, decimal, refl, sym, ap, ◌∙◌, append_assoc, arith}
+use Rattle.std.specs.Prelude.{OnOk, Result}
+use Rattle.std.specs.declared.alloc.AllocError.{AllocError}
+use Rattle.std.proofs.lemmas.Result.{on_ok_weaker}
+use Rattle.json.specs.Written.{Written}
+use Rattle.std.proofs.lemmas.List.{drop_more, length-drop}
+use Rattle.std.proofs.lemmas.Option.{slice_get_within, get_or_from_slice_get}
+use Rattle.hex.specs.Hex.{encode_lower}
+use Rattle.json.specs.Token.{Token}
+use Rattle.json.specs.Token as token
+use Rattle.json.specs.Tree.{json_tokens, items_tokens, members_tokens}
+use Rattle.json.specs.Print.{print}
+use Rattle.serde_json.specs.Data.{Members, array, number, unsigned, no_members, member}
+use Rattle.serde_json.specs.View.{items_of}
+use Rattle.serde_json.specs.Written.{outline, items_outline, members_outline, compact_text}
+use Rattle.serde_json.proofs.Texts.{print-outline}
+use Rattle.wire_msg.specs.Envelope.{Envelope}
+use Rattle.wire_msg.specs.Spelling.{spelling}
+use Rattle.node_core.specs.declared.event.Event.{Event}
+use Rattle.node_core.specs.declared.event.Event.TheVariants as on
+use Rattle.trace_check.specs.declared.trace.Deed.{Deed}
+use Rattle.trace_check.specs.declared.trace.Deed.TheVariants as deed
+use Rattle.trace_check.specs.Claims.{Claim}
+use Rattle.trace_text.specs.Written.{message_data, event_members, deed_name, deed_members, entry_data, history_data, trace_data}
+use Rattle.trace_text.specs.Tokens.{Adds, event_tokens, deed_tokens, message_tokens, entry_tokens, entries_tokens, history_tokens, histories_tokens, trace_tokens}
+
+messages_of : (ms : List Envelope) → items_tokens (items_outline (items_of (map message_data ms))) ≡ message_tokens ms ++ token.end_array ∷ []
+messages_of [] = refl
+messages_of (m ∷ ms) = ap (λ (ts : List Token). token.string (encode_lower (spelling m)) ∷ ts) (messages_of ms)
+
+event_of : (e : Event) (rest : Members) → members_tokens (members_outline (event_members e rest)) ≡ event_tokens e ++ members_tokens (members_outline rest)
+event_of on.CheckTimer rest = refl
+event_of on.MergeTimer rest = refl
+event_of on.AcceptTimer rest = refl
+event_of on.ReadyTimer rest = refl
+event_of on.CoordTimer rest = refl
+event_of on.DispatchTimer rest = refl
+event_of (on.Deliver m) rest = refl
+event_of (on.Submit queue payload) rest = refl
+event_of (on.Finish origin id) rest = refl
+event_of on.Recover rest = refl
+
+deed_of : (d : Deed) (rest : Members) → members_tokens (members_outline (deed_members d rest)) ≡ deed_tokens d ++ members_tokens (members_outline rest)
+deed_of deed.Nothing rest = refl
+deed_of (deed.Done event) rest = event_of event rest
+deed_of (deed.Faulted event) rest = ap (λ (ts : List Token). token.key (codes "fault") ∷ token.string (codes "device") ∷ ts) (event_of event rest)
+deed_of deed.Crashed rest = refl
+deed_of (deed.Recovered kept) rest = refl
+deed_of (deed.NotRecovered kept fault) rest = refl
+
+entry_of : (c : Claim) → json_tokens (outline (entry_data c)) ≡ entry_tokens c
+entry_of c =
+    let sent = items_outline (items_of (map message_data c.sent)) in
+    ap (λ (ts : List Token). token.begin_object ∷ token.key (codes "do") ∷ token.string (deed_name c.deed) ∷ ts)
+    (deed_of c.deed (member (codes "sent") (array (items_of (map message_data c.sent))) no_members)
+    ∙ ap (λ (ts : List Token). deed_tokens c.deed ++ token.key (codes "sent") ∷ token.begin_array ∷ (ts ++ token.end_object ∷ [])) (messages_of c.sent)
+    ∙ ap (λ (ts : List Token). deed_tokens c.deed ++ token.key (codes "sent") ∷ token.begin_array ∷ ts) (append_assoc (message_tokens c.sent) (token.end_array ∷ []) (token.end_object ∷ [])))
+
+entries_of : (h : List Claim) → items_tokens (items_outline (items_of (map entry_data h))) ≡ entries_tokens h ++ token.end_array ∷ []
+entries_of [] = refl
+entries_of (c ∷ h) =
+    ap (λ (ts : List Token). ts ++ items_tokens (items_outline (items_of (map entry_data h)))) (entry_of c) ∙ ap (λ (ts : List Token). entry_tokens c ++ ts) (entries_of h)
+    ∙ sym (append_assoc (entry_tokens c) (entries_tokens h) (token.end_array ∷ []))
+
+history_of : (h : List Claim) → json_tokens (outline (history_data h)) ≡ history_tokens h
+history_of h = ap (λ (ts : List Token). token.begin_array ∷ ts) (entries_of h)
+
+histories_of : (hs : List (List Claim)) → items_tokens (items_outline (items_of (map history_data hs))) ≡ histories_tokens hs ++ token.end_array ∷ []
+histories_of [] = refl
+histories_of (h ∷ hs) =
+    ap (λ (ts : List Token). ts ++ items_tokens (items_outline (items_of (map history_data hs)))) (history_of h) ∙ ap (λ (ts : List Token). history_tokens h ++ ts) (histories_of hs)
+    ∙ sym (append_assoc (history_tokens h) (histories_tokens hs) (token.end_array ∷ []))
+
+pub trace_tokens_of : (hs : List (List Claim)) → json_tokens (outline (trace_data hs)) ≡ trace_tokens hs
+trace_tokens_of hs =
+    let rest = token.key (codes "nodes") ∷ token.number (decimal (length hs)) ∷ token.end_object ∷ [] in
+    ap (λ (ts : List Token). token.begin_object ∷ token.key (codes "histories") ∷ token.begin_array ∷ (ts ++ rest)) (histories_of hs)
+    ∙ ap (λ (ts : List Token). token.begin_object ∷ token.key (codes "histories") ∷ token.begin_array ∷ ts) (append_assoc (histories_tokens hs) (token.end_array ∷ []) rest)
+
+pub trace_printed : (hs : List (List Claim)) → print (trace_tokens hs) ≡ compact_text (trace_data hs)
+trace_printed hs = ap print (sym (trace_tokens_of hs)) ∙ print-outline (trace_data hs)
+
+-- ---- lists that are written one after another, by place
+
+pub drop_get : {A : Type 0} → (xs : List A) (i : ℕ) (x : A) → slice_get xs i ≡ Some x → drop i xs ≡ x ∷ drop (i + 1) xs
+drop_get {A} xs i x is = drop_more xs i x (slice_get_within xs i x is) ∙ ap (λ (y : A). y ∷ drop (i + 1) xs) (get_or_from_slice_get xs i x x is)
+
+pub drop_all : {A : Type 0} → (xs : List A) (i : ℕ) → length xs ≤ i → drop i xs ≡ []
+drop_all xs i past = none_left (drop i xs) (let left = length-drop i xs in omega (arith, past, left))
+  where
+    none_left : {A : Type 0} → (ys : List A) → length ys ≡ 0 → ys ≡ []
+    none_left [] is = refl
+    none_left (y ∷ ys) is = absurd (omega (arith, is))
+
+pub entries_more : (out more : List Token) (h : List Claim) (i : ℕ) (c : Claim) → slice_get h i ≡ Some c → more ≡ out ++ entry_tokens c → more ++ entries_tokens (drop (i + 1) h) ≡ out ++ entries_tokens (drop i h)
+entries_more out more h i c is added =
+    ap (λ (ts : List Token). ts ++ entries_tokens (drop (i + 1) h)) added ∙ append_assoc out (entry_tokens c) (entries_tokens (drop (i + 1) h)) ∙ ap (λ (cs : List Claim). out ++ entries_tokens cs) (sym (drop_get h i c is))
+
+pub messages_more : (out more : List Token) (ms : List Envelope) (i : ℕ) (m : Envelope) → slice_get ms i ≡ Some m → more ≡ out ++ token.string (encode_lower (spelling m)) ∷ [] → more ++ message_tokens (drop (i + 1) ms) ≡ out ++ message_tokens (drop i ms)
+messages_more out more ms i m is added =
+    ap (λ (ts : List Token). ts ++ message_tokens (drop (i + 1) ms)) added ∙ append_assoc out (token.string (encode_lower (spelling m)) ∷ []) (message_tokens (drop (i + 1) ms)) ∙ ap (λ (xs : List Envelope). out ++ message_tokens xs) (sym (drop_get ms i m is))
+
+pub entries_done : (out : List Token) (h : List Claim) (i : ℕ) (all : List Token) → length h ≤ i → out ++ entries_tokens (drop i h) ≡ all → out ≡ all
+entries_done out h i all past is = sym (append_none out) ∙ ap (λ (cs : List Claim). out ++ entries_tokens cs) (sym (drop_all h i past)) ∙ is
+  where
+    append_none : (xs : List Token) → xs ++ [] ≡ xs
+    append_none [] = refl
+    append_none (x ∷ xs) = ap (λ (ys : List Token). x ∷ ys) (append_none xs)
+
+pub messages_done : (out : List Token) (ms : List Envelope) (i : ℕ) (all : List Token) → length ms ≤ i → out ++ message_tokens (drop i ms) ≡ all → out ≡ all
+messages_done out ms i all past is = sym (append_none out) ∙ ap (λ (xs : List Envelope). out ++ message_tokens xs) (sym (drop_all ms i past)) ∙ is
+  where
+    append_none : (xs : List Token) → xs ++ [] ≡ xs
+    append_none [] = refl
+    append_none (x ∷ xs) = ap (λ (ys : List Token). x ∷ ys) (append_none xs)
+
+-- ---- what is added one after another
+
+pub ok_then : (r : Result (Unit {0}) AllocError) (a b c : Written) (ts us : List Token) → Adds a b ts → OnOk r (Adds b c us) → OnOk r (Adds a c (ts ++ us))
+ok_then r a b c ts us x h = on_ok_weaker r (λ (y : Adds b c us). adds_then a b c ts us x y) h
+  where
+    adds_then : (a b c : Written) (ts us : List Token) → Adds a b ts → Adds b c us → Adds a c (ts ++ us)
+    adds_then a b c ts us x y = record { before = y.before ∙ x.before; tokens = y.tokens ∙ ap (λ (zs : List Token). zs ++ us) x.tokens ∙ append_assoc a.tokens ts us }
+
+pub written_text : (hs : List (List Claim)) (a b : Written) (items : List ℕ) → a.before ≡ [] → a.tokens ≡ [] → Adds a b (trace_tokens hs) → items ≡ b.before ++ print b.tokens → items ≡ compact_text (trace_data hs)
+written_text hs a b items none empty adds is =
+    is ∙ ap (λ (xs : List ℕ). xs ++ print b.tokens) (adds.before ∙ none) ∙ ap print (adds.tokens ∙ ap (λ (ts : List Token). ts ++ trace_tokens hs) empty) ∙ trace_printed hs

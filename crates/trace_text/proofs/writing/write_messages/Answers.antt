@@ -1,0 +1,10 @@
+use Rattle.std.proofs.Common.{◌≡◌, sym, ◌∙◌}
+use Rattle.trace_text.proofs.Printing.{messages_more}
+use Rattle.trace_text.proofs.writing.write_messages.Goals as goal
+
+pub loop-place-preserved : goal.loop-place-preserved
+loop-place-preserved c = (
+  c.in_ok-write_message.ensures.before ∙ c.loop-place.invariant.0,
+  messages_more c.loop-place.out.tokens c.write_message.new.out.tokens c.args.messages.now c.loop-place.place c.in-Some.message (sym c.get.ensures ∙ c.in-Some.is) c.in_ok-write_message.ensures.tokens
+      ∙ c.loop-place.invariant.1,
+)

@@ -1,0 +1,64 @@
+-- The tokens that a trace is written by.
+use Rattle.std.specs.Prelude.{ℕ, ◌≡◌, List, [], ◌∷◌, ◌++◌, length, map, codes, decimal}
+use Rattle.hex.specs.Hex.{encode_lower}
+use Rattle.json.specs.Token.{Token}
+use Rattle.json.specs.Token as token
+use Rattle.json.specs.Written.{Written}
+use Rattle.wire_msg.specs.Envelope.{Envelope}
+use Rattle.wire_msg.specs.Spelling.{spelling}
+use Rattle.node_core.specs.declared.event.Event.{Event}
+use Rattle.node_core.specs.declared.event.Event.TheVariants as on
+use Rattle.trace_check.specs.declared.trace.Deed.{Deed}
+use Rattle.trace_check.specs.declared.trace.Deed.TheVariants as deed
+use Rattle.trace_check.specs.Claims.{Claim}
+use Rattle.trace_text.specs.Written.{fault_name, deed_name}
+
+-- these tokens are added
+pub record Adds (old new : Written) (ts : List Token) : Type 0 where
+  pub before : new.before ≡ old.before
+  pub tokens : new.tokens ≡ old.tokens ++ ts
+
+abbrev pub event_tokens : Event → List Token
+event_tokens on.CheckTimer = []
+event_tokens on.MergeTimer = []
+event_tokens on.AcceptTimer = []
+event_tokens on.ReadyTimer = []
+event_tokens on.CoordTimer = []
+event_tokens on.DispatchTimer = []
+event_tokens (on.Deliver m) = token.key (codes "msg") ∷ token.string (encode_lower (spelling m)) ∷ []
+event_tokens (on.Submit queue payload) = token.key (codes "payload") ∷ token.string (encode_lower payload) ∷ token.key (codes "queue") ∷ token.number (decimal queue) ∷ []
+event_tokens (on.Finish origin id) = token.key (codes "id") ∷ token.number (decimal id) ∷ token.key (codes "origin") ∷ token.number (decimal origin) ∷ []
+event_tokens on.Recover = []
+
+abbrev pub deed_tokens : Deed → List Token
+deed_tokens deed.Nothing = []
+deed_tokens (deed.Done event) = event_tokens event
+deed_tokens (deed.Faulted event) = token.key (codes "fault") ∷ token.string (codes "device") ∷ event_tokens event
+deed_tokens deed.Crashed = []
+deed_tokens (deed.Recovered kept) = token.key (codes "kept") ∷ token.boolean kept ∷ []
+deed_tokens (deed.NotRecovered kept fault) = token.key (codes "fault") ∷ token.string (fault_name fault) ∷ token.key (codes "kept") ∷ token.boolean kept ∷ []
+
+abbrev pub message_tokens : List Envelope → List Token
+message_tokens [] = []
+message_tokens (m ∷ ms) = token.string (encode_lower (spelling m)) ∷ message_tokens ms
+
+abbrev pub entry_tokens : Claim → List Token
+entry_tokens c =
+    token.begin_object ∷ token.key (codes "do") ∷ token.string (deed_name c.deed)
+    ∷ (deed_tokens c.deed ++ token.key (codes "sent") ∷ token.begin_array ∷ (message_tokens c.sent ++ token.end_array ∷ token.end_object ∷ []))
+
+abbrev pub entries_tokens : List Claim → List Token
+entries_tokens [] = []
+entries_tokens (c ∷ cs) = entry_tokens c ++ entries_tokens cs
+
+abbrev pub history_tokens : List Claim → List Token
+history_tokens h = token.begin_array ∷ (entries_tokens h ++ token.end_array ∷ [])
+
+abbrev pub histories_tokens : List (List Claim) → List Token
+histories_tokens [] = []
+histories_tokens (h ∷ hs) = history_tokens h ++ histories_tokens hs
+
+abbrev pub trace_tokens : List (List Claim) → List Token
+trace_tokens hs =
+    token.begin_object ∷ token.key (codes "histories") ∷ token.begin_array
+    ∷ (histories_tokens hs ++ token.end_array ∷ token.key (codes "nodes") ∷ token.number (decimal (length hs)) ∷ token.end_object ∷ [])

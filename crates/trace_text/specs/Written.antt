@@ -1,0 +1,72 @@
+-- The JSON value that a trace is written as: the members of an object stand in the order of their keys.
+use Rattle.std.specs.Prelude.{ℕ, List, [], ◌∷◌, length, map, codes}
+use Rattle.hex.specs.Hex.{encode_lower}
+use Rattle.serde_json.specs.Data.{Data, boolean, number, unsigned, string, array, object, Members, no_members, member}
+use Rattle.serde_json.specs.View.{items_of}
+use Rattle.wire_msg.specs.Envelope.{Envelope}
+use Rattle.wire_msg.specs.Spelling.{spelling}
+use Rattle.node_core.specs.declared.event.Event.{Event}
+use Rattle.node_core.specs.declared.event.Event.TheVariants as on
+use Rattle.trace_check.specs.declared.trace.Deed.{Deed}
+use Rattle.trace_check.specs.declared.trace.Deed.TheVariants as deed
+use Rattle.trace_check.specs.declared.trace.RecoverFault.{RecoverFault}
+use Rattle.trace_check.specs.declared.trace.RecoverFault.TheVariants as recover
+use Rattle.trace_check.specs.Claims.{Claim}
+
+abbrev pub message_data : Envelope → Data
+message_data m = string (encode_lower (spelling m))
+
+abbrev pub event_name : Event → List ℕ
+event_name on.CheckTimer = codes "check"
+event_name on.MergeTimer = codes "merge"
+event_name on.AcceptTimer = codes "accept"
+event_name on.ReadyTimer = codes "ready"
+event_name on.CoordTimer = codes "coord"
+event_name on.DispatchTimer = codes "dispatch"
+event_name (on.Deliver m) = codes "deliver"
+event_name (on.Submit queue payload) = codes "submit"
+event_name (on.Finish origin id) = codes "finish"
+event_name on.Recover = codes "recover"
+
+-- the members of an event, in front of others
+abbrev pub event_members : Event → Members → Members
+event_members on.CheckTimer rest = rest
+event_members on.MergeTimer rest = rest
+event_members on.AcceptTimer rest = rest
+event_members on.ReadyTimer rest = rest
+event_members on.CoordTimer rest = rest
+event_members on.DispatchTimer rest = rest
+event_members (on.Deliver m) rest = member (codes "msg") (message_data m) rest
+event_members (on.Submit queue payload) rest = member (codes "payload") (string (encode_lower payload)) (member (codes "queue") (number (unsigned queue)) rest)
+event_members (on.Finish origin id) rest = member (codes "id") (number (unsigned id)) (member (codes "origin") (number (unsigned origin)) rest)
+event_members on.Recover rest = rest
+
+abbrev pub fault_name : RecoverFault → List ℕ
+fault_name recover.Mount = codes "mount"
+fault_name recover.Raise = codes "raise"
+
+abbrev pub deed_name : Deed → List ℕ
+deed_name deed.Nothing = codes "none"
+deed_name (deed.Done event) = event_name event
+deed_name (deed.Faulted event) = event_name event
+deed_name deed.Crashed = codes "crash"
+deed_name (deed.Recovered kept) = codes "recover"
+deed_name (deed.NotRecovered kept fault) = codes "recover"
+
+-- the members of a deed but for its name, in front of others
+abbrev pub deed_members : Deed → Members → Members
+deed_members deed.Nothing rest = rest
+deed_members (deed.Done event) rest = event_members event rest
+deed_members (deed.Faulted event) rest = member (codes "fault") (string (codes "device")) (event_members event rest)
+deed_members deed.Crashed rest = rest
+deed_members (deed.Recovered kept) rest = member (codes "kept") (boolean kept) rest
+deed_members (deed.NotRecovered kept fault) rest = member (codes "fault") (string (fault_name fault)) (member (codes "kept") (boolean kept) rest)
+
+abbrev pub entry_data : Claim → Data
+entry_data c = object (member (codes "do") (string (deed_name c.deed)) (deed_members c.deed (member (codes "sent") (array (items_of (map message_data c.sent))) no_members)))
+
+abbrev pub history_data : List Claim → Data
+history_data h = array (items_of (map entry_data h))
+
+abbrev pub trace_data : List (List Claim) → Data
+trace_data hs = object (member (codes "histories") (array (items_of (map history_data hs))) (member (codes "nodes") (number (unsigned (length hs))) no_members))

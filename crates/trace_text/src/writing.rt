@@ -1,0 +1,222 @@
+ghost use Rattle.std.specs.Prelude.{◌≡◌, [], ◌∷◌, length, codes, decimal, IfOk, OnOk};
+ghost use Rattle.hex.specs.Hex.{encode_lower};
+ghost use Rattle.json.specs.Token.{begin_array, begin_object, end_array, end_object, key, string, number};
+ghost use Rattle.serde_json.specs.Written.{compact_text};
+ghost use Rattle.trace_check.specs.Traces.{claim_seen};
+ghost use Rattle.trace_text.specs.Tokens.{Adds, deed_tokens, event_tokens, message_tokens, entry_tokens, history_tokens, histories_tokens, trace_tokens};
+ghost use Rattle.trace_text.specs.Written.{trace_data, deed_name, event_name, fault_name};
+ghost use Rattle.wire_msg.specs.Spelling.{spelling};
+
+use json::Writer;
+use node_core::Event;
+use std::alloc::{AllocError, Global};
+use trace_check::{Deed, EntryView, History, RecoverFault, Sent, Trace};
+use wire_msg::{Message, encode};
+
+/// The text of a trace: the compact text of its JSON value, in which the members of an object stand in the order of their keys.
+pub fn write(alloc: Global, trace: &Trace) -> Result<Vec<u8>, AllocError>
+    ensures { IfOk result (λ text. text.items ≡ compact_text (trace_data trace.now)) }
+{
+    let mut out = Writer::new(Vec::new(alloc));
+    write_trace(alloc, &mut out, trace)?;
+    Ok(out.into_inner())
+}
+
+fn write_trace(alloc: Global, out: &mut Writer, trace: &Trace) -> Result<(), AllocError>
+    ensures { OnOk result (Adds out.old out.new (trace_tokens trace.now)) }
+{
+    let nodes = trace.nodes();
+    write_head(out)?;
+    write_histories(alloc, out, trace.histories())?;
+    write_nodes(out, nodes)
+}
+
+/// Begins the histories.
+fn write_head(out: &mut Writer) -> Result<(), AllocError>
+    ensures { OnOk result (Adds out.old out.new (begin_object ∷ key (codes "histories") ∷ begin_array ∷ [])) }
+{
+    out.begin_object()?;
+    begin_list(out, "histories")
+}
+
+fn begin_list(out: &mut Writer, name: &str) -> Result<(), AllocError>
+    ensures { OnOk result (Adds out.old out.new (key name.now ∷ begin_array ∷ [])) }
+{
+    out.key(name)?;
+    out.begin_array()
+}
+
+/// Ends the histories, and writes how many nodes there are.
+fn write_nodes(out: &mut Writer, nodes: u8) -> Result<(), AllocError>
+    ensures { OnOk result (Adds out.old out.new (end_array ∷ key (codes "nodes") ∷ number (decimal nodes) ∷ end_object ∷ [])) }
+{
+    out.end_array()?;
+    write_number(out, "nodes", u64::from(nodes))?;
+    out.end_object()
+}
+
+fn write_histories(alloc: Global, out: &mut Writer, histories: &[History]) -> Result<(), AllocError>
+    ensures { OnOk result (Adds out.old out.new (histories_tokens histories.now)) }
+{
+    for history in histories {
+        write_history(alloc, out, history)?;
+    }
+    Ok(())
+}
+
+fn write_history(alloc: Global, out: &mut Writer, history: &History) -> Result<(), AllocError>
+    ensures { OnOk result (Adds out.old out.new (history_tokens history.now)) }
+{
+    out.begin_array()?;
+    for place in 0..history.len() {
+        let Some(entry) = history.entry(place) else {
+            unreachable!()
+        };
+        write_entry(alloc, out, &entry)?;
+    }
+    out.end_array()
+}
+
+fn write_entry(alloc: Global, out: &mut Writer, entry: &EntryView<'_>) -> Result<(), AllocError>
+    ensures { OnOk result (Adds out.old out.new (entry_tokens (claim_seen entry.now))) }
+{
+    out.begin_object()?;
+    out.key("do")?;
+    out.string(name_of(&entry.deed))?;
+    write_deed(alloc, out, &entry.deed)?;
+    out.key("sent")?;
+    out.begin_array()?;
+    write_messages(alloc, out, &entry.sent)?;
+    out.end_array()?;
+    out.end_object()
+}
+
+fn name_of(deed: &Deed) -> &'static str
+    ensures { result.now ≡ deed_name deed.now }
+{
+    match deed {
+        Deed::Nothing => "none",
+        Deed::Done(event) => event_name(event),
+        Deed::Faulted(event) => event_name(event),
+        Deed::Crashed => "crash",
+        Deed::Recovered(_) => "recover",
+        Deed::NotRecovered(_, _) => "recover",
+    }
+}
+
+fn event_name(event: &Event) -> &'static str
+    ensures { result.now ≡ event_name event.now }
+{
+    match event {
+        Event::CheckTimer => "check",
+        Event::MergeTimer => "merge",
+        Event::AcceptTimer => "accept",
+        Event::ReadyTimer => "ready",
+        Event::CoordTimer => "coord",
+        Event::DispatchTimer => "dispatch",
+        Event::Deliver(_) => "deliver",
+        Event::Submit(_, _) => "submit",
+        Event::Finish(_, _) => "finish",
+        Event::Recover => "recover",
+    }
+}
+
+#[tactic(auto, using(crate::proofs::Printing::ok_then))]
+/// Writes the fields that a deed names, but for its own name.
+fn write_deed(alloc: Global, out: &mut Writer, deed: &Deed) -> Result<(), AllocError>
+    ensures { OnOk result (Adds out.old out.new (deed_tokens deed.now)) }
+{
+    match deed {
+        Deed::Nothing | Deed::Crashed => Ok(()),
+        Deed::Done(event) => write_event(alloc, out, event),
+        Deed::Faulted(event) => {
+            write_fault(out, "device")?;
+            write_event(alloc, out, event)
+        }
+        Deed::Recovered(kept) => write_kept(out, *kept),
+        Deed::NotRecovered(kept, fault) => {
+            write_fault(out, fault_name(*fault))?;
+            write_kept(out, *kept)
+        }
+    }
+}
+
+fn write_fault(out: &mut Writer, name: &str) -> Result<(), AllocError>
+    ensures { OnOk result (Adds out.old out.new (key (codes "fault") ∷ string name.now ∷ [])) }
+{
+    out.key("fault")?;
+    out.string(name)
+}
+
+fn fault_name(fault: RecoverFault) -> &'static str
+    ensures { result.now ≡ fault_name fault }
+{
+    match fault {
+        RecoverFault::Mount => "mount",
+        RecoverFault::Raise => "raise",
+    }
+}
+
+fn write_kept(out: &mut Writer, kept: bool) -> Result<(), AllocError>
+    ensures { OnOk result (Adds out.old out.new (deed_tokens (Deed.Recovered kept))) }
+{
+    out.key("kept")?;
+    out.boolean(kept)
+}
+
+fn write_event(alloc: Global, out: &mut Writer, event: &Event) -> Result<(), AllocError>
+    ensures { OnOk result (Adds out.old out.new (event_tokens event.now)) }
+{
+    match event {
+        Event::Deliver(message) => {
+            out.key("msg")?;
+            write_message(alloc, out, message)
+        }
+        Event::Submit(queue, payload) => {
+            write_bytes(alloc, out, "payload", payload.as_slice())?;
+            write_number(out, "queue", u64::from(queue.number()))
+        }
+        Event::Finish(origin, id) => {
+            write_number(out, "id", *id)?;
+            write_number(out, "origin", u64::from(origin.number()))
+        }
+        _ => Ok(()),
+    }
+}
+
+fn write_number(out: &mut Writer, name: &str, value: u64) -> Result<(), AllocError>
+    ensures { OnOk result (Adds out.old out.new (key name.now ∷ number (decimal value) ∷ [])) }
+{
+    out.key(name)?;
+    out.u64(value)
+}
+
+fn write_bytes(alloc: Global, out: &mut Writer, name: &str, bytes: &[u8]) -> Result<(), AllocError>
+    ensures { OnOk result (Adds out.old out.new (key name.now ∷ string (encode_lower bytes.now) ∷ [])) }
+{
+    out.key(name)?;
+    let text = hex::encode(alloc, bytes)?;
+    out.string(&text)
+}
+
+fn write_messages(alloc: Global, out: &mut Writer, messages: &Sent<'_>) -> Result<(), AllocError>
+    ensures { OnOk result (Adds out.old out.new (message_tokens messages.now)) }
+{
+    for place in 0..messages.len() {
+        let Some(message) = messages.get(place) else {
+            unreachable!()
+        };
+        write_message(alloc, out, &message)?;
+    }
+    Ok(())
+}
+
+fn write_message(alloc: Global, out: &mut Writer, message: &Message) -> Result<(), AllocError>
+    ensures { OnOk result (Adds out.old out.new (string (encode_lower (spelling message.now)) ∷ [])) }
+{
+    let Ok(bytes) = encode(alloc, message) else {
+        return Err(AllocError);
+    };
+    let text = hex::encode(alloc, bytes.as_slice())?;
+    out.string(&text)
+}

@@ -1,0 +1,179 @@
+#!/usr/bin/env bash
+# The commands format and node: each line of the grammar, the statuses, a kill -9 and a restart, another node's file, a locked file, and,
+# where there is strace, that an answer is written only after the file was synced; where there is python3, ten seconds of the example
+# three_processes.
+# Called with the program, as in: tests/node.sh crates/invite/out/invite. Its last line counts the checks.
+set -u
+program=$1
+top=$(cd "$(dirname "${BASH_SOURCE[0]}")/.." && pwd)
+passed=0
+failed=0
+
+if [ ! -x "$program" ]; then
+    echo "node.sh: there is no program $program"
+    echo "0 passed, 1 failed"
+    exit 1
+fi
+room=$(mktemp -d) || exit 1
+trap 'rm -rf "$room"' EXIT
+file=$room/node
+
+# tell PROBLEM NAME: counts a check, and prints the problem if there is one
+tell() {
+    if [ -z "$1" ]; then
+        passed=$((passed + 1))
+    else
+        failed=$((failed + 1))
+        echo "$2: $1"
+    fi
+}
+
+# ends STATUS NAME WORDS..: the program ends so, with no input, and prints nothing to standard output
+ends() {
+    local want=$1 name=$2 status problem=''
+    shift 2
+    "$program" "$@" </dev/null >"$room/out" 2>"$room/err"
+    status=$?
+    [ "$status" -eq "$want" ] || problem="status $status in place of $want"
+    [ "$want" -eq 2 ] || [ ! -s "$room/out" ] || problem='it prints something'
+    [ "$want" -eq 0 ] || [ "$want" -eq 2 ] || [ -s "$room/err" ] || problem='it says nothing on standard error'
+    tell "$problem" "$name"
+}
+
+# answers STATUS NAME INPUT TEXT WORDS..: a node that is fed this answers this, and ends so
+answers() {
+    local want=$1 name=$2 input=$3 text=$4 status problem=''
+    shift 4
+    printf '%b' "$input" | "$program" "$@" >"$room/out" 2>"$room/err"
+    status=$?
+    [ "$status" -eq "$want" ] || problem="status $status in place of $want"
+    printf '%b' "$text" | cmp -s - "$room/out" || problem="it answers $(tr '\n' '/' <"$room/out")"
+    tell "$problem" "$name"
+}
+
+# fresh [FIRST]: makes the file of node 0 of 3 anew
+fresh() {
+    rm -f "$file"
+    "$program" format "$file" 8 0 3 "$@" || echo "node.sh: the file isn't made"
+}
+
+ends 2 'format with no FILE' format
+ends 2 'format with few slots' format "$file" 3 0 3
+ends 2 'format with many slots' format "$file" 4097 0 3
+ends 2 'format of no node' format "$file" 8 3 3
+ends 2 'node with no NODES' node "$file" 0
+ends 5 'node with no file' node "$file" 0 3
+ends 0 'format' format "$file" 8 0 3
+ends 1 'format over a file' format "$file" 8 0 3
+ends 5 "another node's file" node "$file" 1 3
+ends 5 "another cluster's file" node "$file" 0 4
+ends 0 'no input' node "$file" 0 3
+head -c 20000 /dev/zero >"$room/zeros"
+ends 5 'a file that was never formatted' node "$room/zeros" 0 3
+head -c 16000 "$file" >"$room/short"
+ends 5 'a file that was cut' node "$room/short" 0 3
+
+ask() { answers 0 "$1" "$2" "$3" node "$file" 0 3; }
+
+alone='group Normal 0 0:1 0\nok 1\n'
+ask 'a node begins down' 'state\njobs\ncheck\n' 'state Down\nok 1\nok 2\nok 3\n'
+ask 'recover' 'recover\nstate\n' "${alone}state Normal coord 0 group 0:1 members 0 found - unready - checking no probing no count 1 pending 0 hand 0\nok 2\n"
+ask 'a second life' 'recover\n' 'group Normal 0 0:2 0\nok 1\n'
+fresh
+ask 'check' 'recover\ncheck\n' "${alone}send 1 010100010000\nsend 2 010100020000\nok 2\n"
+fresh
+ask 'deliver' 'recover\ndeliver 010101000000\ndeliver 010101020000\n' "${alone}send 1 01020001000101\nok 2\nrefused 3 Stranger\n"
+fresh
+ask 'a job' 'recover\nsubmit 3 6869\njobs\ndispatch\njobs\nfinish 0 0\njobs\n' \
+    "${alone}take 0 0 3 6869\nok 2 id 0\npending 0 3 6869\nhand 0 0 3 6869\nok 3\nok 4\npending 0 3 6869\nhand 0 0 3 6869\nok 5\ngone 0\nok 6\nok 7\n"
+fresh
+ask 'refusals' 'submit 0 -\nrecover\nfinish 0 7\nsubmit 16 -\nsubmit 0 f\n' \
+    'refused 1 Down\ngroup Normal 0 0:1 0\nok 2\nrefused 3 UnknownJob\nbad 4\nbad 5\n'
+fresh
+ask 'lines that cannot be read' 'x\n\n\nrecover \ndeliver\ndeliver 00\ntick x\nlost 64\nstate 1\nrecover\n' \
+    'bad 1\nbad 2\nbad 3\nbad 4\nbad 5\nbad 6\nbad 7\ngroup Normal 0 0:1 0\nok 8\n'
+ask 'a last line that is not whole' 'recover' ''
+ask 'compact' 'compact\nrecover\ncompact\n' 'refused 1 Down\ngroup Normal 0 0:2 0\nok 2\nok 3\n'
+fresh
+ask 'a tick while down' 'tick 0\ntick 9000\n' 'ok 1\nok 2\n'
+ask 'a job that a new group drops' 'recover\nsubmit 0 -\ndispatch\nrecover\n' \
+    "${alone}take 0 0 0 -\nok 2 id 0\nok 3\ngroup Normal 0 0:2 0\ndrop 0 0\nok 4\n"
+ask 'a job outlives its node' 'recover\njobs\n' 'group Normal 0 0:3 0\nok 1\npending 0 0 -\nok 2\n'
+fresh 1000
+ask 'a first count' 'recover\n' 'group Normal 0 0:1001 0\nok 1\n'
+
+# A tick fires the check at the latest after 20 and 10 round trips of 20 ms, and then nothing more at that time.
+fresh
+printf 'recover\ntick 0\ntick 600\ntick 600\n' | "$program" node "$file" 0 3 >"$room/out"
+problem=''
+[ "$(grep -c '^send 1 010100010000$' "$room/out")" -eq 1 ] || problem="it answers $(tr '\n' '/' <"$room/out")"
+tell "$problem" 'a tick fires once'
+
+# A node that runs: its file is locked, and after kill -9 the next one finds what was answered.
+fresh
+mkfifo "$room/in"
+"$program" node "$file" 0 3 <"$room/in" >"$room/out" &
+child=$!
+exec 3>"$room/in"
+printf 'recover\nsubmit 1 ff\n' >&3
+for _ in $(seq 100); do
+    grep -q '^ok 2' "$room/out" && break
+    sleep 0.1
+done
+ends 4 'a locked file' node "$file" 0 3
+kill -9 "$child"
+wait "$child" 2>/dev/null
+exec 3>&-
+ask 'after kill -9' 'recover\njobs\n' 'group Normal 0 0:2 0\nok 1\npending 0 1 ff\nok 2\n'
+
+# A full output.
+printf 'recover\n' | "$program" node "$file" 0 3 >/dev/full 2>"$room/err"
+status=$?
+problem=''
+[ "$status" -eq 1 ] || problem="status $status in place of 1"
+tell "$problem" 'a full output'
+
+# Each answer of a command is written after the last sync of it: a raise and a Put write, sync and are answered in this order.
+if command -v strace >/dev/null && strace -o "$room/probe" true 2>/dev/null; then
+    fresh
+    { printf 'recover\n'; sleep 0.5; printf 'submit 0 -\n'; sleep 0.5; } |
+        strace -f -o "$room/calls" -e trace=pwrite64,fdatasync,write "$program" node "$file" 0 3 >/dev/null 2>&1
+    order=$(sed -nE 's/.*(pwrite64|fdatasync)\(.*/\1/p; s/.*write\(1, .*(ok [0-9]).*/\1/p' "$room/calls" | grep -B1 '^ok' | tr '\n' ' ')
+    problem=''
+    [ "$order" = 'fdatasync ok 1 -- fdatasync ok 2 ' ] || [ "$order" = 'fdatasync ok 1 fdatasync ok 2 ' ] || problem="the calls are $order"
+    [ "$(grep -c pwrite64 "$room/calls")" -gt 0 ] || problem='nothing was written'
+    tell "$problem" 'an answer after its sync'
+    problem=''
+    tail -n 1 "$room/calls" >/dev/null
+    awk '/pwrite64\(/ { open = 1 } /fdatasync\(/ { open = 0 } /write\(1,/ && open { bad = 1 } END { exit bad }' "$room/calls" || problem='an answer was written with a write not synced'
+    tell "$problem" 'no answer over an unsynced write'
+fi
+
+if command -v python3 >/dev/null; then
+    for enemy in '' 'kill cut lose'; do
+        problem=''
+        # shellcheck disable=SC2086 # each is a word
+        python3 "$top/examples/three_processes/three_processes.py" "$program" 5 1 $enemy >"$room/out" 2>&1 || problem=$(tail -n 3 "$room/out")
+        grep -qE 'groups [1-9].* answered [1-9].* gone [1-9]' "$room/out" || problem=$(tail -n 3 "$room/out")
+        tell "$problem" "three processes $enemy"
+    done
+
+    rm -f "$file"
+    "$program" format "$file" 64 0 1
+    { printf 'recover\nsubmit 0 %s\n' "$(printf 'echo hello' | od -An -tx1 | tr -d ' \n')"; sleep 1; } |
+        python3 "$top/examples/worker/worker.py" "$program" "$file" 0 1 >"$room/out" 2>"$room/err"
+    problem=''
+    printf 'group Normal 0 0:1 0\nok 1\ntake 0 0 0 6563686f2068656c6c6f\nok 2 id 0\ngone 0\nok 3\n' | cmp -s - "$room/out" || problem=$(cat "$room/out")
+    [ "$(cat "$room/err")" = hello ] || problem='the command did not run'
+    tell "$problem" 'a worker'
+
+    if python3 -c 'import sqlite3' 2>/dev/null; then
+        problem=''
+        python3 "$top/examples/lock/lock.py" "$program" 9 >"$room/out" 2>&1 || problem=$(tail -n 3 "$room/out")
+        grep -qE 'takeovers [2-9].* refused [1-9].* both [1-9]' "$room/out" || problem=$(tail -n 3 "$room/out")
+        tell "$problem" 'a lock'
+    fi
+fi
+
+echo "$passed passed, $failed failed"
+[ "$failed" -eq 0 ]
