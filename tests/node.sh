@@ -90,7 +90,7 @@ fresh
 ask 'refusals' 'submit 0 -\nrecover\nfinish 0 7\nsubmit 16 -\nsubmit 0 f\n' \
     'refused 1 Down\ngroup Normal 0 0:1 0\nok 2\nrefused 3 UnknownJob\nbad 4\nbad 5\n'
 fresh
-ask 'lines that cannot be read' 'x\n\n\nrecover \ndeliver\ndeliver 00\ntick x\nlost 64\nstate 1\nrecover\n' \
+ask 'lines that cannot be read' 'x\n\n\nrecover \ndeliver\ndeliver 00\ntick x\nlost 128\nstate 1\nrecover\n' \
     'bad 1\nbad 2\nbad 3\nbad 4\nbad 5\nbad 6\nbad 7\ngroup Normal 0 0:1 0\nok 8\n'
 ask 'a last line that is not whole' 'recover' ''
 ask 'compact' 'compact\nrecover\ncompact\n' 'refused 1 Down\ngroup Normal 0 0:2 0\nok 2\nok 3\n'
