@@ -4,8 +4,6 @@
 mod disk;
 mod fault;
 mod label;
-#[cfg(test)]
-mod label_tests;
 mod making;
 #[cfg(test)]
 mod making_tests;
