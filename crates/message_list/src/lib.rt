@@ -1,6 +1,6 @@
 //! Lists of messages.
 //!
-//! A message has 456 bytes in memory, whatever it says, since the longest one has to fit in it. Whoever keeps many of them, as
+//! A message has 464 bytes in memory, whatever it says, since the longest one has to fit in it. Whoever keeps many of them, as
 //! the network of a simulation and the two ends of a link do, keeps them in a list of this crate: 16 bytes for each, and what is
 //! longer (the task of a Ready, a Work with its payload) in lists beside. A message that is asked for is made once more.
 #![tactic(auto)]

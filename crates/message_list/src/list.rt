@@ -12,7 +12,7 @@ use wire_msg::Message;
 
 /// Messages in the order in which they were added.
 ///
-/// Each takes 16 bytes, a Ready 24 more, and a Work 48 more and the bytes of its payload: so a long list takes about what the
+/// Each takes 16 bytes, a Ready 32 more, and a Work 48 more and the bytes of its payload: so a long list takes about what the
 /// spellings of its messages take.
 #[derive(Drop)]
 pub struct MessageList {
