@@ -50,12 +50,7 @@ impl Model for Session {
 
 impl Session {
     /// A node that is Normal in its own group, and has printed nothing. It prints into `text`, which is empty.
-    pub fn new(
-        alloc: Global,
-        id: NodeId,
-        nodes: u8,
-        text: Vec<u8>,
-    ) -> Result<Session, AllocError>
+    pub fn new(alloc: Global, id: NodeId, nodes: u8, text: Vec<u8>) -> Result<Session, AllocError>
         requires within { id < nodes }
         requires limit { nodes ≤ NODES }
         requires empty { text.items ≡ [] }

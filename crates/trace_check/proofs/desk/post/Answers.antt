@@ -15,3 +15,15 @@ returns-then-not-contains c =
     posts_one stopped c.args.posted.now c.add.new.self ready c.insert.new.self m c.in_ok-add.ensures.posts
     (c.insert.ensures ∙ ap (λ (n : ℕ). with_id ready n) c.receiver-receiver.ensures.value
     ∙ second (has stopped m.receiver) ready (with_id ready m.receiver) (ap (λ (n : ℕ). has stopped n) (sym c.receiver-receiver.ensures.value) ∙ sym c.contains.ensures ∙ c.if-not-contains.true))
+
+first : (b : Bool) (x y : List ℕ) → b ≡ true → x ≡ cond b x y
+first true x y is = refl
+first false x y is = absurd cc
+
+pub returns-else-not-contains : goal.returns-else-not-contains
+returns-else-not-contains c =
+    let stopped = c.args.stopped.now in
+    let ready = c.args.ready.now in
+    let m = c.args.message.now in
+    posts_one stopped c.args.posted.now c.add.new.self ready ready m c.in_ok-add.ensures.posts
+    (first (has stopped m.receiver) ready (with_id ready m.receiver) (ap (λ (n : ℕ). has stopped n) (sym c.receiver-receiver.ensures.value) ∙ sym c.contains.ensures ∙ c.if-not-contains.false))
