@@ -22,6 +22,7 @@ const UNREADABLE: u8 = 2;
 enum Task {
     /// A command that reads its whole input first.
     Batch(Batch),
+    Trace,
     /// The file of this path is to be made.
     Format(String, Making),
     /// Over the file of this path.
@@ -35,7 +36,6 @@ enum Batch {
     Sim,
     /// Over the file of this path.
     Store(String),
-    Trace,
 }
 
 /// What a file is made for.
@@ -73,6 +73,7 @@ fn run(rt: &HostRuntime) -> io::Result<u8> {
     };
     match task {
         Task::Batch(batch) => Ok(carry_out(rt, batch).status()),
+        Task::Trace => Ok(trace(rt).status()),
         Task::Format(path, making) => format(rt, path.as_str(), &making),
         Task::Node(path, place) => node(rt, path.as_str(), place),
     }
@@ -92,8 +93,14 @@ fn carry_out(rt: &HostRuntime, batch: Batch) -> Ending {
         Batch::Store(path) => {
             store_console::store(rt, alloc, path.as_str(), &mut input, &mut output)
         }
-        Batch::Trace => trace_console::trace(alloc, &mut input, &mut output),
     }
+}
+
+/// Judges the trace on standard input.
+fn trace(rt: &HostRuntime) -> Ending {
+    let mut input = rt.stdin();
+    let mut output = rt.stdout();
+    trace_console::trace(rt.alloc(), &mut input, &mut output)
 }
 
 /// Serves a node, and answers the exit status.
@@ -169,7 +176,7 @@ fn task_in(alloc: Global, matches: &ArgMatches<'_>) -> Result<Option<Task>, Allo
         "show" => Ok(Some(Task::Batch(Batch::Show))),
         "sim" => Ok(Some(Task::Batch(Batch::Sim))),
         "store" => store_in(alloc, inner),
-        "trace" => Ok(Some(Task::Batch(Batch::Trace))),
+        "trace" => Ok(Some(Task::Trace)),
         "format" => format_in(alloc, inner),
         "node" => node_in(alloc, inner),
         _ => Ok(None),
