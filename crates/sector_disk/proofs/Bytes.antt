@@ -1,16 +1,13 @@
 -- A sector without its last zeros, and back.
-use Rattle.std.proofs.Common.{◌≡◌, true, ◌+◌, ◌-◌, ◌≤◌, ⊎_elim, ℕ, List, ◌++◌, length, take, drop, replicate, min, sym, ◌∙◌, ap, arith, take-append-drop}
-use Rattle.std.proofs.lemmas.List.{take_all, drop_all, drop-replicate, length-take, length-drop, replicate-append-replicate, drop-drop}
+use Rattle.std.proofs.Common.{◌≡◌, ◌<◌, ◌+◌, ◌-◌, ◌≤◌, ⊎_elim, ℕ, List, ◌++◌, length, take, drop, replicate, min, sym, ◌∙◌, ap, arith, take-append-drop}
+use Rattle.std.proofs.lemmas.List.{take_all, drop_all, drop-replicate, length-take, replicate-append-replicate, drop-drop}
 use Rattle.std.proofs.lemmas.Bool.{cases_lt}
-use Rattle.sector_disk.proofs.Blanks.{zeros_are}
-use Rattle.sector_disk.specs.Blank.{is_blank}
 use Rattle.sector_disk.specs.Undo.{whole}
 use Rattle.sector_disk.specs.Crash.{filled}
 
-pub trim_step : (s : List ℕ) (n : ℕ) → 32 ≤ n → n ≤ 512 → length s ≡ 512 → is_blank (take (n - (n - 32)) (drop (n - 32) s)) ≡ true → drop n s ≡ replicate (512 - n) 0 → drop (n - 32) s ≡ replicate (512 - (n - 32)) 0
-trim_step s n some most long is rest =
-    let size : length (take (n - (n - 32)) (drop (n - 32) s)) ≡ 32 = length-take (n - (n - 32)) (drop (n - 32) s) ∙ omega (arith, some, most, long, length-drop (n - 32) s) in
-    let block : take (n - (n - 32)) (drop (n - 32) s) ≡ replicate 32 0 = zeros_are (take (n - (n - 32)) (drop (n - 32) s)) is ∙ ap (λ k. replicate k 0) size in
+pub trim_step : (s : List ℕ) (n : ℕ) → 32 ≤ n → n ≤ 512 → take (n - (n - 32)) (drop (n - 32) s) ≡ replicate 32 0 → drop n s ≡ replicate (512 - n) 0 → drop (n - 32) s ≡ replicate (512 - (n - 32)) 0
+trim_step s n some most block rest =
+    let size : n - (n - 32) ≡ 32 = omega (arith, some) in
     let next : n - 32 + (n - (n - 32)) ≡ n = omega (arith, some) in
     let count : 32 + (512 - n) ≡ 512 - (n - 32) = omega (arith, some, most) in
     sym (take-append-drop (n - (n - 32)) (drop (n - 32) s))

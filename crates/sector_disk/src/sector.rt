@@ -1,5 +1,5 @@
 // A sector, and its bytes without the zeros at its end.
-ghost use Rattle.std.specs.Prelude.{◌≡◌, ◌≤◌, ◌↔◌, IsTrue, drop, replicate};
+ghost use Rattle.std.specs.Prelude.{◌≡◌, ◌≤◌, ◌↔◌, IsTrue, drop, length, replicate};
 ghost use Rattle.sector_disk.specs.Blank.{is_blank};
 ghost use Rattle.sector_disk.specs.Crash.{filled};
 ghost use Rattle.sector_disk.specs.Undo.{whole};
@@ -12,7 +12,7 @@ pub fn is_blank(sector: &Sector, from: usize) -> bool
     requires { from ≤ 512 }
     ensures { result ≡ is_blank (drop from sector.now) }
 {
-    are_zeros(&sector[from..])
+    sector[from..].iter().filter(|byte| **byte != 0).count() == 0
 }
 
 // Whether a sector is all zeros.
@@ -22,12 +22,12 @@ pub fn is_zero(sector: &Sector) -> bool
     *sector == [0; 512]
 }
 
-// Whether bytes are all zeros. All of them are looked at, several at once.
-#[inline]
-fn are_zeros(bytes: &[u8]) -> bool
-    ensures { result ≡ is_blank bytes.now }
+// Whether a block of bytes is all zeros.
+fn is_zero_block(block: &[u8]) -> bool
+    requires { length block.now ≡ 32 }
+    ensures { IsTrue result → block.now ≡ replicate 32 0 }
 {
-    bytes.iter().filter(|byte| **byte != 0).count() == 0
+    block == [0; 32].as_slice()
 }
 
 // The bytes of a sector without the blocks of 32 zeros at its end.
@@ -35,7 +35,7 @@ pub fn trimmed(sector: &Sector) -> &[u8]
     ensures { whole result.now ≡ sector.now }
 {
     let mut len = 512usize;
-    while len >= 32 && are_zeros(&sector[len - 32..len]) {
+    while len >= 32 && is_zero_block(&sector[len - 32..len]) {
         len -= 32;
     }
     &sector[..len]
