@@ -254,4 +254,4 @@ one_worker hs bundle n m v w at_v at_w normal_v normal_w same a b in_v in_w queu
     let task : v.task ≡ w.task = one_task hs bundle (each_bundle_rises hs bundle) n m v w at_v at_w normal_v normal_w same in
     let mine = each_at (IsHeld n v.phase v.task) v.hand a (owned_moment n (length hs) (opening n) at_v.0 v (bundle.follows n at_v.0 at_v.1) tt at_v.2) in_v in
     let yours = each_at (IsHeld m w.phase w.task) w.hand b (owned_moment m (length hs) (opening m) at_w.0 w (bundle.follows m at_w.0 at_w.1) tt at_w.2) in_w in
-    sym mine.1 ∙ (ap (λ (t : Option Assignment). owner_of (members_of t) a.queue) task ∙ (ap (λ (q : ℕ). owner_of (members_of w.task) q) queue ∙ yours.1))
+    sym mine.1 ∙ (ap (λ (t : Option Assignment). owner_of (members_of t) a.work.queue) task ∙ (ap (λ (q : ℕ). owner_of (members_of w.task) q) queue ∙ yours.1))

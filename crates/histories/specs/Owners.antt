@@ -50,4 +50,4 @@ OwnerFinishes = (histories : List (List Entry)) → Bundle histories → (n : �
 abbrev pub OneWorker : Type 0
 OneWorker = (histories : List (List Entry)) → Bundle histories → (n m : ℕ) (v w : State) → IsMoment histories n v → IsMoment histories m w →
     v.phase ≡ Normal → w.phase ≡ Normal → v.group ≡ w.group →
-    (a b : InHand) → IsAmong a v.hand → IsAmong b w.hand → a.queue ≡ b.queue → n ≡ m
+    (a b : InHand) → IsAmong a v.hand → IsAmong b w.hand → a.work.queue ≡ b.work.queue → n ≡ m

@@ -65,9 +65,9 @@ body_few limit self from (Ready task) answer s h =
     few_if limit (is_told self from task s && is_reorganization s.phase) _ _ (record { few = omega (arith, h) })
     (few_if limit (is_told self from task s && is_normal s.phase) _ _ (record { few = omega (arith, h) }) (record { few = omega (arith, h) }))
 body_few limit self from (ReadyAck group) answer s h = few_if limit (awaits_ready self s && same_group group s.group) _ _ (record { few = omega (arith, h) }) (record { few = omega (arith, h) })
-body_few limit self from (WorkMessage group id queue payload) answer s h =
-    few_if limit (is_normal s.phase && same_group group s.group && has (members_of s.task) from && owner s queue == self && not (holds s.hand from id)) _ _
-    (gains limit s (record { origin = from; id = id; queue = queue; payload = payload }) h) (record { few = omega (arith, h) })
+body_few limit self from (WorkMessage group id work) answer s h =
+    few_if limit (is_normal s.phase && same_group group s.group && has (members_of s.task) from && owner s work.queue == self && not (holds s.hand from id)) _ _
+    (gains limit s (record { origin = from; id = id; work = work }) h) (record { few = omega (arith, h) })
 body_few limit self from (DoneMessage id) answer s h = record { few = omega (arith, h) }
 
 event_few : (limit nodes self : ℕ) (pending : List Job) (event : Event) (answer : ℕ) (s : State) → length s.hand + length pending + 1 ≤ limit → HasFew limit (effect_of nodes self pending event answer s)
@@ -83,8 +83,8 @@ event_few limit nodes self pending DispatchTimer answer s h = few_if limit (is_n
     (record { few = omega (arith, length-append s.hand (own_jobs self s pending), few_own self s pending, h) })
     (record { few = omega (arith, h) })
 event_few limit nodes self pending (Deliver m) answer s h = body_few limit self m.sender m.body answer s (omega (arith, h))
-event_few limit nodes self pending (Submit queue payload) answer s h =
-    few_if limit (owner s queue == self) _ _ (gains limit s (record { origin = self; id = answer; queue = queue; payload = payload }) (omega (arith, h))) (record { few = omega (arith, h) })
+event_few limit nodes self pending (Submit work) answer s h =
+    few_if limit (owner s work.queue == self) _ _ (gains limit s (record { origin = self; id = answer; work = work }) (omega (arith, h))) (record { few = omega (arith, h) })
 event_few limit nodes self pending (Finish origin id) answer s h =
     record { few = omega (arith, few_chosen (λ (job : InHand). not (job.origin == origin && job.id == id)) s.hand, h) }
 event_few limit nodes self pending Recover answer s h = recovery_few limit self answer s

@@ -85,7 +85,7 @@ event_again ms p on.ReadyTimer = refl
 event_again ms p on.CoordTimer = refl
 event_again ms p on.DispatchTimer = refl
 event_again ms p (on.Deliver m) = ap (λ (o : Option Envelope). delivered o) (get_again ms m)
-event_again ms p (on.Submit queue payload) = ap (λ (xs : List ℕ). on.Submit queue xs) (part_again p payload)
+event_again ms p (on.Submit work) = ap (λ (xs : List ℕ). on.Submit work.queue xs) (part_again p payload)
 event_again ms p (on.Finish origin id) = refl
 event_again ms p on.Recover = refl
 
@@ -105,7 +105,7 @@ event_stands ms p on.ReadyTimer few = tt
 event_stands ms p on.CoordTimer few = tt
 event_stands ms p on.DispatchTimer few = tt
 event_stands ms p (on.Deliver m) few = omega (arith, length-append ms (m ∷ []))
-event_stands ms p (on.Submit queue payload) few = (omega (arith, length-append p payload), few)
+event_stands ms p (on.Submit work) few = (omega (arith, length-append p payload), few)
 event_stands ms p (on.Finish origin id) few = tt
 event_stands ms p on.Recover few = tt
 

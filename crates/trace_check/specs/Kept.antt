@@ -23,7 +23,7 @@ kept_event messages payloads on.ReadyTimer = kept.ReadyTimer
 kept_event messages payloads on.CoordTimer = kept.CoordTimer
 kept_event messages payloads on.DispatchTimer = kept.DispatchTimer
 kept_event messages payloads (on.Deliver m) = kept.Deliver messages
-kept_event messages payloads (on.Submit queue payload) = kept.Submit queue payloads (length payload)
+kept_event messages payloads (on.Submit work) = kept.Submit work.queue payloads (length payload)
 kept_event messages payloads (on.Finish origin id) = kept.Finish origin id
 kept_event messages payloads on.Recover = kept.Recover
 
@@ -35,7 +35,7 @@ payload_of on.ReadyTimer = []
 payload_of on.CoordTimer = []
 payload_of on.DispatchTimer = []
 payload_of (on.Deliver m) = []
-payload_of (on.Submit queue payload) = payload
+payload_of (on.Submit work) = payload
 payload_of (on.Finish origin id) = []
 payload_of on.Recover = []
 

@@ -37,7 +37,7 @@ event_of on.ReadyTimer rest = refl
 event_of on.CoordTimer rest = refl
 event_of on.DispatchTimer rest = refl
 event_of (on.Deliver m) rest = refl
-event_of (on.Submit queue payload) rest = refl
+event_of (on.Submit work) rest = refl
 event_of (on.Finish origin id) rest = refl
 event_of on.Recover rest = refl
 

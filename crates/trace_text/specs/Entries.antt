@@ -54,7 +54,7 @@ short bytes = if nat_le (length bytes) PAYLOAD_CAPACITY then Some bytes else Non
 
 abbrev pub submit_in : Data → Option Event
 submit_in d =
-    option_and_then (λ (queue : ℕ). option_map (λ (payload : List ℕ). on.Submit queue payload) (option_and_then short (bytes_in (get (codes "payload") d)))) (option_and_then (below QUEUES) (number_in (get (codes "queue") d)))
+    option_and_then (λ (queue : ℕ). option_map (λ (payload : List ℕ). on.Submit work) (option_and_then short (bytes_in (get (codes "payload") d)))) (option_and_then (below QUEUES) (number_in (get (codes "work.queue") d)))
 
 abbrev pub finish_in : Data → Option Event
 finish_in d =

@@ -26,7 +26,7 @@ event_tokens on.ReadyTimer = []
 event_tokens on.CoordTimer = []
 event_tokens on.DispatchTimer = []
 event_tokens (on.Deliver m) = token.key (codes "msg") ∷ token.string (encode_lower (spelling m)) ∷ []
-event_tokens (on.Submit queue payload) = token.key (codes "payload") ∷ token.string (encode_lower payload) ∷ token.key (codes "queue") ∷ token.number (decimal queue) ∷ []
+event_tokens (on.Submit work) = token.key (codes "payload") ∷ token.string (encode_lower payload) ∷ token.key (codes "work.queue") ∷ token.number (decimal work.queue) ∷ []
 event_tokens (on.Finish origin id) = token.key (codes "id") ∷ token.number (decimal id) ∷ token.key (codes "origin") ∷ token.number (decimal origin) ∷ []
 event_tokens on.Recover = []
 

@@ -24,7 +24,7 @@ event_name on.ReadyTimer = codes "ready"
 event_name on.CoordTimer = codes "coord"
 event_name on.DispatchTimer = codes "dispatch"
 event_name (on.Deliver m) = codes "deliver"
-event_name (on.Submit queue payload) = codes "submit"
+event_name (on.Submit work) = codes "submit"
 event_name (on.Finish origin id) = codes "finish"
 event_name on.Recover = codes "recover"
 
@@ -37,7 +37,7 @@ event_members on.ReadyTimer rest = rest
 event_members on.CoordTimer rest = rest
 event_members on.DispatchTimer rest = rest
 event_members (on.Deliver m) rest = member (codes "msg") (message_data m) rest
-event_members (on.Submit queue payload) rest = member (codes "payload") (string (encode_lower payload)) (member (codes "queue") (number (unsigned queue)) rest)
+event_members (on.Submit work) rest = member (codes "payload") (string (encode_lower payload)) (member (codes "work.queue") (number (unsigned work.queue)) rest)
 event_members (on.Finish origin id) rest = member (codes "id") (number (unsigned id)) (member (codes "origin") (number (unsigned origin)) rest)
 event_members on.Recover rest = rest
 
