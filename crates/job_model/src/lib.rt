@@ -13,6 +13,7 @@ mod record;
 mod table;
 #[cfg(test)]
 mod tests;
+mod work;
 
 pub use command::Command;
 pub use job::Job;
@@ -21,3 +22,4 @@ pub use payload::{PAYLOAD_CAPACITY, Payload};
 pub use queue::{QUEUES, Queue};
 pub use record::{Record, one_sector};
 pub use table::JobTable;
+pub use work::Work;
