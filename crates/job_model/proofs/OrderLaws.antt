@@ -32,7 +32,7 @@ IdsRise-without_job low limit (job ∷ jobs) id r =
 -- each command keeps the order
 pub IsInOrder-after_command : (d : Durable) (command : Command) → IsInOrder d.pending d.next → IsInOrder (after_command d command).pending (after_command d command).next
 IsInOrder-after_command d Raise r = r
-IsInOrder-after_command d (Put queue payload) r = IdsRise-append 0 (d.next + 1) d.pending (record { id = d.next; queue = queue; payload = payload }) (omega arith) (omega arith) r
+IsInOrder-after_command d (Put work) r = IdsRise-append 0 (d.next + 1) d.pending (record { id = d.next; work = work }) (omega arith) (omega arith) r
 IsInOrder-after_command d (Done id) r = IdsRise-without_job 0 d.next d.pending id r
 
 -- ---- the last job tells how far the ids go

@@ -6,7 +6,7 @@ use Rattle.job_model.specs.Durable.{Durable}
 -- the new count, the id of the new job, or the id of the job that is done
 abbrev pub answer_of : Durable → Command → ℕ
 answer_of d Raise = d.counter + 1
-answer_of d (Put queue payload) = d.next
+answer_of d (Put work) = d.next
 answer_of d (Done id) = id
 
 -- the answer to the command that an event wants; where it wants none, it isn't looked at

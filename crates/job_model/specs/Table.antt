@@ -20,12 +20,12 @@ durable_of counter table = record { counter = counter; next = table.next; pendin
 
 -- what a command of the code asks for
 abbrev pub command_of : Given → Command
-command_of (GivenPut queue payload) = Put queue payload
+command_of (GivenPut work) = Put work
 command_of (GivenDone id) = Done id
 
 -- a job that is to be made pending finds room and an id, and one that is to be done is pending
 abbrev pub CanApply : Table → Given → Type 0
-CanApply table (GivenPut queue payload) = (length table.pending < table.room) × (table.next < 2 ^ 64 - 1)
+CanApply table (GivenPut work) = (length table.pending < table.room) × (table.next < 2 ^ 64 - 1)
 CanApply table (GivenDone id) = is_pending table.pending id ≡ true
 
 -- a job of this id stands after those that are pending, and below the next one

@@ -1,5 +1,4 @@
-use crate::payload::Payload;
-use crate::queue::Queue;
+use crate::work::Work;
 
 /// A change of the table of jobs.
 ///
@@ -7,8 +6,8 @@ use crate::queue::Queue;
 /// kept there.
 #[derive(Clone, Copy, Debug, PartialEq, Eq)]
 pub enum Command {
-    /// A job of this queue becomes pending, under the next id.
-    Put(Queue, Payload),
+    /// A job with this work becomes pending, under the next id.
+    Put(Work),
     /// The job of this id is done.
     Done(u64),
 }

@@ -13,11 +13,13 @@ mod record;
 mod table;
 #[cfg(test)]
 mod tests;
+mod work;
 
 pub use command::Command;
 pub use job::Job;
 pub use laws::limits;
 pub use payload::{PAYLOAD_CAPACITY, Payload};
 pub use queue::{QUEUES, Queue};
-pub use record::{Record, one_sector};
+pub use record::{Record, old_records, one_sector};
 pub use table::JobTable;
+pub use work::Work;

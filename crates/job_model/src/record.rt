@@ -1,22 +1,27 @@
-ghost use Rattle.std.specs.Prelude.{◌≡◌, ◌<◌, ◌≤◌, ◌+◌, ◌^◌, ◌++◌, ◌∷◌, take, drop, get_or, length, List, ℕ, Some, None};
+ghost use Rattle.std.specs.Prelude.{◌≡◌, ◌⊎◌, ◌<◌, ◌≤◌, ◌+◌, ◌^◌, ◌++◌, ◌∷◌, take, drop, get_or, length, List, ℕ, Some, None};
 ghost use Rattle.std.specs.Int.{to_be_bytes, w64, w16};
-ghost use Rattle.job_model.specs.Records.{record_of, bytes_of, job_of, number_of, id_in, length_in, job_bytes, number_bytes, AllBytes};
+ghost use Rattle.job_model.specs.Records.{record_of, bytes_of, job_of, job_at, number_of, id_in, length_in, job_bytes, number_bytes, AllBytes, IsOld, IsOldOf, IsOldJob, old_job_bytes};
 
 use crate::job::Job;
 use crate::payload::{PAYLOAD_CAPACITY, Payload};
 use crate::queue::Queue;
+use crate::work::Work;
 use sector_disk::{Sector, is_blank};
 
 #[cfg(test)]
 mod tests;
 
-const PUT: u8 = 1;
+const OLD_PUT: u8 = 1;
 
 const DONE: u8 = 2;
 
 const BASE: u8 = 3;
 
-const KEEP: u8 = 4;
+const OLD_KEEP: u8 = 4;
+
+const PUT: u8 = 5;
+
+const KEEP: u8 = 6;
 
 /// What one slot of a journal says of the jobs.
 #[derive(Clone, Copy, Debug, PartialEq, Eq)]
@@ -47,25 +52,38 @@ impl Record {
     }
 
     /// The record of a sector, if it is one.
+    ///
+    /// Disks that were written before jobs had priorities have other kinds of record, whose jobs have priority 0:
+    /// they are read, and never written.
     #[tactic(auto, unfolding(crate::specs::Records::record_of))]
     pub fn from_sector(sector: &Sector) -> Option<Record>
         ensures { result ≡ record_of sector.now }
     {
         match sector[0] {
-            PUT => job_in(sector).map(Record::Put),
+            OLD_PUT => job_at(sector, 10, 0).map(Record::Put),
             DONE => number_in(sector).map(Record::Done),
             BASE => number_in(sector).map(Record::Base),
-            KEEP => job_in(sector).map(Record::Keep),
+            OLD_KEEP => job_at(sector, 10, 0).map(Record::Keep),
+            PUT => job_at(sector, 11, sector[10]).map(Record::Put),
+            KEEP => job_at(sector, 11, sector[10]).map(Record::Keep),
             _ => None,
         }
     }
 }
 
-/// A sector that reads as a record is the one that [`Record::to_sector`] writes for it: of each record there is one
-/// sector.
+/// A sector that reads as a record is the one that [`Record::to_sector`] writes for it, or an old one, which isn't
+/// written any more and whose job has priority 0: of each record there is one sector of each age.
 pub fn one_sector()
-    ensures { (sector : List ℕ) (found : Record) → length sector ≡ 512 → AllBytes sector
-        → record_of sector ≡ Some found → sector ≡ bytes_of found }
+    ensures one { (sector : List ℕ) (found : Record) → length sector ≡ 512 → AllBytes sector
+        → record_of sector ≡ Some found → (sector ≡ bytes_of found) ⊎ IsOldOf sector found }
+    ensures not_written { (written : Record) → IsOld (bytes_of written) → ⊥ }
+{}
+
+/// A disk from before jobs had priorities is read: each job of priority 0 has an old sector for its Put and one for
+/// its Keep.
+pub fn old_records()
+    ensures { (job : Job) → IsOldJob job
+        → (record_of (old_job_bytes 1 job) ≡ Some (Record.Put job)) × (record_of (old_job_bytes 4 job) ≡ Some (Record.Keep job)) }
 {}
 
 fn number_sector(kind: u8, number: u64) -> Sector
@@ -85,11 +103,12 @@ fn job_sector(kind: u8, job: &Job) -> Sector
     ensures kind { get_or result 0 0 ≡ kind }
     ensures job { job_of result ≡ Some job.now }
 {
-    let bytes = job.payload.as_slice();
+    let bytes = job.work.payload.as_slice();
     let mut sector = number_sector(kind, job.id);
-    sector[9] = job.queue.number();
-    place(&mut sector, 10, &(bytes.len() as u16).to_be_bytes());
-    place(&mut sector, 12, bytes);
+    sector[9] = job.work.queue.number();
+    sector[10] = job.work.priority;
+    place(&mut sector, 11, &(bytes.len() as u16).to_be_bytes());
+    place(&mut sector, 13, bytes);
     sector
 }
 
@@ -113,20 +132,26 @@ fn number_in(sector: &Sector) -> Option<u64>
     }
 }
 
-// The job behind the kind, if nothing else follows.
-fn job_in(sector: &Sector) -> Option<Job>
-    ensures { result ≡ job_of sector.now }
+// The job behind the kind, if nothing else follows: of this priority, its length and its payload from a place on.
+fn job_at(sector: &Sector, at: usize, priority: u8) -> Option<Job>
+    requires { at ≤ 11 }
+    ensures { result ≡ job_at at priority sector.now }
 {
     let queue = Queue::new(sector[9])?;
-    let len = length_in(sector);
-    if len > PAYLOAD_CAPACITY || !is_blank(sector, 12 + len) {
+    let len = length_in(sector, at);
+    let from = at + 2;
+    if len > PAYLOAD_CAPACITY || !is_blank(sector, from + len) {
         return None;
     }
-    let payload = Payload::new(&sector[12..12 + len])?;
+    let payload = Payload::new(&sector[from..from + len])?;
+    let work = Work {
+        queue,
+        priority,
+        payload,
+    };
     Some(Job {
         id: id_in(sector),
-        queue,
-        payload,
+        work,
     })
 }
 
@@ -138,8 +163,9 @@ fn id_in(sector: &Sector) -> u64
     ])
 }
 
-fn length_in(sector: &Sector) -> usize
-    ensures { result ≡ length_in sector.now }
+fn length_in(sector: &Sector, at: usize) -> usize
+    requires { at ≤ 11 }
+    ensures { result ≡ length_in at sector.now }
 {
-    u16::from_be_bytes([sector[10], sector[11]]) as usize
+    u16::from_be_bytes([sector[at], sector[at + 1]]) as usize
 }

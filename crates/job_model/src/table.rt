@@ -6,8 +6,7 @@ ghost use Rattle.job_model.specs.Table.{CanApply, CanKeep, command_of, durable_o
 
 use crate::command::Command;
 use crate::job::Job;
-use crate::payload::Payload;
-use crate::queue::Queue;
+use crate::work::Work;
 use std::alloc::{AllocError, Global};
 use std::marker::Model;
 
@@ -105,7 +104,7 @@ impl JobTable {
         ensures room { self.new.room ≡ self.old.room }
     {
         match command {
-            Command::Put(queue, payload) => self.put(queue, payload),
+            Command::Put(work) => self.put(work),
             Command::Done(id) => {
                 self.done(id);
                 id
@@ -144,15 +143,15 @@ impl JobTable {
     }
 
     // Makes a job pending, and gives its id.
-    fn put(&mut self, queue: Queue, payload: Payload) -> u64
+    fn put(&mut self, work: Work) -> u64
         requires room { length self.old.pending < self.old.room }
         requires id_left { self.old.next < 2 ^ 64 - 1 }
         ensures id { result ≡ self.old.next }
-        ensures table { self.new ≡ record self.old { next = self.old.next + 1; pending = self.old.pending ++ (record { id = self.old.next; queue = queue; payload = payload }) ∷ [] } }
+        ensures table { self.new ≡ record self.old { next = self.old.next + 1; pending = self.old.pending ++ (record { id = self.old.next; work = work }) ∷ [] } }
     {
         let id = self.next;
         make_place(&mut self.places, &mut self.start);
-        self.places.push_reserved(Job { id, queue, payload });
+        self.places.push_reserved(Job { id, work });
         self.next += 1;
         id
     }

@@ -1,12 +1,17 @@
-use crate::{Command, Job, JobTable, Payload, Queue};
+use crate::{Command, Job, JobTable, Payload, Queue, Work};
 use std::alloc::AllocError;
 use std::process::Abort;
 
-// A job, or none where there is no such queue or the bytes are too many.
+// A job of priority 7, or none where there is no such queue or the bytes are too many.
 fn job(id: u64, number: u8, bytes: &[u8]) -> Option<Job> {
     let queue = Queue::new(number)?;
     let payload = Payload::new(bytes)?;
-    Some(Job { id, queue, payload })
+    let work = Work {
+        queue,
+        priority: 7,
+        payload,
+    };
+    Some(Job { id, work })
 }
 
 fn applied(table: &mut JobTable, command: Command) -> Option<u64> {
@@ -19,7 +24,7 @@ fn applied(table: &mut JobTable, command: Command) -> Option<u64> {
 
 fn put(table: &mut JobTable, number: u8, bytes: &[u8]) -> Option<u64> {
     let job = job(0, number, bytes)?;
-    applied(table, Command::Put(job.queue, job.payload))
+    applied(table, Command::Put(job.work))
 }
 
 fn keep(table: &mut JobTable, job: Job) -> bool {
@@ -34,8 +39,9 @@ fn check_pending(rt: &impl Abort, table: &JobTable, want: &[(u64, u8, &[u8])]) {
     assert_eq!(rt; table.pending().len(), want.len());
     for (job, (id, number, bytes)) in table.pending().iter().zip(want) {
         assert_eq!(rt; job.id, *id);
-        assert_eq!(rt; job.queue.number(), *number);
-        assert!(rt; job.payload.as_slice() == *bytes);
+        assert_eq!(rt; job.work.queue.number(), *number);
+        assert_eq!(rt; job.work.priority, 7);
+        assert!(rt; job.work.payload.as_slice() == *bytes);
     }
 }
 

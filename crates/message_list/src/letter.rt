@@ -5,7 +5,7 @@ ghost use Rattle.message_list.specs.Letters.{letter_of, noted, task_kept, work_k
 ghost use Rattle.job_model.specs.declared.payload.TheConstants.{PAYLOAD_CAPACITY};
 
 use group_task::{GroupNo, NodeId, Task};
-use job_model::{PAYLOAD_CAPACITY, Payload, Queue};
+use job_model::{PAYLOAD_CAPACITY, Payload, Queue, Work};
 use wire_msg::{Body, Message};
 
 /// The kind of a message, and its answer where it has one.
@@ -49,6 +49,7 @@ pub struct KeptWork {
     pub group: GroupNo,
     pub id: u64,
     pub queue: Queue,
+    pub priority: u8,
     pub start: usize,
     pub len: usize,
 }
@@ -117,19 +118,14 @@ pub fn keep_work(works: &mut Vec<KeptWork>, start: usize, body: &Body)
     ensures few { vec_len works.new ≤ vec_len works.old + 1 }
     ensures room { vec_capacity works.new ≡ vec_capacity works.old }
 {
-    if let Body::Work {
-        group,
-        id,
-        queue,
-        payload,
-    } = body
-    {
+    if let Body::Work { group, id, work } = body {
         works.push_reserved(KeptWork {
             group: *group,
             id: *id,
-            queue: *queue,
+            queue: work.queue,
+            priority: work.priority,
             start,
-            len: payload.len(),
+            len: work.payload.len(),
         });
     }
 }
@@ -142,8 +138,8 @@ pub fn keep_payload(payloads: &mut Vec<u8>, body: &Body)
     ensures few { vec_len payloads.new ≤ vec_len payloads.old + PAYLOAD_CAPACITY }
     ensures room { vec_capacity payloads.old ≤ vec_capacity payloads.new }
 {
-    if let Body::Work { payload, .. } = body {
-        let _ = payloads.extend_from_slice(payload.as_slice());
+    if let Body::Work { work, .. } = body {
+        let _ = payloads.extend_from_slice(work.payload.as_slice());
     }
 }
 
@@ -182,7 +178,10 @@ fn work_said(payloads: &[u8], work: &KeptWork) -> Body
     Body::Work {
         group: work.group,
         id: work.id,
-        queue: work.queue,
-        payload: Payload::new(bytes).unwrap(),
+        work: Work {
+            queue: work.queue,
+            priority: work.priority,
+            payload: Payload::new(bytes).unwrap(),
+        },
     }
 }

@@ -1,9 +1,12 @@
 use super::*;
 use group_task::{GroupNo, Members, NodeId, share};
-use job_model::{Payload, Queue};
+use job_model::{Payload, Queue, Work};
 use std::alloc::Global;
 use std::test::Fail;
 use wire_msg::{Body, Message};
+
+/// How many messages there are to try.
+const MESSAGES: usize = 11;
 
 /// One message of each kind between nodes 0 and 1.
 fn message(place: usize) -> Option<Message> {
@@ -25,19 +28,31 @@ fn message(place: usize) -> Option<Message> {
         8 => Body::Work {
             group,
             id: 5,
-            queue: Queue::new(1)?,
-            payload: Payload::new(b"hi")?,
+            work: work(0)?,
         },
-        _ => Body::Done(5),
+        9 => Body::Done(5),
+        _ => Body::Work {
+            group,
+            id: 5,
+            work: work(7)?,
+        },
     };
     Message::new(zero, one, body)
+}
+
+fn work(priority: u8) -> Option<Work> {
+    Some(Work {
+        queue: Queue::new(1)?,
+        priority,
+        payload: Payload::new(b"hi")?,
+    })
 }
 
 /// Two messages of each kind, one kind after another.
 fn twice_each_kind(alloc: Global) -> Result<MessageList, Fail> {
     let mut list = MessageList::new(alloc);
-    for place in 0..20 {
-        let added = message(place % 10).ok_or("a message")?;
+    for place in 0..2 * MESSAGES {
+        let added = message(place % MESSAGES).ok_or("a message")?;
         list.reserve(1)?;
         list.push(&added);
     }
@@ -47,19 +62,19 @@ fn twice_each_kind(alloc: Global) -> Result<MessageList, Fail> {
 #[test]
 fn each_kind_comes_again(rt: HostRuntime) -> Result<(), Fail> {
     let list = twice_each_kind(rt.alloc())?;
-    assert_eq!(rt; list.len(), 20);
-    for place in 0..20 {
-        let added = message(place % 10).ok_or("a message")?;
+    assert_eq!(rt; list.len(), 2 * MESSAGES);
+    for place in 0..2 * MESSAGES {
+        let added = message(place % MESSAGES).ok_or("a message")?;
         assert!(rt; list.ends(place) == Some((added.sender(), added.receiver())));
         assert!(rt; list.get(place) == Some(added));
     }
-    assert!(rt; list.ends(20).is_none());
-    assert!(rt; list.get(20).is_none());
+    assert!(rt; list.ends(2 * MESSAGES).is_none());
+    assert!(rt; list.get(2 * MESSAGES).is_none());
     Ok(())
 }
 
 /// The spellings of those messages: version, kind, sender, receiver, length, body.
-const SPELLINGS: [&[u8]; 10] = [
+const SPELLINGS: [&[u8]; MESSAGES] = [
     b"\x01\x01\x00\x01\x00\x00",
     b"\x01\x02\x00\x01\x00\x01\x01",
     b"\x01\x03\x00\x01\x00\x09\x00\x00\x00\x00\x00\x00\x00\x00\x02",
@@ -70,6 +85,7 @@ const SPELLINGS: [&[u8]; 10] = [
     b"\x01\x08\x00\x01\x00\x09\x00\x00\x00\x00\x00\x00\x00\x00\x02",
     b"\x01\x09\x00\x01\x00\x16\x00\x00\x00\x00\x00\x00\x00\x00\x02\x00\x00\x00\x00\x00\x00\x00\x05\x01\x00\x02hi",
     b"\x01\x0a\x00\x01\x00\x08\x00\x00\x00\x00\x00\x00\x00\x05",
+    b"\x01\x0b\x00\x01\x00\x17\x00\x00\x00\x00\x00\x00\x00\x00\x02\x00\x00\x00\x00\x00\x00\x00\x05\x01\x07\x00\x02hi",
 ];
 
 /// Spellings of messages that name node 64: as an end, as the creator of a group, and in a task.

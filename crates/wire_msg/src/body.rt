@@ -1,10 +1,11 @@
 use group_task::{GroupNo, Task};
-use job_model::{Payload, Queue};
+use job_model::Work;
 
-/// How many bytes the body of a message has at most: that of a Work with the longest payload. Its whole spelling has six more.
-pub const BODY_CAPACITY: usize = 420;
+/// How many bytes the body of a message has at most: that of a Work with a priority and the longest payload. Its whole spelling
+/// has six more.
+pub const BODY_CAPACITY: usize = 421;
 
-/// What a message says, in the order of the kinds 1 to 10. The names are those of Garcia-Molina's
+/// What a message says, in the order of the kinds 1 to 10; a Work with a priority is of kind 11. The names are those of Garcia-Molina's
 /// invitation algorithm (Elections in a distributed computing system, 1982), and of the work that a group shares.
 #[derive(Clone, Copy, Debug, PartialEq, Eq)]
 pub enum Body {
@@ -24,13 +25,8 @@ pub enum Body {
     Ready(Task),
     /// Tells the coordinator that the sender has the task of this group.
     ReadyAck(GroupNo),
-    /// Gives a member of this group a job of the sender: its id there, its queue and its payload.
-    Work {
-        group: GroupNo,
-        id: u64,
-        queue: Queue,
-        payload: Payload,
-    },
+    /// Gives a member of this group a job of the sender: its id there, and the work that it asks for.
+    Work { group: GroupNo, id: u64, work: Work },
     /// Tells the node that gave the work that the job of this id is done.
     Done(u64),
 }

@@ -4,14 +4,14 @@ ghost use Rattle.job_model.specs.declared.queue.TheConstants.{QUEUES};
 ghost use Rattle.group_task.specs.declared.node.TheConstants.{NODES};
 ghost use Rattle.wire_msg.specs.Envelope.{Envelope};
 ghost use Rattle.wire_msg.specs.Spelling.{Spells};
-ghost use Rattle.wire_msg.specs.Reading.{seen, byte_at, number_at, below_at, truth_at, group_at, members_at, task_at, payload_at, work_at, here_at, body_at, whole_at};
+ghost use Rattle.wire_msg.specs.Reading.{seen, byte_at, number_at, below_at, truth_at, group_at, members_at, task_at, payload_at, priority_at, work_at, here_at, body_at, whole_at};
 
 use crate::body::Body;
 use crate::fault::WireFault;
 use crate::message::Message;
 use crate::version::version_of;
 use group_task::{GroupNo, Members, NodeId, Task, share};
-use job_model::{Payload, Queue};
+use job_model::{Payload, Queue, Work};
 
 /// What is left to read. After a `None` it isn't read any further.
 #[derive(Drop)]
@@ -131,8 +131,39 @@ impl Reader<'_> {
         Payload::new(bytes)
     }
 
+    /// The priority: 0 where none is written.
+    #[tactic(auto, unfolding(crate::specs::Reading::priority_at))]
+    fn priority(&mut self, written: bool) -> Option<u8>
+        ensures { seen result self.new.rest.now ≡ priority_at written self.old.rest.now }
+    {
+        if !written {
+            return Some(0);
+        }
+        let priority = self.byte()?;
+        if priority == 0 { None } else { Some(priority) }
+    }
+
+    /// Reads a Work into the place where it will stay.
+    #[tactic(auto, unfolding(crate::specs::Reading::work_at))]
+    fn work(&mut self, with_priority: bool, body: &mut Body) -> Option<()>
+        ensures { option_map (λ _. (body.new, self.new.rest.now)) result ≡ work_at with_priority self.old.rest.now }
+    {
+        let group = self.group()?;
+        let id = self.u64()?;
+        let queue = self.queue()?;
+        let priority = self.priority(with_priority)?;
+        let payload = self.payload()?;
+        let work = Work {
+            queue,
+            priority,
+            payload,
+        };
+        *body = Body::Work { group, id, work };
+        Some(())
+    }
+
     /// Reads the body into the place where it will stay, since it has room for the longest payload.
-    #[tactic(auto, unfolding(crate::specs::Reading::body_at, crate::specs::Reading::here_at, crate::specs::Reading::work_at))]
+    #[tactic(auto, unfolding(crate::specs::Reading::body_at, crate::specs::Reading::here_at))]
     fn body(&mut self, kind: u8, body: &mut Body) -> Option<()>
         ensures { option_map (λ _. (body.new, self.new.rest.now)) result ≡ body_at kind self.old.rest.now }
     {
@@ -148,19 +179,9 @@ impl Reader<'_> {
             6 => *body = Body::Accept(self.group()?),
             7 => *body = Body::Ready(self.task()?),
             8 => *body = Body::ReadyAck(self.group()?),
-            9 => {
-                let group = self.group()?;
-                let id = self.u64()?;
-                let queue = self.queue()?;
-                let payload = self.payload()?;
-                *body = Body::Work {
-                    group,
-                    id,
-                    queue,
-                    payload,
-                };
-            }
+            9 => self.work(false, body)?,
             10 => *body = Body::Done(self.u64()?),
+            11 => self.work(true, body)?,
             _ => return None,
         }
         Some(())

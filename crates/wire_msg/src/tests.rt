@@ -1,13 +1,14 @@
 use super::*;
 use group_task::{GroupNo, Members, NODES, NodeId, share};
-use job_model::{Payload, Queue};
+use job_model::{Payload, Queue, Work};
 use std::alloc::Global;
 use std::process::Abort;
 use std::test::Fail;
 
-const MESSAGES: usize = 16;
+const MESSAGES: usize = 20;
 
-/// One message of each kind, and both answers of a coordinator, in the order of the kinds; and then some that name node 64.
+/// One message of each kind, and both answers of a coordinator, in the order of the kinds; and then some that name node 64,
+/// and some Work with a priority.
 fn message(place: usize) -> Option<Message> {
     let [zero, one, two] = [NodeId::new(0)?, NodeId::new(1)?, NodeId::new(2)?];
     let high = NodeId::new(64)?;
@@ -22,13 +23,17 @@ fn message(place: usize) -> Option<Message> {
         6 => Message::new(one, zero, Body::Accept(group)),
         7 => Message::new(zero, one, ready(group, one)?),
         8 => Message::new(one, zero, Body::ReadyAck(group)),
-        9 => Message::new(zero, one, work(group)?),
+        9 => Message::new(zero, one, work(group, 0, 0, b"hi")?),
         10 => Message::new(one, zero, Body::Done(0)),
         11 => Message::new(two, high, Body::AreYouCoordinator),
         12 => Message::new(high, two, Body::Coordinator(true)),
         13 => Message::new(one, zero, Body::Accept(GroupNo::new(high, 2)?)),
         14 => Message::new(zero, one, ready(group, high)?),
-        _ => Message::new(zero, high, work(group)?),
+        15 => Message::new(zero, high, work(group, 0, 0, b"hi")?),
+        16 => Message::new(zero, one, work(group, 1, 7, b"b")?),
+        17 => Message::new(zero, one, work(group, 0, 1, b"hi")?),
+        18 => Message::new(zero, high, work(group, 0, 255, b"hi")?),
+        _ => Message::new(zero, one, work(group, 0, 255, b"")?),
     }
 }
 
@@ -42,12 +47,15 @@ fn ready(group: GroupNo, other: NodeId) -> Option<Body> {
     Some(Body::Ready(share(group, members)))
 }
 
-fn work(group: GroupNo) -> Option<Body> {
+fn work(group: GroupNo, id: u64, priority: u8, payload: &[u8]) -> Option<Body> {
     Some(Body::Work {
         group,
-        id: 0,
-        queue: Queue::new(1)?,
-        payload: Payload::new(b"hi")?,
+        id,
+        work: Work {
+            queue: Queue::new(1)?,
+            priority,
+            payload: Payload::new(payload)?,
+        },
     })
 }
 
@@ -71,8 +79,16 @@ fn spelling(place: usize) -> &'static [u8] {
         13 => b"\x02\x06\x01\x00\x00\x09\x40\x00\x00\x00\x00\x00\x00\x00\x02".as_slice(),
         14 =>
             b"\x02\x07\x00\x01\x00\x0c\x00\x00\x00\x00\x00\x00\x00\x00\x02\x02\x00\x40".as_slice(),
-        _ =>
+        15 =>
             b"\x02\x09\x00\x40\x00\x16\x00\x00\x00\x00\x00\x00\x00\x00\x02\x00\x00\x00\x00\x00\x00\x00\x00\x01\x00\x02\x68\x69".as_slice(),
+        16 =>
+            b"\x01\x0b\x00\x01\x00\x16\x00\x00\x00\x00\x00\x00\x00\x00\x02\x00\x00\x00\x00\x00\x00\x00\x01\x01\x07\x00\x01\x62".as_slice(),
+        17 =>
+            b"\x01\x0b\x00\x01\x00\x17\x00\x00\x00\x00\x00\x00\x00\x00\x02\x00\x00\x00\x00\x00\x00\x00\x00\x01\x01\x00\x02\x68\x69".as_slice(),
+        18 =>
+            b"\x02\x0b\x00\x40\x00\x17\x00\x00\x00\x00\x00\x00\x00\x00\x02\x00\x00\x00\x00\x00\x00\x00\x00\x01\xff\x00\x02\x68\x69".as_slice(),
+        _ =>
+            b"\x01\x0b\x00\x01\x00\x15\x00\x00\x00\x00\x00\x00\x00\x00\x02\x00\x00\x00\x00\x00\x00\x00\x00\x01\xff\x00\x00".as_slice(),
     }
 }
 
@@ -109,7 +125,20 @@ fn non_message(place: usize) -> (&'static [u8], &'static str) {
             b"\x01\x07\x00\x01\x00\x0c\x00\x00\x00\x00\x00\x00\x00\x00\x02\x02\x00\x40".as_slice(),
             "member 64 in version 1",
         ),
-        _ => (b"\x03\x01\x02\x40\x00\x00".as_slice(), "version 3"),
+        9 => (b"\x03\x01\x02\x40\x00\x00".as_slice(), "version 3"),
+        10 => (
+            b"\x01\x0b\x00\x01\x00\x17\x00\x00\x00\x00\x00\x00\x00\x00\x02\x00\x00\x00\x00\x00\x00\x00\x00\x01\x00\x00\x02\x68\x69".as_slice(),
+            "kind 0b with priority 0",
+        ),
+        11 => (
+            b"\x01\x0b\x00\x01\x00\x16\x00\x00\x00\x00\x00\x00\x00\x00\x02\x00\x00\x00\x00\x00\x00\x00\x00\x01\x00\x02\x68\x69".as_slice(),
+            "kind 0b without a priority",
+        ),
+        12 => (
+            b"\x01\x09\x00\x01\x00\x17\x00\x00\x00\x00\x00\x00\x00\x00\x02\x00\x00\x00\x00\x00\x00\x00\x00\x01\x01\x00\x02\x68\x69".as_slice(),
+            "kind 09 with a priority",
+        ),
+        _ => (b"\x01\x0c\x00\x01\x00\x00".as_slice(), "kind 0c"),
     }
 }
 
@@ -133,10 +162,38 @@ fn vectors(rt: HostRuntime) -> Result<(), Fail> {
 
 #[test]
 fn non_messages(rt: HostRuntime) {
-    for place in 0..10usize {
+    for place in 0..14usize {
         let (bytes, why) = non_message(place);
         assert!(rt; decode(bytes) == Err(WireFault::Malformed), "{why}");
     }
+}
+
+/// A Work whose head tells of as many bytes as are left of it, cut at each place.
+#[test]
+fn work_cut_short(rt: HostRuntime) -> Result<(), Fail> {
+    let whole = spelling(17);
+    for end in 6..whole.len() {
+        let mut bytes = Vec::new(rt.alloc());
+        bytes.extend_from_slice(&whole[..end])?;
+        bytes[5] = (end - 6) as u8;
+        assert!(rt; decode(&whole[..end]) == Err(WireFault::Malformed), "{end}");
+        assert!(rt; decode(&bytes) == Err(WireFault::Malformed), "{end}");
+    }
+    Ok(())
+}
+
+/// The longest body is that of a Work with a priority and 400 bytes: 421 bytes.
+#[test]
+fn longest_work(rt: HostRuntime) -> Result<(), Fail> {
+    let [zero, one] = [NodeId::numbered(0), NodeId::numbered(1)];
+    let body = work(GroupNo::numbered(zero, 2), 0, 9, &[0xa5; 400]).ok_or("a work")?;
+    let message = Message::between(zero, one, body);
+    let bytes = encode(rt.alloc(), &message)?;
+    assert_eq!(rt; bytes.len(), 427);
+    assert_eq!(rt; &bytes[..6], b"\x01\x0b\x00\x01\x01\xa5".as_slice());
+    assert_eq!(rt; &bytes[23..27], b"\x01\x09\x01\x90".as_slice());
+    assert!(rt; decode(&bytes) == Ok(message));
+    Ok(())
 }
 
 /// All of the spellings, one behind the other.

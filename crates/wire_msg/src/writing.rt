@@ -1,12 +1,12 @@
 ghost use Rattle.std.specs.Prelude.{◌≡◌, [], ◌++◌, length, OnOk, OnErr, IfOk, IfErr};
-ghost use Rattle.wire_msg.specs.Spelling.{group as group_bytes, task as task_bytes, work as work_bytes, kind_of, content, AreBytes, IsGroup, IsTask, IsWork, IsBody, Spells};
+ghost use Rattle.wire_msg.specs.Spelling.{group as group_bytes, task as task_bytes, priority as priority_bytes, work as work_bytes, kind_of, content, AreBytes, IsGroup, IsTask, IsWork, IsBody, Spells};
 
 use crate::body::Body;
 use crate::fault::WireFault;
 use crate::message::Message;
 use crate::version::version_of;
 use group_task::{GroupNo, Task};
-use job_model::{Payload, Queue};
+use job_model::Work;
 use std::alloc::{AllocError, Global};
 
 fn kind_of(body: &Body) -> u8
@@ -21,7 +21,13 @@ fn kind_of(body: &Body) -> u8
         Body::Accept(_) => 6,
         Body::Ready(_) => 7,
         Body::ReadyAck(_) => 8,
-        Body::Work { .. } => 9,
+        Body::Work { work, .. } => {
+            if work.priority == 0 {
+                9
+            } else {
+                11
+            }
+        }
         Body::Done(_) => 10,
     }
 }
@@ -39,7 +45,10 @@ fn len_of(body: &Body) -> u16
         Body::Accept(_) => 9,
         Body::Ready(task) => 10 + task.members().len() as u16,
         Body::ReadyAck(_) => 9,
-        Body::Work { payload, .. } => 20 + payload.len() as u16,
+        Body::Work { work, .. } => {
+            let priority = if work.priority == 0 { 0 } else { 1 };
+            20 + priority + work.payload.len() as u16
+        }
         Body::Done(_) => 8,
     }
 }
@@ -75,23 +84,28 @@ fn put_task(out: &mut Vec<u8>, task: &Task) -> Result<(), AllocError>
     Ok(())
 }
 
-fn put_work(
-    out: &mut Vec<u8>,
-    group: GroupNo,
-    id: u64,
-    queue: Queue,
-    payload: &Payload,
-) -> Result<(), AllocError>
-    ensures bytes { OnOk result (out.new.items ≡ out.old.items ++ work_bytes group id queue payload.now) }
-    ensures fits { OnOk result (IsWork group id queue payload.now) }
+/// Writes a priority, which has no bytes where it is 0.
+fn put_priority(out: &mut Vec<u8>, priority: u8) -> Result<(), AllocError>
+    ensures { OnOk result (out.new.items ≡ out.old.items ++ priority_bytes priority) }
+{
+    if priority != 0 {
+        out.push(priority)?;
+    }
+    Ok(())
+}
+
+fn put_work(out: &mut Vec<u8>, group: GroupNo, id: u64, work: &Work) -> Result<(), AllocError>
+    ensures bytes { OnOk result (out.new.items ≡ out.old.items ++ work_bytes group id work.now) }
+    ensures fits { OnOk result (IsWork group id work.now) }
 {
     let id_bytes = id.to_be_bytes();
-    let len_bytes = (payload.len() as u16).to_be_bytes();
+    let len_bytes = (work.payload.len() as u16).to_be_bytes();
     put_group(out, group)?;
     put_bytes(out, &id_bytes)?;
-    out.push(queue.number())?;
+    out.push(work.queue.number())?;
+    put_priority(out, work.priority)?;
     put_bytes(out, &len_bytes)?;
-    put_bytes(out, payload.as_slice())?;
+    put_bytes(out, work.payload.as_slice())?;
     Ok(())
 }
 
@@ -111,12 +125,7 @@ fn put_body(out: &mut Vec<u8>, body: &Body) -> Result<(), AllocError>
         Body::Accept(group) => put_group(out, *group),
         Body::Ready(task) => put_task(out, task),
         Body::ReadyAck(group) => put_group(out, *group),
-        Body::Work {
-            group,
-            id,
-            queue,
-            payload,
-        } => put_work(out, *group, *id, *queue, payload),
+        Body::Work { group, id, work } => put_work(out, *group, *id, work),
         Body::Done(id) => {
             let id = *id;
             out.extend_from_slice(&id.to_be_bytes())
@@ -144,7 +153,7 @@ fn spell(out: &mut Vec<u8>, message: &Message) -> Result<(), AllocError>
     Ok(())
 }
 
-/// The spelling of the message, at most 426 bytes. The only fault is `NoMemory`.
+/// The spelling of the message, at most 427 bytes. The only fault is `NoMemory`.
 pub fn encode(alloc: Global, message: &Message) -> Result<Vec<u8>, WireFault>
     ensures ok { IfOk result (λ bytes. Spells message.now bytes.items) }
     ensures fault { IfErr result (λ e. e ≡ WireFault.NoMemory) }

@@ -1,12 +1,17 @@
-use crate::{Job, Payload, Queue, Record};
+use crate::{Job, Payload, Queue, Record, Work};
 use sector_disk::Sector;
 use std::process::Abort;
 
 // A job, or none where there is no such queue or the bytes are too many.
-fn job(id: u64, number: u8, bytes: &[u8]) -> Option<Job> {
+fn job(id: u64, number: u8, priority: u8, bytes: &[u8]) -> Option<Job> {
     let queue = Queue::new(number)?;
     let payload = Payload::new(bytes)?;
-    Some(Job { id, queue, payload })
+    let work = Work {
+        queue,
+        priority,
+        payload,
+    };
+    Some(Job { id, work })
 }
 
 // A sector that begins with these bytes, with zeros behind them.
@@ -19,29 +24,50 @@ fn sector(bytes: &[u8]) -> Sector {
 }
 
 fn check_both_ways(rt: &impl Abort, record: &Record, bytes: &[u8]) {
-    let want = sector(bytes);
-    assert!(rt; record.to_sector() == want);
-    assert!(rt; Record::from_sector(&want) == Some(*record));
+    assert!(rt; record.to_sector() == sector(bytes));
+    check_read(rt, bytes, record);
+}
+
+fn check_read(rt: &impl Abort, bytes: &[u8], record: &Record) {
+    assert!(rt; Record::from_sector(&sector(bytes)) == Some(*record));
 }
 
 #[test]
 fn record_vectors(rt: HostRuntime) {
-    if let Some(job) = job(0, 1, b"hi") {
+    if let Some(job) = job(1, 1, 7, b"b") {
         check_both_ways(
             &rt,
             &Record::Put(job),
-            &[1, 0, 0, 0, 0, 0, 0, 0, 0, 1, 0, 2, 0x68, 0x69],
+            &[5, 0, 0, 0, 0, 0, 0, 0, 1, 1, 7, 0, 1, 0x62],
         );
     } else {
         assert!(rt; false, "no job");
     }
     check_both_ways(&rt, &Record::Done(0), &[2]);
     check_both_ways(&rt, &Record::Base(3), &[3, 0, 0, 0, 0, 0, 0, 0, 3]);
-    if let Some(job) = job(1, 0, b"b") {
+    if let Some(job) = job(1, 0, 0, b"b") {
         check_both_ways(
             &rt,
             &Record::Keep(job),
+            &[6, 0, 0, 0, 0, 0, 0, 0, 1, 0, 0, 0, 1, 0x62],
+        );
+    } else {
+        assert!(rt; false, "no job");
+    }
+}
+
+#[test]
+fn old_records_are_read(rt: HostRuntime) {
+    if let (Some(put), Some(keep)) = (job(0, 1, 0, b"hi"), job(1, 0, 0, b"b")) {
+        check_read(
+            &rt,
+            &[1, 0, 0, 0, 0, 0, 0, 0, 0, 1, 0, 2, 0x68, 0x69],
+            &Record::Put(put),
+        );
+        check_read(
+            &rt,
             &[4, 0, 0, 0, 0, 0, 0, 0, 1, 0, 0, 1, 0x62],
+            &Record::Keep(keep),
         );
     } else {
         assert!(rt; false, "no job");
@@ -51,13 +77,16 @@ fn record_vectors(rt: HostRuntime) {
 #[test]
 fn no_records(rt: HostRuntime) {
     // No kind, an unknown kind, queue 16, length 401, and bytes behind a number and behind a payload.
-    let others: [&[u8]; 6] = [
+    let others: [&[u8]; 9] = [
         &[],
-        &[5],
+        &[7],
         &[1, 0, 0, 0, 0, 0, 0, 0, 0, 16],
         &[1, 0, 0, 0, 0, 0, 0, 0, 0, 1, 1, 0x91],
         &[2, 0, 0, 0, 0, 0, 0, 0, 0, 1],
         &[4, 0, 0, 0, 0, 0, 0, 0, 1, 0, 0, 1, 0x62, 1],
+        &[5, 0, 0, 0, 0, 0, 0, 0, 0, 16],
+        &[5, 0, 0, 0, 0, 0, 0, 0, 0, 1, 0, 1, 0x91],
+        &[6, 0, 0, 0, 0, 0, 0, 0, 1, 0, 7, 0, 1, 0x62, 1],
     ];
     for bytes in others {
         assert!(rt; Record::from_sector(&sector(bytes)) == None);
