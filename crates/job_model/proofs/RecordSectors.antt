@@ -1,5 +1,5 @@
 -- A sector that reads as a record is the one that is written for it.
-use Rattle.std.proofs.Common.{◌≡◌, ◌<◌, ◌≤◌, ◌+◌, ◌-◌, ℕ, zero, suc, List, [], ◌∷◌, ◌++◌, take, drop, length, replicate, get_or, Bool, true, false, not, cond, count_by, ◌==◌, ◌&&◌, nat_lt, nat_le, Option, Some, None, sym, ◌∙◌, ap, subst, refl, arith, if◌then◌else◌}
+use Rattle.std.proofs.Common.{◌≡◌, ◌<◌, ◌≤◌, ◌+◌, ◌-◌, ◌⊎◌, inl, inr, ⊎_elim, ℕ, zero, suc, List, [], ◌∷◌, ◌++◌, take, drop, length, replicate, get_or, Bool, true, false, not, cond, count_by, ◌==◌, ◌&&◌, nat_lt, nat_le, Option, Some, None, sym, ◌∙◌, ap, subst, refl, arith, if◌then◌else◌}
 use Rattle.std.specs.Int.{from_be_bytes, to_be_bytes, w64, w16}
 use Rattle.std.proofs.lemmas.Bool.Decides.{nat_tests}
 use Rattle.std.proofs.lemmas.Nat.{be_bytes_8, be_bytes_2}
@@ -11,7 +11,7 @@ use Rattle.job_model.specs.declared.payload.TheConstants.{PAYLOAD_CAPACITY}
 use Rattle.job_model.specs.declared.queue.TheConstants.{QUEUES}
 use Rattle.job_model.specs.declared.record.Record.{Record}
 use Rattle.job_model.specs.declared.record.Record.TheVariants.{Put, Done, Base, Keep}
-use Rattle.job_model.specs.Records.{id_in, length_in, number_of, job_of, record_by, record_of, number_bytes, job_bytes, bytes_of, AllBytes}
+use Rattle.job_model.specs.Records.{id_in, length_in, number_of, job_at, job_of, old_job_of, record_by, record_of, number_bytes, payload_bytes, job_bytes, old_job_bytes, bytes_of, IsOld, IsOldOf, AllBytes}
 
 take_same : (n k : ℕ) (xs : List ℕ) → k < n → get_or (take n xs) k 0 ≡ get_or xs k 0
 take_same zero k xs lt = absurd (omega (arith, lt))
@@ -97,66 +97,124 @@ number_is body number long small is = by_blank (is_blank (drop 9 body)) refl
         ∙ ap (λ t. get_or body 0 0 ∷ (to_be_bytes w64 (id_in body) ++ t)) (zeros_are (drop 9 body) blank ∙ ap (λ k. replicate k 0) rest)
         ∙ ap (λ i. number_bytes (get_or body 0 0) i) same
 
--- the queue, the length, the payload and the zeros
-behind : (body : List ℕ) → length body ≡ 512 → AllBytes body → length_in body ≤ PAYLOAD_CAPACITY → is_blank (drop (12 + length_in body) body) ≡ true
-    → drop 9 body ≡ get_or body 9 0 ∷ (to_be_bytes w16 (length_in body) ++ (take (length_in body) (drop 12 body) ++ drop (length_in body) (replicate 500 0)))
-behind body long small short blank =
-    let n = length_in body in
-    let size = two_read (drop 10 body) (small_drop 10 body small) (omega (arith, length-drop 10 body, long)) in
-    let rest : length (drop (12 + n) body) ≡ 500 - n = omega (arith, length-drop (12 + n) body, long, short) in
-    let zeros : drop n (drop 12 body) ≡ drop n (replicate 500 0) =
-    drop-drop n 12 body ∙ zeros_are (drop (12 + n) body) blank ∙ ap (λ k. replicate k 0) rest ∙ sym (drop-replicate n 500 0) in
-    head_is 9 body (omega (arith, long))
-    ∙ ap (λ t. get_or body 9 0 ∷ t)
-    (sym (take-append-drop 2 (drop 10 body)) ∙ ap (λ t. t ++ drop 2 (drop 10 body)) (sym size)
-    ∙ ap (λ t. to_be_bytes w16 n ++ t) (drop-drop 2 10 body ∙ sym (take-append-drop n (drop 12 body)) ∙ ap (λ t. take n (drop 12 body) ++ t) zeros))
+-- the length, the payload and the zeros
+behind : (at : ℕ) (body : List ℕ) → length body ≡ 512 → AllBytes body → at ≤ 11 → length_in at body ≤ PAYLOAD_CAPACITY
+    → is_blank (drop (at + 2 + length_in at body) body) ≡ true → drop at body ≡ payload_bytes (510 - at) (take (length_in at body) (drop (at + 2) body))
+behind at body long small near short blank =
+    let n = length_in at body in
+    let p = take n (drop (at + 2) body) in
+    let size = two_read (drop at body) (small_drop at body small) (omega (arith, length-drop at body, long, near)) in
+    let rest : length (drop (at + 2 + n) body) ≡ 510 - at - n = omega (arith, length-drop (at + 2 + n) body, long, near, short) in
+    let zeros : drop n (drop (at + 2) body) ≡ drop n (replicate (510 - at) 0) =
+    drop-drop n (at + 2) body ∙ zeros_are (drop (at + 2 + n) body) blank ∙ ap (λ k. replicate k 0) rest ∙ sym (drop-replicate n (510 - at) 0) in
+    let whole : n ≡ length p = omega (arith, length-take n (drop (at + 2) body), length-drop (at + 2) body, long, near, short) in
+    sym (take-append-drop 2 (drop at body)) ∙ ap (λ t. t ++ drop 2 (drop at body)) (sym size)
+    ∙ ap (λ t. to_be_bytes w16 n ++ t) (drop-drop 2 at body ∙ sym (take-append-drop n (drop (at + 2) body)) ∙ ap (λ t. p ++ t) zeros)
+    ∙ ap (λ k. to_be_bytes w16 k ++ (p ++ drop k (replicate (510 - at) 0))) whole
 
-abbrev job_in : List ℕ → Job
-job_in body = record { id = id_in body; queue = get_or body 9 0; payload = take (length_in body) (drop 12 body) }
+-- what a body that reads as a job is read as
+abbrev found_at : ℕ → ℕ → List ℕ → Job
+found_at at priority body = record { id = id_in body; work = record { queue = get_or body 9 0; priority = priority; payload = take (length_in at body) (drop (at + 2) body) } }
 
-job_read : (body : List ℕ) → length body ≡ 512 → AllBytes body → length_in body ≤ PAYLOAD_CAPACITY → is_blank (drop (12 + length_in body) body) ≡ true
-    → body ≡ job_bytes (get_or body 0 0) (job_in body)
-job_read body long small short blank =
-    let n = length_in body in
-    let p = take n (drop 12 body) in
-    let size : n ≡ length p = omega (arith, length-take n (drop 12 body), length-drop 12 body, long, short) in
-    front body long small
-    ∙ ap (λ t. get_or body 0 0 ∷ (to_be_bytes w64 (id_in body) ++ t)) (behind body long small short blank)
-    ∙ ap (λ k. get_or body 0 0 ∷ (to_be_bytes w64 (id_in body) ++ get_or body 9 0 ∷ (to_be_bytes w16 k ++ (p ++ drop k (replicate 500 0))))) size
-
-pub job_is : (body : List ℕ) (job : Job) → length body ≡ 512 → AllBytes body → job_of body ≡ Some job → body ≡ job_bytes (get_or body 0 0) job
-unfolding job_of
-job_is body job long small is =
-    by_tests (nat_lt (get_or body 9 0) QUEUES) (nat_le (length_in body) PAYLOAD_CAPACITY) (is_blank (drop (12 + length_in body) body)) refl refl is
+job_at_is : (at priority : ℕ) (body : List ℕ) (job : Job) → length body ≡ 512 → AllBytes body → at ≤ 11 → job_at at priority body ≡ Some job
+    → (found_at at priority body ≡ job) × (drop at body ≡ payload_bytes (510 - at) job.work.payload)
+unfolding job_at
+job_at_is at priority body job long small near is =
+    by_tests (nat_lt (get_or body 9 0) QUEUES) (nat_le (length_in at body) PAYLOAD_CAPACITY) (is_blank (drop (at + 2 + length_in at body) body)) refl refl is
   where
-    by_tests : (low short blank : Bool) → nat_le (length_in body) PAYLOAD_CAPACITY ≡ short → is_blank (drop (12 + length_in body) body) ≡ blank
-        → (if low && short && blank then Some (job_in body) else None) ≡ Some job → body ≡ job_bytes (get_or body 0 0) job
+    by_tests : (low short blank : Bool) → nat_le (length_in at body) PAYLOAD_CAPACITY ≡ short → is_blank (drop (at + 2 + length_in at body) body) ≡ blank
+        → (if low && short && blank then Some (found_at at priority body) else None) ≡ Some job
+        → (found_at at priority body ≡ job) × (drop at body ≡ payload_bytes (510 - at) job.work.payload)
     by_tests true true true short blank found =
-        let same : job_in body ≡ job = cc in
-        job_read body long small (grind (arith, nat_tests, short)) blank ∙ ap (λ (j : Job). job_bytes (get_or body 0 0) j) same
+        let same : found_at at priority body ≡ job = cc in
+        (same, behind at body long small near (grind (arith, nat_tests, short)) blank ∙ ap (λ (j : Job). payload_bytes (510 - at) j.work.payload) same)
     by_tests true true false short blank found = cc
     by_tests true false b short blank found = cc
     by_tests false s b short blank found = cc
 
-by_kind : (body : List ℕ) (kind : ℕ) (job : Option Job) (number : Option ℕ) (found : Record) → record_by kind job number ≡ Some found
-    → ((j : Job) → job ≡ Some j → body ≡ job_bytes kind j) → ((n : ℕ) → number ≡ Some n → body ≡ number_bytes kind n) → body ≡ bytes_of found
-by_kind body zero job number found is jobs numbers = cc
-by_kind body (suc zero) None number found is jobs numbers = cc
-by_kind body (suc zero) (Some j) number found is jobs numbers = let same : Put j ≡ found = cc in subst (λ r. body ≡ bytes_of r) same (jobs j refl)
-by_kind body (suc (suc zero)) job None found is jobs numbers = cc
-by_kind body (suc (suc zero)) job (Some n) found is jobs numbers = let same : Done n ≡ found = cc in subst (λ r. body ≡ bytes_of r) same (numbers n refl)
-by_kind body (suc (suc (suc zero))) job None found is jobs numbers = cc
-by_kind body (suc (suc (suc zero))) job (Some n) found is jobs numbers = let same : Base n ≡ found = cc in subst (λ r. body ≡ bytes_of r) same (numbers n refl)
-by_kind body (suc (suc (suc (suc zero)))) None number found is jobs numbers = cc
-by_kind body (suc (suc (suc (suc zero)))) (Some j) number found is jobs numbers = let same : Keep j ≡ found = cc in subst (λ r. body ≡ bytes_of r) same (jobs j refl)
-by_kind body (suc (suc (suc (suc (suc k))))) job number found is jobs numbers =
-    let a : (suc (suc (suc (suc (suc k)))) == 1) ≡ false = grind (arith, nat_tests) in
-    let b : (suc (suc (suc (suc (suc k)))) == 2) ≡ false = grind (arith, nat_tests) in
-    let c : (suc (suc (suc (suc (suc k)))) == 3) ≡ false = grind (arith, nat_tests) in
-    let d : (suc (suc (suc (suc (suc k)))) == 4) ≡ false = grind (arith, nat_tests) in
+pub old_job_is : (body : List ℕ) (job : Job) → length body ≡ 512 → AllBytes body → old_job_of body ≡ Some job → (job.work.priority ≡ 0) × (body ≡ old_job_bytes (get_or body 0 0) job)
+old_job_is body job long small is =
+    let read = job_at_is 10 0 body job long small (omega arith) is in
+    let id : id_in body ≡ job.id = ap (λ (j : Job). j.id) read.0 in
+    let queue : get_or body 9 0 ≡ job.work.queue = ap (λ (j : Job). j.work.queue) read.0 in (
+      ap (λ (j : Job). j.work.priority) (sym read.0),
+      front body long small
+          ∙ ap (λ t. get_or body 0 0 ∷ (to_be_bytes w64 (id_in body) ++ t)) (head_is 9 body (omega (arith, long)) ∙ ap (λ t. get_or body 9 0 ∷ t) read.1)
+          ∙ ap (λ i. get_or body 0 0 ∷ (to_be_bytes w64 i ++ get_or body 9 0 ∷ payload_bytes 500 job.work.payload)) id
+          ∙ ap (λ q. get_or body 0 0 ∷ (to_be_bytes w64 job.id ++ q ∷ payload_bytes 500 job.work.payload)) queue,
+    )
+
+pub job_is : (body : List ℕ) (job : Job) → length body ≡ 512 → AllBytes body → job_of body ≡ Some job → body ≡ job_bytes (get_or body 0 0) job
+job_is body job long small is =
+    let read = job_at_is 11 (get_or body 10 0) body job long small (omega arith) is in
+    let id : id_in body ≡ job.id = ap (λ (j : Job). j.id) read.0 in
+    let queue : get_or body 9 0 ≡ job.work.queue = ap (λ (j : Job). j.work.queue) read.0 in
+    let priority : get_or body 10 0 ≡ job.work.priority = ap (λ (j : Job). j.work.priority) read.0 in
+    front body long small
+    ∙ ap (λ t. get_or body 0 0 ∷ (to_be_bytes w64 (id_in body) ++ t))
+    (head_is 9 body (omega (arith, long)) ∙ ap (λ t. get_or body 9 0 ∷ t) (head_is 10 body (omega (arith, long)) ∙ ap (λ t. get_or body 10 0 ∷ t) read.1))
+    ∙ ap (λ i. get_or body 0 0 ∷ (to_be_bytes w64 i ++ get_or body 9 0 ∷ get_or body 10 0 ∷ payload_bytes 499 job.work.payload)) id
+    ∙ ap (λ q. get_or body 0 0 ∷ (to_be_bytes w64 job.id ++ q ∷ get_or body 10 0 ∷ payload_bytes 499 job.work.payload)) queue
+    ∙ ap (λ r. get_or body 0 0 ∷ (to_be_bytes w64 job.id ++ job.work.queue ∷ r ∷ payload_bytes 499 job.work.payload)) priority
+
+-- a body is that of the record, or an old one of it
+abbrev IsSpelled : List ℕ → Record → Type 0
+IsSpelled body found = (body ≡ bytes_of found) ⊎ IsOldOf body found
+
+put_is : (body : List ℕ) (job : Job) (found : Record) → Put job ≡ found → body ≡ job_bytes 5 job → IsSpelled body found
+put_is body job found same is = subst (λ r. IsSpelled body r) same (inl is)
+
+keep_is : (body : List ℕ) (job : Job) (found : Record) → Keep job ≡ found → body ≡ job_bytes 6 job → IsSpelled body found
+keep_is body job found same is = subst (λ r. IsSpelled body r) same (inl is)
+
+old_put_is : (body : List ℕ) (job : Job) (found : Record) → Put job ≡ found → (job.work.priority ≡ 0) × (body ≡ old_job_bytes 1 job) → IsSpelled body found
+old_put_is body job found same is = subst (λ r. IsSpelled body r) same (inr is)
+
+old_keep_is : (body : List ℕ) (job : Job) (found : Record) → Keep job ≡ found → (job.work.priority ≡ 0) × (body ≡ old_job_bytes 4 job) → IsSpelled body found
+old_keep_is body job found same is = subst (λ r. IsSpelled body r) same (inr is)
+
+done_is : (body : List ℕ) (n : ℕ) (found : Record) → Done n ≡ found → body ≡ number_bytes 2 n → IsSpelled body found
+done_is body n found same is = subst (λ r. IsSpelled body r) same (inl is)
+
+base_is : (body : List ℕ) (n : ℕ) (found : Record) → Base n ≡ found → body ≡ number_bytes 3 n → IsSpelled body found
+base_is body n found same is = subst (λ r. IsSpelled body r) same (inl is)
+
+by_kind : (body : List ℕ) (kind : ℕ) (old job : Option Job) (number : Option ℕ) (found : Record) → record_by kind old job number ≡ Some found
+    → ((j : Job) → old ≡ Some j → (j.work.priority ≡ 0) × (body ≡ old_job_bytes kind j)) → ((j : Job) → job ≡ Some j → body ≡ job_bytes kind j)
+    → ((n : ℕ) → number ≡ Some n → body ≡ number_bytes kind n) → IsSpelled body found
+by_kind body zero old job number found is olds jobs numbers = cc
+by_kind body (suc zero) None job number found is olds jobs numbers = cc
+by_kind body (suc zero) (Some j) job number found is olds jobs numbers = let same : Put j ≡ found = cc in old_put_is body j found same (olds j refl)
+by_kind body (suc (suc zero)) old job None found is olds jobs numbers = cc
+by_kind body (suc (suc zero)) old job (Some n) found is olds jobs numbers = let same : Done n ≡ found = cc in done_is body n found same (numbers n refl)
+by_kind body (suc (suc (suc zero))) old job None found is olds jobs numbers = cc
+by_kind body (suc (suc (suc zero))) old job (Some n) found is olds jobs numbers = let same : Base n ≡ found = cc in base_is body n found same (numbers n refl)
+by_kind body (suc (suc (suc (suc zero)))) None job number found is olds jobs numbers = cc
+by_kind body (suc (suc (suc (suc zero)))) (Some j) job number found is olds jobs numbers = let same : Keep j ≡ found = cc in old_keep_is body j found same (olds j refl)
+by_kind body (suc (suc (suc (suc (suc zero))))) old None number found is olds jobs numbers = cc
+by_kind body (suc (suc (suc (suc (suc zero))))) old (Some j) number found is olds jobs numbers = let same : Put j ≡ found = cc in put_is body j found same (jobs j refl)
+by_kind body (suc (suc (suc (suc (suc (suc zero)))))) old None number found is olds jobs numbers = cc
+by_kind body (suc (suc (suc (suc (suc (suc zero)))))) old (Some j) number found is olds jobs numbers = let same : Keep j ≡ found = cc in keep_is body j found same (jobs j refl)
+by_kind body (suc (suc (suc (suc (suc (suc (suc k))))))) old job number found is olds jobs numbers =
+    let a : (suc (suc (suc (suc (suc (suc (suc k)))))) == 1) ≡ false = grind (arith, nat_tests) in
+    let b : (suc (suc (suc (suc (suc (suc (suc k)))))) == 2) ≡ false = grind (arith, nat_tests) in
+    let c : (suc (suc (suc (suc (suc (suc (suc k)))))) == 3) ≡ false = grind (arith, nat_tests) in
+    let d : (suc (suc (suc (suc (suc (suc (suc k)))))) == 4) ≡ false = grind (arith, nat_tests) in
+    let e : (suc (suc (suc (suc (suc (suc (suc k)))))) == 5) ≡ false = grind (arith, nat_tests) in
+    let f : (suc (suc (suc (suc (suc (suc (suc k)))))) == 6) ≡ false = grind (arith, nat_tests) in
     cc
 
-pub sector_is : (sector : List ℕ) (found : Record) → length sector ≡ 512 → AllBytes sector → record_of sector ≡ Some found → sector ≡ bytes_of found
+pub sector_is : (sector : List ℕ) (found : Record) → length sector ≡ 512 → AllBytes sector → record_of sector ≡ Some found → IsSpelled sector found
 unfolding record_of
 sector_is sector found long small is =
-    by_kind sector (get_or sector 0 0) (job_of sector) (number_of sector) found is (λ j e. job_is sector j long small e) (λ n e. number_is sector n long small e)
+    by_kind sector (get_or sector 0 0) (old_job_of sector) (job_of sector) (number_of sector) found is
+    (λ j e. old_job_is sector j long small e) (λ j e. job_is sector j long small e) (λ n e. number_is sector n long small e)
+
+kind_of : (kind : ℕ) → (kind ≡ 1) ⊎ (kind ≡ 4) → (kind ≡ 1 → ⊥) → (kind ≡ 4 → ⊥) → ⊥
+kind_of kind old one four = ⊎_elim one four old
+
+pub never_old : (written : Record) → IsOld (bytes_of written) → ⊥
+never_old (Put job) old = kind_of 5 old (λ e. omega (arith, e)) (λ e. omega (arith, e))
+never_old (Done id) old = kind_of 2 old (λ e. omega (arith, e)) (λ e. omega (arith, e))
+never_old (Base next) old = kind_of 3 old (λ e. omega (arith, e)) (λ e. omega (arith, e))
+never_old (Keep job) old = kind_of 6 old (λ e. omega (arith, e)) (λ e. omega (arith, e))

@@ -1,5 +1,5 @@
 -- The records of a journal, each the bytes of one sector.
-use Rattle.std.specs.Prelude.{ℕ, ◌≡◌, ◌+◌, ◌<◌, ◌==◌, ◌&&◌, ◌⊎◌, nat_lt, nat_le, List, ◌∷◌, ◌++◌, take, drop, length, replicate, get_or, Option, Some, None, if◌then◌else◌}
+use Rattle.std.specs.Prelude.{ℕ, ◌≡◌, ◌+◌, ◌^◌, ◌<◌, ◌≤◌, ◌==◌, ◌&&◌, ◌⊎◌, nat_lt, nat_le, List, ◌∷◌, ◌++◌, take, drop, length, replicate, get_or, Option, Some, None, if◌then◌else◌}
 use Rattle.std.specs.Int.{from_be_bytes, to_be_bytes, w64, w16}
 use Rattle.sector_disk.specs.Blank.{is_blank}
 use Rattle.job_model.specs.declared.job.Job.{Job}
@@ -86,6 +86,13 @@ bytes_of (Keep job) = job_bytes 6 job
 -- the body is that of an old record, which is read and never written
 abbrev pub IsOld : List ℕ → Type 0
 IsOld body = (get_or body 0 0 ≡ 1) ⊎ (get_or body 0 0 ≡ 4)
+
+-- a job that an old record can hold: all its parts are in their ranges, and it has no priority
+pub record IsOldJob (job : Job) : Type 0 where
+  pub id : job.id < 2 ^ 64
+  pub queue : job.work.queue < QUEUES
+  pub payload : length job.work.payload ≤ PAYLOAD_CAPACITY
+  pub priority : job.work.priority ≡ 0
 
 -- a body is that of an old record of these: a job of priority 0 that was put or kept
 abbrev pub IsOldOf : List ℕ → Record → Type 0

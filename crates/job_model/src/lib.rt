@@ -20,6 +20,6 @@ pub use job::Job;
 pub use laws::limits;
 pub use payload::{PAYLOAD_CAPACITY, Payload};
 pub use queue::{QUEUES, Queue};
-pub use record::{Record, one_sector};
+pub use record::{Record, old_records, one_sector};
 pub use table::JobTable;
 pub use work::Work;

@@ -1,6 +1,6 @@
 ghost use Rattle.std.specs.Prelude.{◌≡◌, ◌⊎◌, ◌<◌, ◌≤◌, ◌+◌, ◌^◌, ◌++◌, ◌∷◌, take, drop, get_or, length, List, ℕ, Some, None};
 ghost use Rattle.std.specs.Int.{to_be_bytes, w64, w16};
-ghost use Rattle.job_model.specs.Records.{record_of, bytes_of, job_of, job_at, number_of, id_in, length_in, job_bytes, number_bytes, AllBytes, IsOld, IsOldOf};
+ghost use Rattle.job_model.specs.Records.{record_of, bytes_of, job_of, job_at, number_of, id_in, length_in, job_bytes, number_bytes, AllBytes, IsOld, IsOldOf, IsOldJob, old_job_bytes};
 
 use crate::job::Job;
 use crate::payload::{PAYLOAD_CAPACITY, Payload};
@@ -77,6 +77,13 @@ pub fn one_sector()
     ensures one { (sector : List ℕ) (found : Record) → length sector ≡ 512 → AllBytes sector
         → record_of sector ≡ Some found → (sector ≡ bytes_of found) ⊎ IsOldOf sector found }
     ensures not_written { (written : Record) → IsOld (bytes_of written) → ⊥ }
+{}
+
+/// A disk from before jobs had priorities is read: each job of priority 0 has an old sector for its Put and one for
+/// its Keep.
+pub fn old_records()
+    ensures { (job : Job) → IsOldJob job
+        → (record_of (old_job_bytes 1 job) ≡ Some (Record.Put job)) × (record_of (old_job_bytes 4 job) ≡ Some (Record.Keep job)) }
 {}
 
 fn number_sector(kind: u8, number: u64) -> Sector
