@@ -4,7 +4,7 @@
 
 use anyhow::Context;
 use file_disk::{FileDisk, Stride};
-use job_model::{Payload, Queue};
+use job_model::{Payload, Queue, Work};
 use node_store::NodeStore;
 use std::{env, fs};
 
@@ -50,8 +50,13 @@ fn raise(store: &mut NodeStore<FileDisk>, rounds: u64) -> anyhow::Result<()> {
 fn put(store: &mut NodeStore<FileDisk>, rounds: u64) -> anyhow::Result<()> {
     let queue = Queue::new(0).context("no queue")?;
     let payload = Payload::new(b"hi").context("no payload")?;
+    let work = Work {
+        queue,
+        priority: 0,
+        payload,
+    };
     for _ in 0..rounds {
-        let id = store.put(queue, payload)?;
+        let id = store.put(work)?;
         store.done(id)?;
     }
     Ok(())

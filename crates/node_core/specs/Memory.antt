@@ -26,8 +26,8 @@ delivered_takes self from (says.Invitation group) s = takes_invitation self grou
 delivered_takes self from (says.Accept group) s = is_election s.phase && s.coordinator == self && same_group group s.group
 delivered_takes self from (says.Ready task) s = is_told self from task s && (is_reorganization s.phase || is_normal s.phase)
 delivered_takes self from (says.ReadyAck group) s = awaits_ready self s && same_group group s.group
-delivered_takes self from (says.Work group id queue payload) s =
-    is_normal s.phase && same_group group s.group && has (members_of s.task) from && owner s queue == self && not (holds s.hand from id)
+delivered_takes self from (says.Work group id work) s =
+    is_normal s.phase && same_group group s.group && has (members_of s.task) from && owner s work.queue == self && not (holds s.hand from id)
 delivered_takes self from (says.Done id) s = false
 
 abbrev pub takes_memory : ℕ → Event → State → Bool
@@ -38,7 +38,7 @@ takes_memory self on.ReadyTimer s = false
 takes_memory self on.CoordTimer s = follows self s && not s.probing
 takes_memory self on.DispatchTimer s = is_normal s.phase
 takes_memory self (on.Deliver m) s = delivered_takes self m.sender m.body s
-takes_memory self (on.Submit queue payload) s = true
+takes_memory self (on.Submit work) s = true
 takes_memory self (on.Finish origin id) s = true
 takes_memory self on.Recover s = false
 

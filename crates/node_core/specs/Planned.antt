@@ -65,12 +65,12 @@ carried self (Invite receivers) answer s ready = record {
   sent = to_each self receivers (Invitation (own_group self answer));
 }
 carried self Recover answer s ready = recovery self answer s
-carried self (Place to queue payload) answer s ready =
+carried self (Place to work) answer s ready =
     if to == self
-    then quietly (record s { hand = s.hand ++ (record { origin = self; id = answer; queue = queue; payload = payload.value }) ∷ [] })
+    then quietly (record s { hand = s.hand ++ (record { origin = self; id = answer; work = work.value }) ∷ [] })
     else record {
       state = s;
-      sent = letter self to (Work s.group answer queue payload.value) ∷ [];
+      sent = letter self to (Work s.group answer work.value) ∷ [];
     }
 
 abbrev pub planned_effect : ℕ → Plan → ℕ → State → Effect
@@ -87,7 +87,7 @@ act_wants (Stay job) = done_wanted job
 act_wants (Settle change) = done_wanted change.value.done
 act_wants (Invite receivers) = Some Raise
 act_wants Recover = Some Raise
-act_wants (Place to queue payload) = Some (Put queue payload.value)
+act_wants (Place to work) = Some (Put work.value)
 
 -- the command that a plan wants
 abbrev pub plan_wants : Plan → Option Command
@@ -97,7 +97,7 @@ plan_wants plan = act_wants plan.act
 abbrev pub wanted_by : Durable → Option Command
 wanted_by durable.None = None
 wanted_by durable.Raise = Some Raise
-wanted_by (durable.Put queue payload) = Some (Put queue payload)
+wanted_by (durable.Put work) = Some (Put work)
 wanted_by (durable.Done id) = Some (Done id)
 
 -- how many messages carrying out the plan sends
@@ -106,7 +106,7 @@ act_sends self (Stay job) messages = length messages
 act_sends self (Settle change) messages = length messages
 act_sends self (Invite receivers) messages = length receivers
 act_sends self Recover messages = 0
-act_sends self (Place to queue payload) messages = if to == self then 0 else 1
+act_sends self (Place to work) messages = if to == self then 0 else 1
 
 abbrev pub plan_sends : ℕ → Plan → ℕ
 plan_sends self plan = act_sends self plan.act plan.messages.items
@@ -123,7 +123,7 @@ gain_of (Stay job) = 0
 gain_of (Settle change) = hand_gain change.value.hand
 gain_of (Invite receivers) = 0
 gain_of Recover = 0
-gain_of (Place to queue payload) = 1
+gain_of (Place to work) = 1
 
 -- the plan can be carried out without growth, and leaves a consistent state
 abbrev pub CanAct : ℕ → ℕ → State → Act → List Envelope → ℕ → Type 0
@@ -131,7 +131,7 @@ CanAct nodes self s (Stay job) sent room = Unit {0}
 CanAct nodes self s (Settle change) sent room = IsConsistent nodes self (with_standing change.value.standing (hand_after change.value.hand s.hand))
 CanAct nodes self s (Invite receivers) sent room = (sent ≡ []) × (length receivers ≤ room) × AreOthers nodes self receivers
 CanAct nodes self s Recover sent room = sent ≡ []
-CanAct nodes self s (Place to queue payload) sent room = (sent ≡ []) × (1 ≤ room)
+CanAct nodes self s (Place to work) sent room = (sent ≡ []) × (1 ≤ room)
 
 -- the plan makes this effect, for every answer, and wants this command
 pub record IsPlanOf (nodes self : ℕ) (s : State) (plan : Plan) (wants : Option Command) (effect : ℕ → Effect) : Type 0 where

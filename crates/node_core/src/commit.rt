@@ -10,7 +10,7 @@ use crate::phase::Phase;
 use crate::plan::{Change, HandChange};
 use crate::vector::Vector;
 use group_task::{GroupNo, Members, NodeId, share};
-use job_model::{Payload, Queue};
+use job_model::Work;
 use wire_msg::{Body, Message};
 
 /// Takes a new standing, and changes the work in hand within its room.
@@ -65,37 +65,28 @@ pub fn recover(vector: &mut Vector, id: NodeId, group: GroupNo)
 
 /// Takes a new job in hand, or answers the message that sends it to its owner.
 #[tactic(auto, using(crate::proofs::Sets::more_from, crate::proofs::Sets::one_from))]
-pub fn place(
-    vector: &mut Vector,
-    id: NodeId,
-    to: NodeId,
-    job: u64,
-    queue: Queue,
-    payload: &Payload,
-) -> Option<Message>
+pub fn place(vector: &mut Vector, id: NodeId, to: NodeId, job: u64, work: &Work) -> Option<Message>
     requires { to ≡ id → length vector.old.hand.jobs < vector.old.hand.room }
     ensures own { to ≡ id → (state_of vector.new ≡ record (state_of vector.old) {
-      hand = vector.old.hand.jobs ++ (record { origin = id; id = job; queue = queue; payload = payload.now }) ∷ [];
+      hand = vector.old.hand.jobs ++ (record { origin = id; id = job; work = work.now }) ∷ [];
     })
         × (result ≡ None) }
     ensures other { to ≢ id → (state_of vector.new ≡ state_of vector.old)
-        × (result ≡ Some (letter id to (Body.Work vector.old.group job queue payload.now))) }
+        × (result ≡ Some (letter id to (Body.Work vector.old.group job work.now))) }
     ensures consistent { (nodes : ℕ) → IsConsistent nodes id (state_of vector.old) → IsConsistent nodes id (state_of vector.new) }
 {
     if to.is(id) {
         vector.hand.push(InHand {
             origin: id,
             id: job,
-            queue,
-            payload: *payload,
+            work: *work,
         });
         None
     } else {
         let order = Body::Work {
             group: vector.group,
             id: job,
-            queue,
-            payload: *payload,
+            work: *work,
         };
         Some(Message::between(id, to, order))
     }

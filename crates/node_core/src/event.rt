@@ -1,5 +1,5 @@
 use group_task::NodeId;
-use job_model::{Payload, Queue};
+use job_model::Work;
 use wire_msg::Message;
 
 /// What can happen at a node. How long a timer runs, and when it is set, is the driver's choice.
@@ -18,8 +18,8 @@ pub enum Event {
     /// Work that is pending is taken in hand, or sent to its owners once more.
     DispatchTimer,
     Deliver(Message),
-    /// A new job for a queue.
-    Submit(Queue, Payload),
+    /// A new job.
+    Submit(Work),
     /// The work on a job in hand is finished: its origin, which keeps it, and its id there.
     Finish(NodeId, u64),
     /// The node gives its group up and is alone in a new one (Recovery).

@@ -17,7 +17,7 @@ use crate::known::is_known;
 use crate::phase::Phase;
 use crate::plan::Plan;
 use crate::vector::Vector;
-use crate::{messages, operator, timers};
+use crate::{dispatch, messages, operator, timers};
 use group_task::NodeId;
 use job_model::JobTable;
 use std::alloc::{AllocError, Global};
@@ -50,12 +50,12 @@ pub fn plan_event(
         Event::AcceptTimer => Ok(timers::accept_timer(alloc, nodes, id, vector)?),
         Event::ReadyTimer => Ok(timers::ready_timer(alloc, nodes, id, vector)),
         Event::CoordTimer => Ok(timers::coord_timer(alloc, nodes, id, vector)?),
-        Event::DispatchTimer => Ok(timers::dispatch_timer(alloc, nodes, id, vector, table)?),
+        Event::DispatchTimer => Ok(dispatch::dispatch_timer(alloc, nodes, id, vector, table)?),
         Event::Recover => Ok(operator::recovery(Vec::new(alloc), nodes, id, vector)),
         Event::Deliver(message) => {
             plan_delivery(alloc, Vec::new(alloc), nodes, id, vector, message, table)
         }
-        Event::Submit(queue, payload) => {
+        Event::Submit(work) => {
             match vector.phase {
                 Phase::Down => return Err(CoreFault::Down),
                 Phase::Normal => {}
@@ -64,7 +64,7 @@ pub fn plan_event(
             if !vector.coordinator.is(id) {
                 return Err(CoreFault::NotCoordinator(vector.coordinator));
             }
-            Ok(operator::submit(alloc, nodes, id, *queue, payload, vector)?)
+            Ok(operator::submit(alloc, nodes, id, work, vector)?)
         }
         Event::Finish(origin, job) => {
             if matches!(vector.phase, Phase::Down) {
@@ -148,11 +148,8 @@ fn plan_message(
         Body::Work {
             group,
             id: job,
-            queue,
-            payload,
-        } => messages::got_work(
-            alloc, room, nodes, id, from, *group, *job, *queue, payload, vector,
-        ),
+            work,
+        } => messages::got_work(alloc, room, nodes, id, from, *group, *job, work, vector),
         Body::Done(job) => Ok(messages::told_done(room, nodes, id, *job, vector, table)),
     }
 }

@@ -24,7 +24,7 @@ use crate::plan::{
 };
 use crate::vector::Vector;
 use group_task::{GroupNo, Members, NodeId, Task, owner};
-use job_model::{JobTable, Payload, Queue};
+use job_model::{JobTable, Work};
 use std::alloc::{AllocError, Global};
 use wire_msg::{Body, Message};
 
@@ -345,17 +345,16 @@ pub fn got_work(
     from: NodeId,
     group: GroupNo,
     job: u64,
-    queue: Queue,
-    payload: &Payload,
+    work: &Work,
     vector: &Vector,
 ) -> Result<Plan, AllocError>
     requires room { room.items ≡ [] }
     requires known { from < nodes }
     requires consistent { IsConsistent nodes id (state_of vector.now) }
     ensures row { IfOk result (λ plan. IsPlanOf nodes id (state_of vector.now) plan None
-        (λ _. got_work id from group job queue payload.now (state_of vector.now))) }
+        (λ _. got_work id from group job work.now (state_of vector.now))) }
     ensures none { IfOk result (λ plan. plan_sends id plan ≡ 0) }
-    ensures memory { Spares (delivered_takes id from (says.Work group job queue payload.now) (state_of vector.now)) result }
+    ensures memory { Spares (delivered_takes id from (says.Work group job work.now) (state_of vector.now)) result }
 {
     if !matches!(vector.phase, Phase::Normal) || !group.is(vector.group) {
         return Ok(nothing(room));
@@ -364,7 +363,7 @@ pub fn got_work(
         return Ok(nothing(room));
     };
     if !task.members().contains(from)
-        || !owner(&task, queue).is(id)
+        || !owner(&task, work.queue).is(id)
         || vector.hand.contains(from, job)
     {
         return Ok(nothing(room));
@@ -373,8 +372,7 @@ pub fn got_work(
     gains.push(InHand {
         origin: from,
         id: job,
-        queue,
-        payload: *payload,
+        work: *work,
     })?;
     let change = changed(alloc, standing_of(vector), HandChange::Gain(gains), None)?;
     Ok(quietly(room, change))

@@ -227,16 +227,9 @@ impl NodeCore {
                 let group = GroupNo::numbered(self.id, answer);
                 recover(&mut self.vector, self.id, group);
             }
-            Act::Place(to, queue, payload) => {
-                let payload = Box::into_inner(payload);
-                if let Some(message) = place(
-                    &mut self.vector,
-                    self.id,
-                    to,
-                    answer,
-                    queue,
-                    &payload,
-                ) {
+            Act::Place(to, work) => {
+                let work = Box::into_inner(work);
+                if let Some(message) = place(&mut self.vector, self.id, to, answer, &work) {
                     messages.push_reserved(message);
                 }
             }

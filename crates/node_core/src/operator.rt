@@ -13,7 +13,7 @@ use crate::guards::owner_in;
 use crate::plan::{Act, HandChange, Plan, changed, standing_of};
 use crate::vector::Vector;
 use group_task::NodeId;
-use job_model::{JobTable, Payload, Queue};
+use job_model::{JobTable, Work};
 use std::alloc::{AllocError, Global};
 use wire_msg::{Body, Message};
 
@@ -39,20 +39,19 @@ pub fn submit(
     alloc: Global,
     nodes: u8,
     id: NodeId,
-    queue: Queue,
-    payload: &Payload,
+    work: &Work,
     vector: &Vector,
 ) -> Result<Plan, AllocError>
     requires normal { is_normal vector.now.phase ≡ true }
     requires consistent { IsConsistent nodes id (state_of vector.now) }
-    ensures row { IfOk result (λ plan. IsPlanOf nodes id (state_of vector.now) plan (Some (Put queue payload.now))
-        (λ answer. submit id queue payload.now answer (state_of vector.now))) }
+    ensures row { IfOk result (λ plan. IsPlanOf nodes id (state_of vector.now) plan (Some (Put work.now))
+        (λ answer. submit id work.now answer (state_of vector.now))) }
     ensures few { IfOk result (λ plan. plan_sends id plan < nodes) }
 {
     let messages = Vec::with_capacity(alloc, 1)?;
-    let payload = Box::new(alloc, *payload)?;
+    let owner = owner_in(vector, work.queue);
     Ok(Plan {
-        act: Act::Place(owner_in(vector, queue), queue, payload),
+        act: Act::Place(owner, Box::new(alloc, *work)?),
         messages,
     })
 }

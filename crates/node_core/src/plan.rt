@@ -9,7 +9,7 @@ use crate::in_hand::InHand;
 use crate::phase::Phase;
 use crate::vector::Vector;
 use group_task::{GroupNo, Members, NodeId, Task};
-use job_model::{Payload, Queue};
+use job_model::Work;
 use std::alloc::{AllocError, Global};
 use wire_msg::{Body, Message};
 
@@ -57,7 +57,7 @@ pub enum Act {
     /// Makes a new group of this node alone.
     Recover,
     /// Makes a job pending, and takes it in hand or sends it to its owner.
-    Place(NodeId, Queue, Box<Payload>),
+    Place(NodeId, Box<Work>),
 }
 
 /// What an event will make of a node, with the memory that this takes.
@@ -76,7 +76,7 @@ impl Plan {
             Act::Stay(done) => done_wanted(*done),
             Act::Settle(change) => done_wanted(change.done),
             Act::Invite(_) | Act::Recover => Durable::Raise,
-            Act::Place(_, queue, payload) => Durable::Put(*queue, **payload),
+            Act::Place(_, work) => Durable::Put(**work),
         }
     }
 
@@ -86,7 +86,7 @@ impl Plan {
     {
         match &self.act {
             Act::Settle(change) => change.hand.gain(),
-            Act::Place(_, _, _) => 1,
+            Act::Place(_, _) => 1,
             Act::Stay(_) | Act::Invite(_) | Act::Recover => 0,
         }
     }

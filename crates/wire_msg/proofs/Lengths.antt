@@ -28,13 +28,6 @@ length-with_priority g id w other =
     let one : length (priority w.priority) ≡ 1 = rw (ne_eqb w.priority 0 other) refl in
     omega (arith, length-work g id w, one)
 
-pub length-by_test : (g : Group) (id : ℕ) (w : JobWork) → length (work g id w) ≡ 20 + cond (eqb w.priority 0) 0 1 + length w.payload
-length-by_test g id w = omega (arith, length-work g id w, by_test (eqb w.priority 0))
-  where
-    by_test : (b : Bool) → length (cond b [] (w.priority ∷ [])) ≡ cond b 0 1
-    by_test true = refl
-    by_test false = refl
-
 pub short_body : (b : Body) → IsBody b → length (content b) ≤ BODY_CAPACITY
 short_body AreYouCoordinator fits = omega arith
 short_body (Coordinator answer) fits = omega arith
