@@ -50,13 +50,12 @@ fn raise(store: &mut NodeStore<FileDisk>, rounds: u64) -> anyhow::Result<()> {
 fn put(store: &mut NodeStore<FileDisk>, rounds: u64) -> anyhow::Result<()> {
     let queue = Queue::new(0).context("no queue")?;
     let payload = Payload::new(b"hi").context("no payload")?;
-    let work = Work {
-        queue,
-        priority: 0,
-        payload,
-    };
     for _ in 0..rounds {
-        let id = store.put(work)?;
+        let id = store.put(Work {
+            queue,
+            priority: 0,
+            payload,
+        })?;
         store.done(id)?;
     }
     Ok(())
