@@ -18,6 +18,7 @@ use Rattle.node_core.specs.State.{State, is_down, is_election, is_reorganization
 use Rattle.node_core.specs.Start.{alone, down}
 use Rattle.node_core.specs.Effect.{Effect, nothing}
 use Rattle.node_core.specs.Words.{letter, to_each, is_empty, leads, members_of, owner, holds, own_group, task_of}
+use Rattle.node_core.specs.Priorities.{by_priority}
 use Rattle.node_core.specs.Timers.{recovery, check_timer, merges, offer, merge_timer, accept_timer, awaits_ready, ready_timer, follows, coord_timer, in_own_hand, order, is_own, dispatch_timer}
 use Rattle.node_core.specs.Messages.{asked_coordinator, answered_coordinator, asked_there, was_probed, answered_there, takes_invitation, passed_on, invited, accepted, is_told, told_ready, acknowledged, got_work}
 use Rattle.node_core.specs.Operator.{submit, finish}
@@ -190,9 +191,9 @@ module _ (nodes self : ℕ) (s : State) (lt : self < nodes) (h : NamesNodes node
           found = h.found;
           members = h.members;
           hand = each_append (λ (job : InHand). job.origin < nodes) s.hand _ h.hand
-              (each_map (λ (job : InHand). job.origin < nodes) (in_own_hand self) (filter (λ job. is_own self s job && not (holds s.hand self job.id)) pending) (λ job. lt));
+              (each_map (λ (job : InHand). job.origin < nodes) (in_own_hand self) (filter (λ job. is_own self s job && not (holds s.hand self job.id)) (by_priority pending)) (λ job. lt));
         };
-        sent = each_map (λ (m : Envelope). m.receiver < nodes) (order self s) (filter (λ job. not (is_own self s job)) pending) (λ job. owner_inside nodes s job.work.queue (omega (arith, lt)) h);
+        sent = each_map (λ (m : Envelope). m.receiver < nodes) (order self s) (filter (λ job. not (is_own self s job)) (by_priority pending)) (λ job. owner_inside nodes s job.work.queue (omega (arith, lt)) h);
       })
       stays
 

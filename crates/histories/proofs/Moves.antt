@@ -73,7 +73,7 @@ JobsHold J self jobs = Each (λ (job : Job). J self job.id job.work.queue) jobs
 
 -- work is in hand in Normal alone, its queue is the node's own, and Q holds of it
 abbrev pub Held : (ℕ → ℕ → ℕ → Type 0) → ℕ → Phase → Option Assignment → InHand → Type 0
-Held Q self phase task work = (phase ≡ Normal) × (owner_of (members_of task) work.queue ≡ self) × Q work.origin work.id work.queue
+Held Q self phase task job = (phase ≡ Normal) × (owner_of (members_of task) job.work.queue ≡ self) × Q job.origin job.id job.work.queue
 
 abbrev pub HandHolds : (ℕ → ℕ → ℕ → Type 0) → ℕ → State → Type 0
 HandHolds Q self s = Each (Held Q self s.phase s.task) s.hand

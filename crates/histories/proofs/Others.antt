@@ -17,6 +17,7 @@ use Rattle.node_core.specs.declared.event.Event.TheVariants as on
 use Rattle.node_core.specs.State.{State, is_down, is_election, is_reorganization, is_normal}
 use Rattle.node_core.specs.Effect.{Effect, nothing}
 use Rattle.node_core.specs.Words.{is_empty, leads, letter, members_of, own_group, owner, holds, to_each, task_of}
+use Rattle.node_core.specs.Priorities.{by_priority}
 use Rattle.node_core.specs.Timers.{recovery, check_timer, merges, offer, merge_timer, accept_timer, awaits_ready, ready_timer, follows, coord_timer, dispatch_timer, is_own, order}
 use Rattle.node_core.specs.Messages.{asked_coordinator, answered_coordinator, asked_there, was_probed, answered_there, takes_invitation, passed_on, invited, accepted, is_told, told_ready, acknowledged, got_work}
 use Rattle.node_core.specs.Operator.{submit, finish}
@@ -168,8 +169,8 @@ module _ (A B : Type 0) (self : ℕ) (s : State) (h : NamesOthers B self s) wher
   dispatch_out pending = reaches_by A B self (is_normal s.phase) _ _
       (λ t. record {
         state = record { up = h.up; found = h.found };
-        sent = each_chosen (λ (job : Job). Unit {0}) (λ (m : Envelope). ToOther A B self m.receiver m.body) (order self s) (λ (job : Job). not (is_own self s job)) pending
-            (λ job is u. differ (owner s job.work.queue) self (not_true _ is)) (each_of (λ (job : Job). Unit {0}) pending (λ job i. tt));
+        sent = each_chosen (λ (job : Job). Unit {0}) (λ (m : Envelope). ToOther A B self m.receiver m.body) (order self s) (λ (job : Job). not (is_own self s job)) (by_priority pending)
+            (λ job is u. differ (owner s job.work.queue) self (not_true _ is)) (each_of (λ (job : Job). Unit {0}) (by_priority pending) (λ job i. tt));
       })
       (λ f. same)
 

@@ -22,6 +22,7 @@ use Rattle.node_core.specs.declared.phase.Phase.TheVariants.{Down, Election, Reo
 use Rattle.node_core.specs.State.{State, is_down, is_election, is_reorganization, is_normal}
 use Rattle.node_core.specs.Effect.{Effect, nothing, quietly}
 use Rattle.node_core.specs.Words.{letter, to_each, is_empty, leads, members_of, owner, holds, own_group, task_of}
+use Rattle.node_core.specs.Priorities.{by_priority}
 use Rattle.node_core.specs.Timers.{recovery, check_timer, merges, offer, merge_timer, accept_timer, awaits_ready, ready_timer, follows, coord_timer, in_own_hand, order, is_own, dispatch_timer}
 use Rattle.node_core.specs.Messages.{asked_coordinator, answered_coordinator, asked_there, was_probed, answered_there, takes_invitation, passed_on, invited, accepted, is_told, told_ready, acknowledged, got_work}
 use Rattle.node_core.specs.Operator.{submit, finish}
@@ -32,7 +33,7 @@ use Rattle.histories.specs.Lists.{Each}
 use Rattle.histories.specs.After.{raised}
 use Rattle.histories.specs.Named.{BodyHolds, TaskHolds, PlaceHolds}
 use Rattle.histories.proofs.Tests.{and_left, and_right, not_true, eq_nat, differ, same_group_is, in_election, in_reorganization, in_normal, in_either}
-use Rattle.histories.proofs.Among.{each_append, each_split, each_map, each_chosen, each_left}
+use Rattle.histories.proofs.Among.{each_append, each_split, each_map, each_chosen, each_left, each_by_priority}
 use Rattle.histories.proofs.Moves.{stays, starts_alone, calls, joins, assigns, takes, completes, Says, WorkIn, Held, Knows, Does}
 
 -- by whether the guard holds
@@ -158,10 +159,10 @@ module _ (P : Group → Type 0) (J Q : ℕ → ℕ → ℕ → Type 0) (self : �
         moves = stays refl refl refl refl refl refl;
         names = λ k. k.place;
         holds = λ k w h. each_append (Held Q self s.phase s.task) s.hand _ h
-            (each_chosen (λ job. Q self job.id job.work.queue) (Held Q self s.phase s.task) (in_own_hand self) (λ job. is_own self s job && not (holds s.hand self job.id)) d.pending
-            (λ job own q. (phase, eq_nat _ _ (and_left _ _ own), q)) k.before);
-        says = λ k j. each_chosen (λ job. J self job.id job.work.queue) (Says P J self [] (Some DispatchTimer)) (order self s) (λ job. not (is_own self s job)) d.pending
-            (λ job other it. ((in_group P s.phase s.group s.task (of_phase s.phase Normal false is_down phase refl) k.place).0, it)) j.before;
+            (each_chosen (λ job. Q self job.id job.work.queue) (Held Q self s.phase s.task) (in_own_hand self) (λ job. is_own self s job && not (holds s.hand self job.id)) (by_priority d.pending)
+            (λ job own q. (phase, eq_nat _ _ (and_left _ _ own), q)) (each_by_priority _ d.pending k.before));
+        says = λ k j. each_chosen (λ job. J self job.id job.work.queue) (Says P J self [] (Some DispatchTimer)) (order self s) (λ job. not (is_own self s job)) (by_priority d.pending)
+            (λ job other it. ((in_group P s.phase s.group s.task (of_phase s.phase Normal false is_down phase refl) k.place).0, it)) (each_by_priority _ d.pending j.before);
       }))
       (λ f. quiet DispatchTimer)
 

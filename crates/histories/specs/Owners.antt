@@ -35,11 +35,11 @@ pub record FinishedBy (histories : List (List Entry)) (origin id : ℕ) : Type 0
   pub moment : State
   pub is_moment : IsMoment histories worker moment
   pub is_normal : moment.phase ≡ Normal
-  pub work : InHand
-  pub in_hand : IsAmong work moment.hand
-  pub of_origin : work.origin ≡ origin
-  pub of_id : work.id ≡ id
-  pub owned : owner moment work.queue ≡ worker
+  pub job : InHand
+  pub in_hand : IsAmong job moment.hand
+  pub of_origin : job.origin ≡ origin
+  pub of_id : job.id ≡ id
+  pub owned : owner moment job.work.queue ≡ worker
 
 -- each job that a node takes out of its journal was finished by an owner of its queue
 abbrev pub OwnerFinishes : Type 0

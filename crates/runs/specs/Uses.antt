@@ -129,4 +129,4 @@ abbrev pub DoneWasFinished : Type 0
 DoneWasFinished = (nodes slots : ℕ) (acts : List Act) (r : Report) (h : Headline nodes slots acts r) →
     (k : ℕ) (t : TriedAt) (id : ℕ) → IsAmong t (commands_in (marks_of_run nodes (take k h.steps))) → t.node < nodes → t.tried.command ≡ Done id →
     (worker : ℕ) × IsAmong (act.Finish worker t.node id) (take k acts)
-    × ((s : State) × (work : InHand) × ShowsWorking (first_moments k r) worker s × IsAmong work s.hand × (work.origin ≡ t.node) × (work.id ≡ id) × (owner s work.queue ≡ worker))
+    × ((s : State) × (job : InHand) × ShowsWorking (first_moments k r) worker s × IsAmong job s.hand × (job.origin ≡ t.node) × (job.id ≡ id) × (owner s job.work.queue ≡ worker))
