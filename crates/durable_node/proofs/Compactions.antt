@@ -15,7 +15,9 @@ use Rattle.node_store.specs.Store.{StoreState, durable_of, slots_for, stands_for
 use Rattle.durable_node.specs.declared.fault.NodeFault.{NodeFault}
 use Rattle.durable_node.specs.declared.fault.NodeFault.TheVariants as node
 use Rattle.histories.specs.NodeState.{NodeState}
-use Rattle.histories.specs.What.{What, Rests, Crashed, Compacted, CompactDown, CompactWorn}
+use Rattle.histories.specs.declared.what.What.{What}
+use Rattle.histories.specs.declared.what.What.TheVariants.{Rests, Crashed}
+use Rattle.histories.specs.declared.what.Rest.TheVariants.{Compacted, CompactDown, CompactWorn}
 use Rattle.histories.specs.After.{after}
 use Rattle.histories.specs.Possible.{IsPossible}
 use Rattle.durable_node.specs.Node.{Node, Area, IsPlaced, IsLeft, IsNode, Stands, disk_in, kept_in, area_in, area_of, node_with}

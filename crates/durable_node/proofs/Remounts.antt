@@ -21,7 +21,8 @@ use Rattle.durable_node.specs.declared.fault.NodeFault.{NodeFault}
 use Rattle.durable_node.specs.declared.fault.NodeFault.TheVariants as node
 use Rattle.durable_node.specs.declared.step.Step.{Step}
 use Rattle.histories.specs.NodeState.{NodeState, settled}
-use Rattle.histories.specs.What.{What, Recovered, MountFailed, RaiseFailed, RaiseRefused}
+use Rattle.histories.specs.declared.what.What.{What}
+use Rattle.histories.specs.declared.what.What.TheVariants.{Recovered, MountFailed, RaiseFailed, RaiseRefused}
 use Rattle.histories.specs.After.{after}
 use Rattle.histories.specs.Possible.{IsSettling}
 use Rattle.durable_node.specs.Faults.{fault_for}

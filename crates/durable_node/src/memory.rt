@@ -8,7 +8,7 @@ ghost use Rattle.histories.specs.After.{after};
 ghost use Rattle.durable_node.specs.Arming.{armed_disk, armed_store};
 ghost use Rattle.durable_node.specs.Node.{IsPlaced, Stands};
 ghost use Rattle.histories.specs.NodeState.{NodeState, opening};
-ghost use Rattle.histories.specs.What.{Crashed};
+ghost use Rattle.histories.specs.declared.what.What.TheVariants.{Crashed};
 
 use crate::node::DurableNode;
 use crate::remount::take_disk;
