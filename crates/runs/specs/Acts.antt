@@ -12,6 +12,7 @@ use Rattle.histories.specs.declared.what.Rest.{Rest}
 use Rattle.histories.specs.declared.what.Rest.TheVariants.{Nothing, Compacted, CompactDown, CompactWorn}
 use Rattle.histories.specs.After.{sent_at}
 use Rattle.histories.specs.Possible.{IsOfSlots}
+use Rattle.histories.specs.What.{reason_of}
 use Rattle.schedule.specs.declared.act.Act.{Act}
 use Rattle.schedule.specs.declared.act.Act.TheVariants as act
 use Rattle.sim_net.specs.declared.fault.NetFault.{NetFault}
@@ -127,7 +128,7 @@ rest_outcome first CompactWorn = RefusedAct Worn
 -- what is told of what came of an event, where so many messages were sent before it
 abbrev pub what_outcome : ℕ → ℕ → ℕ → NodeState → What → ActOutcome
 what_outcome n nodes first s (Did event) = Done (answer_if_wanted s.durable (wants_at n nodes s event)) first (length (sent_at n nodes s (Did event)))
-what_outcome n nodes first s (Refused event fault) = RefusedAct fault
+what_outcome n nodes first s (Refused event fault) = RefusedAct (reason_of fault)
 what_outcome n nodes first s (Faulted event) = FaultedAct
 what_outcome n nodes first s (Rests rest) = rest_outcome first rest
 what_outcome n nodes first s Crashed = Done None first 0
