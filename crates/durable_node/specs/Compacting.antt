@@ -1,5 +1,5 @@
 -- What a compaction of a node's journal does, and how it is told.
-use Rattle.std.specs.Prelude.{ℕ, ◌≡◌, ◌+◌, length, IsTrue, IsOk, Option, Some, None, Result, Err}
+use Rattle.std.specs.Prelude.{ℕ, ◌≡◌, ◌+◌, length, IsTrue, IsOk, Some, None, Result, Err}
 use Rattle.sector_disk.specs.Disk.{DiskState, Image}
 use Rattle.sector_disk.specs.Run.{Each}
 use Rattle.job_model.specs.Durable.{Durable}

@@ -42,8 +42,9 @@ impl DurableNode<MemDisk> {
             return Err(AllocError);
         }
         let mut node = DurableNode::down(alloc, id, nodes, disk);
-        if node.recover().is_err() {
-            return Err(AllocError);
+        match node.recover() {
+            Ok(came) if came.fault().is_none() => {}
+            _ => return Err(AllocError),
         }
         node.found = None;
         Ok(node)
