@@ -13,7 +13,8 @@ use Rattle.sim_net.specs.Network.{Network, delivery}
 use Rattle.node_core.specs.State.{State, is_down}
 use Rattle.durable_node.specs.Node.{Node, Stands}
 use Rattle.histories.specs.NodeState.{NodeState, settled}
-use Rattle.histories.specs.What.{What, Did, Refused, Faulted, Rests, Crashed, Recovered, MountFailed, RaiseFailed, RaiseRefused}
+use Rattle.histories.specs.declared.what.What.{What}
+use Rattle.histories.specs.declared.what.What.TheVariants.{Did, Refused, Faulted, Rests, Crashed, Recovered, MountFailed, RaiseFailed, RaiseRefused}
 use Rattle.histories.specs.After.{after, found_at}
 use Rattle.histories.specs.Kept.{Tried}
 use Rattle.durable_node.proofs.Nodes.{is_some}

@@ -15,7 +15,8 @@ use Rattle.durable_node.specs.declared.step.Step.{Step}
 use Rattle.durable_node.specs.Faults.{shown}
 use Rattle.durable_node.specs.Node.{Node, Stands}
 use Rattle.histories.specs.NodeState.{NodeState}
-use Rattle.histories.specs.What.{What, Did, Refused, Faulted, Rests, Crashed, Recovered, MountFailed, RaiseFailed, RaiseRefused}
+use Rattle.histories.specs.declared.what.What.{What}
+use Rattle.histories.specs.declared.what.What.TheVariants.{Did, Refused, Faulted, Rests, Crashed, Recovered, MountFailed, RaiseFailed, RaiseRefused}
 use Rattle.histories.specs.Possible.{IsOfSlots}
 use Rattle.durable_node.specs.Stepping.{IsToldBy, Does, Steps, CountsOf, sent_by}
 use Rattle.cluster_sim.specs.declared.outcome.Outcome.{Outcome}

@@ -7,7 +7,8 @@ use Rattle.sector_disk.specs.Memory.{Memory, state_of}
 use Rattle.sim_net.specs.Network.{Network, after_all_sent}
 use Rattle.durable_node.specs.Node.{Node, Stands}
 use Rattle.histories.specs.NodeState.{NodeState}
-use Rattle.histories.specs.What.{What, event_of, brought, AreAddressed}
+use Rattle.histories.specs.declared.what.What.{What}
+use Rattle.histories.specs.What.{event_of, brought, AreAddressed}
 use Rattle.histories.specs.After.{after, found_at}
 use Rattle.durable_node.proofs.Nodes.{is_some}
 use Rattle.cluster_sim.specs.declared.outcome.Outcome.{Outcome}

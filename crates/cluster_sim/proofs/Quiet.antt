@@ -9,7 +9,8 @@ use Rattle.node_core.specs.Start.{down}
 use Rattle.durable_node.specs.Arming.{armed_disk}
 use Rattle.durable_node.specs.Node.{Node, Stands}
 use Rattle.histories.specs.NodeState.{NodeState}
-use Rattle.histories.specs.What.{Rests, Nothing, Crashed}
+use Rattle.histories.specs.declared.what.What.TheVariants.{Rests, Crashed}
+use Rattle.histories.specs.declared.what.Rest.TheVariants.{Nothing}
 use Rattle.histories.specs.After.{after}
 use Rattle.durable_node.proofs.Nodes.{is_some}
 use Rattle.cluster_sim.specs.declared.outcome.Outcome.{Outcome}

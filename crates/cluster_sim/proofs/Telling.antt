@@ -15,7 +15,9 @@ use Rattle.node_core.specs.declared.event.Event.TheVariants as on
 use Rattle.node_core.specs.State.{State, is_down}
 use Rattle.node_core.specs.Wants.{raise_if, done_if, delivered_wants}
 use Rattle.histories.specs.NodeState.{NodeState, wants_at, settled, answer_if_wanted}
-use Rattle.histories.specs.What.{Nothing, Compacted, CompactDown, CompactWorn, What, Did, Refused, Faulted, Rests, Crashed, Recovered, MountFailed, RaiseFailed, RaiseRefused}
+use Rattle.histories.specs.declared.what.What.{What}
+use Rattle.histories.specs.declared.what.What.TheVariants.{Did, Refused, Faulted, Rests, Crashed, Recovered, MountFailed, RaiseFailed, RaiseRefused}
+use Rattle.histories.specs.declared.what.Rest.TheVariants.{Nothing, Compacted, CompactDown, CompactWorn}
 use Rattle.histories.specs.After.{raised, given_at, found_at}
 use Rattle.histories.specs.Marks.{Mark, tried_marks, failed_marks, marks_at}
 use Rattle.histories.specs.Possible.{IsWanted, IsForNode, IsPossible}

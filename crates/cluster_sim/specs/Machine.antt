@@ -8,7 +8,10 @@ use Rattle.node_core.specs.declared.event.Event.{Event}
 use Rattle.node_core.specs.declared.event.Event.TheVariants as on
 use Rattle.durable_node.specs.Node.{Node, Stands}
 use Rattle.histories.specs.NodeState.{NodeState, opening}
-use Rattle.histories.specs.What.{Rest, Nothing, Compacted, CompactDown, CompactWorn, What, Did, Refused, Faulted, Rests, Crashed, Recovered, MountFailed, RaiseFailed, RaiseRefused}
+use Rattle.histories.specs.declared.what.What.{What}
+use Rattle.histories.specs.declared.what.What.TheVariants.{Did, Refused, Faulted, Rests, Crashed, Recovered, MountFailed, RaiseFailed, RaiseRefused}
+use Rattle.histories.specs.declared.what.Rest.{Rest}
+use Rattle.histories.specs.declared.what.Rest.TheVariants.{Nothing, Compacted, CompactDown, CompactWorn}
 use Rattle.histories.specs.After.{after, sent_at, found_at}
 use Rattle.histories.specs.Possible.{IsPossible, IsOfSlots}
 use Rattle.schedule.specs.declared.act.Act.{Act}

@@ -11,7 +11,7 @@ use Rattle.node_store.specs.Store.{StoreState, durable_of}
 use Rattle.node_store.specs.Told.{IsMountFault}
 use Rattle.durable_node.specs.declared.fault.NodeFault.{NodeFault}
 use Rattle.durable_node.specs.declared.fault.NodeFault.TheVariants as node
-use Rattle.durable_node.specs.declared.step.Step.{Step}
+use Rattle.durable_node.specs.declared.came.Came.{Came}
 use Rattle.durable_node.specs.Faults.{fault_for}
 use Rattle.durable_node.specs.Node.{found_in, node_with}
 use Rattle.durable_node.specs.Remounting.{IsRisen, IsRiseFailed, IsRiseRefused, IsUnmounted, Remounted}
@@ -37,7 +37,7 @@ unmounted_at id nodes core disk store gone back doubt before found fault told no
     (subst (λ (f : NodeFault). IsUnmounted f) (sym is) (told_by fault of_mount), refl, refl)
 
 module _ {Disk : Type 0} (id nodes : ℕ) (core core' : Core) (disk gone : Option Disk) (store : Option (StoreState Disk)) (mid end : StoreState Disk) (doubt doubt' : Option (Wanted × ℕ)) (before : Option ℕ) where
-  abbrev Left : Result Step NodeFault → Option Durable → Type 0
+  abbrev Left : Result Came NodeFault → Option Durable → Type 0
   Left result found = Remounted (node_with id nodes core disk store doubt before) (node_with id nodes core' gone (Some end) doubt' (Some (durable_of mid).counter)) result found
 
   failed_with : (fault : NodeFault) → (fault ≡ node.Device) ⊎ (fault ≢ node.Device)
@@ -51,13 +51,13 @@ module _ {Disk : Type 0} (id nodes : ℕ) (core core' : Core) (disk gone : Optio
       let r = refused other in
       subst (λ (d : Option Durable). Left (Err fault) d) (sym (found_still (durable_of mid) end (ap (λ (st : StoreState Disk). durable_of st) r.2))) (r.1, inr (r.0.told, r.0.spent, r.3))
 
-  pub remounted_at : (result : Result Step NodeFault)
+  pub remounted_at : (result : Result Came NodeFault)
       → IfOk result (IsRisen id (durable_of mid) (durable_of end) core' doubt')
       → (IsErrOf result node.Device → IsRiseFailed (durable_of mid) (durable_of end) core core' doubt')
       → IfErr result (λ fault. fault ≢ node.Device → IsRiseRefused (durable_of mid) fault × (core'.state ≡ core.state) × (end ≡ mid) × (doubt' ≡ doubt))
       → Left result (found_in (Some (durable_of mid).counter) (Some end))
-  remounted_at (Ok step) risen failed refused =
+  remounted_at (Ok came) risen failed refused =
       let up : is_down core'.state.phase ≡ false = ap (λ (v : State). is_down v.phase) risen.state in
-      subst (λ (d : Option Durable). Left (Ok step) d) (sym (found_risen (durable_of mid) end risen.kept))
+      subst (λ (d : Option Durable). Left (Ok came) d) (sym (found_risen (durable_of mid) end risen.kept))
       (up_kept (is_down core'.state.phase) end up ∙ ap (λ (d : Durable). Some d) risen.kept, risen.state, risen.doubt, risen.sent, risen.answer, risen.fits)
   remounted_at (Err fault) risen failed refused = failed_with fault (is_device fault) (λ e. failed (ap (λ (f : NodeFault). Err f) e)) refused

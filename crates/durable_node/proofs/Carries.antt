@@ -1,6 +1,6 @@
 -- Why the store refuses a new job, and how the node tells it.
-use Rattle.std.proofs.Common.{◌≡◌, ◌≢◌, ◌⊎◌, ◌+◌, ◌<◌, inl, inr, ℕ, true, false, Bool, nat_lt, refl, sym, ◌∙◌, ap, subst, arith, Some, None, Result, Ok, Err}
-use Rattle.std.specs.Prelude.{IsOk, IsSome, IfOk, IfErr, IsErrOf, IsFalse, if◌then◌else◌, nat_le}
+use Rattle.std.proofs.Common.{◌≡◌, ◌≢◌, ◌+◌, ◌<◌, inl, inr, ℕ, true, false, Bool, nat_lt, refl, sym, subst, arith, Some, None, Result, Ok, Err}
+use Rattle.std.specs.Prelude.{IsOk, IsSome, IfOk, IfErr, IsFalse, if◌then◌else◌, nat_le}
 use Rattle.std.proofs.lemmas.Bool.Decides.{nat_tests}
 use Rattle.job_journal.specs.declared.fault.JournalFault.TheVariants as journal
 use Rattle.node_store.specs.declared.fault.StoreFault.{StoreFault}

@@ -1,29 +1,29 @@
 -- What a compaction leaves of a node that is up.
 use Rattle.std.proofs.Common.{◌≡◌, ◌≢◌, ◌≤◌, ◌⊎◌, inl, inr, ⊎_elim, ℕ, true, false, Bool, Option, Some, None, Result, Ok, Err, sym, ◌∙◌, ap, subst, refl, arith, IsTrue, IsFalse}
 use Rattle.std.specs.Prelude.{IsOk, IfErr, if◌then◌else◌}
-use Rattle.sector_disk.specs.Disk.{Image, DiskState}
+use Rattle.sector_disk.specs.Disk.{DiskState}
 use Rattle.sector_disk.specs.Run.{Run, Each}
 use Rattle.job_model.specs.Durable.{Durable}
 use Rattle.job_journal.specs.Journal.{IsSound}
 use Rattle.node_core.specs.declared.durable.Durable.{Durable as Wanted}
 use Rattle.node_core.specs.declared.fault.CoreFault.TheVariants.{Down}
 use Rattle.node_core.specs.Core.{Core}
-use Rattle.node_core.specs.NodeStep.{StepFault, Worn}
+use Rattle.node_core.specs.NodeStep.{Worn}
 use Rattle.node_core.specs.Start.{down}
 use Rattle.node_core.specs.State.{State, is_down}
 use Rattle.node_store.specs.Store.{StoreState, durable_of, slots_for, stands_for, InStore, StaysAs}
 use Rattle.durable_node.specs.declared.fault.NodeFault.{NodeFault}
 use Rattle.durable_node.specs.declared.fault.NodeFault.TheVariants as node
 use Rattle.histories.specs.NodeState.{NodeState}
-use Rattle.histories.specs.What.{What, Rests, Crashed, Compacted, CompactDown, CompactWorn}
+use Rattle.histories.specs.declared.what.What.TheVariants.{Rests, Crashed}
+use Rattle.histories.specs.declared.what.Rest.TheVariants.{Compacted, CompactDown, CompactWorn}
 use Rattle.histories.specs.After.{after}
-use Rattle.histories.specs.Possible.{IsPossible}
-use Rattle.durable_node.specs.Node.{Node, Area, IsPlaced, IsLeft, IsNode, Stands, disk_in, kept_in, area_in, area_of, node_with}
+use Rattle.durable_node.specs.Node.{Area, IsPlaced, IsLeft, IsNode, Stands, disk_in, kept_in, area_in, area_of, node_with}
 use Rattle.durable_node.specs.Refusing.{AnswersTo, compaction_refusal, is_last}
-use Rattle.durable_node.specs.Compacting.{CompactTold, Compacts, StaysKept, IsMovedNode, IsFallenNode, IsRewrittenCore, moved}
+use Rattle.durable_node.specs.Compacting.{Compacts, StaysKept, IsMovedNode, IsFallenNode, IsRewrittenCore, moved}
 use Rattle.durable_node.proofs.Ignores.{not_up}
 use Rattle.durable_node.proofs.Mounts.{was_honest, left_by}
-use Rattle.durable_node.proofs.Nodes.{is_some, clash, placed_still, under, store_of, same_node}
+use Rattle.durable_node.proofs.Nodes.{clash, placed_still, under, store_of, same_node}
 use Rattle.durable_node.proofs.Serves.{kept_up, up_kept}
 
 -- how a compaction ends

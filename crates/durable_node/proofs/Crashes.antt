@@ -14,7 +14,7 @@ use Rattle.histories.specs.After.{after}
 use Rattle.durable_node.specs.Arming.{armed_disk, armed_store}
 use Rattle.durable_node.specs.Node.{IsPlaced, IsNode, IsLeft, Stands, Node, disk_in, kept_in, area_in, node_with}
 use Rattle.histories.specs.NodeState.{NodeState, settled}
-use Rattle.histories.specs.What.{Crashed}
+use Rattle.histories.specs.declared.what.What.TheVariants.{Crashed}
 use Rattle.durable_node.proofs.Ignores.{not_up}
 use Rattle.durable_node.proofs.Mounts.{stands_same, quiet_same}
 use Rattle.durable_node.proofs.Nodes.{is_some}

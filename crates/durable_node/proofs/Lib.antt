@@ -2,6 +2,7 @@ pub mod Mounts
 pub mod Turned
 pub mod Serves
 pub mod Ignores
+pub mod Settling
 pub mod Remounts
 pub mod Nodes
 pub mod Crashes

@@ -1,12 +1,11 @@
 -- What is true of every node stays true.
-use Rattle.std.proofs.Common.{◌≡◌, ◌≢◌, ◌+◌, ◌≤◌, ◌⊎◌, arith, length, [], inl, inr, ℕ, true, false, Bool, Option, Some, None, Result, Ok, Err, sym, ◌∙◌, ap, subst, refl, IsFalse}
+use Rattle.std.proofs.Common.{◌≡◌, ◌≢◌, ◌+◌, ◌⊎◌, arith, inl, inr, ℕ, true, false, Bool, Option, Some, None, Result, Ok, Err, sym, ◌∙◌, ap, subst, refl, IsFalse}
 use Rattle.std.specs.Prelude.{IsOk, IfOk, IfErr, IsErrOf}
 use Rattle.sector_disk.specs.Disk.{DiskState, Counts}
 use Rattle.job_model.specs.Durable.{Durable}
 use Rattle.job_journal.specs.Journal.{IsSound}
 use Rattle.node_core.specs.declared.durable.Durable.{Durable as Wanted}
 use Rattle.node_core.specs.declared.event.Event.{Event}
-use Rattle.node_core.specs.declared.fault.CoreFault.{CoreFault}
 use Rattle.node_core.specs.declared.fault.CoreFault.TheVariants.{NoMemory}
 use Rattle.node_core.specs.Core.{Core}
 use Rattle.node_core.specs.Effect.{Effect}
@@ -15,10 +14,11 @@ use Rattle.node_core.specs.State.{State, is_down}
 use Rattle.node_store.specs.Store.{StoreState, durable_of, slots_for}
 use Rattle.durable_node.specs.declared.fault.NodeFault.{NodeFault}
 use Rattle.durable_node.specs.declared.fault.NodeFault.TheVariants as node
-use Rattle.durable_node.specs.declared.step.Step.{Step}
+use Rattle.durable_node.specs.declared.came.Came.{Came}
 use Rattle.durable_node.specs.Node.{IsPlaced, IsNode, disk_in, kept_in, area_in, node_with}
 use Rattle.durable_node.specs.Remounting.{IsRisen, IsRiseRefused}
-use Rattle.durable_node.specs.Stepping.{IsDone, CountsOf}
+use Rattle.durable_node.specs.Stepping.{IsDone, CountsOf, Stuck}
+use Rattle.durable_node.specs.Faults.{told}
 use Rattle.durable_node.proofs.Serves.{is_device}
 use Rattle.durable_node.proofs.Ignores.{not_up}
 use Rattle.histories.proofs.Ups.{stays_up}
@@ -42,8 +42,8 @@ over None store placed = refl
 over (Some d) store placed = absurd placed
 
 -- a node that is up does an event
-pub done_up : (slots nodes id : ℕ) (old new : State) (d d' : Durable) (event : Event) (step : Step) → is_down old.phase ≡ false → IsDone slots nodes id old d event new d' step → is_down new.phase ≡ false
-done_up slots nodes id old new d d' event step up done =
+pub done_up : (slots nodes id : ℕ) (old new : State) (d d' : Durable) (event : Event) (came : Came) → is_down old.phase ≡ false → IsDone slots nodes id old d event new d' came → is_down new.phase ≡ false
+done_up slots nodes id old new d d' event came up done =
     subst (λ (e : Effect). is_down e.state.phase ≡ false) done.handled.effect (stays_up nodes id d.pending event _ old up)
 
 -- Each value of a node's parts that the next lemmas lead to.
@@ -84,7 +84,7 @@ module _ {Disk : Type 0} (disks : Disk → DiskState) (id nodes : ℕ) (core cor
 
   pub node_mounted : (disk gone : Option Disk) (store : Option (StoreState Disk)) (end : StoreState Disk) (slots : ℕ) (d d' : Durable) (doubt : Option (Wanted × ℕ)) → IsNode disks id nodes core disk store → is_down core.state.phase ≡ true → gone ≡ None
       → core'.id ≡ id → core'.nodes ≡ nodes → end.journal.slots ≡ slots → slots ≡ slots_for (disks end.disk).sectors → IsSound slots (disks end.disk)
-      → (result : Result Step NodeFault) → IfOk result (IsRisen id d d' core' doubt) → (IsOk result → IsFalse end.broken) → IfErr result (λ _. core'.state ≡ core.state)
+      → (result : Result Came NodeFault) → IfOk result (IsRisen id d d' core' doubt) → (IsOk result → IsFalse end.broken) → IfErr result (λ _. core'.state ≡ core.state)
       → IsNode disks id nodes core' gone (Some end)
   node_mounted disk gone store end slots d d' doubt is fallen none same_id same_nodes same at sound result risen whole err = subst (λ (g : Option Disk). IsNode disks id nodes core' g (Some end)) (sym none) (record {
     core_id = same_id;
@@ -99,17 +99,17 @@ module _ {Disk : Type 0} (disks : Disk → DiskState) (id nodes : ℕ) (core cor
         (subst (λ (n : ℕ). IsSound n (disks end.disk)) at sound);
   })
     where
-      up_by : (result : Result Step NodeFault) → IfOk result (IsRisen id d d' core' doubt) → (IsOk result → IsFalse end.broken) → IfErr result (λ _. core'.state ≡ core.state) → is_down core'.state.phase ≡ false → IsFalse end.broken
-      up_by (Ok step) risen whole err up = whole refl
+      up_by : (result : Result Came NodeFault) → IfOk result (IsRisen id d d' core' doubt) → (IsOk result → IsFalse end.broken) → IfErr result (λ _. core'.state ≡ core.state) → is_down core'.state.phase ≡ false → IsFalse end.broken
+      up_by (Ok came) risen whole err up = whole refl
       up_by (Err fault) risen whole err up = absurd (clash (is_down core'.state.phase) (ap (λ (s : State). is_down s.phase) err ∙ fallen) up)
 
-      fallen_by : (result : Result Step NodeFault) → IfOk result (IsRisen id d d' core' doubt) → IfErr result (λ _. core'.state ≡ core.state) → is_down core'.state.phase ≡ true → core'.state ≡ down id
-      fallen_by (Ok step) risen err down_now = absurd (clash (is_down core'.state.phase) down_now (alone_up (d.counter + 1) core'.state risen.state))
+      fallen_by : (result : Result Came NodeFault) → IfOk result (IsRisen id d d' core' doubt) → IfErr result (λ _. core'.state ≡ core.state) → is_down core'.state.phase ≡ true → core'.state ≡ down id
+      fallen_by (Ok came) risen err down_now = absurd (clash (is_down core'.state.phase) down_now (alone_up (d.counter + 1) core'.state risen.state))
       fallen_by (Err fault) risen err down_now = err ∙ is.fallen fallen
 
   pub node_served : (disk : Option Disk) (store store' : StoreState Disk) (doubt doubt' : Option (Wanted × ℕ)) (event : Event) → IsNode disks id nodes core disk (Some store) → is_down core.state.phase ≡ false
       → core'.id ≡ id → core'.nodes ≡ nodes → store'.journal.slots ≡ store.journal.slots → (disks store'.disk).sectors ≡ (disks store.disk).sectors → IsSound store.journal.slots (disks store'.disk)
-      → (result : Result Step NodeFault) → IfOk result (IsDone store.journal.slots nodes id core.state (durable_of store) event core'.state (durable_of store'))
+      → (result : Result Came NodeFault) → IfOk result (IsDone store.journal.slots nodes id core.state (durable_of store) event core'.state (durable_of store'))
       → (IsOk result → IsFalse store'.broken × (doubt' ≡ doubt)) → (IsErrOf result node.Device → core'.state ≡ down id)
       → IfErr result (λ fault. fault ≢ node.Device → (core'.state ≡ core.state) × (store' ≡ store) × (doubt' ≡ doubt))
       → IsNode disks id nodes core' disk (Some store')
@@ -134,9 +134,9 @@ module _ {Disk : Type 0} (disks : Disk → DiskState) (id nodes : ℕ) (core cor
       up_fault fault (inl e) fallen unchanged now = absurd (not_up id core'.state (fallen e) now)
       up_fault fault (inr e) fallen unchanged now = subst (λ (st : StoreState Disk). IsFalse st.broken) (sym (unchanged e).1) (is.up up)
 
-      up_by : (result : Result Step NodeFault) → (IsOk result → IsFalse store'.broken × (doubt' ≡ doubt)) → (IsErrOf result node.Device → core'.state ≡ down id)
+      up_by : (result : Result Came NodeFault) → (IsOk result → IsFalse store'.broken × (doubt' ≡ doubt)) → (IsErrOf result node.Device → core'.state ≡ down id)
           → IfErr result (λ fault. fault ≢ node.Device → (core'.state ≡ core.state) × (store' ≡ store) × (doubt' ≡ doubt)) → is_down core'.state.phase ≡ false → IsFalse store'.broken
-      up_by (Ok step) whole fallen unchanged now = (whole refl).0
+      up_by (Ok came) whole fallen unchanged now = (whole refl).0
       up_by (Err fault) whole fallen unchanged now = up_fault fault (is_device fault) (λ e. fallen (ap (λ (f : NodeFault). Err f) e)) unchanged now
 
       fallen_fault : (fault : NodeFault) → (fault ≡ node.Device) ⊎ (fault ≢ node.Device) → (fault ≡ node.Device → core'.state ≡ down id)
@@ -144,9 +144,9 @@ module _ {Disk : Type 0} (disks : Disk → DiskState) (id nodes : ℕ) (core cor
       fallen_fault fault (inl e) fallen unchanged now = fallen e
       fallen_fault fault (inr e) fallen unchanged now = absurd (clash (is_down core'.state.phase) now (ap (λ (s : State). is_down s.phase) (unchanged e).0 ∙ up))
 
-      fallen_by : (result : Result Step NodeFault) → IfOk result (IsDone store.journal.slots nodes id core.state (durable_of store) event core'.state (durable_of store')) → (IsErrOf result node.Device → core'.state ≡ down id)
+      fallen_by : (result : Result Came NodeFault) → IfOk result (IsDone store.journal.slots nodes id core.state (durable_of store) event core'.state (durable_of store')) → (IsErrOf result node.Device → core'.state ≡ down id)
           → IfErr result (λ fault. fault ≢ node.Device → (core'.state ≡ core.state) × (store' ≡ store) × (doubt' ≡ doubt)) → is_down core'.state.phase ≡ true → core'.state ≡ down id
-      fallen_by (Ok step) done fallen unchanged now = absurd (clash (is_down core'.state.phase) now (done_up store.journal.slots nodes id core.state core'.state (durable_of store) (durable_of store') event step up done))
+      fallen_by (Ok came) done fallen unchanged now = absurd (clash (is_down core'.state.phase) now (done_up store.journal.slots nodes id core.state core'.state (durable_of store) (durable_of store') event came up done))
       fallen_by (Err fault) done fallen unchanged now = fallen_fault fault (is_device fault) (λ e. fallen (ap (λ (f : NodeFault). Err f) e)) unchanged now
 
 -- a refusal for want of memory leaves the node as it was
@@ -164,9 +164,9 @@ same_node id nodes core core' disk store store' doubt doubt' same same_store sam
 })
 
 -- a recovery that fails after the mounting leaves the state
-pub same_on_fault : (A B : Type 0) (d : Durable) (core core' : Core) (result : Result Step NodeFault) → (IsErrOf result node.Device → core'.state ≡ core.state)
+pub same_on_fault : (A B : Type 0) (d : Durable) (core core' : Core) (result : Result Came NodeFault) → (IsErrOf result node.Device → core'.state ≡ core.state)
     → IfErr result (λ fault. fault ≢ node.Device → IsRiseRefused d fault × (core'.state ≡ core.state) × A × B) → IfErr result (λ _. core'.state ≡ core.state)
-same_on_fault A B d core core' (Ok step) failed refused = tt
+same_on_fault A B d core core' (Ok came) failed refused = tt
 same_on_fault A B d core core' (Err fault) failed refused = by_device (is_device fault)
   where
     by_device : (fault ≡ node.Device) ⊎ (fault ≢ node.Device) → core'.state ≡ core.state
@@ -191,17 +191,28 @@ counts_still {Disk} {A} disks disk result not_device was now old new =
     subst (λ (d : Disk). Counts (disks was) (disks d) (IsErrOf result node.Device) (IsErrOf result node.Device → ⊥)) (is_some was now (sym old ∙ new))
     (record { sectors = refl; honest = refl; later = omega arith; unchanged = λ _. refl; cause = λ device. absurd (not_device device) })
 
-pub few_ignored : (n : ℕ) (A : Type 0) (result : Result Step NodeFault) → IfOk result (λ step. A × (step.sent.items ≡ []) × (step.answer ≡ None)) → IfOk result (λ step. length step.sent.items ≤ n)
-few_ignored n A (Ok step) done = (let none : length step.sent.items ≡ 0 = ap length done.1 in omega (arith, none))
-few_ignored n A (Err fault) done = tt
-
-pub not_device : (A : CoreFault → Type 0) (result : Result Step NodeFault) → IfErr result (λ fault. fault ≢ node.Core NoMemory → (why : CoreFault) × (fault ≡ node.Core why) × A why) → IsErrOf result node.Device → ⊥
-not_device A (Ok step) refused device = cc
-not_device A (Err fault) refused device =
-    let is : fault ≡ node.Device = cc in
-    let why = refused (λ e. (let bad : node.Device ≡ node.Core NoMemory = sym is ∙ e in cc)) in
-    let bad : node.Device ≡ node.Core why.0 = sym is ∙ why.1 in cc
-
-pub up_on_ok : (slots nodes id : ℕ) (old new : State) (d d' : Durable) (event : Event) → is_down old.phase ≡ false → (result : Result Step NodeFault) → IfOk result (IsDone slots nodes id old d event new d') → IsOk result → is_down new.phase ≡ false
-up_on_ok slots nodes id old new d d' event up (Ok step) done ok = done_up slots nodes id old new d d' event step up done
+pub up_on_ok : (slots nodes id : ℕ) (old new : State) (d d' : Durable) (event : Event) → is_down old.phase ≡ false → (result : Result Came NodeFault) → IfOk result (IsDone slots nodes id old d event new d') → IsOk result → is_down new.phase ≡ false
+up_on_ok slots nodes id old new d d' event up (Ok came) done ok = done_up slots nodes id old new d d' event came up done
 up_on_ok slots nodes id old new d d' event up (Err fault) done ok = absurd cc
+
+-- where there is no memory the node is as it was
+pub stuck_for_memory : {Disk : Type 0} (disks : Disk → DiskState) (id nodes : ℕ) (core core' : Core) (disk : Option Disk) (store store' : Option (StoreState Disk)) (doubt doubt' : Option (Wanted × ℕ)) (before : Option ℕ) (event : Event) (result : Result Came NodeFault)
+    → IfErr result (λ fault. fault ≡ node.Core NoMemory) → IfErr result (λ _. (core'.state ≡ core.state) × (store' ≡ store) × (doubt' ≡ doubt))
+    → IfErr result (Stuck disks (node_with id nodes core disk store doubt before) (node_with id nodes core' disk store' doubt' None) event)
+stuck_for_memory disks id nodes core core' disk store store' doubt doubt' before event (Ok came) memory same = tt
+stuck_for_memory {Disk} disks id nodes core core' disk store store' doubt doubt' before event (Err fault) memory same =
+    subst (λ (f : NodeFault). Stuck disks (node_with id nodes core disk store doubt before) (node_with id nodes core' disk store' doubt' None) event f) (sym memory)
+    (refl, same_node id nodes core core' disk store store' doubt doubt' same.0 same.1 same.2)
+
+pub served_same : {Disk : Type 0} (core core' : Core) (store store' : StoreState Disk) (doubt doubt' : Option (Wanted × ℕ)) (result : Result Came NodeFault)
+    → IfErr result (λ fault. fault ≡ node.Core NoMemory) → IfErr (told result) (λ fault. fault ≢ node.Device → (core'.state ≡ core.state) × (store' ≡ store) × (doubt' ≡ doubt))
+    → IfErr result (λ _. (core'.state ≡ core.state) × (Some store' ≡ Some store) × (doubt' ≡ doubt))
+served_same core core' store store' doubt doubt' (Ok came) memory unchanged = tt
+served_same {Disk} core core' store store' doubt doubt' (Err fault) memory unchanged =
+    let same = unchanged (λ device. (let bad : node.Core NoMemory ≡ node.Device = sym memory ∙ device in cc)) in
+    (same.0, ap (λ (st : StoreState Disk). Some st) same.1, same.2)
+
+pub still_same : {Disk : Type 0} (core core' : Core) (store : Option (StoreState Disk)) (doubt : Option (Wanted × ℕ)) (result : Result Came NodeFault) → core'.state ≡ core.state
+    → IfErr result (λ _. (core'.state ≡ core.state) × (store ≡ store) × (doubt ≡ doubt))
+still_same core core' store doubt (Ok came) same = tt
+still_same core core' store doubt (Err fault) same = (same, refl, refl)

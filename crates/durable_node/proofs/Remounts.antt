@@ -1,5 +1,5 @@
 -- How a recovery that mounts its disk ends.
-use Rattle.std.proofs.Common.{◌≡◌, ◌≢◌, ◌+◌, ◌-◌, ◌^◌, ◌<◌, ◌≤◌, ◌⊎◌, inl, inr, ⊎_elim, ℕ, true, Bool, Option, Some, None, Result, Ok, Err, sym, ◌∙◌, ap, subst, refl, arith, IsTrue}
+use Rattle.std.proofs.Common.{◌≡◌, ◌≢◌, ◌+◌, ◌-◌, ◌^◌, ◌<◌, ◌≤◌, ◌⊎◌, inr, ⊎_elim, ℕ, true, false, Bool, [], Option, Some, None, option_map, Result, Ok, Err, sym, ◌∙◌, ap, subst, refl, arith, IsTrue}
 use Rattle.std.specs.Prelude.{IsOk, IfOk, IfErr, IsErrOf}
 use Rattle.sector_disk.specs.Disk.{Image, DiskState, IsImage, nothing}
 use Rattle.sector_disk.specs.Run.{Run, Each}
@@ -10,27 +10,30 @@ use Rattle.job_journal.specs.Journal.{IsSound}
 use Rattle.node_core.specs.declared.durable.Durable.{Durable as Wanted}
 use Rattle.node_core.specs.declared.durable.Durable.TheVariants as wanted
 use Rattle.node_core.specs.declared.event.Event.TheVariants.{Recover}
-use Rattle.node_core.specs.declared.fault.CoreFault.TheVariants.{NoMemory}
 use Rattle.node_core.specs.Core.{Core}
 use Rattle.node_core.specs.Start.{down, alone}
 use Rattle.node_core.specs.State.{State, is_down}
 use Rattle.node_store.specs.declared.fault.StoreFault.{StoreFault}
 use Rattle.node_store.specs.declared.fault.StoreFault.TheVariants as by_store
+use Rattle.node_store.specs.Told.{IsMountFault}
 use Rattle.node_store.specs.Store.{StoreState, durable_of, slots_for, stands_for, AllStandFor, InStore}
 use Rattle.durable_node.specs.declared.fault.NodeFault.{NodeFault}
 use Rattle.durable_node.specs.declared.fault.NodeFault.TheVariants as node
-use Rattle.durable_node.specs.declared.step.Step.{Step}
+use Rattle.durable_node.specs.declared.came.Came.{Came}
 use Rattle.histories.specs.NodeState.{NodeState, settled}
-use Rattle.histories.specs.What.{What, Recovered, MountFailed, RaiseFailed, RaiseRefused}
+use Rattle.histories.specs.declared.what.What.{What}
+use Rattle.histories.specs.declared.what.What.TheVariants.{Did, Refused, Faulted, Rests, Crashed, Recovered, MountFailed, RaiseFailed, RaiseRefused}
+use Rattle.histories.specs.What.{command_of}
 use Rattle.histories.specs.After.{after}
 use Rattle.histories.specs.Possible.{IsSettling}
-use Rattle.durable_node.specs.Faults.{fault_for}
+use Rattle.durable_node.specs.Faults.{fault_for, fault_of, told, told_as}
 use Rattle.durable_node.specs.Carrying.{BeforeOrAfter}
-use Rattle.durable_node.specs.Node.{Node, told_doubt, disk_in, found_in, node_with, IsLeft, Stands}
-use Rattle.durable_node.specs.Stepping.{Does, Steps}
-use Rattle.durable_node.specs.Remounting.{IsRisen, IsRiseFailed, IsRiseRefused}
+use Rattle.durable_node.specs.Node.{Node, told_doubt, disk_in, kept_in, area_in, found_in, node_with, IsLeft, Stands}
+use Rattle.durable_node.specs.Stepping.{Does, IsSilent, IsUnmountable, Steps, Stuck}
+use Rattle.durable_node.specs.Remounting.{HasRisen, IsFoundBy, IsKeptIn, IsRisen, IsRiseFailed, IsRiseRefused, raise_by}
 use Rattle.durable_node.proofs.Mounts.{left_quiet, settles, left_by, left_in_doubt}
-use Rattle.durable_node.proofs.Serves.{is_device, up_kept}
+use Rattle.durable_node.proofs.Serves.{up_kept}
+use Rattle.durable_node.proofs.Settling.{settled_so}
 use Rattle.durable_node.proofs.Ignores.{not_up}
 
 down_phase : (id : ℕ) (s : State) → s ≡ down id → is_down s.phase ≡ true
@@ -39,29 +42,40 @@ down_phase id s is = ap (λ (v : State). is_down v.phase) is
 some_is : {Disk : Type 0} (x y : Disk) → Some x ≡ Some y → x ≡ y
 some_is x y e = cc
 
-module _ {Disk : Type 0} (disks : Disk → DiskState) (id nodes : ℕ) (core : Core) (disk : Option Disk) (store : Option (StoreState Disk)) (was : Disk) (doubt : Option (Wanted × ℕ)) (before : Option ℕ) where
-  -- the disk isn't mounted
-  pub mount_fails : disk_in disk store ≡ Some was → core.state ≡ down id → (fault : StoreFault) (back : Disk) → (disks back).sectors ≡ (disks was).sectors → (disks back).honest ≡ (disks was).honest
+kept_none : {Disk : Type 0} (b : Bool) (one two : Option (StoreState Disk)) → b ≡ true → kept_in b one ≡ kept_in b two
+kept_none true one two down = refl
+kept_none false one two down = absurd cc
+
+area_none : {Disk : Type 0} (b : Bool) (one two : Option (StoreState Disk)) → b ≡ true → area_in b one ≡ area_in b two
+area_none true one two down = refl
+area_none false one two down = absurd cc
+
+module _ {Disk : Type 0} (disks : Disk → DiskState) (id nodes : ℕ) (core : Core) (disk : Option Disk) (store gone : Option (StoreState Disk)) (was back : Disk) (doubt : Option (Wanted × ℕ)) (before found : Option ℕ) where
+  abbrev old_node : Node Disk
+  old_node = node_with id nodes core disk store doubt before
+
+  abbrev new_node : Node Disk
+  new_node = node_with id nodes core (Some back) gone doubt found
+
+  nothing_found : found ≡ None → found_in found gone ≡ None
+  nothing_found none = ap (λ (f : Option ℕ). found_in f gone) none
+
+  -- the device failed in the mounting
+  fails_as : disk_in disk store ≡ Some was → core.state ≡ down id → found ≡ None → (disks back).sectors ≡ (disks was).sectors → (disks back).honest ≡ (disks was).honest
       → (IsTrue (disks was).honest → Run nothing (disks was) (disks back))
-      → (IsTrue (disks was).honest → 24 ≤ (disks was).sectors
-      → ((image : Image) → IsImage (disks was) image → (state : Durable) × (stands_for (slots_for (disks was).sectors) image ≡ Some state))
-      → (fault ≡ by_store.Device) ⊎ (fault ≡ by_store.NoMemory))
-      → fault_for fault ≢ node.Core NoMemory
-      → Steps disks (node_with id nodes core disk store doubt before) (node_with id nodes core (Some back) None doubt None) Recover (Err (fault_for fault))
-  mount_fails placed is fault back sectors same run mounts memory now s at stands mounting =
-      let on : was ≡ now = some_is was now (sym placed ∙ at) in
-      let honest : IsTrue (disks was).honest = subst (λ (d : Disk). IsTrue (disks d).honest) (sym on) (mounting (down_phase id core.state is, refl)) in
+      → (came : Came) (what : What) → what ≡ MountFailed → IsSilent came → came.command ≡ None → (now : Disk) (s : NodeState) → Stands disks old_node s
+      → Does (slots_for (disks now).sectors) id nodes s Recover came (found_in found gone) what × Stands disks new_node (after id nodes s what)
+  fails_as placed is none sectors same run came what failed silent command now s stands =
       let left : IsLeft (disks was) s = stands.disk was placed in
-      let device : fault ≡ by_store.Device = ⊎_elim (λ e. e) (λ e. absurd (memory (ap (λ (f : StoreFault). fault_for f) e)))
-      (mounts honest left.sectors (λ image im. (let found = left.images honest image im in (settled found.0 s, found.2)))) in (
-        MountFailed,
+      subst (λ (w : What). Does (slots_for (disks now).sectors) id nodes s Recover came (found_in found gone) w × Stands disks new_node (after id nodes s w)) (sym failed) (
         record {
-          told = (refl, ap (λ (f : StoreFault). Err (fault_for f)) device);
+          of = refl;
           possible = down_phase id s.state (sym stands.state ∙ is);
           of_slots = tt;
-          sent = refl;
-          answer = refl;
-          mounted = refl;
+          command = ap (option_map command_of) command;
+          answer = silent.1;
+          sent = silent.0;
+          mounted = nothing_found none;
         },
         record {
           state = stands.state;
@@ -71,6 +85,67 @@ module _ {Disk : Type 0} (disks : Disk → DiskState) (id nodes : ℕ) (core : C
         },
       )
 
+  pub mount_fails : disk_in disk store ≡ Some was → core.state ≡ down id → found ≡ None → (disks back).sectors ≡ (disks was).sectors → (disks back).honest ≡ (disks was).honest
+      → (IsTrue (disks was).honest → Run nothing (disks was) (disks back))
+      → (told : NodeFault) (result : Result Came NodeFault) → IfOk result (λ came. (came.what ≡ MountFailed) × (told ≡ node.Device)) → IfOk result IsSilent → IfOk result (λ came. came.command ≡ None)
+      → IfOk result (Steps disks old_node new_node Recover)
+  mount_fails placed is none sectors same run told (Ok came) what silent command = λ now s at stands mounting.
+      fails_as placed is none sectors same run came came.what what.0 silent command now s stands
+  mount_fails placed is none sectors same run told (Err fault) what silent command = tt
+
+  -- what is refused leaves all but the disk
+  same_but : is_down core.state.phase ≡ true → found ≡ None → new_node ≡ record old_node { disk = Some back; found = None }
+  same_but fallen none = (λ i. record {
+    id = id;
+    nodes = nodes;
+    state = core.state;
+    disk = Some back;
+    kept = kept_none (is_down core.state.phase) gone store fallen i;
+    area = area_none (is_down core.state.phase) gone store fallen i;
+    doubt = doubt;
+    found = nothing_found none i;
+  })
+
+  -- each image of an honest disk that was left by a history stands for something
+  abbrev pub Mounts : StoreFault → Type 0
+  Mounts fault = IsTrue (disks was).honest → 24 ≤ (disks was).sectors
+      → ((image : Image) → IsImage (disks was) image → (state : Durable) × (stands_for (slots_for (disks was).sectors) image ≡ Some state))
+      → (fault ≡ by_store.Device) ⊎ (fault ≡ by_store.NoMemory)
+
+  unmountable : disk_in disk store ≡ Some was → is_down core.state.phase ≡ true → found ≡ None → (fault : StoreFault) → Mounts fault → (fault ≡ by_store.Device → ⊥) → (fault ≡ by_store.NoMemory → ⊥)
+      → IsUnmountable disks old_node new_node Recover
+  unmountable placed fallen none fault mounts not_device not_memory = record {
+    mounting = (fallen, refl);
+    strange = λ now s at stands honest. (let on : was ≡ now = some_is was now (sym placed ∙ at) in
+        let left : IsLeft (disks was) s = stands.disk was placed in
+        let so : IsTrue (disks was).honest = subst (λ (d : Disk). IsTrue (disks d).honest) (sym on) honest in
+        ⊎_elim not_device not_memory (mounts so left.sectors (λ image im. (let f = left.images so image im in (settled f.0 s, f.2)))));
+    same = same_but fallen none;
+  }
+
+  by_fault : disk_in disk store ≡ Some was → is_down core.state.phase ≡ true → found ≡ None → (fault : StoreFault) → IsMountFault fault → Mounts fault → (fault ≡ by_store.NoMemory → back ≡ was)
+      → fault_for fault ≢ node.Device → Stuck disks old_node new_node Recover (fault_for fault)
+  by_fault placed fallen none by_store.Device is mounts untouched other = absurd (other refl)
+  by_fault placed fallen none by_store.Broken is mounts untouched other = absurd (other refl)
+  by_fault placed fallen none by_store.Exhausted is mounts untouched other = absurd (⊎_elim (λ e. absurd cc) (λ m. ⊎_elim (λ e. absurd cc) (λ no. no) m) is)
+  by_fault placed fallen none by_store.NotFormatted is mounts untouched other = unmountable placed fallen none by_store.NotFormatted mounts (λ e. absurd cc) (λ e. absurd cc)
+  by_fault placed fallen none (by_store.Damaged sector) is mounts untouched other = unmountable placed fallen none (by_store.Damaged sector) mounts (λ e. absurd cc) (λ e. absurd cc)
+  by_fault placed fallen none by_store.Full is mounts untouched other = absurd (⊎_elim (λ e. absurd cc) (λ m. ⊎_elim (λ e. absurd cc) (λ no. no) m) is)
+  by_fault placed fallen none by_store.NoSuchJob is mounts untouched other = absurd (⊎_elim (λ e. absurd cc) (λ m. ⊎_elim (λ e. absurd cc) (λ no. absurd no) m) is)
+  by_fault placed fallen none by_store.NoMemory is mounts untouched other =
+      (refl, same_but fallen none ∙ (λ i. record old_node { disk = (ap (λ (d : Disk). Some d) (untouched refl) ∙ sym placed) i; found = None }))
+  by_fault placed fallen none by_store.TooSmall is mounts untouched other = unmountable placed fallen none by_store.TooSmall mounts (λ e. absurd cc) (λ e. absurd cc)
+
+  -- the disk isn't mounted
+  pub stuck : disk_in disk store ≡ Some was → is_down core.state.phase ≡ true → found ≡ None → (fault : StoreFault) → IsMountFault fault → Mounts fault
+      → ((fault ≡ by_store.TooSmall) ⊎ (fault ≡ by_store.NoMemory) → back ≡ was)
+      → (told : NodeFault) → told ≡ fault_for fault → (result : Result Came NodeFault) → IfErr result (λ why. (why ≡ told) × (told ≢ node.Device))
+      → IfErr result (Stuck disks old_node new_node Recover)
+  stuck placed fallen none fault is mounts untouched told of_fault (Ok came) err = tt
+  stuck placed fallen none fault is mounts untouched told of_fault (Err why) err =
+      subst (λ (f : NodeFault). Stuck disks old_node new_node Recover f) (sym (err.0 ∙ of_fault))
+      (by_fault placed fallen none fault is mounts (λ e. untouched (inr e)) (subst (λ (f : NodeFault). f ≢ node.Device) of_fault err.1))
+
 -- what was mounted is still shown after the raise
 pub found_risen : {Disk : Type 0} (d : Durable) (store : StoreState Disk) → durable_of store ≡ after_command d Raise → found_in (Some d.counter) (Some store) ≡ Some d
 found_risen d store is = (λ i. Some (record { counter = d.counter; next = ap (λ (e : Durable). e.next) is i; pending = ap (λ (e : Durable). e.pending) is i }))
@@ -79,22 +154,22 @@ pub found_still : {Disk : Type 0} (d : Durable) (store : StoreState Disk) → du
 found_still d store is = (λ i. Some (record { counter = d.counter; next = ap (λ (e : Durable). e.next) is i; pending = ap (λ (e : Durable). e.pending) is i }))
 
 module _ {Disk : Type 0} (disks : Disk → DiskState) (id nodes slots : ℕ) (core core' : Core) (disk : Option Disk) (store : Option (StoreState Disk)) (was : Disk) (mid end : StoreState Disk) (doubt doubt' : Option (Wanted × ℕ)) (before : Option ℕ) where
-  abbrev Ended : NodeState → Result Step NodeFault → Type 0
-  Ended s result = (what : What) × Does slots id nodes s Recover result (found_in (Some (durable_of mid).counter) (Some end)) what
+  abbrev Ended : NodeState → Came → What → Type 0
+  Ended s came what = Does slots id nodes s Recover came (found_in (Some (durable_of mid).counter) (Some end)) what
       × Stands disks (node_with id nodes core' None (Some end) doubt' (Some (durable_of mid).counter)) (after id nodes s what)
 
   recovered : (s : NodeState) → is_down s.state.phase ≡ true → (kept : Bool) → IsSettling kept s.doubt → durable_of mid ≡ settled kept s → slots ≡ slots_for (disks end.disk).sectors → 24 ≤ (disks end.disk).sectors
-      → (step : Step) → IsRisen id (durable_of mid) (durable_of end) core' doubt' step
-      → (IsTrue (disks end.disk).honest → AllStandFor slots (durable_of end) (disks end.disk)) → IsSound slots (disks end.disk) → Ended s (Ok step)
-  recovered s fallen kept settling is at enough step risen all sound =
+      → (came : Came) → IsRisen id (durable_of mid) (durable_of end) core' doubt' came → option_map command_of came.command ≡ Some Raise
+      → (IsTrue (disks end.disk).honest → AllStandFor slots (durable_of end) (disks end.disk)) → IsSound slots (disks end.disk) → Ended s came (Recovered kept)
+  recovered s fallen kept settling is at enough came risen command all sound =
       let kept_is : durable_of end ≡ after_command (settled kept s) Raise = risen.kept ∙ ap (λ (d : Durable). after_command d Raise) is in (
-        Recovered kept,
         record {
-          told = (refl, refl);
+          of = refl;
           possible = (fallen, settling, subst (λ (d : Durable). d.counter + 1 < 2 ^ 64) is risen.fits);
           of_slots = tt;
-          sent = risen.sent;
+          command = command;
           answer = risen.answer ∙ ap (λ (d : Durable). Some (d.counter + 1)) is;
+          sent = risen.sent;
           mounted = found_risen (durable_of mid) end risen.kept ∙ ap (λ (d : Durable). Some d) is;
         },
         record {
@@ -109,18 +184,18 @@ module _ {Disk : Type 0} (disks : Disk → DiskState) (id nodes slots : ℕ) (co
       )
 
   raise_failed : (s : NodeState) → core.state ≡ down id → core.state ≡ s.state → (kept : Bool) → IsSettling kept s.doubt → durable_of mid ≡ settled kept s → slots ≡ slots_for (disks end.disk).sectors → 24 ≤ (disks end.disk).sectors
-      → (disks end.disk).honest ≡ (disks mid.disk).honest → IsRiseFailed (durable_of mid) (durable_of end) core core' doubt'
+      → (disks end.disk).honest ≡ (disks mid.disk).honest → (came : Came) → IsRiseFailed (durable_of mid) (durable_of end) core core' doubt' → IsSilent came → option_map command_of came.command ≡ Some Raise
       → (IsTrue (disks mid.disk).honest → Run (InStore slots) (disks mid.disk) (disks end.disk))
       → (IsTrue (disks mid.disk).honest → Each (disks mid.disk) (disks end.disk) (BeforeOrAfter slots (durable_of mid) (Some Raise))) → IsSound slots (disks end.disk)
-      → Ended s (Err node.Device)
-  raise_failed s fallen stood kept settling is at enough honest failed run each sound = (
-    RaiseFailed kept,
+      → Ended s came (RaiseFailed kept)
+  raise_failed s fallen stood kept settling is at enough honest came failed silent command run each sound = (
     record {
-      told = (refl, refl);
+      of = refl;
       possible = (down_phase id s.state (sym stood ∙ fallen), settling, subst (λ (d : Durable). d.counter + 1 < 2 ^ 64) is failed.fits);
       of_slots = tt;
-      sent = refl;
-      answer = refl;
+      command = command;
+      answer = silent.1;
+      sent = silent.0;
       mounted = found_still (durable_of mid) end failed.kept ∙ ap (λ (d : Durable). Some d) is;
     },
     record {
@@ -136,15 +211,16 @@ module _ {Disk : Type 0} (disks : Disk → DiskState) (id nodes slots : ℕ) (co
   )
 
   raise_refused : (s : NodeState) → core.state ≡ down id → core.state ≡ s.state → doubt ≡ told_doubt s.durable s.doubt → (kept : Bool) → IsSettling kept s.doubt → durable_of mid ≡ settled kept s
-      → IsLeft (disks mid.disk) s → (fault : NodeFault) → IsRiseRefused (durable_of mid) fault → core'.state ≡ core.state → end ≡ mid → doubt' ≡ doubt → Ended s (Err fault)
-  raise_refused s fallen stood in_doubt kept settling is left fault refused same_core same_store same_doubt = (
-    RaiseRefused kept,
+      → IsLeft (disks mid.disk) s → (came : Came) → IsRiseRefused (durable_of mid) node.Exhausted → core'.state ≡ core.state → end ≡ mid → doubt' ≡ doubt → IsSilent came → option_map command_of came.command ≡ None
+      → Ended s came (RaiseRefused kept)
+  raise_refused s fallen stood in_doubt kept settling is left came refused same_core same_store same_doubt silent command = (
     record {
-      told = (refl, ap (λ (f : NodeFault). Err f) refused.told);
+      of = refl;
       possible = (down_phase id s.state (sym stood ∙ fallen), settling, subst (λ (d : Durable). d.counter ≡ 2 ^ 64 - 1) is refused.spent);
       of_slots = tt;
-      sent = refl;
-      answer = refl;
+      command = command;
+      answer = silent.1;
+      sent = silent.0;
       mounted = found_still (durable_of mid) end (ap (λ (st : StoreState Disk). durable_of st) same_store) ∙ ap (λ (d : Durable). Some d) is;
     },
     record {
@@ -155,34 +231,28 @@ module _ {Disk : Type 0} (disks : Disk → DiskState) (id nodes slots : ℕ) (co
     },
   )
 
-  by_fault : (s : NodeState) → core.state ≡ down id → core.state ≡ s.state → doubt ≡ told_doubt s.durable s.doubt → (kept : Bool) → IsSettling kept s.doubt → durable_of mid ≡ settled kept s
-      → slots ≡ slots_for (disks end.disk).sectors → 24 ≤ (disks end.disk).sectors → (disks end.disk).honest ≡ (disks mid.disk).honest → IsLeft (disks mid.disk) s
-      → (fault : NodeFault) → (fault ≡ node.Device) ⊎ (fault ≢ node.Device)
-      → (fault ≡ node.Device → IsRiseFailed (durable_of mid) (durable_of end) core core' doubt')
-      → (fault ≢ node.Device → IsRiseRefused (durable_of mid) fault × (core'.state ≡ core.state) × (end ≡ mid) × (doubt' ≡ doubt))
-      → (IsTrue (disks mid.disk).honest → Run (InStore slots) (disks mid.disk) (disks end.disk))
-      → (IsTrue (disks mid.disk).honest → Each (disks mid.disk) (disks end.disk) (BeforeOrAfter slots (durable_of mid) (Some Raise))) → IsSound slots (disks end.disk)
-      → Ended s (Err fault)
-  by_fault s fallen stood in_doubt kept settling is at enough honest left fault (inl device) failed refused run each sound =
-      subst (λ (f : NodeFault). Ended s (Err f)) (sym device) (raise_failed s fallen stood kept settling is at enough honest (failed device) run each sound)
-  by_fault s fallen stood in_doubt kept settling is at enough honest left fault (inr other) failed refused run each sound =
-      let r = refused other in
-      raise_refused s fallen stood in_doubt kept settling is left fault r.0 r.1 r.2 r.3
-
-  by_result : (s : NodeState) → core.state ≡ down id → core.state ≡ s.state → doubt ≡ told_doubt s.durable s.doubt → (kept : Bool) → IsSettling kept s.doubt → durable_of mid ≡ settled kept s
+  by_what : (s : NodeState) → core.state ≡ down id → core.state ≡ s.state → doubt ≡ told_doubt s.durable s.doubt → (kept : Bool) → IsSettling kept s.doubt → durable_of mid ≡ settled kept s
       → slots ≡ slots_for (disks end.disk).sectors → 24 ≤ (disks end.disk).sectors → (disks end.disk).honest ≡ (disks mid.disk).honest → IsTrue (disks mid.disk).honest → IsLeft (disks mid.disk) s
-      → (result : Result Step NodeFault)
-      → IfOk result (IsRisen id (durable_of mid) (durable_of end) core' doubt')
-      → (IsErrOf result node.Device → IsRiseFailed (durable_of mid) (durable_of end) core core' doubt')
-      → IfErr result (λ fault. fault ≢ node.Device → IsRiseRefused (durable_of mid) fault × (core'.state ≡ core.state) × (end ≡ mid) × (doubt' ≡ doubt))
+      → (came : Came) (what : What) → HasRisen id kept core core' mid end doubt doubt' came what → option_map command_of came.command ≡ raise_by what
       → (IsTrue (disks mid.disk).honest → Run (InStore slots) (disks mid.disk) (disks end.disk))
       → (IsTrue (disks mid.disk).honest → Each (disks mid.disk) (disks end.disk) (BeforeOrAfter slots (durable_of mid) (Some Raise)))
-      → (IsTrue (disks mid.disk).honest → IsOk result → AllStandFor slots (durable_of end) (disks end.disk)) → IsSound slots (disks end.disk)
-      → Ended s result
-  by_result s fallen stood in_doubt kept settling is at enough honest was_so left (Ok step) done failed refused run each all sound =
-      recovered s (down_phase id s.state (sym stood ∙ fallen)) kept settling is at enough step done (λ h. all was_so refl) sound
-  by_result s fallen stood in_doubt kept settling is at enough honest was_so left (Err fault) done failed refused run each all sound =
-      by_fault s fallen stood in_doubt kept settling is at enough honest left fault (is_device fault) (λ e. failed (ap (λ (f : NodeFault). Err f) e)) refused run each sound
+      → (IsTrue (disks mid.disk).honest → IsOk (told_as came (fault_of what)) → AllStandFor slots (durable_of end) (disks end.disk)) → IsSound slots (disks end.disk)
+      → Ended s came what
+  by_what s fallen stood in_doubt kept settling is at enough honest was_so left came (Recovered k) risen command run each all sound =
+      subst (λ (b : Bool). Ended s came (Recovered b)) (sym risen.0)
+      (recovered s (down_phase id s.state (sym stood ∙ fallen)) kept settling is at enough came risen.1 command (λ h. all was_so refl) sound)
+  by_what s fallen stood in_doubt kept settling is at enough honest was_so left came (RaiseFailed k) risen command run each all sound =
+      subst (λ (b : Bool). Ended s came (RaiseFailed b)) (sym risen.0)
+      (raise_failed s fallen stood kept settling is at enough honest came risen.1 risen.2 command run each sound)
+  by_what s fallen stood in_doubt kept settling is at enough honest was_so left came (RaiseRefused k) risen command run each all sound =
+      subst (λ (b : Bool). Ended s came (RaiseRefused b)) (sym risen.0)
+      (raise_refused s fallen stood in_doubt kept settling is left came risen.1 risen.2 risen.3 risen.4 risen.5 command)
+  by_what s fallen stood in_doubt kept settling is at enough honest was_so left came (Did e) risen command run each all sound = absurd risen
+  by_what s fallen stood in_doubt kept settling is at enough honest was_so left came (Refused e why) risen command run each all sound = absurd risen
+  by_what s fallen stood in_doubt kept settling is at enough honest was_so left came (Faulted e) risen command run each all sound = absurd risen
+  by_what s fallen stood in_doubt kept settling is at enough honest was_so left came (Rests rest) risen command run each all sound = absurd risen
+  by_what s fallen stood in_doubt kept settling is at enough honest was_so left came Crashed risen command run each all sound = absurd risen
+  by_what s fallen stood in_doubt kept settling is at enough honest was_so left came MountFailed risen command run each all sound = absurd risen
 
   -- the disk is mounted, and the raise is tried
   pub rises : disk_in disk store ≡ Some was → core.state ≡ down id → slots ≡ slots_for (disks was).sectors
@@ -190,43 +260,88 @@ module _ {Disk : Type 0} (disks : Disk → DiskState) (id nodes slots : ℕ) (co
       → (disks end.disk).sectors ≡ (disks mid.disk).sectors → (disks end.disk).honest ≡ (disks mid.disk).honest
       → (IsTrue (disks was).honest → Run nothing (disks was) (disks mid.disk))
       → (IsTrue (disks was).honest → AllStandFor slots (durable_of mid) (disks mid.disk))
-      → (result : Result Step NodeFault)
-      → IfOk result (IsRisen id (durable_of mid) (durable_of end) core' doubt')
-      → (IsErrOf result node.Device → IsRiseFailed (durable_of mid) (durable_of end) core core' doubt')
-      → IfErr result (λ fault. fault ≢ node.Device → IsRiseRefused (durable_of mid) fault × (core'.state ≡ core.state) × (end ≡ mid) × (doubt' ≡ doubt))
+      → (kept : Bool) → IsKeptIn doubt (durable_of mid) kept
+      → (came : Came) → HasRisen id kept core core' mid end doubt doubt' came came.what → option_map command_of came.command ≡ raise_by came.what
       → (IsTrue (disks mid.disk).honest → Run (InStore slots) (disks mid.disk) (disks end.disk))
       → (IsTrue (disks mid.disk).honest → AllStandFor slots (durable_of mid) (disks mid.disk) → Each (disks mid.disk) (disks end.disk) (BeforeOrAfter slots (durable_of mid) (Some Raise)))
-      → (IsTrue (disks mid.disk).honest → AllStandFor slots (durable_of mid) (disks mid.disk) → IsOk result → AllStandFor slots (durable_of end) (disks end.disk))
+      → (IsTrue (disks mid.disk).honest → AllStandFor slots (durable_of mid) (disks mid.disk) → IsOk (told (Ok came)) → AllStandFor slots (durable_of end) (disks end.disk))
       → IsSound slots (disks end.disk)
-      → Steps disks (node_with id nodes core disk store doubt before) (node_with id nodes core' None (Some end) doubt' (Some (durable_of mid).counter)) Recover result
-  rises placed fallen at sectors same sectors' same' quiet remains result done failed refused run each all sound now s found stands mounting =
+      → Steps disks (node_with id nodes core disk store doubt before) (node_with id nodes core' None (Some end) doubt' (Some (durable_of mid).counter)) Recover came
+  rises placed fallen at sectors same sectors' same' quiet remains flag flagged came risen command run each all sound now s found stands mounting =
       let on : was ≡ now = some_is was now (sym placed ∙ found) in
       let honest : IsTrue (disks was).honest = subst (λ (d : Disk). IsTrue (disks d).honest) (sym on) (mounting (down_phase id core.state fallen, refl)) in
       let honest_mid : IsTrue (disks mid.disk).honest = subst (λ (b : Bool). IsTrue b) (sym same) honest in
       let left : IsLeft (disks was) s = stands.disk was placed in
       let kept = settles (disks was) (disks mid.disk) s (durable_of mid) honest (quiet honest) left
       (subst (λ (n : ℕ). AllStandFor n (durable_of mid) (disks mid.disk)) at (remains honest)) in
+      let so = settled_so s (durable_of mid) flag kept.0 (subst (λ (o : Option (Wanted × ℕ)). IsKeptIn o (durable_of mid) flag) stands.doubt flagged) kept.1 kept.2 in
       let left_mid = left_quiet (disks was) (disks mid.disk) s sectors same quiet left in
       let at_end : slots ≡ slots_for (disks end.disk).sectors = at ∙ ap (λ (n : ℕ). slots_for n) (sym (sectors' ∙ sectors)) in
-      subst (λ (n : ℕ). (what : What) × Does n id nodes s Recover result (found_in (Some (durable_of mid).counter) (Some end)) what
-      × Stands disks (node_with id nodes core' None (Some end) doubt' (Some (durable_of mid).counter)) (after id nodes s what))
+      subst (λ (n : ℕ). Does n id nodes s Recover came (found_in (Some (durable_of mid).counter) (Some end)) came.what
+      × Stands disks (node_with id nodes core' None (Some end) doubt' (Some (durable_of mid).counter)) (after id nodes s came.what))
       (at ∙ ap (λ (d : Disk). slots_for (disks d).sectors) on)
-      (by_result s fallen stands.state stands.doubt kept.0 kept.1 kept.2 at_end (omega (arith, left_mid.sectors, sectors')) same' honest_mid left_mid result done failed refused run
+      (by_what s fallen stands.state stands.doubt flag so.0 so.1 at_end (omega (arith, left_mid.sectors, sectors')) same' honest_mid left_mid came came.what risen command run
       (λ h. each h (remains honest)) (λ h. all h (remains honest)) sound)
 
--- the parts as a recovery that mounts leaves them
-pub mount_fails_at : {Disk : Type 0} (disks : Disk → DiskState) (id nodes : ℕ) (core : Core) (disk : Option Disk) (store gone : Option (StoreState Disk)) (was back : Disk) (doubt : Option (Wanted × ℕ)) (before found : Option ℕ) (fault : StoreFault) (told : NodeFault)
-    → gone ≡ None → found ≡ None → told ≡ fault_for fault
-    → disk_in disk store ≡ Some was → core.state ≡ down id → (disks back).sectors ≡ (disks was).sectors → (disks back).honest ≡ (disks was).honest
-    → (IsTrue (disks was).honest → Run nothing (disks was) (disks back))
-    → (IsTrue (disks was).honest → 24 ≤ (disks was).sectors
-    → ((image : Image) → IsImage (disks was) image → (state : Durable) × (stands_for (slots_for (disks was).sectors) image ≡ Some state))
-    → (fault ≡ by_store.Device) ⊎ (fault ≡ by_store.NoMemory))
-    → told ≢ node.Core NoMemory
-    → Steps disks (node_with id nodes core disk store doubt before) (node_with id nodes core (Some back) gone doubt found) Recover (Err told)
-mount_fails_at {Disk} disks id nodes core disk store gone was back doubt before found fault told none none_found is placed fallen sectors same run mounts memory =
-    let old : Node Disk = node_with id nodes core disk store doubt before in
-    subst (λ (st : Option (StoreState Disk)). Steps disks old (node_with id nodes core (Some back) st doubt found) Recover (Err told)) (sym none)
-    (subst (λ (f : Option ℕ). Steps disks old (node_with id nodes core (Some back) None doubt f) Recover (Err told)) (sym none_found)
-    (subst (λ (f : NodeFault). Steps disks old (node_with id nodes core (Some back) None doubt None) Recover (Err f)) (sym is)
-    (mount_fails disks id nodes core disk store was doubt before placed fallen fault back sectors same run mounts (subst (λ (f : NodeFault). f ≢ node.Core NoMemory) is memory))))
+-- ---- what a caller is told of the raise
+
+module _ {Disk : Type 0} (id : ℕ) (kept : Bool) (core core' : Core) (mid end : StoreState Disk) (doubt doubt' : Option (Wanted × ℕ)) where
+  abbrev Told : Result Came NodeFault → Type 0
+  Told result = IfOk result (IsRisen id (durable_of mid) (durable_of end) core' doubt')
+      × (IsErrOf result node.Device → IsRiseFailed (durable_of mid) (durable_of end) core core' doubt')
+      × IfErr result (λ fault. fault ≢ node.Device → IsRiseRefused (durable_of mid) fault × (core'.state ≡ core.state) × (end ≡ mid) × (doubt' ≡ doubt))
+
+  told_by_what : (came : Came) (what : What) → HasRisen id kept core core' mid end doubt doubt' came what → Told (told_as came (fault_of what))
+  told_by_what came (Recovered k) is = (is.1, λ device. absurd cc, tt)
+  told_by_what came (RaiseFailed k) is = (tt, λ device. is.1, λ other. absurd (other refl))
+  told_by_what came (RaiseRefused k) is = (tt, λ device. absurd cc, λ other. (is.1, is.2, is.3, is.4))
+  told_by_what came (Did e) is = absurd is
+  told_by_what came (Refused e why) is = absurd is
+  told_by_what came (Faulted e) is = absurd is
+  told_by_what came (Rests rest) is = absurd is
+  told_by_what came Crashed is = absurd is
+  told_by_what came MountFailed is = absurd is
+
+  pub rise_told : (came : Came) → HasRisen id kept core core' mid end doubt doubt' came came.what → Told (told (Ok came))
+  rise_told came is = told_by_what came came.what is
+
+  found_as : (came : Came) (what : What) (d : Durable) → HasRisen id kept core core' mid end doubt doubt' came what → IsKeptIn doubt d kept → IsFoundBy doubt what (Some d)
+  found_as came (Recovered k) d is flagged = subst (λ (b : Bool). IsKeptIn doubt d b) (sym is.0) flagged
+  found_as came (RaiseFailed k) d is flagged = subst (λ (b : Bool). IsKeptIn doubt d b) (sym is.0) flagged
+  found_as came (RaiseRefused k) d is flagged = subst (λ (b : Bool). IsKeptIn doubt d b) (sym is.0) flagged
+  found_as came (Did e) d is flagged = absurd is
+  found_as came (Refused e why) d is flagged = absurd is
+  found_as came (Faulted e) d is flagged = absurd is
+  found_as came (Rests rest) d is flagged = absurd is
+  found_as came Crashed d is flagged = absurd is
+  found_as came MountFailed d is flagged = absurd is
+
+  silent_as : (came : Came) (what : What) → HasRisen id kept core core' mid end doubt doubt' came what → came.sent.items ≡ []
+  silent_as came (Recovered k) is = is.1.sent
+  silent_as came (RaiseFailed k) is = is.2.0
+  silent_as came (RaiseRefused k) is = is.5.0
+  silent_as came (Did e) is = absurd is
+  silent_as came (Refused e why) is = absurd is
+  silent_as came (Faulted e) is = absurd is
+  silent_as came (Rests rest) is = absurd is
+  silent_as came Crashed is = absurd is
+  silent_as came MountFailed is = absurd is
+
+  pub rise_silent : (came : Came) → HasRisen id kept core core' mid end doubt doubt' came came.what → came.sent.items ≡ []
+  rise_silent came is = silent_as came came.what is
+
+  found_mid : (what : What) (came : Came) → HasRisen id kept core core' mid end doubt doubt' came what → found_in (Some (durable_of mid).counter) (Some end) ≡ Some (durable_of mid)
+  found_mid (Recovered k) came is = found_risen (durable_of mid) end is.1.kept
+  found_mid (RaiseFailed k) came is = found_still (durable_of mid) end is.1.kept
+  found_mid (RaiseRefused k) came is = found_still (durable_of mid) end (ap (λ (st : StoreState Disk). durable_of st) is.3)
+  found_mid (Did e) came is = absurd is
+  found_mid (Refused e why) came is = absurd is
+  found_mid (Faulted e) came is = absurd is
+  found_mid (Rests rest) came is = absurd is
+  found_mid Crashed came is = absurd is
+  found_mid MountFailed came is = absurd is
+
+  -- what was found is told
+  pub found_kept : (came : Came) → HasRisen id kept core core' mid end doubt doubt' came came.what → IsKeptIn doubt (durable_of mid) kept
+      → IsFoundBy doubt came.what (found_in (Some (durable_of mid).counter) (Some end))
+  found_kept came is flagged = subst (λ (f : Option Durable). IsFoundBy doubt came.what f) (sym (found_mid came.what came is)) (found_as came came.what (durable_of mid) is flagged)

@@ -1,5 +1,5 @@
 -- What a node that is up does with an event.
-use Rattle.std.proofs.Common.{◌≡◌, ◌≢◌, ◌≤◌, ◌⊎◌, inl, inr, ℕ, true, false, Bool, Option, Some, None, Result, Ok, Err, sym, ◌∙◌, ap, subst, refl, arith, IsTrue, IsFalse}
+use Rattle.std.proofs.Common.{◌≡◌, ◌≢◌, ◌≤◌, ◌⊎◌, inl, inr, ℕ, true, false, Bool, Option, Some, None, option_map, Result, Ok, Err, sym, ◌∙◌, ap, subst, refl, arith, IsTrue, IsFalse}
 use Rattle.std.specs.Prelude.{IsOk, IfOk, IfErr, IsErrOf}
 use Rattle.sector_disk.specs.Disk.{DiskState}
 use Rattle.sector_disk.specs.Run.{Run, Each}
@@ -9,7 +9,6 @@ use Rattle.job_journal.specs.Journal.{IsSound}
 use Rattle.node_core.specs.declared.durable.Durable.{Durable as Wanted}
 use Rattle.node_core.specs.declared.event.Event.{Event}
 use Rattle.node_core.specs.declared.event.Event.TheVariants.{CheckTimer, MergeTimer, AcceptTimer, ReadyTimer, CoordTimer, DispatchTimer, Deliver, Submit, Finish, Recover}
-use Rattle.node_core.specs.declared.fault.CoreFault.TheVariants.{NoMemory}
 use Rattle.node_core.specs.Core.{Core}
 use Rattle.node_core.specs.Effect.{Effect}
 use Rattle.node_core.specs.Start.{down}
@@ -18,14 +17,19 @@ use Rattle.node_core.specs.Wants.{wants_of}
 use Rattle.node_store.specs.Store.{StoreState, durable_of, slots_for, AllStandFor, InStore}
 use Rattle.durable_node.specs.declared.fault.NodeFault.{NodeFault}
 use Rattle.durable_node.specs.declared.fault.NodeFault.TheVariants as node
-use Rattle.durable_node.specs.declared.step.Step.{Step}
+use Rattle.durable_node.specs.declared.came.Came.{Came}
 use Rattle.histories.specs.NodeState.{NodeState}
-use Rattle.histories.specs.What.{What, Did, Refused, Faulted}
+use Rattle.histories.specs.declared.what.What.{What}
+use Rattle.histories.specs.declared.what.What.TheVariants.{Did, Refused, Faulted, Rests, Crashed, Recovered, MountFailed, RaiseFailed, RaiseRefused}
+use Rattle.histories.specs.declared.what.Refusal.{Refusal}
+use Rattle.histories.specs.declared.what.Refusal.TheVariants as refusal
+use Rattle.histories.specs.What.{command_of, reason_of}
 use Rattle.histories.specs.After.{after}
 use Rattle.histories.specs.Possible.{IsForNode}
 use Rattle.durable_node.specs.Carrying.{BeforeOrAfter}
 use Rattle.durable_node.specs.Node.{told_doubt, kept_in, node_with, IsPlaced, IsLeft, Stands}
-use Rattle.durable_node.specs.Stepping.{IsDone, IsFailed, IsTurnedAway, Does, Steps}
+use Rattle.durable_node.specs.Stepping.{IsDone, IsFailed, IsTurnedAway, IsServed, IsSilent, Does, Steps, command_by}
+use Rattle.durable_node.specs.Faults.{fault_of, shown, told, told_as}
 use Rattle.durable_node.proofs.Mounts.{stands_all, left_by, left_in_doubt}
 
 -- where a node is up, each event is one for it
@@ -50,6 +54,12 @@ is_device node.NotFormatted = inr (λ e. absurd cc)
 is_device (node.Damaged sector) = inr (λ e. absurd cc)
 is_device node.TooSmall = inr (λ e. absurd cc)
 
+pub not_device : (why : Refusal) → shown (reason_of why) ≢ node.Device
+not_device (refusal.Core fault) is = cc
+not_device refusal.Full is = cc
+not_device refusal.Exhausted is = cc
+not_device refusal.Worn is = cc
+
 pub kept_up : {Disk : Type 0} (b : Bool) (store : StoreState Disk) (d : Durable) → b ≡ false → kept_in b (Some store) ≡ Some d → durable_of store ≡ d
 kept_up true store d up h = absurd cc
 kept_up false store d up h = cc
@@ -69,19 +79,20 @@ module _ {Disk : Type 0} (disks : Disk → DiskState) (id nodes : ℕ) (core cor
   abbrev slots : ℕ
   slots = slots_for (disks store.disk).sectors
 
+  abbrev Ended : Came → What → Type 0
+  Ended came what = Does slots id nodes (up_at core store) event came None what × Stands disks (node_with id nodes core' None (Some store') doubt' None) (after id nodes (up_at core store) what)
+
   served_ok : is_down core.state.phase ≡ false → is_down core'.state.phase ≡ false → 24 ≤ (disks store'.disk).sectors → (disks store'.disk).sectors ≡ (disks store.disk).sectors
-      → doubt ≡ None → doubt' ≡ doubt → (step : Step) → IsDone slots nodes id core.state (durable_of store) event core'.state (durable_of store') step
-      → (IsTrue (disks store'.disk).honest → AllStandFor slots (durable_of store') (disks store'.disk)) → IsSound slots (disks store'.disk)
-      → (what : What) × Does slots id nodes (up_at core store) event (Ok step) None what
-      × Stands disks (node_with id nodes core' None (Some store') doubt' None) (after id nodes (up_at core store) what)
-  served_ok up up' enough sectors none same step done all sound = (
-    Did event,
+      → doubt ≡ None → doubt' ≡ doubt → (came : Came) → IsDone slots nodes id core.state (durable_of store) event core'.state (durable_of store') came → option_map command_of came.command ≡ wants
+      → (IsTrue (disks store'.disk).honest → AllStandFor slots (durable_of store') (disks store'.disk)) → IsSound slots (disks store'.disk) → Ended came (Did event)
+  served_ok up up' enough sectors none same came done command all sound = (
     record {
-      told = (refl, refl);
+      of = refl;
       possible = (for_node core.state event up, done.handled.taken);
       of_slots = done.fits;
-      sent = ap (λ (e : Effect). e.sent) (sym done.handled.effect);
+      command = command;
       answer = done.answer;
+      sent = ap (λ (e : Effect). e.sent) (sym done.handled.effect);
       mounted = refl;
     },
     record {
@@ -98,19 +109,17 @@ module _ {Disk : Type 0} (disks : Disk → DiskState) (id nodes : ℕ) (core cor
   )
 
   served_failed : is_down core.state.phase ≡ false → 24 ≤ (disks store'.disk).sectors → (disks store'.disk).sectors ≡ (disks store.disk).sectors → (disks store'.disk).honest ≡ (disks store.disk).honest
-      → core'.state ≡ down id → doubt' ≡ told_doubt (durable_of store) wants → IsFailed slots nodes id core.state (durable_of store) event
+      → core'.state ≡ down id → doubt' ≡ told_doubt (durable_of store) wants → (came : Came) → IsFailed slots nodes id core.state (durable_of store) event → IsSilent came → option_map command_of came.command ≡ wants
       → (IsTrue (disks store.disk).honest → Run (InStore slots) (disks store.disk) (disks store'.disk))
-      → (IsTrue (disks store.disk).honest → Each (disks store.disk) (disks store'.disk) (BeforeOrAfter slots (durable_of store) wants)) → IsSound slots (disks store'.disk)
-      → (what : What) × Does slots id nodes (up_at core store) event (Err node.Device) None what
-      × Stands disks (node_with id nodes core' None (Some store') doubt' None) (after id nodes (up_at core store) what)
-  served_failed up enough sectors honest fallen told failed run each sound = (
-    Faulted event,
+      → (IsTrue (disks store.disk).honest → Each (disks store.disk) (disks store'.disk) (BeforeOrAfter slots (durable_of store) wants)) → IsSound slots (disks store'.disk) → Ended came (Faulted event)
+  served_failed up enough sectors honest fallen told came failed silent command run each sound = (
     record {
-      told = (refl, refl);
+      of = refl;
       possible = ((for_node core.state event up, failed.taken), failed.wanted);
       of_slots = failed.fits;
-      sent = refl;
-      answer = refl;
+      command = command;
+      answer = silent.1;
+      sent = silent.0;
       mounted = refl;
     },
     record {
@@ -126,17 +135,16 @@ module _ {Disk : Type 0} (disks : Disk → DiskState) (id nodes : ℕ) (core cor
   )
 
   served_refused : is_down core.state.phase ≡ false → core'.state ≡ core.state → store' ≡ store → doubt ≡ None → doubt' ≡ doubt
-      → (fault : NodeFault) → IsTurnedAway slots nodes id core.state (durable_of store) event fault → IsLeft (disks store.disk) (up_at core store)
-      → (what : What) × Does slots id nodes (up_at core store) event (Err fault) None what
-      × Stands disks (node_with id nodes core' None (Some store') doubt' None) (after id nodes (up_at core store) what)
-  served_refused up same same_store none same_doubt fault turned left = (
-    Refused event turned.why,
+      → (came : Came) (why : Refusal) → IsTurnedAway slots nodes id core.state (durable_of store) event (reason_of why) → IsSilent came → option_map command_of came.command ≡ None → IsLeft (disks store.disk) (up_at core store)
+      → Ended came (Refused event why)
+  served_refused up same same_store none same_doubt came why turned silent command left = (
     record {
-      told = (refl, ap (λ (f : NodeFault). Err f) turned.is_shown);
+      of = refl;
       possible = (for_node core.state event up, turned.refused);
       of_slots = turned.of_slots;
-      sent = refl;
-      answer = refl;
+      command = command;
+      answer = silent.1;
+      sent = silent.0;
       mounted = refl;
     },
     record {
@@ -148,109 +156,103 @@ module _ {Disk : Type 0} (disks : Disk → DiskState) (id nodes : ℕ) (core cor
     },
   )
 
-  by_fault : is_down core.state.phase ≡ false → 24 ≤ (disks store'.disk).sectors → (disks store'.disk).sectors ≡ (disks store.disk).sectors → (disks store'.disk).honest ≡ (disks store.disk).honest
-      → doubt ≡ None → (fault : NodeFault) → fault ≢ node.Core NoMemory
-      → (IsErrOf {T = Step} (Err fault) node.Device → IsFailed slots nodes id core.state (durable_of store) event)
-      → (IsErrOf {T = Step} (Err fault) node.Device → (core'.state ≡ down id) × (doubt' ≡ told_doubt (durable_of store) wants))
-      → (fault ≢ node.Device → (core'.state ≡ core.state) × (store' ≡ store) × (doubt' ≡ doubt))
-      → (fault ≢ node.Device → fault ≢ node.Core NoMemory → IsTurnedAway slots nodes id core.state (durable_of store) event fault)
-      → (IsTrue (disks store.disk).honest → Run (InStore slots) (disks store.disk) (disks store'.disk))
-      → (IsTrue (disks store.disk).honest → Each (disks store.disk) (disks store'.disk) (BeforeOrAfter slots (durable_of store) wants)) → IsSound slots (disks store'.disk)
-      → IsLeft (disks store.disk) (up_at core store)
-      → (fault ≡ node.Device) ⊎ (fault ≢ node.Device)
-      → (what : What) × Does slots id nodes (up_at core store) event (Err fault) None what
-      × Stands disks (node_with id nodes core' None (Some store') doubt' None) (after id nodes (up_at core store) what)
-  by_fault up enough sectors honest none fault memory failed fallen unchanged refused run each sound left (inl is) =
-      let f : IsErrOf {T = Step} (Err fault) node.Device = ap (λ (e : NodeFault). Err e) is in
-      subst (λ (e : NodeFault). (what : What) × Does slots id nodes (up_at core store) event (Err e) None what
-      × Stands disks (node_with id nodes core' None (Some store') doubt' None) (after id nodes (up_at core store) what)) (sym is)
-      (served_failed up enough sectors honest (fallen f).0 (fallen f).1 (failed f) run each sound)
-  by_fault up enough sectors honest none fault memory failed fallen unchanged refused run each sound left (inr is) =
-      let same = unchanged is in
-      served_refused up same.0 same.1 none same.2 fault (refused is memory) left
-
-  by_result : is_down core.state.phase ≡ false → (result : Result Step NodeFault) → (IsOk result → is_down core'.state.phase ≡ false)
-      → 24 ≤ (disks store'.disk).sectors → (disks store'.disk).sectors ≡ (disks store.disk).sectors → (disks store'.disk).honest ≡ (disks store.disk).honest
-      → doubt ≡ None → result ≢ Err (node.Core NoMemory)
-      → IfOk result (IsDone slots nodes id core.state (durable_of store) event core'.state (durable_of store'))
-      → (IsOk result → IsFalse store'.broken × (doubt' ≡ doubt))
-      → (IsErrOf result node.Device → IsFailed slots nodes id core.state (durable_of store) event)
-      → (IsErrOf result node.Device → (core'.state ≡ down id) × (doubt' ≡ told_doubt (durable_of store) wants))
-      → IfErr result (λ fault. fault ≢ node.Device → (core'.state ≡ core.state) × (store' ≡ store) × (doubt' ≡ doubt))
-      → IfErr result (λ fault. fault ≢ node.Device → fault ≢ node.Core NoMemory → IsTurnedAway slots nodes id core.state (durable_of store) event fault)
+  by_what : is_down core.state.phase ≡ false → 24 ≤ (disks store'.disk).sectors → (disks store'.disk).sectors ≡ (disks store.disk).sectors → (disks store'.disk).honest ≡ (disks store.disk).honest
+      → doubt ≡ None → (came : Came) (what : What) → IsServed slots nodes id core.state (durable_of store) event core'.state (durable_of store') came what → option_map command_of came.command ≡ command_by wants what
+      → (IsOk (told_as came (fault_of what)) → is_down core'.state.phase ≡ false)
+      → (IsOk (told_as came (fault_of what)) → IsFalse store'.broken × (doubt' ≡ doubt))
+      → (IsErrOf (told_as came (fault_of what)) node.Device → (core'.state ≡ down id) × (doubt' ≡ told_doubt (durable_of store) wants))
+      → IfErr (told_as came (fault_of what)) (λ fault. fault ≢ node.Device → (core'.state ≡ core.state) × (store' ≡ store) × (doubt' ≡ doubt))
       → (IsTrue (disks store.disk).honest → Run (InStore slots) (disks store.disk) (disks store'.disk))
       → (IsTrue (disks store.disk).honest → Each (disks store.disk) (disks store'.disk) (BeforeOrAfter slots (durable_of store) wants))
-      → (IsTrue (disks store.disk).honest → IsOk result → AllStandFor slots (durable_of store') (disks store'.disk))
-      → IsSound slots (disks store'.disk) → IsLeft (disks store.disk) (up_at core store)
-      → (what : What) × Does slots id nodes (up_at core store) event result None what
-      × Stands disks (node_with id nodes core' None (Some store') doubt' None) (after id nodes (up_at core store) what)
-  by_result up (Ok step) up' enough sectors honest none memory done whole failed fallen unchanged refused run each all sound left =
-      served_ok up (up' refl) enough sectors none (whole refl).1 step done (λ h. all (subst (λ (b : Bool). IsTrue b) honest h) refl) sound
-  by_result up (Err fault) up' enough sectors honest none memory done whole failed fallen unchanged refused run each all sound left =
-      by_fault up enough sectors honest none fault (λ e. memory (ap (λ (f : NodeFault). Err f) e)) failed fallen unchanged refused run each sound left (is_device fault)
+      → (IsTrue (disks store.disk).honest → IsOk (told_as came (fault_of what)) → AllStandFor slots (durable_of store') (disks store'.disk))
+      → IsSound slots (disks store'.disk) → IsLeft (disks store.disk) (up_at core store) → Ended came what
+  by_what up enough sectors honest none came (Did e) is command up' whole fallen unchanged run each all sound left =
+      subst (λ (v : Event). Ended came (Did v)) (sym is.0)
+      (served_ok up (up' refl) enough sectors none (whole refl).1 came is.1 command (λ h. all (subst (λ (b : Bool). IsTrue b) honest h) refl) sound)
+  by_what up enough sectors honest none came (Refused e why) is command up' whole fallen unchanged run each all sound left =
+      let same = unchanged (not_device why) in
+      subst (λ (v : Event). Ended came (Refused v why)) (sym is.0) (served_refused up same.0 same.1 none same.2 came why is.1 is.2 command left)
+  by_what up enough sectors honest none came (Faulted e) is command up' whole fallen unchanged run each all sound left =
+      let down = fallen refl in
+      subst (λ (v : Event). Ended came (Faulted v)) (sym is.0) (served_failed up enough sectors honest down.0 down.1 came is.1 is.2 command run each sound)
+  by_what up enough sectors honest none came (Rests rest) is command up' whole fallen unchanged run each all sound left = absurd is
+  by_what up enough sectors honest none came Crashed is command up' whole fallen unchanged run each all sound left = absurd is
+  by_what up enough sectors honest none came (Recovered kept) is command up' whole fallen unchanged run each all sound left = absurd is
+  by_what up enough sectors honest none came MountFailed is command up' whole fallen unchanged run each all sound left = absurd is
+  by_what up enough sectors honest none came (RaiseFailed kept) is command up' whole fallen unchanged run each all sound left = absurd is
+  by_what up enough sectors honest none came (RaiseRefused kept) is command up' whole fallen unchanged run each all sound left = absurd is
 
-  pub serves : is_down core.state.phase ≡ false → (result : Result Step NodeFault) → (IsOk result → is_down core'.state.phase ≡ false)
+  abbrev Facts : ℕ → Came → Type 0 → Type 0
+  Facts n came P =
+      is_down core.state.phase ≡ false → (IsOk (told (Ok came)) → is_down core'.state.phase ≡ false)
       → (disks store'.disk).sectors ≡ (disks store.disk).sectors → (disks store'.disk).honest ≡ (disks store.disk).honest
-      → result ≢ Err (node.Core NoMemory)
-      → IfOk result (IsDone slots nodes id core.state (durable_of store) event core'.state (durable_of store'))
-      → (IsOk result → IsFalse store'.broken × (doubt' ≡ doubt))
-      → (IsErrOf result node.Device → IsFailed slots nodes id core.state (durable_of store) event)
-      → (IsErrOf result node.Device → (core'.state ≡ down id) × (doubt' ≡ told_doubt (durable_of store) wants))
-      → IfErr result (λ fault. fault ≢ node.Device → (core'.state ≡ core.state) × (store' ≡ store) × (doubt' ≡ doubt))
-      → IfErr result (λ fault. fault ≢ node.Device → fault ≢ node.Core NoMemory → IsTurnedAway slots nodes id core.state (durable_of store) event fault)
-      → (IsTrue (disks store.disk).honest → Run (InStore slots) (disks store.disk) (disks store'.disk))
-      → (IsTrue (disks store.disk).honest → AllStandFor slots (durable_of store) (disks store.disk)
-      → Each (disks store.disk) (disks store'.disk) (BeforeOrAfter slots (durable_of store) wants))
-      → (IsTrue (disks store.disk).honest → AllStandFor slots (durable_of store) (disks store.disk) → IsOk result → AllStandFor slots (durable_of store') (disks store'.disk))
-      → IsSound slots (disks store'.disk)
-      → Steps disks (node_with id nodes core None (Some store) doubt was) (node_with id nodes core' None (Some store') doubt' None) event result
-  serves up result up' sectors honest memory done whole failed fallen unchanged refused run each all sound disk s at stands mounting =
+      → IsServed n nodes id core.state (durable_of store) event core'.state (durable_of store') came came.what → option_map command_of came.command ≡ command_by wants came.what
+      → (IsOk (told (Ok came)) → IsFalse store'.broken × (doubt' ≡ doubt))
+      → (IsErrOf (told (Ok came)) node.Device → (core'.state ≡ down id) × (doubt' ≡ told_doubt (durable_of store) wants))
+      → IfErr (told (Ok came)) (λ fault. fault ≢ node.Device → (core'.state ≡ core.state) × (store' ≡ store) × (doubt' ≡ doubt))
+      → (IsTrue (disks store.disk).honest → Run (InStore n) (disks store.disk) (disks store'.disk))
+      → (IsTrue (disks store.disk).honest → AllStandFor n (durable_of store) (disks store.disk)
+      → Each (disks store.disk) (disks store'.disk) (BeforeOrAfter n (durable_of store) wants))
+      → (IsTrue (disks store.disk).honest → AllStandFor n (durable_of store) (disks store.disk) → IsOk (told (Ok came)) → AllStandFor n (durable_of store') (disks store'.disk))
+      → IsSound n (disks store'.disk) → P
+
+  pub serves : (came : Came) → Facts slots came (Steps disks (node_with id nodes core None (Some store) doubt was) (node_with id nodes core' None (Some store') doubt' None) event came)
+  serves came up up' sectors honest done command whole fallen unchanged run each all sound disk s at stands mounting =
       let kept = stands.up up in
       let is : up_at core store ≡ s = (λ i. record { state = stands.state i; durable = kept_up (is_down core.state.phase) store s.durable up kept.0 i; doubt = sym kept.1 i }) in
       let on : store.disk ≡ disk = cc in
       let left : IsLeft (disks store.disk) (up_at core store) = subst (λ (t : NodeState). IsLeft (disks store.disk) t) (sym is) (stands.disk store.disk refl) in
       let stood = stands_all (disks store.disk) (up_at core store) refl left in
       let none : doubt ≡ None = subst (λ (t : NodeState). doubt ≡ told_doubt t.durable t.doubt) (sym is) stands.doubt in
-      subst (λ (d : Disk). (what : What) × Does (slots_for (disks d).sectors) id nodes s event result None what
-      × Stands disks (node_with id nodes core' None (Some store') doubt' None) (after id nodes s what)) on
-      (subst (λ (t : NodeState). (what : What) × Does slots id nodes t event result None what
-      × Stands disks (node_with id nodes core' None (Some store') doubt' None) (after id nodes t what)) is
-      (by_result up result up' (omega (arith, left.sectors, sectors)) sectors honest none memory done whole failed fallen unchanged refused run
+      subst (λ (d : Disk). Does (slots_for (disks d).sectors) id nodes s event came None came.what
+      × Stands disks (node_with id nodes core' None (Some store') doubt' None) (after id nodes s came.what)) on
+      (subst (λ (t : NodeState). Does slots id nodes t event came None came.what
+      × Stands disks (node_with id nodes core' None (Some store') doubt' None) (after id nodes t came.what)) is
+      (by_what up (omega (arith, left.sectors, sectors)) sectors honest none came came.what done command up' whole fallen unchanged run
       (λ h. each h (stood h)) (λ h. all h (stood h)) sound left))
 
 -- the same, wherever the parts of the node say that its disk is
-pub serves_at : {Disk : Type 0} (disks : Disk → DiskState) (id nodes slots : ℕ) (core core' : Core) (disk : Option Disk) (store store' : StoreState Disk) (doubt doubt' : Option (Wanted × ℕ)) (was : Option ℕ) (event : Event)
-    → IsPlaced disk (Some store) → slots ≡ slots_for (disks store.disk).sectors
-    → is_down core.state.phase ≡ false → (result : Result Step NodeFault) → (IsOk result → is_down core'.state.phase ≡ false)
+pub serves_at : {Disk : Type 0} (disks : Disk → DiskState) (id nodes size : ℕ) (core core' : Core) (disk : Option Disk) (store store' : StoreState Disk) (doubt doubt' : Option (Wanted × ℕ)) (was : Option ℕ) (event : Event) (came : Came)
+    → IsPlaced disk (Some store) → size ≡ slots_for (disks store.disk).sectors
+    → Facts disks id nodes core core' store store' doubt doubt' was event size came (Steps disks (node_with id nodes core disk (Some store) doubt was) (node_with id nodes core' disk (Some store') doubt' None) event came)
+serves_at disks id nodes size core core' (Some d) store store' doubt doubt' was event came placed at = absurd placed
+serves_at {Disk} disks id nodes size core core' None store store' doubt doubt' was event came placed at =
+    subst (λ (n : ℕ). Facts disks id nodes core core' store store' doubt doubt' was event n came (Steps disks (node_with id nodes core None (Some store) doubt was) (node_with id nodes core' None (Some store') doubt' None) event came))
+    (sym at) (serves disks id nodes core core' store store' doubt doubt' was event came)
+
+pub all_served : {Disk : Type 0} (disks : Disk → DiskState) (id nodes size : ℕ) (core core' : Core) (disk : Option Disk) (store store' : StoreState Disk) (doubt doubt' : Option (Wanted × ℕ)) (was : Option ℕ) (event : Event) (result : Result Came NodeFault)
+    → IsPlaced disk (Some store) → size ≡ slots_for (disks store.disk).sectors
+    → is_down core.state.phase ≡ false → (IsOk (told result) → is_down core'.state.phase ≡ false)
     → (disks store'.disk).sectors ≡ (disks store.disk).sectors → (disks store'.disk).honest ≡ (disks store.disk).honest
-    → result ≢ Err (node.Core NoMemory)
-    → IfOk result (IsDone slots nodes id core.state (durable_of store) event core'.state (durable_of store'))
-    → (IsOk result → IsFalse store'.broken × (doubt' ≡ doubt))
-    → (IsErrOf result node.Device → IsFailed slots nodes id core.state (durable_of store) event)
-    → (IsErrOf result node.Device → (core'.state ≡ down id) × (doubt' ≡ told_doubt (durable_of store) (wants_of id (durable_of store).pending event core.state)))
-    → IfErr result (λ fault. fault ≢ node.Device → (core'.state ≡ core.state) × (store' ≡ store) × (doubt' ≡ doubt))
-    → IfErr result (λ fault. fault ≢ node.Device → fault ≢ node.Core NoMemory → IsTurnedAway slots nodes id core.state (durable_of store) event fault)
-    → (IsTrue (disks store.disk).honest → Run (InStore slots) (disks store.disk) (disks store'.disk))
-    → (IsTrue (disks store.disk).honest → AllStandFor slots (durable_of store) (disks store.disk)
-    → Each (disks store.disk) (disks store'.disk) (BeforeOrAfter slots (durable_of store) (wants_of id (durable_of store).pending event core.state)))
-    → (IsTrue (disks store.disk).honest → AllStandFor slots (durable_of store) (disks store.disk) → IsOk result → AllStandFor slots (durable_of store') (disks store'.disk))
-    → IsSound slots (disks store'.disk)
-    → Steps disks (node_with id nodes core disk (Some store) doubt was) (node_with id nodes core' disk (Some store') doubt' None) event result
-serves_at disks id nodes slots core core' (Some d) store store' doubt doubt' was event placed at = absurd placed
-serves_at {Disk} disks id nodes slots core core' None store store' doubt doubt' was event placed at =
-    subst (λ (n : ℕ). is_down core.state.phase ≡ false → (result : Result Step NodeFault) → (IsOk result → is_down core'.state.phase ≡ false)
-    → (disks store'.disk).sectors ≡ (disks store.disk).sectors → (disks store'.disk).honest ≡ (disks store.disk).honest
-    → result ≢ Err (node.Core NoMemory)
-    → IfOk result (IsDone n nodes id core.state (durable_of store) event core'.state (durable_of store'))
-    → (IsOk result → IsFalse store'.broken × (doubt' ≡ doubt))
-    → (IsErrOf result node.Device → IsFailed n nodes id core.state (durable_of store) event)
-    → (IsErrOf result node.Device → (core'.state ≡ down id) × (doubt' ≡ told_doubt (durable_of store) (wants_of id (durable_of store).pending event core.state)))
-    → IfErr result (λ fault. fault ≢ node.Device → (core'.state ≡ core.state) × (store' ≡ store) × (doubt' ≡ doubt))
-    → IfErr result (λ fault. fault ≢ node.Device → fault ≢ node.Core NoMemory → IsTurnedAway n nodes id core.state (durable_of store) event fault)
-    → (IsTrue (disks store.disk).honest → Run (InStore n) (disks store.disk) (disks store'.disk))
-    → (IsTrue (disks store.disk).honest → AllStandFor n (durable_of store) (disks store.disk)
-    → Each (disks store.disk) (disks store'.disk) (BeforeOrAfter n (durable_of store) (wants_of id (durable_of store).pending event core.state)))
-    → (IsTrue (disks store.disk).honest → AllStandFor n (durable_of store) (disks store.disk) → IsOk result → AllStandFor n (durable_of store') (disks store'.disk))
-    → IsSound n (disks store'.disk)
-    → Steps disks (node_with id nodes core None (Some store) doubt was) (node_with id nodes core' None (Some store') doubt' None) event result)
-    (sym at) (serves disks id nodes core core' store store' doubt doubt' was event)
+    → IfOk result (λ came. IsServed size nodes id core.state (durable_of store) event core'.state (durable_of store') came came.what)
+    → IfOk result (λ came. option_map command_of came.command ≡ command_by (wants_of id (durable_of store).pending event core.state) came.what)
+    → (IsOk (told result) → IsFalse store'.broken × (doubt' ≡ doubt))
+    → (IsErrOf (told result) node.Device → (core'.state ≡ down id) × (doubt' ≡ told_doubt (durable_of store) (wants_of id (durable_of store).pending event core.state)))
+    → IfErr (told result) (λ fault. fault ≢ node.Device → (core'.state ≡ core.state) × (store' ≡ store) × (doubt' ≡ doubt))
+    → (IsTrue (disks store.disk).honest → Run (InStore size) (disks store.disk) (disks store'.disk))
+    → (IsTrue (disks store.disk).honest → AllStandFor size (durable_of store) (disks store.disk)
+    → Each (disks store.disk) (disks store'.disk) (BeforeOrAfter size (durable_of store) (wants_of id (durable_of store).pending event core.state)))
+    → (IsTrue (disks store.disk).honest → AllStandFor size (durable_of store) (disks store.disk) → IsOk (told result) → AllStandFor size (durable_of store') (disks store'.disk))
+    → IsSound size (disks store'.disk)
+    → IfOk result (Steps disks (node_with id nodes core disk (Some store) doubt was) (node_with id nodes core' disk (Some store') doubt' None) event)
+all_served disks id nodes size core core' disk store store' doubt doubt' was event (Ok came) placed at up up' sectors honest is command whole fallen unchanged run each all sound =
+    serves_at disks id nodes size core core' disk store store' doubt doubt' was event came placed at up up' sectors honest is command whole fallen unchanged run each all sound
+all_served disks id nodes size core core' disk store store' doubt doubt' was event (Err fault) placed at up up' sectors honest is command whole fallen unchanged run each all sound = tt
+
+-- ---- what a caller is told of it
+
+module _ (slots nodes self : ℕ) (s s' : State) (d d' : Durable) (event : Event) where
+  done_as : (came : Came) (what : What) → IsServed slots nodes self s d event s' d' came what → IfOk (told_as came (fault_of what)) (IsDone slots nodes self s d event s' d')
+  done_as came (Did e) is = is.1
+  done_as came (Refused e why) is = tt
+  done_as came (Faulted e) is = tt
+  done_as came (Rests rest) is = absurd is
+  done_as came Crashed is = absurd is
+  done_as came (Recovered kept) is = absurd is
+  done_as came MountFailed is = absurd is
+  done_as came (RaiseFailed kept) is = absurd is
+  done_as came (RaiseRefused kept) is = absurd is
+
+  pub done_told : (result : Result Came NodeFault) → IfOk result (λ came. IsServed slots nodes self s d event s' d' came came.what) → IfOk (told result) (IsDone slots nodes self s d event s' d')
+  done_told (Ok came) is = done_as came came.what is
+  done_told (Err fault) is = tt

@@ -1,6 +1,7 @@
 -- How a refusal is told.
-use Rattle.std.proofs.Common.{◌≡◌, ℕ, inl, inr, ap, subst, sym, ◌∙◌, refl, Option, Some, None, Result, Err}
-use Rattle.std.specs.Prelude.{IsOk}
+use Rattle.std.proofs.Common.{◌≡◌, ℕ, inl, inr, ap, subst, sym, ◌∙◌, Option, Some, None, Result, Err, Bool, true, false}
+use Rattle.std.specs.Prelude.{IsOk, IsTrue}
+use Rattle.job_model.specs.Command.{Command}
 use Rattle.job_model.specs.Durable.{Durable}
 use Rattle.node_core.specs.declared.event.Event.{Event}
 use Rattle.node_core.specs.declared.fault.CoreFault.{CoreFault}
@@ -16,8 +17,8 @@ use Rattle.durable_node.specs.Faults.{shown}
 use Rattle.durable_node.specs.Stepping.{IsTurnedAway}
 
 -- the core refuses the event
-pub by_core : (slots nodes self : ℕ) (s : State) (d : Durable) (event : Event) (fault : CoreFault) → refusal_of nodes self event s ≡ Some fault → IsTurnedAway slots nodes self s d event (node.Core fault)
-by_core slots nodes self s d event fault h = record { why = OfCore fault; is_shown = refl; refused = h; of_slots = tt }
+pub by_core : (slots nodes self : ℕ) (s : State) (d : Durable) (event : Event) (fault : CoreFault) → refusal_of nodes self event s ≡ Some fault → IsTurnedAway slots nodes self s d event (OfCore fault)
+by_core slots nodes self s d event fault h = record { refused = h; of_slots = tt }
 
 cant_refuse : (nodes self : ℕ) (s : State) (d : Durable) (event : Event) (why : StepFault) → refusal_of nodes self event s ≡ None → CantTake d (wants_of self d.pending event s) why → IsRefused nodes self s d event why
 cant_refuse nodes self s d event (OfCore fault) none cant = absurd cant
@@ -26,9 +27,22 @@ cant_refuse nodes self s d event Exhausted none cant = (none, cant)
 cant_refuse nodes self s d event Worn none cant = (none, cant)
 
 -- the store can't take the event's command
-pub by_store : (slots nodes self : ℕ) (s : State) (d : Durable) (event : Event) (fault : NodeFault) → refusal_of nodes self event s ≡ None → CantCarry slots d (wants_of self d.pending event s) fault → IsTurnedAway slots nodes self s d event fault
+pub by_store : (slots nodes self : ℕ) (s : State) (d : Durable) (event : Event) (fault : NodeFault) → refusal_of nodes self event s ≡ None → (cant : CantCarry slots d (wants_of self d.pending event s) fault) → IsTurnedAway slots nodes self s d event cant.why
 by_store slots nodes self s d event fault none cant =
-    record { why = cant.why; is_shown = cant.is_shown; refused = cant_refuse nodes self s d event cant.why none cant.cant; of_slots = cant.of_slots }
+    record { refused = cant_refuse nodes self s d event cant.why none cant.cant; of_slots = cant.of_slots }
+
+-- and the code told why
+pub turned_as : (slots nodes self : ℕ) (s : State) (d d' : Durable) (event : Event) (fault : NodeFault) (wants : Option Command) (why : StepFault) → refusal_of nodes self event s ≡ None → d' ≡ d
+    → wants ≡ wants_of self d.pending event s → CantCarry slots d wants fault → ((n : ℕ) (cant : CantCarry n d' wants fault) → why ≡ cant.why) → IsTurnedAway slots nodes self s d event why × (shown why ≡ fault)
+turned_as slots nodes self s d d' event fault wants why none same is cant told =
+    let it : CantCarry slots d (wants_of self d.pending event s) fault = subst (λ (w : Option Command). CantCarry slots d w fault) is cant in
+    let so = subst (λ (w : Option Command). (n : ℕ) (c : CantCarry n d w fault) → why ≡ c.why) is
+    (subst (λ (x : Durable). (n : ℕ) (c : CantCarry n x wants fault) → why ≡ c.why) same told) slots it in
+    (subst (λ (w : StepFault). IsTurnedAway slots nodes self s d event w) (sym so) (by_store slots nodes self s d event fault none it), ap (λ (w : StepFault). shown w) so ∙ sym it.is_shown)
+
+pub not_so : (b : Bool) → b ≡ false → IsTrue b → ⊥
+not_so true is so = cc
+not_so false is so = cc
 
 -- a fault answers the same, whatever the call would have given
 same_fault : {A B : Type 0} (why : Option StepFault) (fault : NodeFault) (first : Result A NodeFault) (second : Result B NodeFault) → first ≡ Err fault → second ≡ Err fault → AnswersTo why first → AnswersTo why second

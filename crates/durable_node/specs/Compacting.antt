@@ -1,5 +1,5 @@
 -- What a compaction of a node's journal does, and how it is told.
-use Rattle.std.specs.Prelude.{ℕ, ◌≡◌, ◌+◌, length, IsTrue, IsOk, Option, Some, None, Result, Err}
+use Rattle.std.specs.Prelude.{ℕ, ◌≡◌, ◌+◌, length, IsTrue, IsOk, Some, None, Result, Err}
 use Rattle.sector_disk.specs.Disk.{DiskState, Image}
 use Rattle.sector_disk.specs.Run.{Each}
 use Rattle.job_model.specs.Durable.{Durable}
@@ -10,7 +10,10 @@ use Rattle.node_store.specs.Store.{slots_for, stands_for}
 use Rattle.durable_node.specs.declared.fault.NodeFault.{NodeFault}
 use Rattle.durable_node.specs.declared.fault.NodeFault.TheVariants as node
 use Rattle.histories.specs.NodeState.{NodeState}
-use Rattle.histories.specs.What.{Rest, Nothing, Compacted, CompactDown, CompactWorn, What, Did, Refused, Faulted, Rests, Crashed, Recovered, MountFailed, RaiseFailed, RaiseRefused}
+use Rattle.histories.specs.declared.what.What.{What}
+use Rattle.histories.specs.declared.what.What.TheVariants.{Did, Refused, Faulted, Rests, Crashed, Recovered, MountFailed, RaiseFailed, RaiseRefused}
+use Rattle.histories.specs.declared.what.Rest.{Rest}
+use Rattle.histories.specs.declared.what.Rest.TheVariants.{Nothing, Compacted, CompactDown, CompactWorn}
 use Rattle.histories.specs.After.{after}
 use Rattle.histories.specs.Possible.{IsPossible}
 use Rattle.durable_node.specs.Node.{Node, Area, Stands}

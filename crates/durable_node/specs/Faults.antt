@@ -1,10 +1,15 @@
 -- How the faults of the layers below are told.
+use Rattle.std.specs.Prelude.{Option, Some, None, Result, Ok, Err}
 use Rattle.node_core.specs.declared.fault.CoreFault.TheVariants as core
 use Rattle.node_core.specs.NodeStep.{StepFault, OfCore, Full, Exhausted, Worn}
 use Rattle.node_store.specs.declared.fault.StoreFault.{StoreFault}
 use Rattle.node_store.specs.declared.fault.StoreFault.TheVariants as store
 use Rattle.durable_node.specs.declared.fault.NodeFault.{NodeFault}
 use Rattle.durable_node.specs.declared.fault.NodeFault.TheVariants as node
+use Rattle.durable_node.specs.declared.came.Came.{Came}
+use Rattle.histories.specs.declared.what.What.{What}
+use Rattle.histories.specs.declared.what.What.TheVariants.{Did, Refused, Faulted, Rests, Crashed, Recovered, MountFailed, RaiseFailed, RaiseRefused}
+use Rattle.histories.specs.What.{reason_of}
 
 -- why an event is refused, as it is told: a caller sees no areas
 abbrev pub shown : StepFault → NodeFault
@@ -24,3 +29,24 @@ fault_for store.Full = node.Full
 fault_for store.NoSuchJob = node.Core core.UnknownJob
 fault_for store.NoMemory = node.Core core.NoMemory
 fault_for store.TooSmall = node.TooSmall
+
+-- why an event wasn't done, by what came of it: it was refused, or the device failed
+abbrev pub fault_of : What → Option NodeFault
+fault_of (Did event) = None
+fault_of (Refused event why) = Some (shown (reason_of why))
+fault_of (Faulted event) = Some node.Device
+fault_of (Rests rest) = None
+fault_of Crashed = None
+fault_of (Recovered kept) = None
+fault_of MountFailed = Some node.Device
+fault_of (RaiseFailed kept) = Some node.Device
+fault_of (RaiseRefused kept) = Some node.Exhausted
+
+abbrev pub told_as : Came → Option NodeFault → Result Came NodeFault
+told_as came None = Ok came
+told_as came (Some fault) = Err fault
+
+-- what a call answers, where what wasn't done is a fault
+abbrev pub told : Result Came NodeFault → Result Came NodeFault
+told (Ok came) = told_as came (fault_of came.what)
+told (Err fault) = Err fault

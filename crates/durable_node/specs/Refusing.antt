@@ -1,5 +1,5 @@
 -- Why a node refuses an event or a compaction: of several reasons the first.
-use Rattle.std.specs.Prelude.{ℕ, ◌≡◌, ◌⊎◌, ◌+◌, ◌-◌, ◌^◌, ◌==◌, ◌&&◌, nat_lt, nat_le, Bool, length, if◌then◌else◌, Option, Some, None, Result, Err, IsOk, IsErrOf}
+use Rattle.std.specs.Prelude.{◌≡◌, ◌⊎◌, ◌+◌, ◌-◌, ◌^◌, ◌==◌, ◌&&◌, nat_lt, nat_le, Bool, length, if◌then◌else◌, Option, Some, None, Result, Err, IsOk, IsErrOf}
 use Rattle.job_model.specs.Command.{Command, Raise, Put, Done}
 use Rattle.job_model.specs.Durable.{Durable}
 use Rattle.node_core.specs.declared.event.Event.{Event}
@@ -7,11 +7,10 @@ use Rattle.node_core.specs.declared.fault.CoreFault.{CoreFault}
 use Rattle.node_core.specs.declared.fault.CoreFault.TheVariants.{Down, NoMemory}
 use Rattle.node_core.specs.NodeStep.{StepFault, OfCore, Full, Exhausted, Worn}
 use Rattle.node_core.specs.Refusals.{refusal_of}
-use Rattle.node_core.specs.State.{State}
 use Rattle.node_core.specs.Wants.{wants_of}
 use Rattle.durable_node.specs.declared.fault.NodeFault.{NodeFault}
 use Rattle.durable_node.specs.declared.fault.NodeFault.TheVariants as node
-use Rattle.durable_node.specs.declared.step.Step.{Step}
+use Rattle.durable_node.specs.declared.came.Came.{Came}
 use Rattle.durable_node.specs.Faults.{shown}
 use Rattle.durable_node.specs.Node.{Node, Area}
 
@@ -51,7 +50,7 @@ AnswersEvent (Some fault) why result = result ≡ Err (node.Core fault)
 AnswersEvent None why result = OrNoMemory result (AnswersTo why result)
 
 -- what a node that is up answers to an event
-abbrev pub Answers : {Disk : Type 0} → Node Disk → Event → Result Step NodeFault → Type 0
+abbrev pub Answers : {Disk : Type 0} → Node Disk → Event → Result Came NodeFault → Type 0
 Answers node event result = (d : Durable) (area : Area) → node.kept ≡ Some d → node.area ≡ Some area →
     AnswersEvent (refusal_of node.nodes node.id event node.state) (disk_refusal d area (wants_of node.id d.pending event node.state)) result
 

@@ -1,8 +1,8 @@
 -- What the raise of a recovery that mounts its disk does.
-use Rattle.std.specs.Prelude.{ℕ, ◌≡◌, ◌⊎◌, ◌+◌, ◌-◌, ◌^◌, ◌<◌, [], Option, Some, None, Result, Ok, Err}
-use Rattle.job_model.specs.Command.{Raise}
+use Rattle.std.specs.Prelude.{ℕ, ◌≡◌, ◌⊎◌, ◌+◌, ◌-◌, ◌^◌, ◌<◌, ◌==◌, not, Bool, false, [], Option, Some, None, Result, Ok, Err}
+use Rattle.job_model.specs.Command.{Command, Raise}
 use Rattle.job_model.specs.Durable.{Durable}
-use Rattle.job_model.specs.Fold.{after_command}
+use Rattle.job_model.specs.Fold.{after_command, is_pending}
 use Rattle.node_core.specs.declared.durable.Durable.{Durable as Wanted}
 use Rattle.node_core.specs.declared.durable.Durable.TheVariants as wanted
 use Rattle.node_core.specs.declared.fault.CoreFault.TheVariants.{NoMemory}
@@ -10,17 +10,21 @@ use Rattle.node_core.specs.Core.{Core}
 use Rattle.node_core.specs.Start.{alone}
 use Rattle.durable_node.specs.declared.fault.NodeFault.{NodeFault}
 use Rattle.durable_node.specs.declared.fault.NodeFault.TheVariants as node
-use Rattle.durable_node.specs.declared.step.Step.{Step}
+use Rattle.durable_node.specs.declared.came.Came.{Came}
+use Rattle.node_store.specs.Store.{StoreState, durable_of}
+use Rattle.histories.specs.declared.what.What.{What}
+use Rattle.histories.specs.declared.what.What.TheVariants.{Recovered, MountFailed, RaiseFailed, RaiseRefused}
 use Rattle.durable_node.specs.Node.{Node}
+use Rattle.durable_node.specs.Stepping.{IsSilent}
 
 -- the counter that was found is raised, and the node is alone in the group of the new count
-pub record IsRisen (self : ℕ) (found now : Durable) (core : Core) (told : Option (Wanted × ℕ)) (step : Step) : Type 0 where
+pub record IsRisen (self : ℕ) (found now : Durable) (core : Core) (told : Option (Wanted × ℕ)) (came : Came) : Type 0 where
   pub fits : found.counter + 1 < 2 ^ 64
   pub kept : now ≡ after_command found Raise
   pub state : core.state ≡ alone self (found.counter + 1)
   pub doubt : told ≡ None
-  pub sent : step.sent.items ≡ []
-  pub answer : step.answer ≡ Some (found.counter + 1)
+  pub sent : came.sent.items ≡ []
+  pub answer : came.answer ≡ Some (found.counter + 1)
 
 -- the device failed in the raise: it is in doubt, and the node stays down
 pub record IsRiseFailed (found now : Durable) (old new : Core) (told : Option (Wanted × ℕ)) : Type 0 where
@@ -34,6 +38,40 @@ pub record IsRiseRefused (found : Durable) (fault : NodeFault) : Type 0 where
   pub spent : found.counter ≡ 2 ^ 64 - 1
   pub told : fault ≡ node.Exhausted
 
+-- what came of the raise, where the command that was in doubt was found, or wasn't
+abbrev pub HasRisen : {Disk : Type 0} → ℕ → Bool → Core → Core → StoreState Disk → StoreState Disk → Option (Wanted × ℕ) → Option (Wanted × ℕ) → Came → What → Type 0
+HasRisen self kept core core' store store' doubt doubt' came (Recovered k) = (k ≡ kept) × IsRisen self (durable_of store) (durable_of store') core' doubt' came
+HasRisen self kept core core' store store' doubt doubt' came (RaiseFailed k) = (k ≡ kept) × IsRiseFailed (durable_of store) (durable_of store') core core' doubt' × IsSilent came
+HasRisen self kept core core' store store' doubt doubt' came (RaiseRefused k) =
+    (k ≡ kept) × IsRiseRefused (durable_of store) node.Exhausted × (core'.state ≡ core.state) × (store' ≡ store) × (doubt' ≡ doubt) × IsSilent came
+HasRisen self kept core core' store store' doubt doubt' came what = ⊥
+
+-- the raise, where it was tried
+abbrev pub raise_by : What → Option Command
+raise_by (Recovered kept) = Some Raise
+raise_by (RaiseFailed kept) = Some Raise
+raise_by what = None
+
+-- whether what was found has a command that was in doubt: the count or the next id went on, or the job is gone
+abbrev pub has_command : Wanted → ℕ → Durable → Bool
+has_command wanted.None before d = false
+has_command wanted.Raise before d = not (d.counter == before)
+has_command (wanted.Put queue payload) before d = not (d.next == before)
+has_command (wanted.Done id) before d = not (is_pending d.pending id)
+
+-- the flag tells whether the command in doubt was found
+abbrev pub IsKeptIn : Option (Wanted × ℕ) → Durable → Bool → Type 0
+IsKeptIn None d kept = kept ≡ false
+IsKeptIn (Some doubt) d kept = kept ≡ has_command doubt.0 doubt.1 d
+
+-- what came of a mounting over any disk, by what was in doubt and what was found
+abbrev pub IsFoundBy : Option (Wanted × ℕ) → What → Option Durable → Type 0
+IsFoundBy doubt MountFailed None = Unit {0}
+IsFoundBy doubt (Recovered kept) (Some d) = IsKeptIn doubt d kept
+IsFoundBy doubt (RaiseFailed kept) (Some d) = IsKeptIn doubt d kept
+IsFoundBy doubt (RaiseRefused kept) (Some d) = IsKeptIn doubt d kept
+IsFoundBy doubt what found = ⊥
+
 -- a disk that isn't mounted is refused with one of these
 abbrev pub IsUnmounted : NodeFault → Type 0
 IsUnmounted (node.Core fault) = fault ≡ NoMemory
@@ -45,10 +83,10 @@ IsUnmounted (node.Damaged sector) = Unit {0}
 IsUnmounted node.TooSmall = Unit {0}
 
 -- what a recovery that mounts leaves over any disk, by what it found there
-abbrev pub Remounted : {Disk : Type 0} → Node Disk → Node Disk → Result Step NodeFault → Option Durable → Type 0
-Remounted old new (Ok step) None = ⊥
-Remounted old new (Ok step) (Some found) =
-    (new.kept ≡ Some (after_command found Raise)) × (new.state ≡ alone old.id (found.counter + 1)) × (new.doubt ≡ None) × (step.sent.items ≡ []) × (step.answer ≡ Some (found.counter + 1)) × (found.counter + 1 < 2 ^ 64)
+abbrev pub Remounted : {Disk : Type 0} → Node Disk → Node Disk → Result Came NodeFault → Option Durable → Type 0
+Remounted old new (Ok came) None = ⊥
+Remounted old new (Ok came) (Some found) =
+    (new.kept ≡ Some (after_command found Raise)) × (new.state ≡ alone old.id (found.counter + 1)) × (new.doubt ≡ None) × (came.sent.items ≡ []) × (came.answer ≡ Some (found.counter + 1)) × (found.counter + 1 < 2 ^ 64)
 Remounted old new (Err fault) None = IsUnmounted fault × (new.state ≡ old.state) × (new.doubt ≡ old.doubt)
 Remounted old new (Err fault) (Some found) =
     (new.state ≡ old.state) × (((fault ≡ node.Device) × (new.doubt ≡ Some (wanted.Raise, found.counter)) × (found.counter + 1 < 2 ^ 64)) ⊎ ((fault ≡ node.Exhausted) × (found.counter ≡ 2 ^ 64 - 1) × (new.doubt ≡ old.doubt)))

@@ -1,8 +1,7 @@
 -- What a call of a node does, and how it is told.
-use Rattle.std.specs.Prelude.{ℕ, ◌≡◌, ◌+◌, Bool, true, false, IsTrue, IsOk, IsErrOf, List, [], Option, Some, None, Result, Ok, Err}
+use Rattle.std.specs.Prelude.{ℕ, ◌≡◌, ◌+◌, Bool, true, false, IsTrue, IsErrOf, [], Option, Some, None, option_map, Result}
 use Rattle.sector_disk.specs.Disk.{DiskState, Counts}
 use Rattle.job_model.specs.Durable.{Durable}
-use Rattle.wire_msg.specs.Envelope.{Envelope}
 use Rattle.node_core.specs.declared.event.Event.{Event}
 use Rattle.node_core.specs.declared.event.Event.TheVariants as on
 use Rattle.node_core.specs.State.{State, is_down}
@@ -12,12 +11,17 @@ use Rattle.node_core.specs.Most.{most_of}
 use Rattle.node_store.specs.Store.{slots_for}
 use Rattle.durable_node.specs.declared.fault.NodeFault.{NodeFault}
 use Rattle.durable_node.specs.declared.fault.NodeFault.TheVariants as node
-use Rattle.durable_node.specs.declared.step.Step.{Step}
+use Rattle.durable_node.specs.declared.came.Came.{Came}
 use Rattle.histories.specs.NodeState.{NodeState, wants_at, settled, answer_if_wanted}
-use Rattle.histories.specs.What.{What, Did, Refused, Faulted, Rests, Crashed, Recovered, MountFailed, RaiseFailed, RaiseRefused}
+use Rattle.histories.specs.declared.what.What.{What}
+use Rattle.histories.specs.declared.what.What.TheVariants.{Did, Refused, Faulted, Rests, Crashed, Recovered, MountFailed, RaiseFailed, RaiseRefused}
 use Rattle.histories.specs.After.{after, sent_at, found_at}
 use Rattle.histories.specs.Possible.{IsPossible, IsOfSlots, IsWanted}
-use Rattle.durable_node.specs.Faults.{shown}
+use Rattle.histories.specs.What.{command_of, reason_of}
+use Rattle.histories.specs.declared.what.Refusal.TheVariants as refusal
+use Rattle.job_model.specs.Command.{Command, Raise}
+use Rattle.node_core.specs.declared.fault.CoreFault.{CoreFault}
+use Rattle.node_core.specs.declared.fault.CoreFault.TheVariants.{NoMemory}
 use Rattle.durable_node.specs.Node.{Node, Stands}
 
 -- the event Recover
@@ -28,10 +32,10 @@ is_recover event = false
 -- ---- an event at a node that is up
 
 -- the event was handled, and its command is on the disk
-pub record IsDone (slots nodes self : ℕ) (s : State) (d : Durable) (event : Event) (s' : State) (d' : Durable) (step : Step) : Type 0 where
-  pub handled : IsHandled nodes self s d event s' d' step.sent.items
+pub record IsDone (slots nodes self : ℕ) (s : State) (d : Durable) (event : Event) (s' : State) (d' : Durable) (came : Came) : Type 0 where
+  pub handled : IsHandled nodes self s d event s' d' came.sent.items
   pub fits : FitsSlots slots d (wants_of self d.pending event s) Handled
-  pub answer : step.answer ≡ answer_if_wanted d (wants_of self d.pending event s)
+  pub answer : came.answer ≡ answer_if_wanted d (wants_of self d.pending event s)
 
 -- the device failed in the event's command
 pub record IsFailed (slots nodes self : ℕ) (s : State) (d : Durable) (event : Event) : Type 0 where
@@ -39,26 +43,57 @@ pub record IsFailed (slots nodes self : ℕ) (s : State) (d : Durable) (event : 
   pub fits : FitsSlots slots d (wants_of self d.pending event s) Handled
   pub wanted : IsWanted (wants_of self d.pending event s)
 
--- the event was refused, and this is how it is told
-pub record IsTurnedAway (slots nodes self : ℕ) (s : State) (d : Durable) (event : Event) (fault : NodeFault) : Type 0 where
-  pub why : StepFault
-  pub is_shown : fault ≡ shown why
+-- the event was refused, for this reason
+pub record IsTurnedAway (slots nodes self : ℕ) (s : State) (d : Durable) (event : Event) (why : StepFault) : Type 0 where
   pub refused : IsRefused nodes self s d event why
   pub of_slots : FitsSlots slots d (wants_of self d.pending event s) (Refusal why)
 
+-- nothing is sent or answered
+abbrev pub IsSilent : Came → Type 0
+IsSilent came = (came.sent.items ≡ []) × (came.answer ≡ None)
+
+-- what came of the event
+abbrev pub IsServed : ℕ → ℕ → ℕ → State → Durable → Event → State → Durable → Came → What → Type 0
+IsServed slots nodes self s d event s' d' came (Did e) = (e ≡ event) × IsDone slots nodes self s d event s' d' came
+IsServed slots nodes self s d event s' d' came (Refused e why) = (e ≡ event) × IsTurnedAway slots nodes self s d event (reason_of why) × IsSilent came
+IsServed slots nodes self s d event s' d' came (Faulted e) = (e ≡ event) × IsFailed slots nodes self s d event × IsSilent came
+IsServed slots nodes self s d event s' d' came what = ⊥
+
+-- the command that was tried, of one that was wanted
+abbrev pub command_by : Option Command → What → Option Command
+command_by wants (Did event) = wants
+command_by wants (Faulted event) = wants
+command_by wants what = None
+
+-- ---- an event at a node that is down
+
+-- it did nothing, or was refused for this reason
+abbrev pub IsIgnored : Option CoreFault → Event → Came → What → Type 0
+IsIgnored why event came (Did e) = (e ≡ event) × (why ≡ None) × IsSilent came
+IsIgnored why event came (Refused e (refusal.Core fault)) = (e ≡ event) × (why ≡ Some fault) × IsSilent came
+IsIgnored why event came what = ⊥
+
 -- ---- any call
 
--- what a call answers, by what came of its event
-abbrev pub IsToldBy : What → Event → Result Step NodeFault → Type 0
-IsToldBy (Did e) event result = (e ≡ event) × IsOk result
-IsToldBy (Refused e fault) event result = (e ≡ event) × (result ≡ Err (shown fault))
-IsToldBy (Faulted e) event result = (e ≡ event) × (result ≡ Err node.Device)
-IsToldBy (Rests rest) event result = ⊥
-IsToldBy Crashed event result = ⊥
-IsToldBy (Recovered kept) event result = (event ≡ on.Recover) × IsOk result
-IsToldBy MountFailed event result = (event ≡ on.Recover) × (result ≡ Err node.Device)
-IsToldBy (RaiseFailed kept) event result = (event ≡ on.Recover) × (result ≡ Err node.Device)
-IsToldBy (RaiseRefused kept) event result = (event ≡ on.Recover) × (result ≡ Err node.Exhausted)
+-- it came of this event, or of the mounting that the event Recover makes where the node is down
+abbrev pub CameOf : Event → What → Type 0
+CameOf event (Did e) = e ≡ event
+CameOf event (Refused e fault) = e ≡ event
+CameOf event (Faulted e) = e ≡ event
+CameOf event (Rests rest) = ⊥
+CameOf event Crashed = ⊥
+CameOf event (Recovered kept) = event ≡ on.Recover
+CameOf event MountFailed = event ≡ on.Recover
+CameOf event (RaiseFailed kept) = event ≡ on.Recover
+CameOf event (RaiseRefused kept) = event ≡ on.Recover
+
+-- the command that was tried on the disk, if there was one
+abbrev pub command_at : ℕ → ℕ → NodeState → What → Option Command
+command_at self nodes s (Did event) = wants_at self nodes s event
+command_at self nodes s (Faulted event) = wants_at self nodes s event
+command_at self nodes s (Recovered kept) = Some Raise
+command_at self nodes s (RaiseFailed kept) = Some Raise
+command_at self nodes s what = None
 
 -- the answer to the command that was carried out, if there was one
 abbrev pub answer_at : ℕ → ℕ → NodeState → What → Option ℕ
@@ -66,34 +101,41 @@ answer_at self nodes s (Did event) = answer_if_wanted s.durable (wants_at self n
 answer_at self nodes s (Recovered kept) = Some ((settled kept s).counter + 1)
 answer_at self nodes s what = None
 
--- the messages that a call hands out, and the answer to its command
-abbrev pub sent_by : Result Step NodeFault → List Envelope
-sent_by (Ok step) = step.sent.items
-sent_by (Err fault) = []
-
-abbrev pub answer_by : Result Step NodeFault → Option ℕ
-answer_by (Ok step) = step.answer
-answer_by (Err fault) = None
-
 -- this came of the event, and so the call tells it
-pub record Does (slots self nodes : ℕ) (s : NodeState) (event : Event) (result : Result Step NodeFault) (found : Option Durable) (what : What) : Type 0 where
-  pub told : IsToldBy what event result
+pub record Does (slots self nodes : ℕ) (s : NodeState) (event : Event) (came : Came) (found : Option Durable) (what : What) : Type 0 where
+  pub of : CameOf event what
   pub possible : IsPossible self nodes s what
   pub of_slots : IsOfSlots slots self nodes s what
-  pub sent : sent_by result ≡ sent_at self nodes s what
-  pub answer : answer_by result ≡ answer_at self nodes s what
+  pub command : option_map command_of came.command ≡ command_at self nodes s what
+  pub answer : came.answer ≡ answer_at self nodes s what
+  pub sent : came.sent.items ≡ sent_at self nodes s what
   pub mounted : found ≡ found_at s what
 
 -- the node is down, and the event makes it mount its disk
 abbrev pub IsMounting : State → Event → Type 0
 IsMounting s event = (is_down s.phase ≡ true) × (is_recover event ≡ true)
 
--- whatever state the node stood for, one of the things that may come of the event came of it, and the node stands for the
--- state after it
-abbrev pub Steps : {Disk : Type 0} → (Disk → DiskState) → Node Disk → Node Disk → Event → Result Step NodeFault → Type 0
-Steps {Disk} disks old new event result =
+-- whatever state the node stood for, what is told is what came of the event, and the node stands for the state after it
+abbrev pub Steps : {Disk : Type 0} → (Disk → DiskState) → Node Disk → Node Disk → Event → Came → Type 0
+Steps {Disk} disks old new event came =
     (disk : Disk) (s : NodeState) → old.disk ≡ Some disk → Stands disks old s → (IsMounting old.state event → IsTrue (disks disk).honest) →
-    (what : What) × Does (slots_for (disks disk).sectors) old.id old.nodes s event result new.found what × Stands disks new (after old.id old.nodes s what)
+    Does (slots_for (disks disk).sectors) old.id old.nodes s event came new.found came.what × Stands disks new (after old.id old.nodes s came.what)
+
+-- the disk can't be mounted, which no disk of a node's history is, and nothing but the disk has changed
+pub record IsUnmountable {Disk : Type 0} (disks : Disk → DiskState) (old new : Node Disk) (event : Event) : Type 0 where
+  pub mounting : IsMounting old.state event
+  pub strange : (disk : Disk) (s : NodeState) → old.disk ≡ Some disk → Stands disks old s → IsTrue (disks disk).honest → ⊥
+  pub same : new ≡ record old { disk = new.disk; found = None }
+
+-- the event came to nothing, for want of memory or of a disk that can be mounted, and left the node as it was
+abbrev pub Stuck : {Disk : Type 0} → (Disk → DiskState) → Node Disk → Node Disk → Event → NodeFault → Type 0
+Stuck disks old new event (node.Core fault) = (fault ≡ NoMemory) × (new ≡ record old { found = None })
+Stuck disks old new event node.Full = ⊥
+Stuck disks old new event node.Exhausted = ⊥
+Stuck disks old new event node.Device = ⊥
+Stuck disks old new event node.NotFormatted = IsUnmountable disks old new event
+Stuck disks old new event (node.Damaged sector) = IsUnmountable disks old new event
+Stuck disks old new event node.TooSmall = IsUnmountable disks old new event
 
 -- the count of the device's failures: every answer but `Device` leaves it as it is, and `Device` is told only where it rose, or
 -- stands at its greatest value

@@ -1,17 +1,17 @@
-ghost use Rattle.std.specs.Prelude.{◌≡◌, ◌≢◌, ◌≤◌, Option, ℕ, IfOk, Some, None, Err, length, true, false, IsTrue};
+ghost use Rattle.std.specs.Prelude.{◌≡◌, ◌≢◌, ◌≤◌, Option, ℕ, IfOk, IfErr, Some, None, Err, length, true, false, IsTrue};
 ghost use Rattle.node_core.specs.declared.event.Event.TheVariants as on;
-ghost use Rattle.node_core.specs.declared.fault.CoreFault.TheVariants.{NoMemory};
 ghost use Rattle.node_core.specs.State.{is_down};
+ghost use Rattle.durable_node.specs.Faults.{told};
 ghost use Rattle.durable_node.specs.Node.{disk_in, kept_in, found_in, IsNode, node_with};
 ghost use Rattle.durable_node.specs.Refusing.{Answers};
-ghost use Rattle.durable_node.specs.Remounting.{Remounted};
-ghost use Rattle.durable_node.specs.Stepping.{CountsOf, Steps, most_by};
+ghost use Rattle.durable_node.specs.Remounting.{IsFoundBy, Remounted};
+ghost use Rattle.durable_node.specs.Stepping.{CountsOf, Steps, Stuck, most_by};
 
+use crate::came::Came;
 use crate::fault::NodeFault;
 use crate::handle::handle;
 use crate::ignore::ignore;
 use crate::remount::remount;
-use crate::step::Step;
 use group_task::NodeId;
 use node_core::{Durable, Event, NodeCore, Phase};
 use node_store::NodeStore;
@@ -29,18 +29,17 @@ pub(crate) fn advance<D: SectorDisk + Drop>(
     doubt: &mut Option<(Durable, u64)>,
     found: &mut Option<u64>,
     event: &Event,
-) -> Result<Step, NodeFault>
+) -> Result<Came, NodeFault>
     requires node { IsNode D.state id nodes core.old disk.old store.old }
     ensures node { IsNode D.state id nodes core.new disk.new store.new }
-    ensures step { result ≢ Err (NodeFault.Core NoMemory)
-        → Steps D.state (node_with id nodes core.old disk.old store.old doubt.old found.old) (node_with id nodes core.new disk.new store.new doubt.new found.new) event.now result }
-    ensures memory { result ≡ Err (NodeFault.Core NoMemory)
-        → node_with id nodes core.new disk.new store.new doubt.new found.new ≡ node_with id nodes core.old disk.old store.old doubt.old None }
-    ensures answers { Answers (node_with id nodes core.old disk.old store.old doubt.old found.old) event.now result }
-    ensures counts { CountsOf D.state (disk_in disk.old store.old) (disk_in disk.new store.new) result }
+    ensures step { IfOk result (Steps D.state (node_with id nodes core.old disk.old store.old doubt.old found.old) (node_with id nodes core.new disk.new store.new doubt.new found.new) event.now) }
+    ensures stuck { IfErr result (Stuck D.state (node_with id nodes core.old disk.old store.old doubt.old found.old) (node_with id nodes core.new disk.new store.new doubt.new found.new) event.now) }
+    ensures answers { Answers (node_with id nodes core.old disk.old store.old doubt.old found.old) event.now (told result) }
+    ensures counts { CountsOf D.state (disk_in disk.old store.old) (disk_in disk.new store.new) (told result) }
     ensures mounting { is_down core.old.state.phase ≡ true → event.now ≡ Event.Recover
-        → Remounted (node_with id nodes core.old disk.old store.old doubt.old found.old) (node_with id nodes core.new disk.new store.new doubt.new found.new) result (found_in found.new store.new) }
-    ensures few { IfOk result (λ step. length step.sent.items ≤ most_by nodes (kept_in (is_down core.old.state.phase) store.old)) }
+        → Remounted (node_with id nodes core.old disk.old store.old doubt.old found.old) (node_with id nodes core.new disk.new store.new doubt.new found.new) (told result) (found_in found.new store.new) }
+    ensures kept { is_down core.old.state.phase ≡ true → event.now ≡ Event.Recover → IfOk result (λ came. IsFoundBy doubt.old came.what (found_in found.new store.new)) }
+    ensures few { IfOk result (λ came. length came.sent.items ≤ most_by nodes (kept_in (is_down core.old.state.phase) store.old)) }
 {
     *found = None;
     if is_down(core) {

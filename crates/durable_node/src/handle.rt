@@ -1,4 +1,4 @@
-ghost use Rattle.std.specs.Prelude.{◌≡◌, ◌≢◌, ◌≤◌, ◌<◌, ℕ, true, false, IsTrue, IsFalse, IsOk, IfOk, IfErr, IsErrOf, Some, None, Err, length};
+ghost use Rattle.std.specs.Prelude.{◌≡◌, ◌≢◌, ◌≤◌, ◌<◌, ◌↔◌, ℕ, true, false, IsTrue, IsFalse, IsOk, IfOk, IfErr, IsErrOf, Some, None, Err, length, option_map};
 ghost use Rattle.sector_disk.specs.Disk.{Counts};
 ghost use Rattle.sector_disk.specs.Run.{Run, Each};
 ghost use Rattle.group_task.specs.declared.node.TheConstants.{NODES};
@@ -11,17 +11,20 @@ ghost use Rattle.node_core.specs.Refusals.{refusal_of};
 ghost use Rattle.node_core.specs.Wants.{wants_of};
 ghost use Rattle.job_journal.specs.Journal.{IsSound};
 ghost use Rattle.node_store.specs.Store.{durable_of, InStore, AllStandFor};
-ghost use Rattle.durable_node.specs.Carrying.{BeforeOrAfter};
+ghost use Rattle.durable_node.specs.Carrying.{BeforeOrAfter, CantCarry};
 ghost use Rattle.durable_node.specs.Node.{area_of, told_doubt};
-ghost use Rattle.histories.specs.Possible.{IsWanted};
+ghost use Rattle.histories.specs.What.{command_of, reason_of};
+ghost use Rattle.node_core.specs.NodeStep.{IsSpent};
+ghost use Rattle.durable_node.specs.Faults.{told};
 ghost use Rattle.durable_node.specs.Refusing.{AnswersEvent, disk_refusal};
-ghost use Rattle.durable_node.specs.Stepping.{IsDone, IsFailed, IsTurnedAway};
+ghost use Rattle.durable_node.specs.Stepping.{IsServed, command_by};
 
+use crate::came::{Came, command_in};
 use crate::carry::carry;
 use crate::fault::NodeFault;
-use crate::step::Step;
 use group_task::NodeId;
-use node_core::{Durable, Event, NodeCore};
+use histories::{Refusal, What};
+use node_core::{CoreFault, Durable, Event, NodeCore};
 use node_store::NodeStore;
 use sector_disk::SectorDisk;
 use std::alloc::Global;
@@ -37,7 +40,7 @@ pub(crate) fn handle<D: SectorDisk>(
     store: &mut NodeStore<D>,
     doubt: &mut Option<(Durable, u64)>,
     event: &Event,
-) -> Result<Step, NodeFault>
+) -> Result<Came, NodeFault>
     requires id { core.old.id ≡ id }
     requires nodes { core.old.nodes ≡ nodes }
     requires within { id < nodes }
@@ -46,22 +49,20 @@ pub(crate) fn handle<D: SectorDisk>(
     requires sound { IsSound store.old.journal.slots (D.state store.old.disk) }
     ensures id { core.new.id ≡ id }
     ensures nodes { core.new.nodes ≡ nodes }
-    ensures counts { Counts (D.state store.old.disk) (D.state store.new.disk) (IsErrOf result NodeFault.Device) (IsErrOf result NodeFault.Device → ⊥) }
+    ensures counts { Counts (D.state store.old.disk) (D.state store.new.disk) (IsErrOf (told result) NodeFault.Device) (IsErrOf (told result) NodeFault.Device → ⊥) }
 
-    ensures answers { AnswersEvent (refusal_of nodes id event.now core.old.state) (disk_refusal (durable_of store.old) (area_of store.old) (wants_of id (durable_of store.old).pending event.now core.old.state)) result }
+    ensures answers { AnswersEvent (refusal_of nodes id event.now core.old.state) (disk_refusal (durable_of store.old) (area_of store.old) (wants_of id (durable_of store.old).pending event.now core.old.state)) (told result) }
+    ensures stuck { IfErr result (λ fault. fault ≡ NodeFault.Core NoMemory) }
 
-    // The event was handled.
-    ensures done { IfOk result (IsDone store.old.journal.slots nodes id core.old.state (durable_of store.old) event.now core.new.state (durable_of store.new)) }
-    ensures few { IfOk result (λ step. length step.sent.items ≤ most_of nodes (durable_of store.old).pending) }
-    ensures whole { IsOk result → IsFalse store.new.broken × (doubt.new ≡ doubt.old) }
+    // What came of the event, and the command that it wanted, if it was tried.
+    ensures what { IfOk result (λ came. IsServed store.old.journal.slots nodes id core.old.state (durable_of store.old) event.now core.new.state (durable_of store.new) came came.what) }
+    ensures command { IfOk result (λ came. option_map command_of came.command ≡ command_by (wants_of id (durable_of store.old).pending event.now core.old.state) came.what) }
+    ensures few { IfOk result (λ came. length came.sent.items ≤ most_of nodes (durable_of store.old).pending) }
 
-    // The device failed in its command.
-    ensures failed { IsErrOf result NodeFault.Device → IsFailed store.old.journal.slots nodes id core.old.state (durable_of store.old) event.now }
-    ensures fallen { IsErrOf result NodeFault.Device → (core.new.state ≡ down id) × (doubt.new ≡ told_doubt (durable_of store.old) (wants_of id (durable_of store.old).pending event.now core.old.state)) }
-
-    // It was refused.
-    ensures unchanged { IfErr result (λ fault. fault ≢ NodeFault.Device → (core.new.state ≡ core.old.state) × (store.new ≡ store.old) × (doubt.new ≡ doubt.old)) }
-    ensures refused { IfErr result (λ fault. fault ≢ NodeFault.Device → fault ≢ NodeFault.Core NoMemory → IsTurnedAway store.old.journal.slots nodes id core.old.state (durable_of store.old) event.now fault) }
+    // The event was done, the device failed in its command, or it was refused.
+    ensures whole { IsOk (told result) → IsFalse store.new.broken × (doubt.new ≡ doubt.old) }
+    ensures fallen { IsErrOf (told result) NodeFault.Device → (core.new.state ≡ down id) × (doubt.new ≡ told_doubt (durable_of store.old) (wants_of id (durable_of store.old).pending event.now core.old.state)) }
+    ensures unchanged { IfErr (told result) (λ fault. fault ≢ NodeFault.Device → (core.new.state ≡ core.old.state) × (store.new ≡ store.old) × (doubt.new ≡ doubt.old)) }
 
     ensures slots { store.new.journal.slots ≡ store.old.journal.slots }
     ensures sound { IsSound store.old.journal.slots (D.state store.new.disk) }
@@ -69,25 +70,71 @@ pub(crate) fn handle<D: SectorDisk>(
     ensures images { IsTrue (D.state store.old.disk).honest → AllStandFor store.old.journal.slots (durable_of store.old) (D.state store.old.disk)
         → Each (D.state store.old.disk) (D.state store.new.disk) (BeforeOrAfter store.old.journal.slots (durable_of store.old) (wants_of id (durable_of store.old).pending event.now core.old.state)) }
     ensures after { IsTrue (D.state store.old.disk).honest → AllStandFor store.old.journal.slots (durable_of store.old) (D.state store.old.disk)
-        → IsOk result → AllStandFor store.old.journal.slots (durable_of store.new) (D.state store.new.disk) }
+        → IsOk (told result) → AllStandFor store.old.journal.slots (durable_of store.new) (D.state store.new.disk) }
 {
     let plan = match core.plan_step(event, store.table()) {
         Ok(plan) => plan,
-        Err(fault) => return Err(NodeFault::Core(fault)),
+        Err(CoreFault::NoMemory) => return Err(NodeFault::Core(CoreFault::NoMemory)),
+        Err(fault) => {
+            return Ok(Came {
+                what: What::Refused(*event, Refusal::Core(fault)),
+                command: None,
+                answer: None,
+                sent: Vec::new(alloc),
+            });
+        }
     };
     let wants = plan.wants();
     let answer = match carry(store, &wants) {
         Ok(answer) => answer,
         Err(fault) => {
-            if fault.is_device() {
-                *doubt = doubted(store, wants);
-                *core = NodeCore::down(alloc, id, nodes);
+            if !fault.is_device() {
+                return Ok(Came {
+                    what: What::Refused(*event, refusal(store, &wants, fault)),
+                    command: None,
+                    answer: None,
+                    sent: Vec::new(alloc),
+                });
             }
-            return Err(fault);
+            *doubt = doubted(store, wants);
+            *core = NodeCore::down(alloc, id, nodes);
+            return Ok(Came {
+                what: What::Faulted(*event),
+                command: command_in(wants),
+                answer: None,
+                sent: Vec::new(alloc),
+            });
         }
     };
     let sent = core.commit_step(plan, answer.unwrap_or(0));
-    Ok(Step { sent, answer })
+    Ok(Came {
+        what: What::Did(*event),
+        command: command_in(wants),
+        answer,
+        sent,
+    })
+}
+
+/// Why the disk can't take a command, by how it is told.
+fn refusal<D: SectorDisk>(store: &NodeStore<D>, wants: &Durable, fault: NodeFault) -> Refusal
+    ensures { (slots : ℕ) (cant : CantCarry slots (durable_of store.now) (wanted_by wants.now) fault) → reason_of result ≡ cant.why }
+{
+    match fault {
+        NodeFault::Full => Refusal::Full,
+        _ if is_spent(store, wants) => Refusal::Exhausted,
+        _ => Refusal::Worn,
+    }
+}
+
+/// Whether the numbers that a command takes are used up.
+fn is_spent<D: SectorDisk>(store: &NodeStore<D>, wants: &Durable) -> bool
+    ensures { IsTrue result ↔ IsSpent (durable_of store.now) (wanted_by wants.now) }
+{
+    match wants {
+        Durable::Raise => store.counter() == u64::MAX,
+        Durable::Put(_, _) => store.table().next() == u64::MAX,
+        Durable::None | Durable::Done(_) => false,
+    }
 }
 
 /// What is in doubt if the device fails in the command: the command with the count, or the next id, from before it.

@@ -1,10 +1,11 @@
-ghost use Rattle.std.specs.Prelude.{◌≡◌, ◌≢◌, Some, None, [], IfOk, IfErr, ◌≤◌};
-ghost use Rattle.node_core.specs.declared.fault.CoreFault.{CoreFault as CoreFaultValue};
+ghost use Rattle.std.specs.Prelude.{◌≡◌, ◌≢◌, Some, None, IfOk, IfErr};
 ghost use Rattle.node_core.specs.declared.fault.CoreFault.TheVariants.{NoMemory};
 ghost use Rattle.node_core.specs.Refusals.{refusal_of};
+ghost use Rattle.durable_node.specs.Stepping.{IsIgnored};
 
+use crate::came::Came;
 use crate::fault::NodeFault;
-use crate::step::Step;
+use histories::{Refusal, What};
 use job_model::JobTable;
 use node_core::{CoreFault, Event, NodeCore};
 use node_store::NodeStore;
@@ -17,21 +18,25 @@ pub(crate) fn ignore<D: SectorDisk>(
     core: &mut NodeCore,
     store: &Option<NodeStore<D>>,
     event: &Event,
-) -> Result<Step, NodeFault>
+) -> Result<Came, NodeFault>
     ensures kept { core.new.state ≡ core.old.state }
     ensures id { core.new.id ≡ core.old.id }
     ensures nodes { core.new.nodes ≡ core.old.nodes }
-    ensures done { IfOk result (λ step. (refusal_of core.old.nodes core.old.id event.now core.old.state ≡ None) × (step.sent.items ≡ []) × (step.answer ≡ None)) }
-    ensures refused { IfErr result (λ fault. fault ≢ NodeFault.Core NoMemory
-        → (why : CoreFaultValue) × (fault ≡ NodeFault.Core why) × (refusal_of core.old.nodes core.old.id event.now core.old.state ≡ Some why)) }
+    ensures what { IfOk result (λ came. IsIgnored (refusal_of core.old.nodes core.old.id event.now core.old.state) event.now came came.what) }
+    ensures command { IfOk result (λ came. came.command ≡ None) }
+    ensures stuck { IfErr result (λ fault. fault ≡ NodeFault.Core NoMemory) }
 {
-    match plan_over(alloc, core, store, event) {
-        Ok(()) => Ok(Step {
-            sent: Vec::new(alloc),
-            answer: None,
-        }),
-        Err(fault) => Err(NodeFault::Core(fault)),
-    }
+    let what = match plan_over(alloc, core, store, event) {
+        Ok(()) => What::Did(*event),
+        Err(CoreFault::NoMemory) => return Err(NodeFault::Core(CoreFault::NoMemory)),
+        Err(fault) => What::Refused(*event, Refusal::Core(fault)),
+    };
+    Ok(Came {
+        what,
+        command: None,
+        answer: None,
+        sent: Vec::new(alloc),
+    })
 }
 
 /// Plans the event, over the jobs of the store if there is one, and drops the plan.

@@ -1,11 +1,12 @@
 //! A node over its disk.
 //!
-//! [`DurableNode`] joins the state machine of a node with the store on its disk. Each call is one entry of the node's history,
+//! [`DurableNode`] joins the state machine of a node with the store on its disk. Each call tells one entry of the node's history,
 //! as the crate `histories` defines it: the list of what came of a node's events, crashes and recoveries. The laws of all
 //! histories, which stand there, so hold of every node.
 #![tactic(auto)]
 
 mod advance;
+mod came;
 mod carry;
 mod compacting;
 mod fault;
@@ -15,11 +16,10 @@ mod memory;
 mod node;
 mod place;
 mod remount;
-mod step;
 
+pub use came::Came;
 pub use fault::NodeFault;
 pub use node::DurableNode;
-pub use step::Step;
 
 #[cfg(test)]
 mod runs;

@@ -8,7 +8,7 @@ ghost use Rattle.histories.specs.After.{after};
 ghost use Rattle.durable_node.specs.Arming.{armed_disk, armed_store};
 ghost use Rattle.durable_node.specs.Node.{IsPlaced, Stands};
 ghost use Rattle.histories.specs.NodeState.{NodeState, opening};
-ghost use Rattle.histories.specs.What.{Crashed};
+ghost use Rattle.histories.specs.declared.what.What.TheVariants.{Crashed};
 
 use crate::node::DurableNode;
 use crate::remount::take_disk;
@@ -42,8 +42,9 @@ impl DurableNode<MemDisk> {
             return Err(AllocError);
         }
         let mut node = DurableNode::down(alloc, id, nodes, disk);
-        if node.recover().is_err() {
-            return Err(AllocError);
+        match node.recover() {
+            Ok(came) if came.fault().is_none() => {}
+            _ => return Err(AllocError),
         }
         node.found = None;
         Ok(node)

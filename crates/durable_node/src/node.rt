@@ -3,19 +3,19 @@ ghost use Rattle.std.specs.Prelude.{◌≡◌, ◌≢◌, ◌≤◌, ◌<◌, Is
 ghost use Rattle.group_task.specs.declared.node.TheConstants.{NODES};
 ghost use Rattle.job_model.specs.Table.{durable_of};
 ghost use Rattle.job_journal.specs.Journal.{IsSound};
-ghost use Rattle.node_core.specs.declared.fault.CoreFault.TheVariants.{NoMemory};
 ghost use Rattle.node_core.specs.Start.{down};
 ghost use Rattle.node_core.specs.State.{state_of, is_down};
 ghost use Rattle.node_store.specs.Store.{slots_for};
 ghost use Rattle.durable_node.specs.Compacting.{Compacts, StaysKept, IsMovedNode, IsFallenNode};
+ghost use Rattle.durable_node.specs.Faults.{told};
 ghost use Rattle.durable_node.specs.Refusing.{Answers, AnswersTo, compaction_refusal};
-ghost use Rattle.durable_node.specs.Remounting.{Remounted};
-ghost use Rattle.durable_node.specs.Stepping.{CountsOf, Steps, most_by};
+ghost use Rattle.durable_node.specs.Remounting.{IsFoundBy, Remounted};
+ghost use Rattle.durable_node.specs.Stepping.{CountsOf, Steps, Stuck, most_by};
 
 use crate::advance::{advance, is_down};
+use crate::came::Came;
 use crate::compacting::compact;
 use crate::fault::NodeFault;
-use crate::step::Step;
 use group_task::NodeId;
 use job_model::JobTable;
 use node_core::{Durable, Event, NodeCore, Vector};
@@ -126,18 +126,23 @@ impl<D: SectorDisk + Drop> DurableNode<D> {
     /// A node that is up refuses it as the core does, then for want of memory, and then where the disk can't take its
     /// command: a raise is `Exhausted` at the greatest counter; a Submit is `Exhausted` where no id is left, then `Full` where
     /// the pending jobs and three more are more than the slots; and a Submit or a job that is done is `Exhausted` where no
-    /// slot is free and the area's number is the greatest. Where the node mounts its disk it may answer `NotFormatted`,
-    /// `Damaged` and `TooSmall`. A refusal leaves the node as it was. After `Device` the node is Down.
-    pub fn step(&mut self, event: &Event) -> Result<Step, NodeFault>
+    /// slot is free and the area's number is the greatest. [`Came::fault`] names them so. A refusal leaves the node as it was.
+    /// Where the device failed the node is Down.
+    ///
+    /// An error is no entry of the node's history, and leaves the node as it was: there is no memory, or the disk can't be
+    /// mounted, which is `NotFormatted`, `Damaged` or `TooSmall`.
+    pub fn step(&mut self, event: &Event) -> Result<Came, NodeFault>
         ensures id { self.new.id ≡ self.old.id }
         ensures nodes { self.new.nodes ≡ self.old.nodes }
-        ensures step { result ≢ Err (NodeFault.Core NoMemory) → Steps D.state self.old self.new event.now result }
-        ensures memory { result ≡ Err (NodeFault.Core NoMemory) → self.new ≡ record self.old { found = None } }
-        ensures answers { Answers self.old event.now result }
-        ensures counts { CountsOf D.state self.old.disk self.new.disk result }
+        // What came of it, the command that was tried with its answer, and the messages.
+        ensures step { IfOk result (Steps D.state self.old self.new event.now) }
+        ensures stuck { IfErr result (Stuck D.state self.old self.new event.now) }
+        ensures answers { Answers self.old event.now (told result) }
+        ensures counts { CountsOf D.state self.old.disk self.new.disk (told result) }
         // Over any disk, honest or not.
-        ensures mounting { is_down self.old.state.phase ≡ true → event.now ≡ Event.Recover → Remounted self.old self.new result self.new.found }
-        ensures few { IfOk result (λ step. length step.sent.items ≤ most_by self.old.nodes self.old.kept) }
+        ensures mounting { is_down self.old.state.phase ≡ true → event.now ≡ Event.Recover → Remounted self.old self.new (told result) self.new.found }
+        ensures kept { is_down self.old.state.phase ≡ true → event.now ≡ Event.Recover → IfOk result (λ came. IsFoundBy self.old.doubt came.what self.new.found) }
+        ensures few { IfOk result (λ came. length came.sent.items ≤ most_by self.old.nodes self.old.kept) }
     {
         advance(
             self.alloc,
@@ -153,15 +158,17 @@ impl<D: SectorDisk + Drop> DurableNode<D> {
     }
 
     /// The event Recover: a node that is Down mounts its disk, and each node is then alone in a new group.
-    pub fn recover(&mut self) -> Result<Step, NodeFault>
+    pub fn recover(&mut self) -> Result<Came, NodeFault>
         ensures id { self.new.id ≡ self.old.id }
         ensures nodes { self.new.nodes ≡ self.old.nodes }
-        ensures step { result ≢ Err (NodeFault.Core NoMemory) → Steps D.state self.old self.new Event.Recover result }
-        ensures memory { result ≡ Err (NodeFault.Core NoMemory) → self.new ≡ record self.old { found = None } }
-        ensures answers { Answers self.old Event.Recover result }
-        ensures counts { CountsOf D.state self.old.disk self.new.disk result }
-        ensures mounting { is_down self.old.state.phase ≡ true → Remounted self.old self.new result self.new.found }
-        ensures few { IfOk result (λ step. length step.sent.items ≤ most_by self.old.nodes self.old.kept) }
+        // What came of it, the command that was tried with its answer, and the messages.
+        ensures step { IfOk result (Steps D.state self.old self.new Event.Recover) }
+        ensures stuck { IfErr result (Stuck D.state self.old self.new Event.Recover) }
+        ensures answers { Answers self.old Event.Recover (told result) }
+        ensures counts { CountsOf D.state self.old.disk self.new.disk (told result) }
+        ensures mounting { is_down self.old.state.phase ≡ true → Remounted self.old self.new (told result) self.new.found }
+        ensures kept { is_down self.old.state.phase ≡ true → IfOk result (λ came. IsFoundBy self.old.doubt came.what self.new.found) }
+        ensures few { IfOk result (λ came. length came.sent.items ≤ most_by self.old.nodes self.old.kept) }
     {
         self.step(&Event::Recover)
     }

@@ -1,4 +1,4 @@
-ghost use Rattle.std.specs.Prelude.{◌≡◌, ◌≢◌, ◌≤◌, ◌<◌, ℕ, Option, IsTrue, IsFalse, IsOk, IfOk, IfErr, IsErrOf, Some, None, Err, true, false, []};
+ghost use Rattle.std.specs.Prelude.{◌≡◌, ◌≢◌, ◌≤◌, ◌<◌, ℕ, Option, IsTrue, IsFalse, IsOk, IfOk, IfErr, IsErrOf, Ok, Err, Some, None, option_map, true, []};
 ghost use Rattle.sector_disk.specs.Disk.{Counts};
 ghost use Rattle.sector_disk.specs.Run.{Run, Each};
 ghost use Rattle.group_task.specs.declared.node.TheConstants.{NODES};
@@ -7,16 +7,19 @@ ghost use Rattle.job_journal.specs.Journal.{IsSound};
 ghost use Rattle.node_core.specs.declared.event.Event.TheVariants.{Recover};
 ghost use Rattle.node_core.specs.declared.fault.CoreFault.TheVariants.{NoMemory};
 ghost use Rattle.node_core.specs.State.{is_down};
+ghost use Rattle.histories.specs.What.{command_of};
+ghost use Rattle.durable_node.specs.Faults.{told};
 ghost use Rattle.node_store.specs.Store.{durable_of, InStore, AllStandFor};
 ghost use Rattle.durable_node.specs.Carrying.{BeforeOrAfter};
 ghost use Rattle.durable_node.specs.Node.{disk_in, found_in, IsPlaced, IsNode, node_with};
-ghost use Rattle.durable_node.specs.Remounting.{IsRisen, IsRiseFailed, IsRiseRefused, Remounted};
-ghost use Rattle.durable_node.specs.Stepping.{CountsOf, Steps};
+ghost use Rattle.durable_node.specs.Remounting.{HasRisen, IsFoundBy, IsKeptIn, Remounted, raise_by};
+ghost use Rattle.durable_node.specs.Stepping.{CountsOf, IsSilent, Steps, Stuck};
 
+use crate::came::Came;
 use crate::carry::carry;
 use crate::fault::{NodeFault, node_fault};
-use crate::step::Step;
 use group_task::NodeId;
+use histories::{Command, What};
 use node_core::{Durable, NodeCore};
 use node_store::NodeStore;
 use sector_disk::SectorDisk;
@@ -32,31 +35,64 @@ pub(crate) fn remount<D: SectorDisk + Drop>(
     store: &mut Option<NodeStore<D>>,
     doubt: &mut Option<(Durable, u64)>,
     found: &mut Option<u64>,
-) -> Result<Step, NodeFault>
+) -> Result<Came, NodeFault>
     requires node { IsNode D.state id nodes core.old disk.old store.old }
     requires down { is_down core.old.state.phase ≡ true }
     requires found { found.old ≡ None }
     ensures node { IsNode D.state id nodes core.new disk.new store.new }
-    ensures step { (was : Option ℕ) → result ≢ Err (NodeFault.Core NoMemory)
-        → Steps D.state (node_with id nodes core.old disk.old store.old doubt.old was) (node_with id nodes core.new disk.new store.new doubt.new found.new) Recover result }
-    ensures memory { result ≡ Err (NodeFault.Core NoMemory)
-        → node_with id nodes core.new disk.new store.new doubt.new found.new ≡ node_with id nodes core.old disk.old store.old doubt.old None }
-    ensures counts { CountsOf D.state (disk_in disk.old store.old) (disk_in disk.new store.new) result }
+    ensures step { (was : Option ℕ)
+        → IfOk result (Steps D.state (node_with id nodes core.old disk.old store.old doubt.old was) (node_with id nodes core.new disk.new store.new doubt.new found.new) Recover) }
+    ensures stuck { (was : Option ℕ)
+        → IfErr result (Stuck D.state (node_with id nodes core.old disk.old store.old doubt.old was) (node_with id nodes core.new disk.new store.new doubt.new found.new) Recover) }
+    ensures counts { CountsOf D.state (disk_in disk.old store.old) (disk_in disk.new store.new) (told result) }
     ensures mounting { (was : Option ℕ)
-        → Remounted (node_with id nodes core.old disk.old store.old doubt.old was) (node_with id nodes core.new disk.new store.new doubt.new found.new) result (found_in found.new store.new) }
-    ensures quiet { IfOk result (λ step. step.sent.items ≡ []) }
+        → Remounted (node_with id nodes core.old disk.old store.old doubt.old was) (node_with id nodes core.new disk.new store.new doubt.new found.new) (told result) (found_in found.new store.new) }
+    ensures kept { IfOk result (λ came. IsFoundBy doubt.old came.what (found_in found.new store.new)) }
+    ensures quiet { IfOk result (λ came. came.sent.items ≡ []) }
 {
     let mut mounted = match NodeStore::mount(alloc, take_disk(disk, store)) {
         Ok(mounted) => mounted,
         Err(refused) => {
             *disk = Some(refused.disk);
-            return Err(node_fault(refused.fault));
+            return unmounted(alloc, node_fault(refused.fault));
         }
     };
     *found = Some(mounted.counter());
-    let result = rise(alloc, id, nodes, core, &mut mounted, doubt);
+    let kept = is_in(doubt, &mounted);
+    let came = rise(alloc, id, nodes, core, &mut mounted, doubt, kept);
     *store = Some(mounted);
-    result
+    Ok(came)
+}
+
+/// What came of a disk that can't be mounted.
+fn unmounted(alloc: Global, fault: NodeFault) -> Result<Came, NodeFault>
+    ensures told { told result ≡ Err fault }
+    ensures stuck { IfErr result (λ why. (why ≡ fault) × (fault ≢ NodeFault.Device)) }
+    ensures what { IfOk result (λ came. (came.what ≡ What.MountFailed) × (fault ≡ NodeFault.Device)) }
+    ensures quiet { IfOk result IsSilent }
+    ensures command { IfOk result (λ came. came.command ≡ None) }
+{
+    if !fault.is_device() {
+        return Err(fault);
+    }
+    Ok(Came {
+        what: What::MountFailed,
+        command: None,
+        answer: None,
+        sent: Vec::new(alloc),
+    })
+}
+
+/// Whether the command in doubt is in what was mounted: the count or the next id went on, or the job is gone.
+fn is_in<D: SectorDisk>(doubt: &Option<(Durable, u64)>, mounted: &NodeStore<D>) -> bool
+    ensures kept { IsKeptIn doubt.now (durable_of mounted.now) result }
+{
+    match doubt {
+        Some((Durable::Raise, count)) => mounted.counter() != *count,
+        Some((Durable::Put(_, _), next)) => mounted.table().next() != *next,
+        Some((Durable::Done(id), _)) => !mounted.table().contains(*id),
+        Some((Durable::None, _)) | None => false,
+    }
 }
 
 /// The disk, out of where it is.
@@ -83,7 +119,8 @@ fn rise<D: SectorDisk>(
     core: &mut NodeCore,
     store: &mut NodeStore<D>,
     doubt: &mut Option<(Durable, u64)>,
-) -> Result<Step, NodeFault>
+    kept: bool,
+) -> Came
     requires id { core.old.id ≡ id }
     requires nodes { core.old.nodes ≡ nodes }
     requires within { id < nodes }
@@ -92,35 +129,44 @@ fn rise<D: SectorDisk>(
     requires sound { IsSound store.old.journal.slots (D.state store.old.disk) }
     ensures id { core.new.id ≡ id }
     ensures nodes { core.new.nodes ≡ nodes }
-    ensures counts { Counts (D.state store.old.disk) (D.state store.new.disk) (IsErrOf result NodeFault.Device) (IsErrOf result NodeFault.Device → ⊥) }
-    ensures done { IfOk result (IsRisen id (durable_of store.old) (durable_of store.new) core.new doubt.new) }
-    ensures whole { IsOk result → IsFalse store.new.broken }
-    ensures failed { IsErrOf result NodeFault.Device → IsRiseFailed (durable_of store.old) (durable_of store.new) core.old core.new doubt.new }
-    ensures refused { IfErr result (λ fault. fault ≢ NodeFault.Device
-        → IsRiseRefused (durable_of store.old) fault × (core.new.state ≡ core.old.state) × (store.new ≡ store.old) × (doubt.new ≡ doubt.old)) }
+    ensures counts { Counts (D.state store.old.disk) (D.state store.new.disk) (IsErrOf (told (Ok result)) NodeFault.Device) (IsErrOf (told (Ok result)) NodeFault.Device → ⊥) }
+    ensures what { HasRisen id kept core.old core.new store.old store.new doubt.old doubt.new result result.what }
+    ensures command { option_map command_of result.command ≡ raise_by result.what }
+    ensures whole { IsOk (told (Ok result)) → IsFalse store.new.broken }
     ensures slots { store.new.journal.slots ≡ store.old.journal.slots }
     ensures sound { IsSound store.old.journal.slots (D.state store.new.disk) }
     ensures run { IsTrue (D.state store.old.disk).honest → Run (InStore store.old.journal.slots) (D.state store.old.disk) (D.state store.new.disk) }
     ensures images { IsTrue (D.state store.old.disk).honest → AllStandFor store.old.journal.slots (durable_of store.old) (D.state store.old.disk)
         → Each (D.state store.old.disk) (D.state store.new.disk) (BeforeOrAfter store.old.journal.slots (durable_of store.old) (Some Raise)) }
     ensures after { IsTrue (D.state store.old.disk).honest → AllStandFor store.old.journal.slots (durable_of store.old) (D.state store.old.disk)
-        → IsOk result → AllStandFor store.old.journal.slots (durable_of store.new) (D.state store.new.disk) }
+        → IsOk (told (Ok result)) → AllStandFor store.old.journal.slots (durable_of store.new) (D.state store.new.disk) }
 {
     let count = store.counter();
     match carry(store, &Durable::Raise) {
         Ok(answer) => {
             *core = NodeCore::new(alloc, id, nodes, store.counter());
             *doubt = None;
-            Ok(Step {
-                sent: Vec::new(alloc),
+            Came {
+                what: What::Recovered(kept),
+                command: Some(Command::Raise),
                 answer,
-            })
-        }
-        Err(fault) => {
-            if fault.is_device() {
-                *doubt = Some((Durable::Raise, count));
+                sent: Vec::new(alloc),
             }
-            Err(fault)
         }
+        Err(NodeFault::Device) => {
+            *doubt = Some((Durable::Raise, count));
+            Came {
+                what: What::RaiseFailed(kept),
+                command: Some(Command::Raise),
+                answer: None,
+                sent: Vec::new(alloc),
+            }
+        }
+        Err(_) => Came {
+            what: What::RaiseRefused(kept),
+            command: None,
+            answer: None,
+            sent: Vec::new(alloc),
+        },
     }
 }

@@ -4,7 +4,7 @@ ghost use Rattle.sector_disk.specs.Memory.{state_of};
 ghost use Rattle.job_journal.specs.Journal.{IsSound};
 ghost use Rattle.node_store.specs.Store.{slots_for};
 
-use crate::{DurableNode, NodeFault, Step};
+use crate::{Came, DurableNode, NodeFault};
 use group_task::NodeId;
 use job_model::{Payload, Queue};
 use node_core::{CoreFault, Durable, Event, Phase};
@@ -15,17 +15,20 @@ use std::test::Fail;
 use wire_msg::{Body, Message};
 
 // What a call answers, but for the messages.
-fn told(answer: Result<Step, NodeFault>) -> Result<Option<u64>, NodeFault> {
+fn told(answer: Result<Came, NodeFault>) -> Result<Option<u64>, NodeFault> {
     match answer {
-        Ok(step) => Ok(step.answer),
+        Ok(came) => match came.fault() {
+            Some(fault) => Err(fault),
+            None => Ok(came.answer),
+        },
         Err(fault) => Err(fault),
     }
 }
 
 // How many messages a call hands out.
-fn sent(answer: Result<Step, NodeFault>) -> Option<usize> {
+fn sent(answer: Result<Came, NodeFault>) -> Option<usize> {
     match answer {
-        Ok(step) => Some(step.sent.len()),
+        Ok(came) => Some(came.sent.len()),
         Err(_) => None,
     }
 }

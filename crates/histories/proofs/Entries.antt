@@ -19,7 +19,8 @@ use Rattle.node_core.specs.declared.fault.CoreFault.{CoreFault}
 use Rattle.job_model.specs.Fold.{is_pending}
 use Rattle.std.specs.Prelude.{not, if◌then◌else◌}
 use Rattle.histories.specs.NodeState.{NodeState, settled}
-use Rattle.histories.specs.What.{What, Did, Refused, Faulted, Rests, Crashed, Recovered, MountFailed, RaiseFailed, RaiseRefused}
+use Rattle.histories.specs.declared.what.What.{What}
+use Rattle.histories.specs.declared.what.What.TheVariants.{Did, Refused, Faulted, Rests, Crashed, Recovered, MountFailed, RaiseFailed, RaiseRefused}
 use Rattle.histories.specs.Possible.{IsPossible}
 use Rattle.histories.proofs.Tests.{and_left, eq_nat}
 use Rattle.histories.proofs.Moves.{stays, falls, starts_alone, Enters}

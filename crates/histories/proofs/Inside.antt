@@ -26,7 +26,8 @@ use Rattle.node_core.specs.Effects.{delivered, effect_of}
 use Rattle.node_core.specs.Refusals.{ids_in, is_known, refusal_of}
 use Rattle.histories.specs.Lists.{Each}
 use Rattle.histories.specs.NodeState.{NodeState, opening, wants_at}
-use Rattle.histories.specs.What.{What, Did, Refused, Faulted, Rests, Crashed, Recovered, MountFailed, RaiseFailed, RaiseRefused}
+use Rattle.histories.specs.declared.what.What.{What}
+use Rattle.histories.specs.declared.what.What.TheVariants.{Did, Refused, Faulted, Rests, Crashed, Recovered, MountFailed, RaiseFailed, RaiseRefused}
 use Rattle.histories.specs.After.{after, sent_at}
 use Rattle.histories.specs.Possible.{IsPossible}
 use Rattle.histories.proofs.Tests.{and_left, and_right, eq_nat}

@@ -9,7 +9,8 @@ use Rattle.node_core.specs.declared.event.Event.{Event}
 use Rattle.node_core.specs.State.{State}
 use Rattle.histories.specs.Lists.{IsAmong}
 use Rattle.histories.specs.NodeState.{NodeState, opening}
-use Rattle.histories.specs.What.{Entry, What, event_of, brought}
+use Rattle.histories.specs.declared.what.What.{What}
+use Rattle.histories.specs.What.{Entry, event_of, brought}
 use Rattle.histories.specs.After.{after, sent_at, given_at}
 use Rattle.histories.specs.Possible.{IsPossible}
 use Rattle.histories.specs.History.{Follows, states, vectors, brought_in, sent_in}

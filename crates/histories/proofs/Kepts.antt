@@ -7,7 +7,9 @@ use Rattle.job_model.specs.Answer.{answer_of}
 use Rattle.node_core.specs.declared.event.Event.{Event}
 use Rattle.node_core.specs.Start.{down}
 use Rattle.histories.specs.NodeState.{NodeState, opening, wants_at, settled}
-use Rattle.histories.specs.What.{Entry, What, Did, Refused, Faulted, Rests, Crashed, Recovered, MountFailed, RaiseFailed, RaiseRefused}
+use Rattle.histories.specs.declared.what.What.{What}
+use Rattle.histories.specs.declared.what.What.TheVariants.{Did, Refused, Faulted, Rests, Crashed, Recovered, MountFailed, RaiseFailed, RaiseRefused}
+use Rattle.histories.specs.What.{Entry}
 use Rattle.histories.specs.After.{after}
 use Rattle.histories.specs.Possible.{IsWanted, Takes, IsSettling, IsPossible}
 use Rattle.histories.specs.History.{Follows}

@@ -21,7 +21,8 @@ use Rattle.node_core.specs.Words.{own_group, task_of, members_of}
 use Rattle.node_core.specs.Start.{alone}
 use Rattle.histories.specs.Lists.{IsAmong, Each}
 use Rattle.histories.specs.NodeState.{NodeState}
-use Rattle.histories.specs.What.{What, event_of, brought}
+use Rattle.histories.specs.declared.what.What.{What}
+use Rattle.histories.specs.What.{event_of, brought}
 use Rattle.histories.specs.After.{raised, after, sent_at, given_at}
 use Rattle.histories.specs.Named.{AllHold, StateHolds}
 

@@ -24,7 +24,9 @@ use Rattle.node_core.specs.Operator.{submit, finish}
 use Rattle.node_core.specs.Effects.{delivered, effect_of}
 use Rattle.histories.specs.Lists.{IsAmong, Each}
 use Rattle.histories.specs.NodeState.{NodeState, opening, wants_at}
-use Rattle.histories.specs.What.{What, Entry, Did, Refused, Faulted, Rests, Crashed, Recovered, MountFailed, RaiseFailed, RaiseRefused, event_of, brought}
+use Rattle.histories.specs.declared.what.What.{What}
+use Rattle.histories.specs.declared.what.What.TheVariants.{Did, Refused, Faulted, Rests, Crashed, Recovered, MountFailed, RaiseFailed, RaiseRefused}
+use Rattle.histories.specs.What.{Entry, event_of, brought}
 use Rattle.histories.specs.After.{after, sent_at}
 use Rattle.histories.specs.History.{Follows, sent_in, brought_in}
 use Rattle.histories.specs.Bundle.{Bundle}

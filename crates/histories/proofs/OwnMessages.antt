@@ -20,7 +20,8 @@ use Rattle.node_core.specs.Messages.{asked_coordinator, answered_coordinator, as
 use Rattle.node_core.specs.Operator.{submit, finish}
 use Rattle.node_core.specs.Effects.{delivered, effect_of}
 use Rattle.histories.specs.NodeState.{NodeState}
-use Rattle.histories.specs.What.{What, Did, Refused, Faulted, Rests, Crashed, Recovered, MountFailed, RaiseFailed, RaiseRefused}
+use Rattle.histories.specs.declared.what.What.{What}
+use Rattle.histories.specs.declared.what.What.TheVariants.{Did, Refused, Faulted, Rests, Crashed, Recovered, MountFailed, RaiseFailed, RaiseRefused}
 use Rattle.histories.specs.After.{after, sent_at}
 use Rattle.histories.specs.History.{sent_in}
 use Rattle.histories.specs.Ends.{AreOf, HistorySendsItsOwn}

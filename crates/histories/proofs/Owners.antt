@@ -16,7 +16,9 @@ use Rattle.node_core.specs.State.{State}
 use Rattle.node_core.specs.Words.{members_of, owner, holds}
 use Rattle.histories.specs.Lists.{IsAmong, Each}
 use Rattle.histories.specs.NodeState.{NodeState, opening, wants_at}
-use Rattle.histories.specs.What.{Entry, What, Did, Refused, Faulted, Rests, Crashed, Recovered, MountFailed, RaiseFailed, RaiseRefused, event_of, brought}
+use Rattle.histories.specs.declared.what.What.{What}
+use Rattle.histories.specs.declared.what.What.TheVariants.{Did, Refused, Faulted, Rests, Crashed, Recovered, MountFailed, RaiseFailed, RaiseRefused}
+use Rattle.histories.specs.What.{Entry, event_of, brought}
 use Rattle.histories.specs.After.{after, sent_at, given_at}
 use Rattle.histories.specs.Possible.{Takes, IsPossible}
 use Rattle.histories.specs.History.{Follows, brought_in, sent_in, vectors}

@@ -6,7 +6,8 @@ use Rattle.job_model.specs.Fold.{after_command, after_wanted}
 use Rattle.wire_msg.specs.Envelope.{Envelope}
 use Rattle.node_core.specs.Start.{alone, down}
 use Rattle.histories.specs.NodeState.{NodeState, wants_at, effect_at, settled}
-use Rattle.histories.specs.What.{What, Did, Refused, Faulted, Rests, Crashed, Recovered, MountFailed, RaiseFailed, RaiseRefused}
+use Rattle.histories.specs.declared.what.What.{What}
+use Rattle.histories.specs.declared.what.What.TheVariants.{Did, Refused, Faulted, Rests, Crashed, Recovered, MountFailed, RaiseFailed, RaiseRefused}
 
 -- the state after an entry: a failed device puts the wanted command in doubt, a mounting settles the doubt, but one
 -- whose raise is refused leaves all as it was

@@ -8,7 +8,9 @@ use Rattle.node_core.specs.declared.event.Event.TheVariants.{Finish}
 use Rattle.node_core.specs.State.{State}
 use Rattle.node_core.specs.Words.{owner}
 use Rattle.histories.specs.Lists.{IsAmong}
-use Rattle.histories.specs.What.{Entry, What, Did, Faulted}
+use Rattle.histories.specs.declared.what.What.{What}
+use Rattle.histories.specs.declared.what.What.TheVariants.{Did, Faulted}
+use Rattle.histories.specs.What.{Entry}
 use Rattle.histories.specs.Bundle.{Bundle}
 use Rattle.histories.specs.Moments.{IsMoment}
 use Rattle.histories.specs.Kept.{Tried}

@@ -1,42 +1,30 @@
 -- What may come of an event at a node with its disk, and the entries of a node's history.
-use Rattle.std.specs.Prelude.{ℕ, ◌≡◌, Bool, List, [], ◌∷◌, Option, Some, None}
+use Rattle.std.specs.Prelude.{ℕ, ◌≡◌, List, [], ◌∷◌, Option, Some, None}
 use Rattle.wire_msg.specs.Envelope.{Envelope}
 use Rattle.node_core.specs.declared.event.Event.{Event}
 use Rattle.node_core.specs.declared.event.Event.TheVariants.{Deliver}
-use Rattle.node_core.specs.NodeStep.{StepFault}
+use Rattle.job_model.specs.Command.{Command, Raise, Put, Done}
+use Rattle.node_core.specs.NodeStep.{StepFault, OfCore, Full, Exhausted, Worn}
+use Rattle.histories.specs.declared.what.Command.{Command as KeptCommand}
+use Rattle.histories.specs.declared.what.Command.TheVariants as kept
+use Rattle.histories.specs.declared.what.Refusal.{Refusal}
+use Rattle.histories.specs.declared.what.Refusal.TheVariants as refusal
+use Rattle.histories.specs.declared.what.What.{What}
+use Rattle.histories.specs.declared.what.What.TheVariants.{Did, Refused, Faulted}
 use Rattle.histories.specs.Lists.{Each}
 
--- what leaves a node and its disk as they are
-pub data Rest : Type 0 where
-  -- the device was armed, or a poll found nothing
-  Nothing : Rest
-  -- the journal was compacted
-  Compacted : Rest
-  -- a compaction was refused, since the node is down
-  CompactDown : Rest
-  -- a compaction was refused, since the journal has changed its area as often as it can
-  CompactWorn : Rest
+-- why an event is refused, as the state machine has it
+abbrev pub reason_of : Refusal → StepFault
+reason_of (refusal.Core fault) = OfCore fault
+reason_of refusal.Full = Full
+reason_of refusal.Exhausted = Exhausted
+reason_of refusal.Worn = Worn
 
--- what came of an event, of a crash or of a recovery
-pub data What : Type 0 where
-  -- the event was handled
-  Did : (event : Event) → What
-  -- the event was refused, for this reason
-  Refused : (event : Event) (fault : StepFault) → What
-  -- the device failed in the command that the event wants
-  Faulted : (event : Event) → What
-  -- nothing came of it
-  Rests : (rest : Rest) → What
-  -- the node crashed, or the device failed in a compaction
-  Crashed : What
-  -- a node that was down mounted its disk and recovered. Whether the command in doubt was found there
-  Recovered : (kept : Bool) → What
-  -- a node that was down couldn't mount its disk
-  MountFailed : What
-  -- a node that was down mounted its disk, and the device failed in the raise
-  RaiseFailed : (kept : Bool) → What
-  -- a node that was down mounted its disk, and found a counter that can't be raised
-  RaiseRefused : (kept : Bool) → What
+-- the command that a value of the code names
+abbrev pub command_of : KeptCommand → Command
+command_of kept.Raise = Raise
+command_of (kept.Put queue payload) = Put queue payload
+command_of (kept.Done id) = Done id
 
 -- one entry of a node's history: what came of an event, and the messages that were handed out
 pub record Entry : Type 0 where

@@ -2,12 +2,14 @@
 //!
 //! A history lists what came of a node's events, crashes and recoveries. The definitions stand in `specs/`, over the table of
 //! the node's state machine, and speak of no disk: which command was kept is part of an entry. The laws are contracts of
-//! functions that do nothing.
+//! functions that do nothing. [`What`] is what came of an event, as code tells it.
 #![tactic(auto)]
 
 mod laws;
+mod what;
 
 pub use laws::{
     counts_rise, few_counts, goes_on, kept, one_book, one_coordinator_and_task, owner_finishes,
     senders,
 };
+pub use what::{Command, Refusal, Rest, What};

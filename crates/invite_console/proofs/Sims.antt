@@ -7,7 +7,9 @@ use Rattle.sim_net.specs.Network.{Network}
 use Rattle.sector_disk.specs.Memory.{Memory, state_of}
 use Rattle.durable_node.specs.Node.{Node, Stands}
 use Rattle.histories.specs.NodeState.{NodeState}
-use Rattle.histories.specs.What.{Nothing, Compacted, CompactDown, CompactWorn, What, Did, Refused, Faulted, Rests, Crashed, Recovered, MountFailed, RaiseFailed, RaiseRefused}
+use Rattle.histories.specs.declared.what.What.{What}
+use Rattle.histories.specs.declared.what.What.TheVariants.{Did, Refused, Faulted, Rests, Crashed, Recovered, MountFailed, RaiseFailed, RaiseRefused}
+use Rattle.histories.specs.declared.what.Rest.TheVariants.{Nothing, Compacted, CompactDown, CompactWorn}
 use Rattle.schedule.specs.declared.act.Act.{Act}
 use Rattle.cluster_sim.specs.declared.outcome.Outcome.{Outcome}
 use Rattle.runs.specs.World.{World, start}

@@ -1,7 +1,8 @@
 -- The chains of histories that calls make.
 use Rattle.std.proofs.Common.{◌≡◌, ℕ, List, [], ◌∷◌, Bool, true, false, refl, sym, ap, ◌∙◌, subst}
 use Rattle.job_model.specs.Durable.{Durable}
-use Rattle.histories.specs.What.{What, Entry}
+use Rattle.histories.specs.declared.what.What.{What}
+use Rattle.histories.specs.What.{Entry}
 use Rattle.histories.specs.After.{after}
 use Rattle.histories.specs.NodeState.{NodeState}
 use Rattle.histories.specs.Possible.{IsPossible, IsOfSlots}

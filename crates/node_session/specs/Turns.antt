@@ -8,7 +8,11 @@ use Rattle.node_core.specs.Start.{down}
 use Rattle.node_core.specs.State.{is_down}
 use Rattle.node_core.specs.declared.fault.CoreFault.TheVariants as core
 use Rattle.histories.specs.NodeState.{NodeState}
-use Rattle.histories.specs.What.{Rest, Nothing, Compacted, CompactDown, CompactWorn, What, Did, Refused, Faulted, Rests, Crashed, Recovered, MountFailed, RaiseFailed, RaiseRefused, event_of}
+use Rattle.histories.specs.declared.what.What.{What}
+use Rattle.histories.specs.declared.what.What.TheVariants.{Did, Refused, Faulted, Rests, Crashed, Recovered, MountFailed, RaiseFailed, RaiseRefused}
+use Rattle.histories.specs.declared.what.Rest.{Rest}
+use Rattle.histories.specs.declared.what.Rest.TheVariants.{Nothing, Compacted, CompactDown, CompactWorn}
+use Rattle.histories.specs.What.{event_of}
 use Rattle.histories.specs.After.{after, sent_at}
 use Rattle.histories.specs.Possible.{IsPossible, IsOfSlots}
 use Rattle.durable_node.specs.declared.fault.NodeFault.{NodeFault}

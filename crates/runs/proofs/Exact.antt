@@ -14,7 +14,7 @@ use Rattle.runs.specs.Step.{Denial, Step, Takes as TakesStep, Loses, Cuts, Mends
 use Rattle.runs.specs.Run.{RunFrom, history_in}
 use Rattle.runs.specs.Acts.{IsOf, At, Brings, IsOfSlotsAt, IsRunOf}
 use Rattle.runs.specs.Exact.{NoIdleDenial, OneOutcome, ActsRun, RunsOfSlots}
-use Rattle.histories.specs.What.{What}
+use Rattle.histories.specs.declared.what.What.{What}
 use Rattle.histories.specs.After.{after}
 use Rattle.histories.specs.Possible.{IsOfSlots}
 use Rattle.histories.specs.History.{FollowsSlots}

@@ -12,7 +12,7 @@ use Rattle.node_core.specs.Words.{letter, own_group, task_of}
 use Rattle.node_core.specs.Timers.{check_timer, merge_timer, offer, accept_timer, coord_timer, recovery}
 use Rattle.node_core.specs.Messages.{asked_coordinator, answered_coordinator, asked_there, answered_there, invited, accepted, told_ready, acknowledged}
 use Rattle.histories.specs.NodeState.{NodeState}
-use Rattle.histories.specs.What.{Did}
+use Rattle.histories.specs.declared.what.What.TheVariants.{Did}
 use Rattle.runs.specs.World.{World, start}
 use Rattle.runs.specs.Step.{Step, Takes}
 use Rattle.runs.specs.Run.{world_at}

@@ -17,7 +17,9 @@ use Rattle.node_core.specs.declared.phase.Phase.TheVariants.{Down, Election, Reo
 use Rattle.node_core.specs.Words.{own_group}
 use Rattle.histories.specs.Lists.{IsAmong}
 use Rattle.histories.specs.NodeState.{NodeState, opening, wants_at, settled}
-use Rattle.histories.specs.What.{What, Did, Refused, Faulted, Rests, Crashed, Recovered, MountFailed, RaiseFailed, RaiseRefused, event_of, brought}
+use Rattle.histories.specs.declared.what.What.{What}
+use Rattle.histories.specs.declared.what.What.TheVariants.{Did, Refused, Faulted, Rests, Crashed, Recovered, MountFailed, RaiseFailed, RaiseRefused}
+use Rattle.histories.specs.What.{event_of, brought}
 use Rattle.histories.specs.After.{after, sent_at, given_at, raised}
 use Rattle.histories.specs.Named.{BodyHolds, AllHold, TaskHolds, PlaceHolds, StateHolds}
 use Rattle.histories.proofs.Tests.{eq_nat}

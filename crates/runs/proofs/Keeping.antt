@@ -3,7 +3,7 @@ use Rattle.std.proofs.Common.{◌≡◌, ◌≢◌, ℕ, Bool, true, false, slic
 use Rattle.std.specs.Prelude.{◌==◌}
 use Rattle.std.proofs.lemmas.Bool.Decides.{nat_tests}
 use Rattle.histories.specs.NodeState.{NodeState}
-use Rattle.histories.specs.What.{What}
+use Rattle.histories.specs.declared.what.What.{What}
 use Rattle.histories.specs.After.{after}
 use Rattle.histories.proofs.Tests.{eq_nat}
 use Rattle.runs.specs.World.{World}

@@ -5,7 +5,8 @@ use Rattle.std.proofs.lemmas.Bool.Decides.{nat_tests}
 use Rattle.wire_msg.specs.Envelope.{Envelope}
 use Rattle.histories.specs.Lists.{IsAmong}
 use Rattle.histories.specs.NodeState.{NodeState, opening}
-use Rattle.histories.specs.What.{Entry, What, event_of, brought, AreAddressed}
+use Rattle.histories.specs.declared.what.What.{What}
+use Rattle.histories.specs.What.{Entry, event_of, brought, AreAddressed}
 use Rattle.histories.specs.After.{after, sent_at}
 use Rattle.histories.specs.Possible.{IsPossible}
 use Rattle.histories.specs.History.{Follows, brought_in, sent_in}

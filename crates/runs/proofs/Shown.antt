@@ -7,7 +7,9 @@ use Rattle.node_core.specs.State.{State}
 use Rattle.node_core.specs.declared.event.Event.TheVariants as on
 use Rattle.histories.specs.Lists.{IsAmong}
 use Rattle.histories.specs.NodeState.{NodeState}
-use Rattle.histories.specs.What.{What, Rests, Nothing, Crashed}
+use Rattle.histories.specs.declared.what.What.{What}
+use Rattle.histories.specs.declared.what.What.TheVariants.{Rests, Crashed}
+use Rattle.histories.specs.declared.what.Rest.TheVariants.{Nothing}
 use Rattle.histories.specs.After.{after}
 use Rattle.histories.specs.History.{vectors}
 use Rattle.histories.proofs.Tests.{eq_nat}

@@ -6,9 +6,13 @@ use Rattle.node_core.specs.declared.event.Event.TheVariants as on
 use Rattle.node_core.specs.declared.fault.CoreFault.TheVariants.{Down}
 use Rattle.node_core.specs.NodeStep.{StepFault, OfCore, Exhausted, Worn}
 use Rattle.histories.specs.NodeState.{NodeState, wants_at, settled, answer_if_wanted}
-use Rattle.histories.specs.What.{Rest, Nothing, Compacted, CompactDown, CompactWorn, What, Did, Refused, Faulted, Rests, Crashed, Recovered, MountFailed, RaiseFailed, RaiseRefused}
+use Rattle.histories.specs.declared.what.What.{What}
+use Rattle.histories.specs.declared.what.What.TheVariants.{Did, Refused, Faulted, Rests, Crashed, Recovered, MountFailed, RaiseFailed, RaiseRefused}
+use Rattle.histories.specs.declared.what.Rest.{Rest}
+use Rattle.histories.specs.declared.what.Rest.TheVariants.{Nothing, Compacted, CompactDown, CompactWorn}
 use Rattle.histories.specs.After.{sent_at}
 use Rattle.histories.specs.Possible.{IsOfSlots}
+use Rattle.histories.specs.What.{reason_of}
 use Rattle.schedule.specs.declared.act.Act.{Act}
 use Rattle.schedule.specs.declared.act.Act.TheVariants as act
 use Rattle.sim_net.specs.declared.fault.NetFault.{NetFault}
@@ -124,7 +128,7 @@ rest_outcome first CompactWorn = RefusedAct Worn
 -- what is told of what came of an event, where so many messages were sent before it
 abbrev pub what_outcome : ℕ → ℕ → ℕ → NodeState → What → ActOutcome
 what_outcome n nodes first s (Did event) = Done (answer_if_wanted s.durable (wants_at n nodes s event)) first (length (sent_at n nodes s (Did event)))
-what_outcome n nodes first s (Refused event fault) = RefusedAct fault
+what_outcome n nodes first s (Refused event fault) = RefusedAct (reason_of fault)
 what_outcome n nodes first s (Faulted event) = FaultedAct
 what_outcome n nodes first s (Rests rest) = rest_outcome first rest
 what_outcome n nodes first s Crashed = Done None first 0

@@ -4,7 +4,7 @@ use Rattle.group_task.specs.Group.{Group}
 use Rattle.node_core.specs.Words.{own_group}
 use Rattle.histories.specs.Lists.{IsAmong}
 use Rattle.histories.specs.NodeState.{NodeState}
-use Rattle.histories.specs.What.{What}
+use Rattle.histories.specs.declared.what.What.{What}
 use Rattle.histories.specs.After.{given_at}
 use Rattle.histories.specs.Named.{AllHold, StateHolds}
 use Rattle.runs.specs.World.{World, start}

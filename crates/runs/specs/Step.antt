@@ -4,7 +4,7 @@ use Rattle.wire_msg.specs.Envelope.{Envelope}
 use Rattle.sim_net.specs.declared.fault.NetFault.{NetFault}
 use Rattle.sim_net.specs.Network.{after_all_sent, after_lost, after_cut, after_mend}
 use Rattle.histories.specs.NodeState.{NodeState}
-use Rattle.histories.specs.What.{What}
+use Rattle.histories.specs.declared.what.What.{What}
 use Rattle.histories.specs.After.{after, sent_at}
 use Rattle.runs.specs.World.{World}
 

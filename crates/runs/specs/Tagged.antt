@@ -1,7 +1,7 @@
 -- The commands and mountings of a run, each with its node, in the order of the steps.
 use Rattle.std.specs.Prelude.{ℕ, ◌+◌, ◌≡◌, ◌==◌, List, [], ◌∷◌, ◌++◌, map, length, slice_get, if◌then◌else◌, Option, Some, None}
 use Rattle.histories.specs.NodeState.{NodeState}
-use Rattle.histories.specs.What.{What}
+use Rattle.histories.specs.declared.what.What.{What}
 use Rattle.histories.specs.Counts.{IsShort}
 use Rattle.histories.specs.Kept.{Kept}
 use Rattle.histories.specs.Marks.{Mark, commands_of, mountings_of, marks_at, opening_marks}

@@ -7,7 +7,8 @@ use Rattle.wire_msg.specs.Envelope.{Envelope}
 use Rattle.node_core.specs.State.{is_down}
 use Rattle.histories.specs.Lists.{IsAmong, Each}
 use Rattle.histories.specs.NodeState.{NodeState, opening}
-use Rattle.histories.specs.What.{Entry, What, event_of, brought, AreAddressed}
+use Rattle.histories.specs.declared.what.What.{What}
+use Rattle.histories.specs.What.{Entry, event_of, brought, AreAddressed}
 use Rattle.histories.specs.After.{sent_at}
 use Rattle.histories.specs.Possible.{IsPossible}
 use Rattle.histories.specs.History.{Follows, sent_in, brought_in}

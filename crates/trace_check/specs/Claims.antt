@@ -4,7 +4,10 @@ use Rattle.wire_msg.specs.Envelope.{Envelope}
 use Rattle.node_core.specs.declared.event.Event.TheVariants as on
 use Rattle.node_core.specs.State.{is_down}
 use Rattle.histories.specs.NodeState.{NodeState}
-use Rattle.histories.specs.What.{What, Did, Faulted, Rests, Nothing, Crashed, Recovered, MountFailed, RaiseFailed, brought}
+use Rattle.histories.specs.declared.what.What.{What}
+use Rattle.histories.specs.declared.what.What.TheVariants.{Did, Faulted, Rests, Crashed, Recovered, MountFailed, RaiseFailed}
+use Rattle.histories.specs.declared.what.Rest.TheVariants.{Nothing}
+use Rattle.histories.specs.What.{brought}
 use Rattle.histories.specs.After.{after, sent_at}
 use Rattle.histories.specs.Possible.{IsPossible}
 use Rattle.trace_check.specs.declared.trace.Deed.{Deed}

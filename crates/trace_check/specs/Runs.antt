@@ -1,7 +1,8 @@
 -- What histories are of which all entries can be taken in some order.
 use Rattle.std.specs.Prelude.{ℕ, ◌+◌, List, [], ◌∷◌, length, Option, Some, None}
 use Rattle.histories.specs.NodeState.{NodeState, opening}
-use Rattle.histories.specs.What.{Entry, What}
+use Rattle.histories.specs.declared.what.What.{What}
+use Rattle.histories.specs.What.{Entry}
 use Rattle.histories.specs.Bundle.{Bundle}
 use Rattle.trace_check.specs.Claims.{Claim, what_at, after_claim}
 use Rattle.trace_check.specs.Orders.{IsLegal, IsComplete}

@@ -12,7 +12,7 @@ use Rattle.node_core.specs.NodeStep.{IsSpent}
 use Rattle.node_core.specs.Start.{down}
 use Rattle.node_core.specs.State.{is_down}
 use Rattle.histories.specs.NodeState.{NodeState, wants_at, settled}
-use Rattle.histories.specs.What.{What}
+use Rattle.histories.specs.declared.what.What.{What}
 use Rattle.histories.specs.After.{after, sent_at}
 use Rattle.histories.specs.Possible.{IsPossible, IsSettling, Takes}
 use Rattle.trace_check.specs.Claims.{Claim, MayCome, after_claim}

@@ -1,13 +1,16 @@
-use Rattle.std.proofs.Common.{◌≡◌, ℕ, Option, Some, Err, sym, ◌∙◌, ap, subst}
+use Rattle.std.proofs.Common.{◌≡◌, ℕ, Option, Some, sym, ◌∙◌, ap, subst}
 use Rattle.node_core.specs.declared.event.Event.TheVariants.{Recover}
 use Rattle.node_store.specs.Store.{durable_of, slots_for}
 use Rattle.durable_node.specs.declared.fault.NodeFault.{NodeFault}
 use Rattle.durable_node.specs.Node.{node_with}
 use Rattle.durable_node.specs.Stepping.{Steps}
 use Rattle.durable_node.proofs.Nodes.{node_unmounted, node_mounted, same_on_fault}
-use Rattle.durable_node.proofs.Remounts.{mount_fails_at, rises}
+use Rattle.durable_node.proofs.Remounts.{found_kept, mount_fails, rise_silent, rise_told, rises, stuck}
 use Rattle.durable_node.specs.Node.{found_in}
-use Rattle.durable_node.specs.Remounting.{Remounted}
+use Rattle.durable_node.specs.Remounting.{IsFoundBy, Remounted}
+use Rattle.durable_node.specs.declared.came.Came.{Came}
+use Rattle.durable_node.specs.Faults.{told}
+use Rattle.std.proofs.Common.{Ok, Result}
 use Rattle.durable_node.proofs.AnyDisk.{unmounted_at, remounted_at}
 use Rattle.durable_node.proofs.remount.remount.Goals as goal
 
@@ -18,42 +21,63 @@ returns-in-Err-clause-node g c =
     (c.in-Err.ensures.sound_refused (c.requires.node.sound c.take_disk.result c.take_disk.ensures.taken))
 
 pub returns-in-Err-clause-step : goal.returns-in-Err-clause-step
-returns-in-Err-clause-step g c = λ was memory.
-    mount_fails_at g.D.SectorDisk.state c.args.id c.args.nodes c.args.core.now c.args.disk.now c.args.store.now c.take_disk.new.store c.take_disk.result c.in-Err.refused.disk c.args.doubt.now was c.args.found.now c.in-Err.refused.fault c.node_fault.result
-    c.take_disk.ensures.store c.requires.found c.node_fault.ensures c.take_disk.ensures.taken (c.requires.node.fallen c.requires.down)
-    c.in-Err.ensures.counts_refused.sectors c.in-Err.ensures.counts_refused.honest c.in-Err.ensures.run_refused c.in-Err.ensures.mounts (λ e. memory (ap (λ (f : NodeFault). Err f) e))
+returns-in-Err-clause-step g c = λ was.
+    let e = c.unmounted.ensures in
+    mount_fails g.D.SectorDisk.state c.args.id c.args.nodes c.args.core.now c.args.disk.now c.args.store.now c.take_disk.new.store c.take_disk.result c.in-Err.refused.disk c.args.doubt.now was c.args.found.now
+    c.take_disk.ensures.taken (c.requires.node.fallen c.requires.down) c.requires.found c.in-Err.ensures.counts_refused.sectors c.in-Err.ensures.counts_refused.honest c.in-Err.ensures.run_refused
+    c.node_fault.result c.unmounted.result e.what e.quiet e.command
 
-pub rise-result-requires-clause-sound : goal.rise-result-requires-clause-sound
-rise-result-requires-clause-sound g c = c.in-Ok.ensures.sound (c.requires.node.sound c.take_disk.result c.take_disk.ensures.taken)
+pub returns-in-Err-clause-stuck : goal.returns-in-Err-clause-stuck
+returns-in-Err-clause-stuck g c = λ was.
+    stuck g.D.SectorDisk.state c.args.id c.args.nodes c.args.core.now c.args.disk.now c.args.store.now c.take_disk.new.store c.take_disk.result c.in-Err.refused.disk c.args.doubt.now was c.args.found.now
+    c.take_disk.ensures.taken c.requires.down c.requires.found c.in-Err.refused.fault c.in-Err.ensures.no_other c.in-Err.ensures.mounts c.in-Err.ensures.untouched
+    c.node_fault.result c.node_fault.ensures c.unmounted.result c.unmounted.ensures.stuck
+
+pub rise-came-requires-clause-sound : goal.rise-came-requires-clause-sound
+rise-came-requires-clause-sound g c = c.in-Ok.ensures.sound (c.requires.node.sound c.take_disk.result c.take_disk.ensures.taken)
 
 pub returns-clause-node : goal.returns-clause-node
 returns-clause-node g c =
-    let e = c.rise-result.ensures in
-    node_mounted g.D.SectorDisk.state c.args.id c.args.nodes c.args.core.now c.rise-result.new.core c.args.disk.now c.take_disk.new.disk c.args.store.now c.rise-result.new.store c.in-Ok.mounted.journal.slots (durable_of c.in-Ok.mounted) (durable_of c.rise-result.new.store) c.rise-result.new.doubt
+    let e = c.rise-came.ensures in
+    let mid = c.in-Ok.mounted in
+    let end = c.rise-came.new.store in
+    let risen = rise_told c.args.id c.is_in-kept.result c.args.core.now c.rise-came.new.core mid end c.args.doubt.now c.rise-came.new.doubt c.rise-came.result e.what in
+    node_mounted g.D.SectorDisk.state c.args.id c.args.nodes c.args.core.now c.rise-came.new.core c.args.disk.now c.take_disk.new.disk c.args.store.now end mid.journal.slots (durable_of mid) (durable_of end) c.rise-came.new.doubt
     c.requires.node c.requires.down c.take_disk.ensures.disk e.id e.nodes e.slots
     (c.in-Ok.ensures.whole.1 ∙ ap (λ (n : ℕ). slots_for n) (sym (e.counts.sectors ∙ c.in-Ok.ensures.counts.sectors))) e.sound
-    c.rise-result.result e.done e.whole (same_on_fault (c.rise-result.new.store ≡ c.in-Ok.mounted) (c.rise-result.new.doubt ≡ c.args.doubt.now) (durable_of c.in-Ok.mounted) c.args.core.now c.rise-result.new.core c.rise-result.result (λ d. (e.failed d).state) (e.refused))
+    (told (Ok c.rise-came.result)) risen.0 e.whole (same_on_fault (end ≡ mid) (c.rise-came.new.doubt ≡ c.args.doubt.now) (durable_of mid) c.args.core.now c.rise-came.new.core (told (Ok c.rise-came.result)) (λ d. (risen.1 d).state) risen.2)
 
 pub returns-clause-step : goal.returns-clause-step
-returns-clause-step g c = λ was memory.
+returns-clause-step g c = λ was.
     let state = g.D.SectorDisk.state in
-    let e = c.rise-result.ensures in
+    let e = c.rise-came.ensures in
     let old = node_with c.args.id c.args.nodes c.args.core.now c.args.disk.now c.args.store.now c.args.doubt.now was in
-    subst (λ (f : ℕ). Steps state old (node_with c.args.id c.args.nodes c.rise-result.new.core c.take_disk.new.disk (Some c.rise-result.new.store) c.rise-result.new.doubt (Some f)) Recover c.rise-result.result) (sym c.counter.ensures)
-    (subst (λ (d : Option _). Steps state old (node_with c.args.id c.args.nodes c.rise-result.new.core d (Some c.rise-result.new.store) c.rise-result.new.doubt (Some (durable_of c.in-Ok.mounted).counter)) Recover c.rise-result.result) (sym c.take_disk.ensures.disk)
-    (rises state c.args.id c.args.nodes c.in-Ok.mounted.journal.slots c.args.core.now c.rise-result.new.core c.args.disk.now c.args.store.now c.take_disk.result c.in-Ok.mounted c.rise-result.new.store c.args.doubt.now c.rise-result.new.doubt was
+    subst (λ (f : ℕ). Steps state old (node_with c.args.id c.args.nodes c.rise-came.new.core c.take_disk.new.disk (Some c.rise-came.new.store) c.rise-came.new.doubt (Some f)) Recover c.rise-came.result) (sym c.counter.ensures)
+    (subst (λ (d : Option _). Steps state old (node_with c.args.id c.args.nodes c.rise-came.new.core d (Some c.rise-came.new.store) c.rise-came.new.doubt (Some (durable_of c.in-Ok.mounted).counter)) Recover c.rise-came.result) (sym c.take_disk.ensures.disk)
+    (rises state c.args.id c.args.nodes c.in-Ok.mounted.journal.slots c.args.core.now c.rise-came.new.core c.args.disk.now c.args.store.now c.take_disk.result c.in-Ok.mounted c.rise-came.new.store c.args.doubt.now c.rise-came.new.doubt was
     c.take_disk.ensures.taken (c.requires.node.fallen c.requires.down) c.in-Ok.ensures.whole.1 c.in-Ok.ensures.counts.sectors c.in-Ok.ensures.counts.honest e.counts.sectors e.counts.honest
-    c.in-Ok.ensures.run c.in-Ok.ensures.remains c.rise-result.result e.done e.failed e.refused e.run e.images e.after e.sound))
+    c.in-Ok.ensures.run c.in-Ok.ensures.remains c.is_in-kept.result c.is_in-kept.ensures.kept c.rise-came.result e.what e.command e.run e.images e.after e.sound))
 
 pub returns-in-Err-clause-mounting : goal.returns-in-Err-clause-mounting
 returns-in-Err-clause-mounting g c = λ was.
-    unmounted_at c.args.id c.args.nodes c.args.core.now c.args.disk.now c.args.store.now c.take_disk.new.store c.in-Err.refused.disk c.args.doubt.now was c.args.found.now c.in-Err.refused.fault c.node_fault.result
-    c.requires.found c.node_fault.ensures c.in-Err.ensures.no_other
+    subst (λ (r : Result Came NodeFault). Remounted (node_with c.args.id c.args.nodes c.args.core.now c.args.disk.now c.args.store.now c.args.doubt.now was)
+    (node_with c.args.id c.args.nodes c.args.core.now (Some c.in-Err.refused.disk) c.take_disk.new.store c.args.doubt.now c.args.found.now) r (found_in c.args.found.now c.take_disk.new.store)) (sym c.unmounted.ensures.told)
+    (unmounted_at c.args.id c.args.nodes c.args.core.now c.args.disk.now c.args.store.now c.take_disk.new.store c.in-Err.refused.disk c.args.doubt.now was c.args.found.now c.in-Err.refused.fault c.node_fault.result
+    c.requires.found c.node_fault.ensures c.in-Err.ensures.no_other)
 
 pub returns-clause-mounting : goal.returns-clause-mounting
 returns-clause-mounting g c = λ was.
-    let e = c.rise-result.ensures in
+    let e = c.rise-came.ensures in
+    let risen = rise_told c.args.id c.is_in-kept.result c.args.core.now c.rise-came.new.core c.in-Ok.mounted c.rise-came.new.store c.args.doubt.now c.rise-came.new.doubt c.rise-came.result e.what in
     subst (λ (f : ℕ). Remounted (node_with c.args.id c.args.nodes c.args.core.now c.args.disk.now c.args.store.now c.args.doubt.now was)
-    (node_with c.args.id c.args.nodes c.rise-result.new.core c.take_disk.new.disk (Some c.rise-result.new.store) c.rise-result.new.doubt (Some f)) c.rise-result.result (found_in (Some f) (Some c.rise-result.new.store))) (sym c.counter.ensures)
-    (remounted_at c.args.id c.args.nodes c.args.core.now c.rise-result.new.core c.args.disk.now c.take_disk.new.disk c.args.store.now c.in-Ok.mounted c.rise-result.new.store c.args.doubt.now c.rise-result.new.doubt was
-    c.rise-result.result e.done e.failed e.refused)
+    (node_with c.args.id c.args.nodes c.rise-came.new.core c.take_disk.new.disk (Some c.rise-came.new.store) c.rise-came.new.doubt (Some f)) (told (Ok c.rise-came.result)) (found_in (Some f) (Some c.rise-came.new.store))) (sym c.counter.ensures)
+    (remounted_at c.args.id c.args.nodes c.args.core.now c.rise-came.new.core c.args.disk.now c.take_disk.new.disk c.args.store.now c.in-Ok.mounted c.rise-came.new.store c.args.doubt.now c.rise-came.new.doubt was
+    (told (Ok c.rise-came.result)) risen.0 risen.1 risen.2)
+
+pub returns-clause-kept : goal.returns-clause-kept
+returns-clause-kept g c =
+    subst (λ (f : ℕ). IsFoundBy c.args.doubt.now c.rise-came.result.what (found_in (Some f) (Some c.rise-came.new.store))) (sym c.counter.ensures)
+    (found_kept c.args.id c.is_in-kept.result c.args.core.now c.rise-came.new.core c.in-Ok.mounted c.rise-came.new.store c.args.doubt.now c.rise-came.new.doubt c.rise-came.result c.rise-came.ensures.what c.is_in-kept.ensures.kept)
+
+pub returns-clause-quiet : goal.returns-clause-quiet
+returns-clause-quiet g c = rise_silent c.args.id c.is_in-kept.result c.args.core.now c.rise-came.new.core c.in-Ok.mounted c.rise-came.new.store c.args.doubt.now c.rise-came.new.doubt c.rise-came.result c.rise-came.ensures.what

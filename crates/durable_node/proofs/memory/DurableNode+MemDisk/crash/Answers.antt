@@ -3,7 +3,7 @@ use Rattle.sector_disk.specs.Memory.{Memory, state_of}
 use Rattle.histories.specs.After.{after}
 use Rattle.durable_node.specs.Node.{Node, Stands, node_with}
 use Rattle.histories.specs.NodeState.{NodeState}
-use Rattle.histories.specs.What.{Crashed}
+use Rattle.histories.specs.declared.what.What.TheVariants.{Crashed}
 use Rattle.durable_node.proofs.Crashes.{crashes, node_crashed}
 use Rattle.durable_node.proofs.memory.DurableNode+MemDisk.crash.Goals as goal
 

@@ -8,7 +8,8 @@ use Rattle.job_journal.specs.Journal.{IsSound}
 use Rattle.durable_node.specs.Node.{Node, Stands}
 use Rattle.histories.specs.NodeState.{opening}
 use Rattle.durable_node.specs.Stepping.{Steps}
-use Rattle.durable_node.proofs.Opens.{opens, forgets}
+use Rattle.durable_node.specs.Faults.{fault_of}
+use Rattle.durable_node.proofs.Opens.{opens, forgets, is_none}
 use Rattle.durable_node.proofs.memory.DurableNode+MemDisk.open.Goals as goal
 
 pub returns-clause-opens : goal.returns-clause-opens
@@ -16,13 +17,13 @@ returns-clause-opens c =
     let disk = c.format.new.disk in
     let e = c.format.ensures in
     let ok = c.is_err.ensures.negation ∙ ap not c.if-is_err.false in
-    let done = c.is_err-2.ensures.negation ∙ ap not c.if-is_err-2.false in
+    let done : fault_of c.in-Ok.came.what ≡ None = sym c.fault.ensures ∙ is_none c.fault.result c.is_none.result c.is_none.ensures c.if-is_none.true in
     let blank : length c.in_ok-disk.disk.contents ≡ 8 + 4 * c.args.slots = ap (λ (m : Memory). length m.contents) c.in_ok-disk.ensures ∙ length-replicate _ _ in
     let enough : 24 ≤ length disk.contents = omega (arith, e.counts.sectors, blank, c.requires.least) in
     let all = subst (λ (n : ℕ). AllStandFor (slots_for n) formatted (state_of disk)) (sym e.counts.sectors) (e.formatted refl ok) in
     let sound = subst (λ (n : ℕ). IsSound (slots_for n) (state_of disk)) (sym e.counts.sectors) (e.sound refl ok) in
-    let up = opens c.args.id c.args.nodes disk c.recover.new.self c.recover.result done enough all sound
-    (λ memory. subst (λ (n : Node Memory). Steps state_of n c.recover.new.self Recover c.recover.result) c.down-node.ensures (c.recover.ensures.step memory)) in
+    let up = opens c.args.id c.args.nodes disk c.recover.new.self c.in-Ok.came done enough all sound
+    (subst (λ (n : Node Memory). Steps state_of n c.recover.new.self Recover c.in-Ok.came) c.down-node.ensures c.in-Ok.ensures.step) in
     subst (λ (n : Node Memory). Stands state_of (record n { found = None }) (opening c.args.id)) (sym c.node.view_is) (forgets c.recover.new.self (opening c.args.id) up)
 
 pub returns-clause-sectors : goal.returns-clause-sectors

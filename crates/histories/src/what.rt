@@ -1,0 +1,64 @@
+// What comes of the events of a node with its disk.
+use job_model::{Payload, Queue};
+use node_core::{CoreFault, Event};
+
+/// What came of an event, of a crash or of a recovery.
+#[derive(Clone, Copy, Debug, PartialEq, Eq)]
+pub enum What {
+    /// The event was handled.
+    Did(Event),
+    /// The event was refused, for this reason.
+    Refused(Event, Refusal),
+    /// The device failed in the command that the event wants.
+    Faulted(Event),
+    /// Nothing came of it.
+    Rests(Rest),
+    /// The node crashed, or the device failed in a compaction.
+    Crashed,
+    /// A node that was Down mounted its disk and recovered. Whether the command in doubt was found there.
+    Recovered(bool),
+    /// A node that was Down couldn't mount its disk, since the device failed.
+    MountFailed,
+    /// A node that was Down mounted its disk, and the device failed in the raise. Whether the command in doubt was found
+    /// there, as in what follows.
+    RaiseFailed(bool),
+    /// A node that was Down mounted its disk, and found the greatest counter there is.
+    RaiseRefused(bool),
+}
+
+/// What leaves a node and its disk as they are.
+#[derive(Clone, Copy, Debug, PartialEq, Eq)]
+pub enum Rest {
+    /// The device was armed, or a poll found nothing.
+    Nothing,
+    /// The journal was compacted.
+    Compacted,
+    /// A compaction was refused, since the node is Down.
+    CompactDown,
+    /// A compaction was refused, since the journal has changed its area as often as it can.
+    CompactWorn,
+}
+
+/// Why an event was refused.
+#[derive(Clone, Copy, Debug, PartialEq, Eq)]
+pub enum Refusal {
+    /// The state machine refuses it.
+    Core(CoreFault),
+    /// The job doesn't fit into the journal: the pending jobs and three more are more than its slots.
+    Full,
+    /// The counter is the greatest there is, or no id is left.
+    Exhausted,
+    /// No slot of the journal is free, and it has changed its area as often as it can.
+    Worn,
+}
+
+/// What a node asks of its disk.
+#[derive(Clone, Copy, Debug, PartialEq, Eq)]
+pub enum Command {
+    /// The counter of groups rises by one.
+    Raise,
+    /// A job becomes pending.
+    Put(Queue, Payload),
+    /// The job of this id, which is pending, is done.
+    Done(u64),
+}
