@@ -39,7 +39,7 @@ for_other s ReadyTimer other = tt
 for_other s CoordTimer other = tt
 for_other s DispatchTimer other = tt
 for_other s (Deliver m) other = tt
-for_other s (Submit queue payload) other = tt
+for_other s (Submit work) other = tt
 for_other s (Finish origin id) other = tt
 for_other s Recover other = absurd (other refl)
 

@@ -41,7 +41,7 @@ for_node s ReadyTimer up = tt
 for_node s CoordTimer up = tt
 for_node s DispatchTimer up = tt
 for_node s (Deliver m) up = tt
-for_node s (Submit queue payload) up = tt
+for_node s (Submit work) up = tt
 for_node s (Finish origin id) up = tt
 for_node s Recover up = up
 

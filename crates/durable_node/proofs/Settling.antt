@@ -59,8 +59,8 @@ module _ (state : State) (e d : Durable) where
   by_doubt None flag false is settling found = subst (λ (b : Bool). Settles None b) (sym is) (tt, found)
   by_doubt (Some Raise) flag true is settling found = same Raise flag true (is ∙ went_on d.counter e.counter (ap (λ (x : Durable). x.counter) found)) found
   by_doubt (Some Raise) flag false is settling found = same Raise flag false (is ∙ stayed d.counter e.counter (ap (λ (x : Durable). x.counter) found)) found
-  by_doubt (Some (Put queue payload)) flag true is settling found = same (Put queue payload) flag true (is ∙ went_on d.next e.next (ap (λ (x : Durable). x.next) found)) found
-  by_doubt (Some (Put queue payload)) flag false is settling found = same (Put queue payload) flag false (is ∙ stayed d.next e.next (ap (λ (x : Durable). x.next) found)) found
+  by_doubt (Some (Put work)) flag true is settling found = same (Put work) flag true (is ∙ went_on d.next e.next (ap (λ (x : Durable). x.next) found)) found
+  by_doubt (Some (Put work)) flag false is settling found = same (Put work) flag false (is ∙ stayed d.next e.next (ap (λ (x : Durable). x.next) found)) found
   by_doubt (Some (Done id)) flag true is settling found = same (Done id) flag true (is ∙ ap not (ap (λ (x : Durable). is_pending x.pending id) found ∙ gone e.pending id)) found
   by_doubt (Some (Done id)) flag false is settling found = done_so id flag (is_pending e.pending id) is refl found
 

@@ -18,7 +18,7 @@ use Rattle.histories.specs.Possible.{IsSettling}
 abbrev pub told_doubt : Durable → Option Command → Option (Wanted × ℕ)
 told_doubt d None = None
 told_doubt d (Some Raise) = Some (wanted.Raise, d.counter)
-told_doubt d (Some (Put queue payload)) = Some (wanted.Put queue payload, d.next)
+told_doubt d (Some (Put work)) = Some (wanted.Put work, d.next)
 told_doubt d (Some (Done id)) = Some (wanted.Done id, d.next)
 
 -- the area of the journal that a node writes in: the number of its cell, how many slots it has, and how many of them hold

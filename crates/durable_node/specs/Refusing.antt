@@ -28,7 +28,7 @@ area_refusal area = if area.used == area.slots && is_last area then Some Worn el
 abbrev pub disk_refusal : Durable → Area → Option Command → Option StepFault
 disk_refusal d area None = None
 disk_refusal d area (Some Raise) = if d.counter == 2 ^ 64 - 1 then Some Exhausted else None
-disk_refusal d area (Some (Put queue payload)) =
+disk_refusal d area (Some (Put work)) =
     if nat_le (2 ^ 64 - 1) d.next then Some Exhausted
     else (if nat_lt area.slots (length d.pending + 3) then Some Full else area_refusal area)
 disk_refusal d area (Some (Done id)) = area_refusal area

@@ -56,7 +56,7 @@ raise_by what = None
 abbrev pub has_command : Wanted → ℕ → Durable → Bool
 has_command wanted.None before d = false
 has_command wanted.Raise before d = not (d.counter == before)
-has_command (wanted.Put queue payload) before d = not (d.next == before)
+has_command (wanted.Put work) before d = not (d.next == before)
 has_command (wanted.Done id) before d = not (is_pending d.pending id)
 
 -- the flag tells whether the command in doubt was found

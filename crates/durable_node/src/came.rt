@@ -54,7 +54,7 @@ pub(crate) fn command_in(wants: Durable) -> Option<Command>
     match wants {
         Durable::None => None,
         Durable::Raise => Some(Command::Raise),
-        Durable::Put(queue, payload) => Some(Command::Put(queue, payload)),
+        Durable::Put(work) => Some(Command::Put(work)),
         Durable::Done(id) => Some(Command::Done(id)),
     }
 }

@@ -44,9 +44,9 @@ pub(crate) fn carry<D: SectorDisk>(
     match wants {
         Durable::None => Ok(None),
         Durable::Raise => told(store.raise()),
-        Durable::Put(queue, payload) => {
+        Durable::Put(work) => {
             ids_fit(store);
-            told(store.put(*queue, *payload))
+            told(store.put(*work))
         }
         Durable::Done(id) => told(store.done(*id)),
     }

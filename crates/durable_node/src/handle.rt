@@ -132,7 +132,7 @@ fn is_spent<D: SectorDisk>(store: &NodeStore<D>, wants: &Durable) -> bool
 {
     match wants {
         Durable::Raise => store.counter() == u64::MAX,
-        Durable::Put(_, _) => store.table().next() == u64::MAX,
+        Durable::Put(_) => store.table().next() == u64::MAX,
         Durable::None | Durable::Done(_) => false,
     }
 }
@@ -144,6 +144,6 @@ fn doubted<D: SectorDisk>(store: &NodeStore<D>, wants: Durable) -> Option<(Durab
     match wants {
         Durable::None => None,
         Durable::Raise => Some((wants, store.counter())),
-        Durable::Put(_, _) | Durable::Done(_) => Some((wants, store.table().next())),
+        Durable::Put(_) | Durable::Done(_) => Some((wants, store.table().next())),
     }
 }

@@ -89,7 +89,7 @@ fn is_in<D: SectorDisk>(doubt: &Option<(Durable, u64)>, mounted: &NodeStore<D>) 
 {
     match doubt {
         Some((Durable::Raise, count)) => mounted.counter() != *count,
-        Some((Durable::Put(_, _), next)) => mounted.table().next() != *next,
+        Some((Durable::Put(_), next)) => mounted.table().next() != *next,
         Some((Durable::Done(id), _)) => !mounted.table().contains(*id),
         Some((Durable::None, _)) | None => false,
     }

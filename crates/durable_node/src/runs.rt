@@ -6,7 +6,7 @@ ghost use Rattle.node_store.specs.Store.{slots_for};
 
 use crate::{Came, DurableNode, NodeFault};
 use group_task::NodeId;
-use job_model::{Payload, Queue};
+use job_model::{Payload, Queue, Work};
 use node_core::{CoreFault, Durable, Event, Phase};
 use sector_disk::{MemDisk, SectorDisk};
 use std::alloc::Global;
@@ -165,7 +165,12 @@ fn unsealed_slot_stays(rt: HostRuntime) -> Result<(), Fail> {
 }
 
 fn submit(node: &mut DurableNode<MemDisk>, byte: u8) -> Option<Result<Option<u64>, NodeFault>> {
-    let event = Event::Submit(Queue::new(0)?, Payload::new(&[byte])?);
+    let work = Work {
+        queue: Queue::new(0)?,
+        priority: 0,
+        payload: Payload::new(&[byte])?,
+    };
+    let event = Event::Submit(work);
     Some(told(node.step(&event)))
 }
 

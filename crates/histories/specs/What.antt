@@ -23,7 +23,7 @@ reason_of refusal.Worn = Worn
 -- the command that a value of the code names
 abbrev pub command_of : KeptCommand → Command
 command_of kept.Raise = Raise
-command_of (kept.Put queue payload) = Put queue payload
+command_of (kept.Put work) = Put work
 command_of (kept.Done id) = Done id
 
 -- one entry of a node's history: what came of an event, and the messages that were handed out

@@ -1,5 +1,5 @@
 // What comes of the events of a node with its disk.
-use job_model::{Payload, Queue};
+use job_model::Work;
 use node_core::{CoreFault, Event};
 
 /// What came of an event, of a crash or of a recovery.
@@ -58,7 +58,7 @@ pub enum Command {
     /// The counter of groups rises by one.
     Raise,
     /// A job becomes pending.
-    Put(Queue, Payload),
+    Put(Work),
     /// The job of this id, which is pending, is done.
     Done(u64),
 }

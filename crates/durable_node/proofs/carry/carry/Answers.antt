@@ -35,7 +35,7 @@ pub returns-in-Put-clause-refused : goal.returns-in-Put-clause-refused
 returns-in-Put-clause-refused g c =
     let store = c.args.store.now in
     let d = durable_of store in
-    let wants : Option Command = wanted_by (durable.Put c.in-Put.queue c.in-Put.payload) in
+    let wants : Option Command = wanted_by (durable.Put c.in-Put.work) in
     subst (λ (w : Wanted). IfErr c.told-in-Put.result (λ fault. fault ≢ node.Device → (c.put.new.self ≡ store) × CantCarry store.journal.slots d (wanted_by w) fault)) (sym c.in-Put.is)
     (put_refused (c.put.new.self ≡ store) (λ (fault : NodeFault). CantCarry store.journal.slots d wants fault) c.put.result c.told-in-Put.result (λ (n : ℕ). Some n) store.broken _ _ _ c.requires.whole
     c.put.ensures.answers c.put.ensures.refused c.told-in-Put.ensures.ok c.told-in-Put.ensures.err
