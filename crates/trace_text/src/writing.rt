@@ -115,7 +115,7 @@ fn event_name(event: &Event) -> &'static str
         Event::CoordTimer => "coord",
         Event::DispatchTimer => "dispatch",
         Event::Deliver(_) => "deliver",
-        Event::Submit(_, _) => "submit",
+        Event::Submit(_) => "submit",
         Event::Finish(_, _) => "finish",
         Event::Recover => "recover",
     }
