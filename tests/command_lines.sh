@@ -1,9 +1,10 @@
 #!/usr/bin/env bash
-# The command line of the program. What can't be read ends with status 2, names every command, and leaves the input unread; some
-# runs of each command show the statuses 0 and 1, what is printed, and what comes of an output that is full.
+# The command line of the program. What can't be read ends with status 2, says what is wrong, and leaves the input unread; the
+# examples of the help run; some runs of each command show the statuses 0 and 1, what is printed, and what comes of an output that is full.
 # Called with the program, as in: tests/command_lines.sh crates/invite/out/invite. Its last line counts the checks.
 set -u
-program=$1
+program=$(readlink -f "$1")
+here=$(dirname "$(readlink -f "${BASH_SOURCE[0]}")")
 passed=0
 failed=0
 
@@ -41,15 +42,26 @@ start() {
 
 # refused WORDS..: the command line can't be read
 refused() {
-    local problem='' command
+    local problem=''
     start 'unread\n' "$room/out" "$@"
     [ "$status" -eq 2 ] || problem="status $status in place of 2"
     [ ! -s "$room/err" ] || problem='it writes to standard error'
-    for command in answer show sim store format node trace; do
-        grep -q "^  $command " "$room/out" || problem="the usage text doesn't name $command"
-    done
+    grep -qE '^(error: |Usage: invite |invite [0-9])' "$room/out" || problem='it says neither what is wrong nor how it is written'
     cmp -s "$room/in" "$room/left" || problem='it read its input'
     tell "$problem" "$@"
+}
+
+# helps COMMAND: its help has an example, which runs at the top of the repository
+helps() {
+    local problem='' example
+    start '' "$room/out" "$1" --help
+    grep -q "^Usage: invite $1\\b" "$room/out" || problem="no usage of $1"
+    example=$(sed -n 's/^Example: //p' "$room/out")
+    [ -n "$example" ] || problem='no example'
+    example=${example//\/tmp\//$room/}
+    (cd "$here/.." && eval "${example//invite $1/$program $1}") > "$room/out" 2> "$room/err" || problem="its example ends badly: $example"
+    [ ! -s "$room/err" ] || problem='its example writes to standard error'
+    tell "$problem" "$1" --help
 }
 
 # prints STATUS INPUT TEXT WORDS..: the program reads all of its input, prints the text and ends so
@@ -94,6 +106,14 @@ refused sim 1
 refused store
 refused store a b
 refused trace 1
+refused --version
+for command in answer show sim store format node trace; do
+    problem=''
+    start '' "$room/out" --help
+    grep -q "^  $command " "$room/out" || problem="the help doesn't name $command"
+    tell "$problem" --help
+    helps "$command"
+done
 
 prints 0 '010102000000\n' '01020002000101\n' answer 0 3
 prints 0 '010102000000\n' '01020002000101\n' answer 0 128

@@ -4,7 +4,7 @@
 
 use anyhow::Context;
 use file_disk::{FileDisk, Stride};
-use job_model::{Payload, Queue};
+use job_model::{Payload, Queue, Work};
 use node_store::NodeStore;
 use std::{env, fs};
 
@@ -51,7 +51,11 @@ fn put(store: &mut NodeStore<FileDisk>, rounds: u64) -> anyhow::Result<()> {
     let queue = Queue::new(0).context("no queue")?;
     let payload = Payload::new(b"hi").context("no payload")?;
     for _ in 0..rounds {
-        let id = store.put(queue, payload)?;
+        let id = store.put(Work {
+            queue,
+            priority: 0,
+            payload,
+        })?;
         store.done(id)?;
     }
     Ok(())

@@ -1,7 +1,7 @@
 // Bytes of a file at their place.
 use std::fs::File;
 use std::io;
-use std::io::ErrorKind;
+use std::io::{ErrorKind, Seek, SeekFrom};
 use std::os::unix::fs::FileExt;
 
 // Fills the piece from this place on: a read that gives less is followed by another, an interrupted one is made again, and the end of the
@@ -16,9 +16,10 @@ pub fn write_at<F: FileExt>(file: &F, place: u64, piece: &[u8]) -> io::Result<()
 }
 
 // Writes the piece over a file of at least so many bytes. One that has become shorter is refused: a write behind its end would leave zeros
-// where sectors were.
-pub fn overwrite(file: &File, length: u64, place: u64, piece: &[u8]) -> io::Result<()> {
-    if file.metadata()?.len() < length {
+// where sectors were. Its end is sought: `metadata` would ask for its times too, and a kernel that has told a file's time marks the file changed
+// at the next write (Linux from 6.13 on), for which the next sync pays.
+pub fn overwrite(mut file: &File, length: u64, place: u64, piece: &[u8]) -> io::Result<()> {
+    if file.seek(SeekFrom::End(0))? < length {
         return Err(io::Error::from(ErrorKind::UnexpectedEof));
     }
     write_at(file, place, piece)

@@ -2,6 +2,9 @@
 use Rattle.std.proofs.Common.{◌≡◌, ◌⊎◌, ℕ, zero, suc, Bool, true, false, List, [], ◌∷◌, ◌++◌, refl, sym, inl, inr, subst, Some, slice_get, map}
 use Rattle.std.specs.Prelude.{if◌then◌else◌}
 use Rattle.std.specs.List.{filter}
+use Rattle.job_model.specs.declared.job.Job.{Job}
+use Rattle.node_core.specs.Priorities.{by_priority}
+use Rattle.node_core.proofs.Priorities.{by_priority_keeps}
 use Rattle.wire_msg.specs.Envelope.{Envelope}
 use Rattle.histories.specs.Lists.{IsAmong, Each}
 use Rattle.histories.specs.What.{Entry}
@@ -79,3 +82,7 @@ each_chosen P Q f test (x ∷ xs) g h =
 pub each_left : {A : Type 0} (P : A → Type 0) (test : A → Bool) (xs : List A) → Each P xs → Each P (filter test xs)
 each_left P test [] h = tt
 each_left P test (x ∷ xs) h = by_test (λ ys. Each P ys) (test x) (x ∷ filter test xs) (filter test xs) (λ t. (h.0, each_left P test xs h.1)) (λ t. each_left P test xs h.1)
+
+-- of jobs in the order in which they are dispatched
+pub each_by_priority : (P : Job → Type 0) (jobs : List Job) → Each P jobs → Each P (by_priority jobs)
+each_by_priority P jobs h = by_priority_keeps (Each P) tt (λ xs ys g k. each_append P xs ys g k) (λ test xs g. each_left P test xs g) jobs h

@@ -40,7 +40,7 @@ any_body (Invitation group) = tt
 any_body (Accept group) = tt
 any_body (Ready task) = tt
 any_body (ReadyAck group) = tt
-any_body (WorkMessage group id queue payload) = tt
+any_body (WorkMessage group id work) = tt
 any_body (DoneMessage id) = tt
 
 any_work : (sender : ℕ) (b : Body) → WorkIn AnyWork sender b
@@ -52,7 +52,7 @@ any_work sender (Invitation group) = tt
 any_work sender (Accept group) = tt
 any_work sender (Ready task) = tt
 any_work sender (ReadyAck group) = tt
-any_work sender (WorkMessage group id queue payload) = tt
+any_work sender (WorkMessage group id work) = tt
 any_work sender (DoneMessage id) = tt
 
 any_came : (ms : List Envelope) → AllHold AnyGroup ms

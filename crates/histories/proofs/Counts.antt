@@ -14,7 +14,7 @@ wanted_rises : (d : Durable) (wants : Option Command) (last : ℕ) (rest : List 
     → ((low high : ℕ) → low ≤ high → Rises high rest → Rises low rest) → Rises last (raised d wants ++ rest)
 wanted_rises d None last rest le h lower = lower last d.counter le h
 wanted_rises d (Some Raise) last rest le h lower = (omega arith, h)
-wanted_rises d (Some (Put queue payload)) last rest le h lower = lower last d.counter le h
+wanted_rises d (Some (Put work)) last rest le h lower = lower last d.counter le h
 wanted_rises d (Some (Done id)) last rest le h lower = lower last d.counter le h
 
 rises_lower : (rest : List ℕ) (low high : ℕ) → low ≤ high → Rises high rest → Rises low rest
@@ -24,7 +24,7 @@ rises_lower (k ∷ ks) low high le h = (omega (arith, h.0), h.1)
 wanted_grows : (d : Durable) (wants : Option Command) → d.counter ≤ (after_wanted d wants).counter
 wanted_grows d None = omega arith
 wanted_grows d (Some Raise) = omega arith
-wanted_grows d (Some (Put queue payload)) = omega arith
+wanted_grows d (Some (Put work)) = omega arith
 wanted_grows d (Some (Done id)) = omega arith
 
 settled_grows : (kept : Bool) (s : NodeState) → s.durable.counter ≤ (settled kept s).counter
@@ -58,7 +58,7 @@ each_bundle_rises hs bundle n h at = counts_rise n _ (opening n) h 1 (omega arit
 abbrev raises : Option Command → ℕ
 raises None = 0
 raises (Some Raise) = 1
-raises (Some (Put queue payload)) = 0
+raises (Some (Put work)) = 0
 raises (Some (Done id)) = 0
 
 -- the greatest counter that a mounting may find
@@ -68,13 +68,13 @@ highest s = s.durable.counter + raises s.doubt
 wanted_highest : (d : Durable) (wants : Option Command) → (after_wanted d wants).counter ≤ d.counter + raises wants
 wanted_highest d None = omega arith
 wanted_highest d (Some Raise) = omega arith
-wanted_highest d (Some (Put queue payload)) = omega arith
+wanted_highest d (Some (Put work)) = omega arith
 wanted_highest d (Some (Done id)) = omega arith
 
 raises_once : (wants : Option Command) → raises wants ≤ 1
 raises_once None = omega arith
 raises_once (Some Raise) = omega arith
-raises_once (Some (Put queue payload)) = omega arith
+raises_once (Some (Put work)) = omega arith
 raises_once (Some (Done id)) = omega arith
 
 pub settled_highest : (kept : Bool) (s : NodeState) → (settled kept s).counter ≤ highest s

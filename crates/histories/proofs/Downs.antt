@@ -28,7 +28,7 @@ body_wants_none self from pending (Invitation group) = refl
 body_wants_none self from pending (Accept group) = refl
 body_wants_none self from pending (Ready task) = refl
 body_wants_none self from pending (ReadyAck group) = refl
-body_wants_none self from pending (WorkMessage group id queue payload) = refl
+body_wants_none self from pending (WorkMessage group id work) = refl
 body_wants_none self from pending (DoneMessage id) = refl
 
 pub down_wants_none : (self nodes : ℕ) (pending : List Job) (event : Event) → IsForNode (down self) event → refusal_of nodes self event (down self) ≡ None → wants_of self pending event (down self) ≡ None
@@ -39,7 +39,7 @@ down_wants_none self nodes pending ReadyTimer up h = refl
 down_wants_none self nodes pending CoordTimer up h = refl
 down_wants_none self nodes pending DispatchTimer up h = refl
 down_wants_none self nodes pending (Deliver m) up h = body_wants_none self m.sender pending m.body
-down_wants_none self nodes pending (Submit queue payload) up h = absurd cc
+down_wants_none self nodes pending (Submit work) up h = absurd cc
 down_wants_none self nodes pending (Finish origin id) up h = absurd cc
 down_wants_none self nodes pending Recover up h = absurd cc
 
@@ -62,7 +62,7 @@ body_down self from (Invitation group) answer = refl
 body_down self from (Accept group) answer = refl
 body_down self from (Ready task) answer = told_down self from task (is_told self from task (down self)) _ _
 body_down self from (ReadyAck group) answer = refl
-body_down self from (WorkMessage group id queue payload) answer = refl
+body_down self from (WorkMessage group id work) answer = refl
 body_down self from (DoneMessage id) answer = refl
 
 pub stays_down : (self nodes : ℕ) (pending : List Job) (event : Event) (answer : ℕ) → IsForNode (down self) event → refusal_of nodes self event (down self) ≡ None → effect_of nodes self pending event answer (down self) ≡ nothing (down self)
@@ -74,7 +74,7 @@ stays_down self nodes pending ReadyTimer answer up h = refl
 stays_down self nodes pending CoordTimer answer up h = refl
 stays_down self nodes pending DispatchTimer answer up h = refl
 stays_down self nodes pending (Deliver m) answer up h = body_down self m.sender m.body answer
-stays_down self nodes pending (Submit queue payload) answer up h = absurd cc
+stays_down self nodes pending (Submit work) answer up h = absurd cc
 stays_down self nodes pending (Finish origin id) answer up h = absurd cc
 stays_down self nodes pending Recover answer up h = absurd cc
 

@@ -70,7 +70,7 @@ body_causes self pending m (Invitation group) s id is e = absurd cc
 body_causes self pending m (Accept group) s id is e = absurd cc
 body_causes self pending m (Ready task) s id is e = absurd cc
 body_causes self pending m (ReadyAck group) s id is e = absurd cc
-body_causes self pending m (WorkMessage group i queue payload) s id is e = absurd cc
+body_causes self pending m (WorkMessage group i work) s id is e = absurd cc
 
 pub causes : (self : ℕ) (pending : List Job) (event : Event) (s : State) (id : ℕ) → wants_of self pending event s ≡ Some (Done id) → Cause self event id
 causes self pending CheckTimer s id e = absurd cc
@@ -80,7 +80,7 @@ causes self pending ReadyTimer s id e = absurd (no_raise (awaits_ready self s) i
 causes self pending CoordTimer s id e = absurd (no_raise (follows self s && s.probing) id e)
 causes self pending DispatchTimer s id e = absurd cc
 causes self pending (Deliver m) s id e = body_causes self pending m m.body s id refl e
-causes self pending (Submit queue payload) s id e = absurd cc
+causes self pending (Submit work) s id e = absurd cc
 causes self pending (Finish origin i) s id e =
     let done = done_is (origin == self && is_pending pending i) i id e in
     let own : origin ≡ self = eq_nat origin self (and_left _ _ done.0) in

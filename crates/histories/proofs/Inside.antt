@@ -1,4 +1,5 @@
 -- Messages are sent to nodes of the cluster alone: a vector names no other node.
+use Rattle.job_model.specs.declared.work.Work.{Work}
 use Rattle.std.proofs.Common.{◌≡◌, ℕ, zero, suc, ◌%◌, ◌<◌, ◌≤◌, Bool, true, false, not, ◌&&◌, ◌||◌, List, [], ◌∷◌, length, get_or, filter, refl, sym, subst, arith, None}
 use Rattle.std.specs.Prelude.{if◌then◌else◌, ◌==◌, nat_lt}
 use Rattle.std.specs.List.{list_all}
@@ -17,6 +18,7 @@ use Rattle.node_core.specs.State.{State, is_down, is_election, is_reorganization
 use Rattle.node_core.specs.Start.{alone, down}
 use Rattle.node_core.specs.Effect.{Effect, nothing}
 use Rattle.node_core.specs.Words.{letter, to_each, is_empty, leads, members_of, owner, holds, own_group, task_of}
+use Rattle.node_core.specs.Priorities.{by_priority}
 use Rattle.node_core.specs.Timers.{recovery, check_timer, merges, offer, merge_timer, accept_timer, awaits_ready, ready_timer, follows, coord_timer, in_own_hand, order, is_own, dispatch_timer}
 use Rattle.node_core.specs.Messages.{asked_coordinator, answered_coordinator, asked_there, was_probed, answered_there, takes_invitation, passed_on, invited, accepted, is_told, told_ready, acknowledged, got_work}
 use Rattle.node_core.specs.Operator.{submit, finish}
@@ -164,15 +166,15 @@ module _ (nodes self : ℕ) (s : State) (lt : self < nodes) (h : NamesNodes node
   body_inside from (ReadyAck group) answer known ids = inside_if nodes (awaits_ready self s && same_group group s.group) _ _
       (record { state = record { coordinator = h.coordinator; up = h.up; found = h.found; members = h.members; hand = h.hand }; sent = tt })
       stays
-  body_inside from (WorkMessage group id queue payload) answer known ids =
-      inside_if nodes (is_normal s.phase && same_group group s.group && has (members_of s.task) from && owner s queue == self && not (holds s.hand from id)) _ _
+  body_inside from (WorkMessage group id work) answer known ids =
+      inside_if nodes (is_normal s.phase && same_group group s.group && has (members_of s.task) from && owner s work.queue == self && not (holds s.hand from id)) _ _
       (record {
         state = record {
           coordinator = h.coordinator;
           up = h.up;
           found = h.found;
           members = h.members;
-          hand = each_append (λ (job : InHand). job.origin < nodes) s.hand (record { origin = from; id = id; queue = queue; payload = payload } ∷ []) h.hand (known, tt);
+          hand = each_append (λ (job : InHand). job.origin < nodes) s.hand (record { origin = from; id = id; work = work } ∷ []) h.hand (known, tt);
         };
         sent = tt;
       })
@@ -189,26 +191,26 @@ module _ (nodes self : ℕ) (s : State) (lt : self < nodes) (h : NamesNodes node
           found = h.found;
           members = h.members;
           hand = each_append (λ (job : InHand). job.origin < nodes) s.hand _ h.hand
-              (each_map (λ (job : InHand). job.origin < nodes) (in_own_hand self) (filter (λ job. is_own self s job && not (holds s.hand self job.id)) pending) (λ job. lt));
+              (each_map (λ (job : InHand). job.origin < nodes) (in_own_hand self) (filter (λ job. is_own self s job && not (holds s.hand self job.id)) (by_priority pending)) (λ job. lt));
         };
-        sent = each_map (λ (m : Envelope). m.receiver < nodes) (order self s) (filter (λ job. not (is_own self s job)) pending) (λ job. owner_inside nodes s job.queue (omega (arith, lt)) h);
+        sent = each_map (λ (m : Envelope). m.receiver < nodes) (order self s) (filter (λ job. not (is_own self s job)) (by_priority pending)) (λ job. owner_inside nodes s job.work.queue (omega (arith, lt)) h);
       })
       stays
 
-  submit_inside : (queue : ℕ) (payload : List ℕ) (answer : ℕ) → StaysInside nodes (submit self queue payload answer s)
+  submit_inside : (work : Work) (answer : ℕ) → StaysInside nodes (submit self work answer s)
   unfolding submit
-  submit_inside queue payload answer = inside_if nodes (owner s queue == self) _ _
+  submit_inside work answer = inside_if nodes (owner s work.queue == self) _ _
       (record {
         state = record {
           coordinator = h.coordinator;
           up = h.up;
           found = h.found;
           members = h.members;
-          hand = each_append (λ (job : InHand). job.origin < nodes) s.hand (record { origin = self; id = answer; queue = queue; payload = payload } ∷ []) h.hand (lt, tt);
+          hand = each_append (λ (job : InHand). job.origin < nodes) s.hand (record { origin = self; id = answer; work = work } ∷ []) h.hand (lt, tt);
         };
         sent = tt;
       })
-      (record { state = h; sent = (owner_inside nodes s queue (omega (arith, lt)) h, tt) })
+      (record { state = h; sent = (owner_inside nodes s work.queue (omega (arith, lt)) h, tt) })
 
   told_done : (b : Bool) (origin id : ℕ) → origin < nodes → AreToNodes nodes (if b then [] else letter self origin (DoneMessage id) ∷ [])
   told_done true origin id known = tt
@@ -255,7 +257,7 @@ module _ (nodes self : ℕ) (s : State) (lt : self < nodes) (h : NamesNodes node
   event_inside pending (Deliver m) answer taken =
       let known : AreNodes nodes (m.sender ∷ ids_in m.body) = tested_nodes nodes (m.sender ∷ ids_in m.body) (and_right _ _ (unless (is_known nodes self m) _ taken)) in
       body_inside m.sender m.body answer known.0 known.1
-  event_inside pending (Submit queue payload) answer taken = submit_inside queue payload answer
+  event_inside pending (Submit work) answer taken = submit_inside work answer
   event_inside pending (Finish origin id) answer taken = finish_inside origin id (held_finish nodes self origin id s taken).1
   event_inside pending Recover answer taken = recovery_inside answer
 

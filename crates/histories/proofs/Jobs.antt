@@ -29,7 +29,7 @@ says_work J self sender receiver made event (Invitation group) h = tt
 says_work J self sender receiver made event (Accept group) h = tt
 says_work J self sender receiver made event (Ready task) h = tt
 says_work J self sender receiver made event (ReadyAck group) h = tt
-says_work J self sender receiver made event (WorkMessage group id queue payload) h = h.1
+says_work J self sender receiver made event (WorkMessage group id work) h = h.1
 says_work J self sender receiver made event (DoneMessage id) h = tt
 
 first_state : (self nodes : ℕ) (s : NodeState) (es : List Entry) → IsAmong s (states self nodes s es)
@@ -67,7 +67,7 @@ all_hands Q self nodes s (e ∷ es) follows h came held v i =
     ]
 
 states_known : (hs : List (List Entry)) (n : ℕ) (h : List Entry) → slice_get hs n ≡ Some h → StatesKnown (IsJobOf hs) n (length hs) (opening n) h
-states_known hs n h at t i = each_of (λ (job : Job). IsJobOf hs n job.id job.queue) t.durable.pending (λ j k. record { history = h; at = at; state = t; is_state = i; job = j; pending = k; of_id = refl; of_queue = refl })
+states_known hs n h at t i = each_of (λ (job : Job). IsJobOf hs n job.id job.work.queue) t.durable.pending (λ j k. record { history = h; at = at; state = t; is_state = i; job = j; pending = k; of_id = refl; of_queue = refl })
 
 pub work_is_job : WorkIsJob
 work_is_job hs bundle n v moment w i =

@@ -46,7 +46,7 @@ SaysIn P J self made event sender receiver (Invitation group) = P group
 SaysIn P J self made event sender receiver (Accept group) = P group
 SaysIn P J self made event sender receiver (Ready task) = (sender ≡ self) × IsAmong task made × P task.group
 SaysIn P J self made event sender receiver (ReadyAck group) = P group
-SaysIn P J self made event sender receiver (WorkMessage group id queue payload) = P group × J sender id queue
+SaysIn P J self made event sender receiver (WorkMessage group id work) = P group × J sender id work.queue
 SaysIn P J self made event sender receiver (DoneMessage id) = event ≡ Some (Finish receiver id)
 
 abbrev pub Says : (Group → Type 0) → (ℕ → ℕ → ℕ → Type 0) → ℕ → List Assignment → Option Event → Envelope → Type 0
@@ -62,18 +62,18 @@ WorkIn Q sender (Invitation group) = Unit {0}
 WorkIn Q sender (Accept group) = Unit {0}
 WorkIn Q sender (Ready task) = Unit {0}
 WorkIn Q sender (ReadyAck group) = Unit {0}
-WorkIn Q sender (WorkMessage group id queue payload) = Q sender id queue
+WorkIn Q sender (WorkMessage group id work) = Q sender id work.queue
 WorkIn Q sender (DoneMessage id) = Unit {0}
 
 abbrev pub AllWork : (ℕ → ℕ → ℕ → Type 0) → List Envelope → Type 0
 AllWork Q ms = Each (λ (m : Envelope). WorkIn Q m.sender m.body) ms
 
 abbrev pub JobsHold : (ℕ → ℕ → ℕ → Type 0) → ℕ → List Job → Type 0
-JobsHold J self jobs = Each (λ (job : Job). J self job.id job.queue) jobs
+JobsHold J self jobs = Each (λ (job : Job). J self job.id job.work.queue) jobs
 
 -- work is in hand in Normal alone, its queue is the node's own, and Q holds of it
 abbrev pub Held : (ℕ → ℕ → ℕ → Type 0) → ℕ → Phase → Option Assignment → InHand → Type 0
-Held Q self phase task work = (phase ≡ Normal) × (owner_of (members_of task) work.queue ≡ self) × Q work.origin work.id work.queue
+Held Q self phase task job = (phase ≡ Normal) × (owner_of (members_of task) job.work.queue ≡ self) × Q job.origin job.id job.work.queue
 
 abbrev pub HandHolds : (ℕ → ℕ → ℕ → Type 0) → ℕ → State → Type 0
 HandHolds Q self s = Each (Held Q self s.phase s.task) s.hand

@@ -1,5 +1,6 @@
 -- No node of a bundle writes to itself. A bundle has no order of time, so this is shown kind by kind: first of the messages whose
 -- receiver doesn't hang on what was brought, then of the answers to these, and then of all.
+use Rattle.job_model.specs.declared.work.Work.{Work}
 use Rattle.std.proofs.Common.{◌≡◌, ◌≢◌, ◌<◌, ℕ, Bool, true, false, not, ◌&&◌, List, [], ◌∷◌, slice_get, length, Some, refl, sym, subst, ◌∙◌}
 use Rattle.std.specs.Prelude.{if◌then◌else◌, ◌==◌, nat_lt}
 use Rattle.std.proofs.lemmas.Option.{slice_get_within}
@@ -16,6 +17,7 @@ use Rattle.node_core.specs.declared.event.Event.TheVariants as on
 use Rattle.node_core.specs.State.{State, is_down, is_election, is_reorganization, is_normal}
 use Rattle.node_core.specs.Effect.{Effect, nothing}
 use Rattle.node_core.specs.Words.{is_empty, leads, letter, members_of, own_group, owner, holds, to_each, task_of}
+use Rattle.node_core.specs.Priorities.{by_priority}
 use Rattle.node_core.specs.Timers.{recovery, check_timer, merges, offer, merge_timer, accept_timer, awaits_ready, ready_timer, follows, coord_timer, dispatch_timer, is_own, order}
 use Rattle.node_core.specs.Messages.{asked_coordinator, answered_coordinator, asked_there, was_probed, answered_there, takes_invitation, passed_on, invited, accepted, is_told, told_ready, acknowledged, got_work}
 use Rattle.node_core.specs.Operator.{submit, finish}
@@ -44,7 +46,7 @@ ToOther A B self receiver (says.Invitation group) = B → receiver ≢ self
 ToOther A B self receiver (says.Accept group) = receiver ≢ self
 ToOther A B self receiver (says.Ready task) = B → receiver ≢ self
 ToOther A B self receiver (says.ReadyAck group) = receiver ≢ self
-ToOther A B self receiver (says.Work group id queue payload) = receiver ≢ self
+ToOther A B self receiver (says.Work group id work) = receiver ≢ self
 ToOther A B self receiver (says.Done id) = receiver ≢ self
 
 -- those that ask are others where A holds, and those that join where B does
@@ -57,7 +59,7 @@ OfOther A B self sender (says.Invitation group) = Unit {0}
 OfOther A B self sender (says.Accept group) = B → sender ≢ self
 OfOther A B self sender (says.Ready task) = Unit {0}
 OfOther A B self sender (says.ReadyAck group) = Unit {0}
-OfOther A B self sender (says.Work group id queue payload) = Unit {0}
+OfOther A B self sender (says.Work group id work) = Unit {0}
 OfOther A B self sender (says.Done id) = Unit {0}
 
 abbrev AreToOthers : Type 0 → Type 0 → ℕ → List Envelope → Type 0
@@ -156,8 +158,8 @@ module _ (A B : Type 0) (self : ℕ) (s : State) (h : NamesOthers B self s) wher
   body_out from (says.ReadyAck group) answer other = reaches_by A B self (awaits_ready self s && same_group group s.group) _ _
       (λ t. record { state = record { up = h.up; found = h.found }; sent = tt })
       (λ f. same)
-  body_out from (says.Work group id queue payload) answer other =
-      reaches_by A B self (is_normal s.phase && same_group group s.group && has (members_of s.task) from && owner s queue == self && not (holds s.hand from id)) _ _
+  body_out from (says.Work group id work) answer other =
+      reaches_by A B self (is_normal s.phase && same_group group s.group && has (members_of s.task) from && owner s work.queue == self && not (holds s.hand from id)) _ _
       (λ t. record { state = record { up = h.up; found = h.found }; sent = tt })
       (λ f. same)
   body_out from (says.Done id) answer other = same
@@ -167,16 +169,16 @@ module _ (A B : Type 0) (self : ℕ) (s : State) (h : NamesOthers B self s) wher
   dispatch_out pending = reaches_by A B self (is_normal s.phase) _ _
       (λ t. record {
         state = record { up = h.up; found = h.found };
-        sent = each_chosen (λ (job : Job). Unit {0}) (λ (m : Envelope). ToOther A B self m.receiver m.body) (order self s) (λ (job : Job). not (is_own self s job)) pending
-            (λ job is u. differ (owner s job.queue) self (not_true _ is)) (each_of (λ (job : Job). Unit {0}) pending (λ job i. tt));
+        sent = each_chosen (λ (job : Job). Unit {0}) (λ (m : Envelope). ToOther A B self m.receiver m.body) (order self s) (λ (job : Job). not (is_own self s job)) (by_priority pending)
+            (λ job is u. differ (owner s job.work.queue) self (not_true _ is)) (each_of (λ (job : Job). Unit {0}) (by_priority pending) (λ job i. tt));
       })
       (λ f. same)
 
-  submit_out : (queue : ℕ) (payload : List ℕ) (answer : ℕ) → Reaches A B self (submit self queue payload answer s)
+  submit_out : (work : Work) (answer : ℕ) → Reaches A B self (submit self work answer s)
   unfolding submit
-  submit_out queue payload answer = reaches_by A B self (owner s queue == self) _ _
+  submit_out work answer = reaches_by A B self (owner s work.queue == self) _ _
       (λ t. record { state = record { up = h.up; found = h.found }; sent = tt })
-      (λ f. record { state = h; sent = (differ (owner s queue) self f, tt) })
+      (λ f. record { state = h; sent = (differ (owner s work.queue) self f, tt) })
 
   done_out : (b : Bool) (origin id : ℕ) → (b ≡ false → origin ≢ self) → AreToOthers A B self (if b then [] else letter self origin (says.Done id) ∷ [])
   done_out true origin id f = tt
@@ -204,7 +206,7 @@ module _ (A B : Type 0) (self : ℕ) (s : State) (h : NamesOthers B self s) wher
       (λ f. same)
   event_out nodes pending on.DispatchTimer answer came = dispatch_out pending
   event_out nodes pending (on.Deliver m) answer came = body_out m.sender m.body answer came.0
-  event_out nodes pending (on.Submit queue payload) answer came = submit_out queue payload answer
+  event_out nodes pending (on.Submit work) answer came = submit_out work answer
   event_out nodes pending (on.Finish origin id) answer came = finish_out origin id
   event_out nodes pending on.Recover answer came = recovery_out answer
 
@@ -255,7 +257,7 @@ none_asked self sender (says.Invitation group) = tt
 none_asked self sender (says.Accept group) = λ b. absurd b
 none_asked self sender (says.Ready task) = tt
 none_asked self sender (says.ReadyAck group) = tt
-none_asked self sender (says.Work group id queue payload) = tt
+none_asked self sender (says.Work group id work) = tt
 none_asked self sender (says.Done id) = tt
 
 -- those that ask are others, since no question is put to oneself
@@ -268,7 +270,7 @@ asked_others n k m (says.Invitation group) own here to = tt
 asked_others n k m (says.Accept group) own here to = λ b. absurd b
 asked_others n k m (says.Ready task) own here to = tt
 asked_others n k m (says.ReadyAck group) own here to = tt
-asked_others n k m (says.Work group id queue payload) own here to = tt
+asked_others n k m (says.Work group id work) own here to = tt
 asked_others n k m (says.Done id) own here to = tt
 
 -- and so those that join are
@@ -281,7 +283,7 @@ joined_others n k m (says.Invitation group) own here to = tt
 joined_others n k m (says.Accept group) own here to = λ b. crosses m n k own here to
 joined_others n k m (says.Ready task) own here to = tt
 joined_others n k m (says.ReadyAck group) own here to = tt
-joined_others n k m (says.Work group id queue payload) own here to = tt
+joined_others n k m (says.Work group id work) own here to = tt
 joined_others n k m (says.Done id) own here to = tt
 
 to_another : (self receiver : ℕ) (body : Body) → ToOther (Unit {0}) (Unit {0}) self receiver body → receiver ≢ self
@@ -293,7 +295,7 @@ to_another self receiver (says.Invitation group) to = to tt
 to_another self receiver (says.Accept group) to = to
 to_another self receiver (says.Ready task) to = to tt
 to_another self receiver (says.ReadyAck group) to = to
-to_another self receiver (says.Work group id queue payload) to = to
+to_another self receiver (says.Work group id work) to = to
 to_another self receiver (says.Done id) to = to
 
 module _ (histories : List (List Entry)) (bundle : Bundle histories) where

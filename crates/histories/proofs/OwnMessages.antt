@@ -14,6 +14,7 @@ use Rattle.node_core.specs.declared.phase.Phase.TheVariants.{Normal, Reorganizat
 use Rattle.node_core.specs.State.{State, is_down, is_election, is_reorganization, is_normal}
 use Rattle.node_core.specs.Effect.{Effect, nothing, quietly}
 use Rattle.node_core.specs.Words.{is_empty, leads, letter, members_of, own_group, owner, holds, to_each}
+use Rattle.node_core.specs.Priorities.{by_priority}
 use Rattle.node_core.specs.Timers.{recovery, check_timer, merges, offer, merge_timer, accept_timer, awaits_ready, ready_timer, follows, coord_timer, dispatch_timer, is_own, order, orders, own_jobs}
 use Rattle.node_core.specs.Messages.{asked_coordinator, answered_coordinator, asked_there, was_probed, answered_there, takes_invitation, passed_on, invited, accepted, is_told, told_ready, acknowledged, got_work}
 use Rattle.node_core.specs.Operator.{submit, finish}
@@ -69,7 +70,7 @@ body_of self from (says.Ready task) answer s =
     (record { sent = one_of self from (says.ReadyAck s.group) })
     (of_if self (is_told self from task s && is_normal s.phase) (writes s (letter self from (says.ReadyAck s.group))) (nothing s) (record { sent = one_of self from (says.ReadyAck s.group) }) (record { sent = tt }))
 body_of self from (says.ReadyAck group) answer s = of_if self (awaits_ready self s && same_group group s.group) (quietly (record s { unready = without_id s.unready from; phase = if is_empty (without_id s.unready from) then Normal else Reorganization })) (nothing s) (record { sent = tt }) (record { sent = tt })
-body_of self from (says.Work group id queue payload) answer s = of_if self (is_normal s.phase && same_group group s.group && has (members_of s.task) from && owner s queue == self && not (holds s.hand from id)) (quietly (record s { hand = s.hand ++ (record { origin = from; id = id; queue = queue; payload = payload }) ∷ [] })) (nothing s) (record { sent = tt }) (record { sent = tt })
+body_of self from (says.Work group id work) answer s = of_if self (is_normal s.phase && same_group group s.group && has (members_of s.task) from && owner s work.queue == self && not (holds s.hand from id)) (quietly (record s { hand = s.hand ++ (record { origin = from; id = id; work = work }) ∷ [] })) (nothing s) (record { sent = tt }) (record { sent = tt })
 body_of self from (says.Done id) answer s = record { sent = tt }
 
 event_of : (nodes self : ℕ) (pending : List Job) (event : Event) (answer : ℕ) (s : State) → IsOf self (effect_of nodes self pending event answer s)
@@ -80,9 +81,9 @@ event_of nodes self pending on.AcceptTimer answer s = of_if self (is_election s.
 event_of nodes self pending on.ReadyTimer answer s = of_if self (awaits_ready self s) _ _ (recovery_of self answer s) (record { sent = tt })
 event_of nodes self pending on.CoordTimer answer s = of_if self (follows self s) _ _ (of_if self s.probing (recovery self answer s) (writes (record s { probing = true }) (letter self s.coordinator (says.AreYouThere s.group))) (recovery_of self answer s) (record { sent = one_of self s.coordinator (says.AreYouThere s.group) })) (record { sent = tt })
 event_of nodes self pending on.DispatchTimer answer s =
-    of_if self (is_normal s.phase) (record { state = record s { hand = s.hand ++ own_jobs self s pending }; sent = orders self s pending }) (nothing s) (record { sent = each_map (λ (m : Envelope). m.sender ≡ self) (order self s) (filter (λ (job : Job). not (is_own self s job)) pending) (λ job. refl) }) (record { sent = tt })
+    of_if self (is_normal s.phase) (record { state = record s { hand = s.hand ++ own_jobs self s (by_priority pending) }; sent = orders self s (by_priority pending) }) (nothing s) (record { sent = each_map (λ (m : Envelope). m.sender ≡ self) (order self s) (filter (λ (job : Job). not (is_own self s job)) (by_priority pending)) (λ job. refl) }) (record { sent = tt })
 event_of nodes self pending (on.Deliver m) answer s = body_of self m.sender m.body answer s
-event_of nodes self pending (on.Submit queue payload) answer s = of_if self (owner s queue == self) (quietly (record s { hand = s.hand ++ (record { origin = self; id = answer; queue = queue; payload = payload }) ∷ [] })) (writes s (letter self (owner s queue) (says.Work s.group answer queue payload))) (record { sent = tt }) (record { sent = one_of self (owner s queue) (says.Work s.group answer queue payload) })
+event_of nodes self pending (on.Submit work) answer s = of_if self (owner s work.queue == self) (quietly (record s { hand = s.hand ++ (record { origin = self; id = answer; work = work }) ∷ [] })) (writes s (letter self (owner s work.queue) (says.Work s.group answer work))) (record { sent = tt }) (record { sent = one_of self (owner s work.queue) (says.Work s.group answer work) })
 event_of nodes self pending (on.Finish origin id) answer s = record { sent = sent_if self (origin == self) [] (letter self origin (says.Done id) ∷ []) tt (refl, tt) }
 event_of nodes self pending on.Recover answer s = recovery_of self answer s
 

@@ -33,7 +33,7 @@ use Rattle.histories.proofs.Counts.{each_bundle_rises}
 
 -- what is in hand is owned
 abbrev pub IsHeld : ℕ → Phase → Option Assignment → InHand → Type 0
-IsHeld self phase task work = Held AnyWork self phase task work
+IsHeld self phase task job = Held AnyWork self phase task job
 
 abbrev pub OwnedAt : ℕ → NodeState → Type 0
 OwnedAt self s = HandHolds AnyWork self s.state
@@ -45,11 +45,11 @@ owned_after self nodes s what may h =
 -- a work in hand, Normal and owned
 record HasWork (self : ℕ) (v : State) (origin id : ℕ) : Type 0 where
   is_normal : v.phase ≡ Normal
-  work : InHand
-  held : IsAmong work v.hand
-  of_origin : work.origin ≡ origin
-  of_id : work.id ≡ id
-  owned : owner v work.queue ≡ self
+  job : InHand
+  held : IsAmong job v.hand
+  of_origin : job.origin ≡ origin
+  of_id : job.id ≡ id
+  owned : owner v job.work.queue ≡ self
 
 -- in one history: the work in hand at a moment, and its Finish
 record FinishedIn (self nodes : ℕ) (s : NodeState) (es : List Entry) (origin id : ℕ) : Type 0 where
@@ -60,12 +60,12 @@ record FinishedIn (self nodes : ℕ) (s : NodeState) (es : List Entry) (origin i
 
 -- work of this origin and id, by cases on the hand
 record Found (self : ℕ) (phase : Phase) (task : Option Assignment) (hand : List InHand) (origin id : ℕ) : Type 0 where
-  work : InHand
-  held : IsAmong work hand
-  of_origin : work.origin ≡ origin
-  of_id : work.id ≡ id
+  job : InHand
+  held : IsAmong job hand
+  of_origin : job.origin ≡ origin
+  of_id : job.id ≡ id
   is_normal : phase ≡ Normal
-  owned : owner_of (members_of task) work.queue ≡ self
+  owned : owner_of (members_of task) job.work.queue ≡ self
 
 find_work : (self : ℕ) (phase : Phase) (task : Option Assignment) (hand : List InHand) (origin id : ℕ) → Each (IsHeld self phase task) hand → holds hand origin id ≡ true → Found self phase task hand origin id
 find_work self phase task [] origin id owned is = absurd cc
@@ -74,7 +74,7 @@ find_work self phase task (w ∷ ws) origin id owned is = by_head (w.origin == o
     by_head : (b : Bool) → (w.origin == origin && w.id == id) ≡ b → (b || holds ws origin id) ≡ true
         → (holds ws origin id ≡ true → Found self phase task ws origin id) → Found self phase task (w ∷ ws) origin id
     by_head true e k rest = record {
-      work = w;
+      job = w;
       held = inl refl;
       of_origin = eq_nat w.origin origin (and_left (w.origin == origin) (w.id == id) e);
       of_id = eq_nat w.id id (and_right (w.origin == origin) (w.id == id) e);
@@ -82,7 +82,7 @@ find_work self phase task (w ∷ ws) origin id owned is = by_head (w.origin == o
       owned = owned.0.1;
     }
     by_head false e k rest = (let it = rest k in record {
-      work = it.work;
+      job = it.job;
       held = inr it.held;
       of_origin = it.of_origin;
       of_id = it.of_id;
@@ -93,7 +93,7 @@ find_work self phase task (w ∷ ws) origin id owned is = by_head (w.origin == o
 has_work : (self : ℕ) (s : NodeState) (origin id : ℕ) → OwnedAt self s → holds s.state.hand origin id ≡ true → HasWork self s.state origin id
 has_work self s origin id owned is =
     let it = find_work self s.state.phase s.state.task s.state.hand origin id owned is in
-    record { is_normal = it.is_normal; work = it.work; held = it.held; of_origin = it.of_origin; of_id = it.of_id; owned = it.owned }
+    record { is_normal = it.is_normal; job = it.job; held = it.held; of_origin = it.of_origin; of_id = it.of_id; owned = it.owned }
 
 -- the entry itself is the Finish
 finished_now : (self nodes : ℕ) (s : NodeState) (what : What) (sent : List Envelope) (es : List Entry) (event : Event) (origin id : ℕ) → OwnedAt self s → event ≡ Finish origin id
@@ -224,7 +224,7 @@ finished_by hs n h origin id at it = record {
   moment = it.moment;
   is_moment = (h, at, it.is_moment);
   is_normal = it.has_work.is_normal;
-  work = it.has_work.work;
+  job = it.has_work.job;
   in_hand = it.has_work.held;
   of_origin = it.has_work.of_origin;
   of_id = it.has_work.of_id;
@@ -254,4 +254,4 @@ one_worker hs bundle n m v w at_v at_w normal_v normal_w same a b in_v in_w queu
     let task : v.task ≡ w.task = one_task hs bundle (each_bundle_rises hs bundle) n m v w at_v at_w normal_v normal_w same in
     let mine = each_at (IsHeld n v.phase v.task) v.hand a (owned_moment n (length hs) (opening n) at_v.0 v (bundle.follows n at_v.0 at_v.1) tt at_v.2) in_v in
     let yours = each_at (IsHeld m w.phase w.task) w.hand b (owned_moment m (length hs) (opening m) at_w.0 w (bundle.follows m at_w.0 at_w.1) tt at_w.2) in_w in
-    sym mine.1 ∙ (ap (λ (t : Option Assignment). owner_of (members_of t) a.queue) task ∙ (ap (λ (q : ℕ). owner_of (members_of w.task) q) queue ∙ yours.1))
+    sym mine.1 ∙ (ap (λ (t : Option Assignment). owner_of (members_of t) a.work.queue) task ∙ (ap (λ (q : ℕ). owner_of (members_of w.task) q) queue ∙ yours.1))

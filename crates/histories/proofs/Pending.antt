@@ -71,7 +71,7 @@ goes_put d new fresh = record {
 
 goes_by : (d : Durable) (c : Command) → Goes d (after_command d c)
 goes_by d Raise = record { next = omega arith; same = λ a i lt. i; given = λ g. record { below = g.below; once = g.once } }
-goes_by d (Put queue payload) = goes_put d (record { id = d.next; queue = queue; payload = payload }) refl
+goes_by d (Put work) = goes_put d (record { id = d.next; work = work }) refl
 goes_by d (Done id) =
     let left : (a : Job) → IsAmong a (without_job d.pending id) → IsAmong a d.pending = among_filtered (λ (job : Job). not (job.id == id)) d.pending in record {
       next = omega arith;

@@ -1,4 +1,5 @@
 -- One pass over the table: what each row does.
+use Rattle.job_model.specs.declared.work.Work.{Work}
 use Rattle.std.proofs.Common.{◌≡◌, ◌⊎◌, ℕ, ◌+◌, Bool, true, false, not, ◌&&◌, List, [], ◌∷◌, refl, sym, ap, ◌∙◌, subst, inl, inr, Option, Some, None}
 use Rattle.std.specs.Prelude.{if◌then◌else◌, ◌==◌}
 use Rattle.group_task.specs.Group.{Group, same_group}
@@ -21,6 +22,7 @@ use Rattle.node_core.specs.declared.phase.Phase.TheVariants.{Down, Election, Reo
 use Rattle.node_core.specs.State.{State, is_down, is_election, is_reorganization, is_normal}
 use Rattle.node_core.specs.Effect.{Effect, nothing, quietly}
 use Rattle.node_core.specs.Words.{letter, to_each, is_empty, leads, members_of, owner, holds, own_group, task_of}
+use Rattle.node_core.specs.Priorities.{by_priority}
 use Rattle.node_core.specs.Timers.{recovery, check_timer, merges, offer, merge_timer, accept_timer, awaits_ready, ready_timer, follows, coord_timer, in_own_hand, order, is_own, dispatch_timer}
 use Rattle.node_core.specs.Messages.{asked_coordinator, answered_coordinator, asked_there, was_probed, answered_there, takes_invitation, passed_on, invited, accepted, is_told, told_ready, acknowledged, got_work}
 use Rattle.node_core.specs.Operator.{submit, finish}
@@ -31,7 +33,7 @@ use Rattle.histories.specs.Lists.{Each}
 use Rattle.histories.specs.After.{raised}
 use Rattle.histories.specs.Named.{BodyHolds, TaskHolds, PlaceHolds}
 use Rattle.histories.proofs.Tests.{and_left, and_right, not_true, eq_nat, differ, same_group_is, in_election, in_reorganization, in_normal, in_either}
-use Rattle.histories.proofs.Among.{each_append, each_split, each_map, each_chosen, each_left}
+use Rattle.histories.proofs.Among.{each_append, each_split, each_map, each_chosen, each_left, each_by_priority}
 use Rattle.histories.proofs.Moves.{stays, starts_alone, calls, joins, assigns, takes, completes, Says, WorkIn, Held, Knows, Does}
 
 -- by whether the guard holds
@@ -157,10 +159,10 @@ module _ (P : Group → Type 0) (J Q : ℕ → ℕ → ℕ → Type 0) (self : �
         moves = stays refl refl refl refl refl refl;
         names = λ k. k.place;
         holds = λ k w h. each_append (Held Q self s.phase s.task) s.hand _ h
-            (each_chosen (λ job. Q self job.id job.queue) (Held Q self s.phase s.task) (in_own_hand self) (λ job. is_own self s job && not (holds s.hand self job.id)) d.pending
-            (λ job own q. (phase, eq_nat _ _ (and_left _ _ own), q)) k.before);
-        says = λ k j. each_chosen (λ job. J self job.id job.queue) (Says P J self [] (Some DispatchTimer)) (order self s) (λ job. not (is_own self s job)) d.pending
-            (λ job other it. ((in_group P s.phase s.group s.task (of_phase s.phase Normal false is_down phase refl) k.place).0, it)) j.before;
+            (each_chosen (λ job. Q self job.id job.work.queue) (Held Q self s.phase s.task) (in_own_hand self) (λ job. is_own self s job && not (holds s.hand self job.id)) (by_priority d.pending)
+            (λ job own q. (phase, eq_nat _ _ (and_left _ _ own), q)) (each_by_priority _ d.pending k.before));
+        says = λ k j. each_chosen (λ job. J self job.id job.work.queue) (Says P J self [] (Some DispatchTimer)) (order self s) (λ job. not (is_own self s job)) (by_priority d.pending)
+            (λ job other it. ((in_group P s.phase s.group s.task (of_phase s.phase Normal false is_down phase refl) k.place).0, it)) (each_by_priority _ d.pending j.before);
       }))
       (λ f. quiet DispatchTimer)
 
@@ -245,7 +247,7 @@ module _ (P : Group → Type 0) (J Q : ℕ → ℕ → ℕ → Type 0) (self : �
   delivered_does m (ReadyAck group) is = guarded (λ e. Does P J Q self s d (Deliver m) None e) (awaits_ready self s && same_group group s.group) _ _
       (λ t. ack_by m (without_id s.unready m.sender) (is_empty (without_id s.unready m.sender)) (in_reorganization s.phase (and_left _ _ (and_left _ _ t))) (eq_nat _ _ (and_right _ _ (and_left _ _ t))))
       (λ f. quiet (Deliver m))
-  delivered_does m (WorkMessage group id queue payload) is = guarded (λ e. Does P J Q self s d (Deliver m) None e) (is_normal s.phase && same_group group s.group && has (members_of s.task) m.sender && owner s queue == self && not (holds s.hand m.sender id)) _ _
+  delivered_does m (WorkMessage group id work) is = guarded (λ e. Does P J Q self s d (Deliver m) None e) (is_normal s.phase && same_group group s.group && has (members_of s.task) m.sender && owner s work.queue == self && not (holds s.hand m.sender id)) _ _
       (λ t. record {
         made = [];
         moves = stays refl refl refl refl refl refl;
@@ -259,15 +261,15 @@ module _ (P : Group → Type 0) (J Q : ℕ → ℕ → ℕ → Type 0) (self : �
 
   -- ---- the operator
 
-  submit_does : (queue : ℕ) (payload : List ℕ) → is_normal s.phase ≡ true → Does P J Q self s d (Submit queue payload) (Some (Put queue payload)) (submit self queue payload d.next s)
+  submit_does : (work : Work) → is_normal s.phase ≡ true → Does P J Q self s d (Submit work) (Some (Put work)) (submit self work d.next s)
   unfolding submit
-  submit_does queue payload normal = guarded (λ e. Does P J Q self s d (Submit queue payload) (Some (Put queue payload)) e) (owner s queue == self) _ _
+  submit_does work normal = guarded (λ e. Does P J Q self s d (Submit work) (Some (Put work)) e) (owner s work.queue == self) _ _
       (λ t. record {
         made = [];
         moves = stays refl refl refl refl refl refl;
         names = λ k. k.place;
         holds = λ k w h. each_append (Held Q self s.phase s.task) s.hand _ h
-            ((in_normal s.phase normal, eq_nat _ _ t, (each_split (λ job. Q self job.id job.queue) d.pending (record { id = d.next; queue = queue; payload = payload } ∷ []) k.after).1.0), tt);
+            ((in_normal s.phase normal, eq_nat _ _ t, (each_split (λ job. Q self job.id job.work.queue) d.pending (record { id = d.next; work = work } ∷ []) k.after).1.0), tt);
         says = λ k j. tt;
       })
       (λ f. record {
@@ -278,7 +280,7 @@ module _ (P : Group → Type 0) (J Q : ℕ → ℕ → ℕ → Type 0) (self : �
         says = λ k j. (
           (
             (in_group P s.phase s.group s.task (of_phase s.phase Normal false is_down (in_normal s.phase normal) refl) k.place).0,
-            (each_split (λ job. J self job.id job.queue) d.pending (record { id = d.next; queue = queue; payload = payload } ∷ []) j.after).1.0,
+            (each_split (λ job. J self job.id job.work.queue) d.pending (record { id = d.next; work = work } ∷ []) j.after).1.0,
           ),
           tt,
         );
@@ -313,6 +315,6 @@ module _ (P : Group → Type 0) (J Q : ℕ → ℕ → ℕ → Type 0) (self : �
   event_does nodes CoordTimer h = coord_does
   event_does nodes DispatchTimer h = dispatch_does
   event_does nodes (Deliver m) h = delivered_does m m.body refl
-  event_does nodes (Submit queue payload) h = submit_does queue payload (not_refused (is_down s.phase) (is_normal s.phase) (s.coordinator == self) _ _ _ h)
+  event_does nodes (Submit work) h = submit_does work (not_refused (is_down s.phase) (is_normal s.phase) (s.coordinator == self) _ _ _ h)
   event_does nodes (Finish origin id) h = finish_does origin id
   event_does nodes Recover h = recovers Recover

@@ -46,7 +46,7 @@ body_up self from (Invitation group) answer s up = up_if (takes_invitation self 
 body_up self from (Accept group) answer s up = up_if (is_election s.phase && s.coordinator == self && same_group group s.group) _ _ (record { up = up }) (record { up = up })
 body_up self from (Ready task) answer s up = up_if (is_told self from task s && is_reorganization s.phase) _ _ (record { up = refl }) (up_if (is_told self from task s && is_normal s.phase) _ _ (record { up = up }) (record { up = up }))
 body_up self from (ReadyAck group) answer s up = up_if (awaits_ready self s && same_group group s.group) _ _ (record { up = either_up (is_empty (without_id s.unready from)) }) (record { up = up })
-body_up self from (WorkMessage group id queue payload) answer s up = up_if _ _ _ (record { up = up }) (record { up = up })
+body_up self from (WorkMessage group id work) answer s up = up_if _ _ _ (record { up = up }) (record { up = up })
 body_up self from (DoneMessage id) answer s up = (record { up = up })
 
 event_up : (nodes self : ℕ) (pending : List Job) (event : Event) (answer : ℕ) (s : State) → is_down s.phase ≡ false → IsUp (effect_of nodes self pending event answer s)
@@ -58,7 +58,7 @@ event_up nodes self pending ReadyTimer answer s up = up_if (awaits_ready self s)
 event_up nodes self pending CoordTimer answer s up = up_if (follows self s) _ _ (up_if s.probing _ _ (recovery_up self answer s) (record { up = up })) (record { up = up })
 event_up nodes self pending DispatchTimer answer s up = up_if _ _ _ (record { up = up }) (record { up = up })
 event_up nodes self pending (Deliver m) answer s up = body_up self m.sender m.body answer s up
-event_up nodes self pending (Submit queue payload) answer s up = up_if _ _ _ (record { up = up }) (record { up = up })
+event_up nodes self pending (Submit work) answer s up = up_if _ _ _ (record { up = up }) (record { up = up })
 event_up nodes self pending (Finish origin id) answer s up = (record { up = up })
 event_up nodes self pending Recover answer s up = recovery_up self answer s
 

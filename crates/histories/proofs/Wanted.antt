@@ -32,7 +32,7 @@ body_pending from pending (Invitation group) s id h = absurd cc
 body_pending from pending (Accept group) s id h = absurd cc
 body_pending from pending (Ready task) s id h = absurd cc
 body_pending from pending (ReadyAck group) s id h = absurd cc
-body_pending from pending (WorkMessage group job queue payload) s id h = absurd cc
+body_pending from pending (WorkMessage group job work) s id h = absurd cc
 
 pub wanted_pending : (self : ℕ) (pending : List Job) (event : Event) (s : State) (id : ℕ) → wants_of self pending event s ≡ Some (Done id) → is_pending pending id ≡ true
 wanted_pending self pending CheckTimer s id h = absurd cc
@@ -42,6 +42,6 @@ wanted_pending self pending ReadyTimer s id h = absurd (no_raise _ id h)
 wanted_pending self pending CoordTimer s id h = absurd (no_raise _ id h)
 wanted_pending self pending DispatchTimer s id h = absurd cc
 wanted_pending self pending (Deliver m) s id h = body_pending m.sender pending m.body s id h
-wanted_pending self pending (Submit queue payload) s id h = absurd cc
+wanted_pending self pending (Submit work) s id h = absurd cc
 wanted_pending self pending (Finish origin job) s id h = done_pending _ pending job id h
 wanted_pending self pending Recover s id h = absurd cc

@@ -38,7 +38,7 @@ sent_at self nodes s what = []
 abbrev pub raised : Durable → Option Command → List ℕ
 raised d None = []
 raised d (Some Raise) = (d.counter + 1) ∷ []
-raised d (Some (Put queue payload)) = []
+raised d (Some (Put work)) = []
 raised d (Some (Done id)) = []
 
 -- the count that an entry gives to a new group

@@ -19,13 +19,13 @@ pub record IsJobOf (histories : List (List Entry)) (origin id queue : ℕ) : Typ
   pub job : Job
   pub pending : IsAmong job state.durable.pending
   pub of_id : job.id ≡ id
-  pub of_queue : job.queue ≡ queue
+  pub of_queue : job.work.queue ≡ queue
 
 -- the work in hand was a pending job of its origin, of the same id and queue
 abbrev pub WorkIsJob : Type 0
-WorkIsJob = (histories : List (List Entry)) → Bundle histories → (n : ℕ) (v : State) → IsMoment histories n v → (w : InHand) → IsAmong w v.hand → IsJobOf histories w.origin w.id w.queue
+WorkIsJob = (histories : List (List Entry)) → Bundle histories → (n : ℕ) (v : State) → IsMoment histories n v → (w : InHand) → IsAmong w v.hand → IsJobOf histories w.origin w.id w.work.queue
 
--- jobs of one id that are pending at two moments of a history are one job, with one queue and one payload
+-- jobs of one id that are pending at two moments of a history are one job, with one queue, one priority and one payload
 abbrev pub OneJob : Type 0
 OneJob = (self nodes : ℕ) (h : List Entry) (s t : NodeState) → IsAmong s (states self nodes (opening self) h) → IsAmong t (states self nodes (opening self) h) →
     (a b : Job) → IsAmong a s.durable.pending → IsAmong b t.durable.pending → a.id ≡ b.id → a ≡ b

@@ -20,7 +20,7 @@ BodyHolds P (Invitation group) = P group
 BodyHolds P (Accept group) = P group
 BodyHolds P (Ready task) = P task.group
 BodyHolds P (ReadyAck group) = P group
-BodyHolds P (WorkMessage group id queue payload) = P group
+BodyHolds P (WorkMessage group id work) = P group
 BodyHolds P (DoneMessage id) = Unit {0}
 
 abbrev pub AllHold : (Group → Type 0) → List Envelope → Type 0

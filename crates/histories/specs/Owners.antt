@@ -35,11 +35,11 @@ pub record FinishedBy (histories : List (List Entry)) (origin id : ℕ) : Type 0
   pub moment : State
   pub is_moment : IsMoment histories worker moment
   pub is_normal : moment.phase ≡ Normal
-  pub work : InHand
-  pub in_hand : IsAmong work moment.hand
-  pub of_origin : work.origin ≡ origin
-  pub of_id : work.id ≡ id
-  pub owned : owner moment work.queue ≡ worker
+  pub job : InHand
+  pub in_hand : IsAmong job moment.hand
+  pub of_origin : job.origin ≡ origin
+  pub of_id : job.id ≡ id
+  pub owned : owner moment job.work.queue ≡ worker
 
 -- each job that a node takes out of its journal was finished by an owner of its queue
 abbrev pub OwnerFinishes : Type 0
@@ -50,4 +50,4 @@ OwnerFinishes = (histories : List (List Entry)) → Bundle histories → (n : �
 abbrev pub OneWorker : Type 0
 OneWorker = (histories : List (List Entry)) → Bundle histories → (n m : ℕ) (v w : State) → IsMoment histories n v → IsMoment histories m w →
     v.phase ≡ Normal → w.phase ≡ Normal → v.group ≡ w.group →
-    (a b : InHand) → IsAmong a v.hand → IsAmong b w.hand → a.queue ≡ b.queue → n ≡ m
+    (a b : InHand) → IsAmong a v.hand → IsAmong b w.hand → a.work.queue ≡ b.work.queue → n ≡ m

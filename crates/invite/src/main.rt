@@ -6,7 +6,10 @@ ghost use Rattle.std.specs.Prelude.{◌<◌, ◌≤◌};
 ghost use Rattle.group_task.specs.declared.node.TheConstants.{NODES};
 ghost use Rattle.node_console.specs.declared.making.TheConstants.{LEAST_SLOTS, MOST_SLOTS};
 
-use clap::{Arg, ArgMatches, Command};
+mod command_line;
+
+use clap::ArgMatches;
+use command_line::command;
 use console_text::Ending;
 use group_task::{NODES, NodeId};
 use node_console::{LEAST_SLOTS, MOST_SLOTS, Status};
@@ -143,27 +146,40 @@ fn tell(rt: &HostRuntime, status: Status) -> io::Result<u8> {
     Ok(status.code())
 }
 
-/// Reads the command line. Where it can't be read, prints what is wrong with it and how it is written.
+/// Reads the command line. Where it can't be read or asks for help, prints what is wrong with it, or the help.
 fn task_of<'a>(rt: &HostRuntime, words: &'a [String]) -> io::Result<Option<Task>> {
     let alloc = rt.alloc();
     match command(alloc)?.try_get_matches_from(words) {
         Ok(matches) => {
-            if let Some(task) = task_in(alloc, &matches)? {
-                return Ok(Some(task));
+            let task = task_in(alloc, &matches)?;
+            if task.is_none() {
+                println!(rt;
+                    "error: SELF and NODES are decimal numbers, NODES from 1 to {NODES}, and SELF is below NODES; SLOTS is from {LEAST_SLOTS} to {MOST_SLOTS}, and FIRST below 2^64\n\nFor more information, try '--help'."
+                )?;
             }
-            println!(rt;
-                "error: SELF and NODES are decimal numbers, NODES from 1 to {NODES}, and SELF is below NODES; SLOTS is from {LEAST_SLOTS} to {MOST_SLOTS}, and FIRST below 2^64\n"
-            )?;
+            Ok(task)
         }
         Err(error) => {
-            if error.use_stderr() {
-                rt.println(error)?;
+            let is_mistake = error.use_stderr();
+            rt.print(error)?;
+            if is_mistake {
+                hint(rt, words)?;
             }
+            Ok(None)
         }
     }
-    let help = command(alloc)?.render_help()?;
-    rt.print(help)?;
-    Ok(None)
+}
+
+/// Where a file was named for a command that reads standard input, says so.
+fn hint(rt: &HostRuntime, words: &[String]) -> io::Result<()> {
+    if words.len() < 3 {
+        return Ok(());
+    }
+    let name = words[1].as_str();
+    if matches!(name, "show" | "sim" | "trace") {
+        println!(rt; "\n{name} reads standard input, as in: invite {name} < FILE")?;
+    }
+    Ok(())
 }
 
 /// What the matches ask for, unless a number is out of its range.
@@ -241,89 +257,4 @@ fn place_in(matches: &ArgMatches<'_>) -> Option<Place> {
 /// The number that a word is, as lines have it.
 fn number(word: &str) -> Option<u8> {
     u8::try_from(line_words::number(word.as_bytes())?).ok()
-}
-
-/// Every command with its arguments.
-fn command<'a>(alloc: Global) -> Result<Command<'a>, AllocError> {
-    let answer = Command::new(alloc, "answer")
-        .about("Reads messages in hex lines, and prints what one node answers")
-        .arg(own_number(alloc)?)?
-        .arg(all_nodes(alloc)?)?;
-    let show = Command::new(alloc, "show").about(
-        "Reads messages in hex lines, and prints them as text",
-    );
-    let sim = Command::new(alloc, "sim").about(
-        "Reads a schedule, runs it on a simulated cluster, and prints what each act did",
-    );
-    let path = Arg::new(alloc, "PATH")
-        .required(true)
-        .help("The file of the store");
-    let store = Command::new(alloc, "store")
-        .about(
-            "Reads lines that ask something of a store in a file, and prints what each was answered",
-        )
-        .arg(path)?;
-    let trace = Command::new(alloc, "trace").about(
-        "Reads a trace, and prints an order in which its entries can have come, or where none goes on",
-    );
-    Command::new(alloc, "invite")
-        .subcommand_required(true)
-        .disable_help_subcommand(true)
-        .subcommand(answer)?
-        .subcommand(show)?
-        .subcommand(sim)?
-        .subcommand(store)?
-        .subcommand(format_command(alloc)?)?
-        .subcommand(node_command(alloc)?)?
-        .subcommand(trace)
-}
-
-/// The command that makes a node's file.
-fn format_command<'a>(alloc: Global) -> Result<Command<'a>, AllocError> {
-    let slots = Arg::new(alloc, "SLOTS")
-        .required(true)
-        .help("How many records an area of its journal holds, 4 to 4096");
-    let first = Arg::new(alloc, "FIRST").help(
-        "The count that its group numbers begin behind, 0 if not given",
-    );
-    Command::new(alloc, "format")
-        .about("Makes the file of a node, where there is none of this name")
-        .arg(file(alloc)?)?
-        .arg(slots)?
-        .arg(own_number(alloc)?)?
-        .arg(all_nodes(alloc)?)?
-        .arg(first)
-}
-
-/// The command that serves a node.
-fn node_command<'a>(alloc: Global) -> Result<Command<'a>, AllocError> {
-    Command::new(alloc, "node")
-        .about("Reads lines that ask something of a node over its file, and answers each at once")
-        .arg(file(alloc)?)?
-        .arg(own_number(alloc)?)?
-        .arg(all_nodes(alloc)?)
-}
-
-fn file<'a>(alloc: Global) -> Result<Arg<'a>, AllocError> {
-    Ok(
-        Arg::new(alloc, "FILE")
-            .required(true)
-            .help("The file of the node"),
-    )
-}
-
-fn own_number<'a>(alloc: Global) -> Result<Arg<'a>, AllocError> {
-    Ok(
-        Arg::new(alloc, "SELF")
-            .required(true)
-            .help("The number of this node"),
-    )
-}
-
-fn all_nodes<'a>(alloc: Global) -> Result<Arg<'a>, AllocError> {
-    Ok(
-        Arg::new(alloc, "NODES")
-            .required(true)
-            .help("How many nodes the cluster has"),
-    )
 }

@@ -34,9 +34,9 @@ without_less id jobs =
 -- the jobs after it leave room for a Base and a Done
 pub leaves_room : (slots : ℕ) (jobs : Jobs) (command : Command) → length jobs.pending + 2 ≤ slots → is_full slots jobs command ≡ false
     → length (jobs_after jobs command).pending + 2 ≤ slots
-leaves_room slots jobs (Put queue payload) less fits =
+leaves_room slots jobs (Put work) less fits =
     let few : length jobs.pending + 3 ≤ slots = grind (arith, nat_tests, fits) in
-    omega (arith, few, length-append jobs.pending (record { id = jobs.next; queue = queue; payload = payload } ∷ []))
+    omega (arith, few, length-append jobs.pending (record { id = jobs.next; work = work } ∷ []))
 leaves_room slots jobs (Done id) less fits = omega (arith, less, without_less id jobs.pending)
 
 pub room_for : (slots : ℕ) (reading : Reading) → length reading.jobs.pending + 2 ≤ slots → fitting slots (Some reading) ≡ Some reading
@@ -48,10 +48,10 @@ room_for slots reading less =
 pub command_taken : (slots : ℕ) (jobs : Jobs) (place : Place) (command : Command) → length (jobs_after jobs command).pending + 2 ≤ slots
     → is_unknown jobs command ≡ false → is_out_of_ids jobs command ≡ false
     → taken slots (record { jobs = jobs; place = place }) (Some (record_for jobs command)) ≡ Some (record { jobs = jobs_after jobs command; place = Running })
-command_taken slots jobs place (Put queue payload) less known ids =
-    let after : Reading = record { jobs = jobs_after jobs (Put queue payload); place = Running } in
+command_taken slots jobs place (Put work) less known ids =
+    let after : Reading = record { jobs = jobs_after jobs (Put work); place = Running } in
     let same : (jobs.next == jobs.next) ≡ true = grind (arith, nat_tests) in
-    ap (λ b. fitting slots (if b && not (is_out_of_ids jobs (Put queue payload)) then Some after else None)) same
+    ap (λ b. fitting slots (if b && not (is_out_of_ids jobs (Put work)) then Some after else None)) same
     ∙ ap (λ b. fitting slots (if not b then Some after else None)) ids
     ∙ room_for slots after less
 command_taken slots jobs place (Done id) less known ids =

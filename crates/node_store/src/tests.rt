@@ -5,7 +5,7 @@ ghost use Rattle.job_journal.specs.Journal.{IsSound};
 ghost use Rattle.node_store.specs.Store.{slots_for};
 
 use crate::{NodeStore, StoreFault, format};
-use job_model::{Payload, Queue};
+use job_model::{Payload, Queue, Work};
 use sector_disk::MemDisk;
 use std::alloc::Global;
 use std::test::Fail;
@@ -51,7 +51,11 @@ fn put(store: &mut NodeStore<MemDisk>) -> Option<Result<u64, StoreFault>>
 {
     let queue = Queue::new(1)?;
     let payload = Payload::new(b"hi")?;
-    Some(store.put(queue, payload))
+    Some(store.put(Work {
+        queue,
+        priority: 7,
+        payload,
+    }))
 }
 
 fn done(store: &mut NodeStore<MemDisk>, id: u64) -> Result<u64, StoreFault>

@@ -52,5 +52,5 @@ done_was_finished nodes slots acts r h k t id among within is =
     subst (λ (x : Report). Shows (first_moments k x) by.worker by.moment) (sym h.reported) (front_shows nodes slots k by.worker acts h.steps by.moment h.is_run by.is_moment) in (
       by.worker,
       told_by_act nodes slots by.worker t.node id (take k acts) (take k h.steps) (start nodes) (acts_front k nodes slots acts h.steps (start nodes) h.is_run) told,
-      (by.moment, by.work, (shows, by.is_normal), by.in_hand, by.of_origin, by.of_id, by.owned),
+      (by.moment, by.job, (shows, by.is_normal), by.in_hand, by.of_origin, by.of_id, by.owned),
     )

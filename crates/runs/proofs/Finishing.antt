@@ -101,7 +101,7 @@ finish_act nodes w (act.Deliver k) m number what o i h says = absurd (brings_non
 finish_act nodes w (act.Lose k) m number what o i h says = absurd (loses_none k (found w.net k) m number what h)
 finish_act nodes w (act.Cut x y) m number what o i h says = absurd (link_none (nat_lt x nodes && nat_lt y nodes) (Cuts x y) m number what (λ e. absurd cc) h)
 finish_act nodes w (act.Mend x y) m number what o i h says = absurd (link_none (nat_lt x nodes && nat_lt y nodes) (Mends x y) m number what (λ e. absurd cc) h)
-finish_act nodes w (act.Submit n queue payload) m number what o i h says = by_event (act.Submit n queue payload) (nat_lt n nodes) n 0 (on.Submit queue payload) m number what o i (λ e. absurd cc) h says
+finish_act nodes w (act.Submit n work) m number what o i h says = by_event (act.Submit n work) (nat_lt n nodes) n 0 (on.Submit work) m number what o i (λ e. absurd cc) h says
 finish_act nodes w (act.Finish n origin id) m number what o i h says = by_event (act.Finish n origin id) (nat_lt n nodes) n 0 (on.Finish origin id) m number what o i (same_finish n origin id o i) h says
 finish_act nodes w (act.Arm n calls) m number what o i h says =
     absurd (at_rest (nat_lt n nodes) n 0 (λ (x : What). x ≡ Rests Nothing) m number what o i (λ is j. subst (λ (x : What). SaysFinished x o i) is j) h says)

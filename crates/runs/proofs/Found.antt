@@ -1,4 +1,5 @@
 -- What was acknowledged is found by every later mounting.
+use Rattle.job_model.specs.declared.work.Work.{Work}
 use Rattle.std.proofs.Common.{◌≡◌, ◌≢◌, ℕ, zero, suc, ◌+◌, ◌<◌, ◌≤◌, Bool, true, false, List, [], ◌∷◌, take, slice_get, refl, sym, ◌∙◌, ap, inl, inr, arith, Option, Some, None}
 use Rattle.std.specs.Prelude.{if◌then◌else◌, ◌==◌, not}
 use Rattle.std.proofs.lemmas.Bool.Decides.{nat_tests}
@@ -27,7 +28,7 @@ counted_none (false ∷ cs) = refl
 counter_grows : (d : Durable) (cs : List Command) → d.counter ≤ (after_commands d cs).counter
 counter_grows d [] = omega arith
 counter_grows d (Raise ∷ cs) = omega (arith, counter_grows (after_command d Raise) cs)
-counter_grows d (Put queue payload ∷ cs) = counter_grows (after_command d (Put queue payload)) cs
+counter_grows d (Put work ∷ cs) = counter_grows (after_command d (Put work)) cs
 counter_grows d (Done id ∷ cs) = counter_grows (after_command d (Done id)) cs
 
 raise_found : (d : Durable) (cs : List Bool) (ts : List Tried) (k n count : ℕ) (a : Option ℕ) → slice_get cs k ≡ Some true → slice_get ts k ≡ Some (record { command = Raise; acked = a })
@@ -56,7 +57,7 @@ stays_left job (x ∷ jobs) id ne i = pick (x.id == id) refl i (λ j. stays_left
 
 stays_after : (job : Job) (d : Durable) (c : Command) → (c ≡ Done job.id → ⊥) → IsAmong job d.pending → IsAmong job (after_command d c).pending
 stays_after job d Raise free i = i
-stays_after job d (Put queue payload) free i = among_left job d.pending _ i
+stays_after job d (Put work) free i = among_left job d.pending _ i
 stays_after job d (Done id) free i = stays_left job d.pending id (λ e. free (ap Done (sym e))) i
 
 -- none of these commands takes the job out
@@ -71,23 +72,23 @@ job_stays job d (true ∷ cs) (t ∷ ts) (suc n) free i =
     job_stays job (after_command d t.command) cs ts n (λ j u lt at. free (suc j) u (omega (arith, lt)) at) (stays_after job d t.command (free 0 t (omega arith) refl) i)
 job_stays job d (false ∷ cs) (t ∷ ts) (suc n) free i = job_stays job d cs ts n (λ j u lt at. free (suc j) u (omega (arith, lt)) at) i
 
-job_found : (queue id : ℕ) (payload : List ℕ) (d : Durable) (cs : List Bool) (ts : List Tried) (k n : ℕ) (a : Option ℕ) → slice_get cs k ≡ Some true
-    → slice_get ts k ≡ Some (record { command = Put queue payload; acked = a }) → k < n → id ≡ (fold d cs ts k).next
+job_found : (id : ℕ) (work : Work) (d : Durable) (cs : List Bool) (ts : List Tried) (k n : ℕ) (a : Option ℕ) → slice_get cs k ≡ Some true
+    → slice_get ts k ≡ Some (record { command = Put work; acked = a }) → k < n → id ≡ (fold d cs ts k).next
     → ((j : ℕ) (t : Tried) → k < j → j < n → slice_get ts j ≡ Some t → t.command ≡ Done id → ⊥)
-    → IsAmong (record { id = id; queue = queue; payload = payload }) (fold d cs ts n).pending
-job_found queue id payload d [] ts k n a counts at lt is free = absurd cc
-job_found queue id payload d (c ∷ cs) [] k n a counts at lt is free = absurd cc
-job_found queue id payload d (c ∷ cs) (t ∷ ts) k zero a counts at lt is free = absurd (let bad : k < 0 = lt in omega (arith, bad))
-job_found queue id payload d (true ∷ cs) (t ∷ ts) zero (suc n) a counts at lt is free =
-    let it : t.command ≡ Put queue payload = ap (λ (x : Tried). x.command) (let e : t ≡ record { command = Put queue payload; acked = a } = cc at in e) in
-    let job : Job = record { id = id; queue = queue; payload = payload } in
-    let here : IsAmong job (after_command d (Put queue payload)).pending = rw is (among_right _ d.pending _ (inl refl)) in
-    rw it (job_stays job (after_command d (Put queue payload)) cs ts n (λ j u lt' at'. free (suc j) u (omega arith) (omega (arith, lt')) at') here)
-job_found queue id payload d (false ∷ cs) (t ∷ ts) zero (suc n) a counts at lt is free = absurd cc
-job_found queue id payload d (true ∷ cs) (t ∷ ts) (suc k) (suc n) a counts at lt is free =
-    job_found queue id payload (after_command d t.command) cs ts k n a counts at (omega (arith, lt)) is (λ j u more less at'. free (suc j) u (omega (arith, more)) (omega (arith, less)) at')
-job_found queue id payload d (false ∷ cs) (t ∷ ts) (suc k) (suc n) a counts at lt is free =
-    job_found queue id payload d cs ts k n a counts at (omega (arith, lt)) is (λ j u more less at'. free (suc j) u (omega (arith, more)) (omega (arith, less)) at')
+    → IsAmong (record { id = id; work = work }) (fold d cs ts n).pending
+job_found id work d [] ts k n a counts at lt is free = absurd cc
+job_found id work d (c ∷ cs) [] k n a counts at lt is free = absurd cc
+job_found id work d (c ∷ cs) (t ∷ ts) k zero a counts at lt is free = absurd (let bad : k < 0 = lt in omega (arith, bad))
+job_found id work d (true ∷ cs) (t ∷ ts) zero (suc n) a counts at lt is free =
+    let it : t.command ≡ Put work = ap (λ (x : Tried). x.command) (let e : t ≡ record { command = Put work; acked = a } = cc at in e) in
+    let job : Job = record { id = id; work = work } in
+    let here : IsAmong job (after_command d (Put work)).pending = rw is (among_right _ d.pending _ (inl refl)) in
+    rw it (job_stays job (after_command d (Put work)) cs ts n (λ j u lt' at'. free (suc j) u (omega arith) (omega (arith, lt')) at') here)
+job_found id work d (false ∷ cs) (t ∷ ts) zero (suc n) a counts at lt is free = absurd cc
+job_found id work d (true ∷ cs) (t ∷ ts) (suc k) (suc n) a counts at lt is free =
+    job_found id work (after_command d t.command) cs ts k n a counts at (omega (arith, lt)) is (λ j u more less at'. free (suc j) u (omega (arith, more)) (omega (arith, less)) at')
+job_found id work d (false ∷ cs) (t ∷ ts) (suc k) (suc n) a counts at lt is free =
+    job_found id work d cs ts k n a counts at (omega (arith, lt)) is (λ j u more less at'. free (suc j) u (omega (arith, more)) (omega (arith, less)) at')
 
 -- a command that was acknowledged counts
 acknowledged_counts : (commands : List Tried) (mountings : List Mounting) (kept : Kept commands mountings) (k a : ℕ) (t : Tried) → slice_get commands k ≡ Some t → t.acked ≡ Some a
@@ -143,10 +144,10 @@ raises_are_found nodes slots acts r h w i lt k count at later =
     (raise_found formatted kept.counts _ k w.mounting.before count (Some count) (acknowledged_counts _ _ kept k count _ at refl) at later (kept.answered k _ count at refl))
 
 pub jobs_are_found : JobsAreFound
-jobs_are_found nodes slots acts r h w i lt k queue id payload at later free =
+jobs_are_found nodes slots acts r h w i lt k id work at later free =
     let kept = h.kept w.node lt in
     rw (found_state _ _ kept w.mounting (mine w.node w r.mounted refl i))
-    (job_found queue id payload formatted kept.counts _ k w.mounting.before (Some id) (acknowledged_counts _ _ kept k id _ at refl) at later (kept.answered k _ id at refl) free)
+    (job_found id work formatted kept.counts _ k w.mounting.before (Some id) (acknowledged_counts _ _ kept k id _ at refl) at later (kept.answered k _ id at refl) free)
 
 pub doubts_apart : DoubtsApart
 doubts_apart nodes slots acts r h n lt j k t u before at none later =

@@ -41,7 +41,7 @@ says_names P J self sender receiver made event (Invitation group) h = h
 says_names P J self sender receiver made event (Accept group) h = h
 says_names P J self sender receiver made event (Ready task) h = h.2
 says_names P J self sender receiver made event (ReadyAck group) h = h
-says_names P J self sender receiver made event (WorkMessage group id queue payload) h = h.0
+says_names P J self sender receiver made event (WorkMessage group id work) h = h.0
 says_names P J self sender receiver made event (DoneMessage id) h = tt
 
 abbrev pub Stronger : (Group → Type 0) → (Group → Type 0) → Type 0
@@ -66,7 +66,7 @@ body_more P Q (Invitation group) sub h = sub group h
 body_more P Q (Accept group) sub h = sub group h
 body_more P Q (Ready task) sub h = sub task.group h
 body_more P Q (ReadyAck group) sub h = sub group h
-body_more P Q (WorkMessage group id queue payload) sub h = sub group h
+body_more P Q (WorkMessage group id work) sub h = sub group h
 body_more P Q (DoneMessage id) sub h = tt
 
 all_more : (P Q : Group → Type 0) (ms : List Envelope) → Stronger P Q → AllHold P ms → AllHold Q ms
@@ -159,7 +159,7 @@ one_raised self low k lt = record {
 wanted_raises : (self : ℕ) (d : Durable) (wants : Option Command) → Raises self d.counter (after_wanted d wants).counter (raised d wants)
 wanted_raises self d None = none_raised self d.counter d.counter (omega arith)
 wanted_raises self d (Some Raise) = one_raised self d.counter (d.counter + 1) (omega arith)
-wanted_raises self d (Some (Put queue payload)) = none_raised self d.counter d.counter (omega arith)
+wanted_raises self d (Some (Put work)) = none_raised self d.counter d.counter (omega arith)
 wanted_raises self d (Some (Done id)) = none_raised self d.counter d.counter (omega arith)
 
 settled_grows : (kept : Bool) (self : ℕ) (s : NodeState) → s.durable.counter ≤ (settled kept s).counter

@@ -15,6 +15,8 @@ use Rattle.node_core.specs.declared.in_hand.InHand.{InHand}
 use Rattle.node_core.specs.State.{State, is_down, is_election, is_reorganization, is_normal}
 use Rattle.node_core.specs.Effect.{Effect}
 use Rattle.node_core.specs.Words.{is_empty, leads, members_of, owner, holds}
+use Rattle.node_core.specs.Priorities.{by_priority}
+use Rattle.node_core.proofs.Priorities.{few_by_priority}
 use Rattle.node_core.specs.Timers.{recovery, check_timer, merges, offer, merge_timer, accept_timer, awaits_ready, ready_timer, follows, coord_timer, in_own_hand, is_own, own_jobs, dispatch_timer}
 use Rattle.node_core.specs.Messages.{asked_coordinator, answered_coordinator, asked_there, was_probed, answered_there, takes_invitation, invited, accepted, is_told, told_ready, acknowledged, got_work}
 use Rattle.node_core.specs.Operator.{submit, finish}
@@ -65,9 +67,9 @@ body_few limit self from (Ready task) answer s h =
     few_if limit (is_told self from task s && is_reorganization s.phase) _ _ (record { few = omega (arith, h) })
     (few_if limit (is_told self from task s && is_normal s.phase) _ _ (record { few = omega (arith, h) }) (record { few = omega (arith, h) }))
 body_few limit self from (ReadyAck group) answer s h = few_if limit (awaits_ready self s && same_group group s.group) _ _ (record { few = omega (arith, h) }) (record { few = omega (arith, h) })
-body_few limit self from (WorkMessage group id queue payload) answer s h =
-    few_if limit (is_normal s.phase && same_group group s.group && has (members_of s.task) from && owner s queue == self && not (holds s.hand from id)) _ _
-    (gains limit s (record { origin = from; id = id; queue = queue; payload = payload }) h) (record { few = omega (arith, h) })
+body_few limit self from (WorkMessage group id work) answer s h =
+    few_if limit (is_normal s.phase && same_group group s.group && has (members_of s.task) from && owner s work.queue == self && not (holds s.hand from id)) _ _
+    (gains limit s (record { origin = from; id = id; work = work }) h) (record { few = omega (arith, h) })
 body_few limit self from (DoneMessage id) answer s h = record { few = omega (arith, h) }
 
 event_few : (limit nodes self : ℕ) (pending : List Job) (event : Event) (answer : ℕ) (s : State) → length s.hand + length pending + 1 ≤ limit → HasFew limit (effect_of nodes self pending event answer s)
@@ -80,11 +82,11 @@ event_few limit nodes self pending ReadyTimer answer s h = few_if limit (awaits_
 event_few limit nodes self pending CoordTimer answer s h =
     few_if limit (follows self s) _ _ (few_if limit s.probing _ _ (recovery_few limit self answer s) (record { few = omega (arith, h) })) (record { few = omega (arith, h) })
 event_few limit nodes self pending DispatchTimer answer s h = few_if limit (is_normal s.phase) _ _
-    (record { few = omega (arith, length-append s.hand (own_jobs self s pending), few_own self s pending, h) })
+    (record { few = omega (arith, length-append s.hand (own_jobs self s (by_priority pending)), few_own self s (by_priority pending), few_by_priority pending, h) })
     (record { few = omega (arith, h) })
 event_few limit nodes self pending (Deliver m) answer s h = body_few limit self m.sender m.body answer s (omega (arith, h))
-event_few limit nodes self pending (Submit queue payload) answer s h =
-    few_if limit (owner s queue == self) _ _ (gains limit s (record { origin = self; id = answer; queue = queue; payload = payload }) (omega (arith, h))) (record { few = omega (arith, h) })
+event_few limit nodes self pending (Submit work) answer s h =
+    few_if limit (owner s work.queue == self) _ _ (gains limit s (record { origin = self; id = answer; work = work }) (omega (arith, h))) (record { few = omega (arith, h) })
 event_few limit nodes self pending (Finish origin id) answer s h =
     record { few = omega (arith, few_chosen (λ (job : InHand). not (job.origin == origin && job.id == id)) s.hand, h) }
 event_few limit nodes self pending Recover answer s h = recovery_few limit self answer s

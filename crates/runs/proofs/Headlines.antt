@@ -154,7 +154,7 @@ shown_moment nodes acts steps n s shown normal = elim shown [
 
 worker_of_two : (nodes : ℕ) (acts : List Act) (steps : List Step) → RunFrom nodes (start nodes) steps → (n m : ℕ) (s t : State)
     → IsShown (report_of nodes acts steps) n s → IsShown (report_of nodes acts steps) m t → s.phase ≡ Normal → t.phase ≡ Normal → s.group ≡ t.group
-    → (a b : InHand) → IsAmong a s.hand → IsAmong b t.hand → a.queue ≡ b.queue → n ≡ m
+    → (a b : InHand) → IsAmong a s.hand → IsAmong b t.hand → a.work.queue ≡ b.work.queue → n ≡ m
 worker_of_two nodes acts steps run n m s t at_s at_t normal_s normal_t same a b in_s in_t queue =
     one_worker (histories_of nodes steps) (runs_are_bundles nodes steps run) n m s t (shown_moment nodes acts steps n s at_s normal_s) (shown_moment nodes acts steps m t at_t normal_t)
     normal_s normal_t same a b in_s in_t queue

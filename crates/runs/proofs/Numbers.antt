@@ -81,7 +81,7 @@ group_said P (Invitation group) g h i = elim i [ inl e ↦ rw e h | inr none ↦
 group_said P (Accept group) g h i = elim i [ inl e ↦ rw e h | inr none ↦ absurd none ]
 group_said P (Ready task) g h i = elim i [ inl e ↦ rw e h | inr none ↦ absurd none ]
 group_said P (ReadyAck group) g h i = elim i [ inl e ↦ rw e h | inr none ↦ absurd none ]
-group_said P (WorkMessage group id queue payload) g h i = elim i [ inl e ↦ rw e h | inr none ↦ absurd none ]
+group_said P (WorkMessage group id work) g h i = elim i [ inl e ↦ rw e h | inr none ↦ absurd none ]
 group_said P (DoneMessage id) g h i = absurd i
 
 pub named_was_given : NamedWasGiven

@@ -32,13 +32,13 @@ use Rattle.runs.proofs.Keeping.{AllStates, states_keep}
 abbrev gain : Option Command → ℕ
 gain None = 0
 gain (Some Raise) = 0
-gain (Some (Put queue payload)) = 1
+gain (Some (Put work)) = 1
 gain (Some (Done id)) = 0
 
 wanted_few : (d : Durable) (wants : Option Command) → length (after_wanted d wants).pending ≤ length d.pending + gain wants
 wanted_few d None = omega arith
 wanted_few d (Some Raise) = omega arith
-wanted_few d (Some (Put queue payload)) = let job : Job = record { id = d.next; queue = queue; payload = payload } in omega (arith, length-append d.pending (job ∷ []))
+wanted_few d (Some (Put work)) = let job : Job = record { id = d.next; work = work } in omega (arith, length-append d.pending (job ∷ []))
 wanted_few d (Some (Done id)) = let test : Job → Bool = λ job. not (job.id == id) in omega (arith, length-filter test d.pending, count_by-le-length test d.pending)
 
 settled_few : (kept : Bool) (s : NodeState) → length (settled kept s).pending ≤ length s.durable.pending + gain s.doubt
@@ -49,7 +49,7 @@ settled_few false s = omega arith
 leaves_room : (slots : ℕ) (d : Durable) (wants : Option Command) → (IsFull slots d wants → ⊥) → length d.pending ≤ slots → length d.pending + gain wants ≤ slots
 leaves_room slots d None fits h = omega (arith, h)
 leaves_room slots d (Some Raise) fits h = omega (arith, h)
-leaves_room slots d (Some (Put queue payload)) fits h = elim (cases_lt slots (length d.pending + 3)) [ inl full ↦ absurd (fits full) | inr room ↦ omega (arith, room) ]
+leaves_room slots d (Some (Put work)) fits h = elim (cases_lt slots (length d.pending + 3)) [ inl full ↦ absurd (fits full) | inr room ↦ omega (arith, room) ]
 leaves_room slots d (Some (Done id)) fits h = omega (arith, h)
 
 no_gain : (doubt : Option Command) → IsNone doubt → gain doubt ≡ 0

@@ -61,7 +61,7 @@ pub record Headline (nodes slots : ℕ) (acts : List Act) (r : Report) : Type 0 
   pub one_coordinator : (n m : ℕ) (s t : State) → IsShown r n s → IsShown r m t → IsInGroup s.phase → IsInGroup t.phase → s.group ≡ t.group → s.coordinator ≡ t.coordinator
   pub one_task : (n m : ℕ) (s t : State) → IsShown r n s → IsShown r m t → s.phase ≡ Normal → t.phase ≡ Normal → s.group ≡ t.group → s.task ≡ t.task
   -- so jobs of one queue are in the hand of one node where two nodes work in one group
-  pub one_worker : (n m : ℕ) (s t : State) → IsShown r n s → IsShown r m t → s.phase ≡ Normal → t.phase ≡ Normal → s.group ≡ t.group → (a b : InHand) → IsAmong a s.hand → IsAmong b t.hand → a.queue ≡ b.queue → n ≡ m
+  pub one_worker : (n m : ℕ) (s t : State) → IsShown r n s → IsShown r m t → s.phase ≡ Normal → t.phase ≡ Normal → s.group ≡ t.group → (a b : InHand) → IsAmong a s.hand → IsAmong b t.hand → a.work.queue ≡ b.work.queue → n ≡ m
   -- and a job is done only once an owner of its queue finished it: in each front of the run that has the command
   pub finished : (k : ℕ) (t : TriedAt) (id : ℕ) → IsAmong t (commands_within nodes k steps) → t.node < nodes → t.tried.command ≡ Done id → FinishedBy (histories_of nodes (take k steps)) t.node id
 

@@ -1,4 +1,5 @@
 -- What a user of a cluster takes from the headline, each in words of its own.
+use Rattle.job_model.specs.declared.work.Work.{Work}
 use Rattle.std.specs.Prelude.{ℕ, suc, ◌≡◌, ◌⊎◌, ◌<◌, ◌≤◌, true, List, [], ◌∷◌, length, map, take, slice_get, Some, None}
 use Rattle.job_model.specs.Command.{Raise, Put, Done}
 use Rattle.group_task.specs.Group.{Group}
@@ -34,13 +35,13 @@ RaisesAreFound = (nodes slots : ℕ) (acts : List Act) (r : Report) → Headline
     (k count : ℕ) → slice_get (own_commands w.node r.commands) k ≡ Some (record { command = Raise; acked = Some count }) → k < w.mounting.before →
     count ≤ w.mounting.state.counter
 
--- an acknowledged job is found: each later mounting of the node finds it pending, with its queue and payload, unless its Done was
+-- an acknowledged job is found: each later mounting of the node finds it pending, with its work, unless its Done was
 -- tried between
 abbrev pub JobsAreFound : Type 0
 JobsAreFound = (nodes slots : ℕ) (acts : List Act) (r : Report) → Headline nodes slots acts r → (w : MountedAt) → IsAmong w r.mounted → w.node < nodes →
-    (k queue id : ℕ) (payload : List ℕ) → slice_get (own_commands w.node r.commands) k ≡ Some (record { command = Put queue payload; acked = Some id }) → k < w.mounting.before →
+    (k id : ℕ) (work : Work) → slice_get (own_commands w.node r.commands) k ≡ Some (record { command = Put work; acked = Some id }) → k < w.mounting.before →
     ((j : ℕ) (t : Tried) → k < j → j < w.mounting.before → slice_get (own_commands w.node r.commands) j ≡ Some t → t.command ≡ Done id → ⊥) →
-    IsAmong (record { id = id; queue = queue; payload = payload }) w.mounting.state.pending
+    IsAmong (record { id = id; work = work }) w.mounting.state.pending
 
 -- a command that wasn't acknowledged is the last of its life: a mounting of the node comes before its next command
 abbrev pub DoubtsApart : Type 0
@@ -70,7 +71,7 @@ groups_in (Invitation group) = group ∷ []
 groups_in (Accept group) = group ∷ []
 groups_in (Ready task) = task.group ∷ []
 groups_in (ReadyAck group) = group ∷ []
-groups_in (WorkMessage group id queue payload) = group ∷ []
+groups_in (WorkMessage group id work) = group ∷ []
 groups_in (DoneMessage id) = []
 
 -- what a moment shows is no number that was yet to be given: the group of a node that is up, and each group in a message,
@@ -113,7 +114,7 @@ MembersAgree = (nodes slots : ℕ) (acts : List Act) (r : Report) → Headline n
 abbrev pub OneWorkerEach : Type 0
 OneWorkerEach = (nodes slots : ℕ) (acts : List Act) (r : Report) → Headline nodes slots acts r →
     (n m : ℕ) (s t : State) → ShowsWorking r n s → ShowsWorking r m t → s.group ≡ t.group →
-    (a b : InHand) → IsAmong a s.hand → IsAmong b t.hand → a.queue ≡ b.queue → n ≡ m
+    (a b : InHand) → IsAmong a s.hand → IsAmong b t.hand → a.work.queue ≡ b.work.queue → n ≡ m
 
 -- ---- jobs
 
@@ -128,4 +129,4 @@ abbrev pub DoneWasFinished : Type 0
 DoneWasFinished = (nodes slots : ℕ) (acts : List Act) (r : Report) (h : Headline nodes slots acts r) →
     (k : ℕ) (t : TriedAt) (id : ℕ) → IsAmong t (commands_in (marks_of_run nodes (take k h.steps))) → t.node < nodes → t.tried.command ≡ Done id →
     (worker : ℕ) × IsAmong (act.Finish worker t.node id) (take k acts)
-    × ((s : State) × (work : InHand) × ShowsWorking (first_moments k r) worker s × IsAmong work s.hand × (work.origin ≡ t.node) × (work.id ≡ id) × (owner s work.queue ≡ worker))
+    × ((s : State) × (job : InHand) × ShowsWorking (first_moments k r) worker s × IsAmong job s.hand × (job.origin ≡ t.node) × (job.id ≡ id) × (owner s job.work.queue ≡ worker))

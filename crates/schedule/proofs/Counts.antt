@@ -13,10 +13,10 @@ alone name = none (verb_of name)
     none None = refl
     none (Some verb) = refl
 
--- more than three fields
-pub too_many : (verb : Verb) (a b c : List ℕ) (rest : List (List ℕ)) → 0 < length rest → act_with verb (a ∷ b ∷ c ∷ rest) ≡ None
-too_many verb a b c [] some = absurd (omega arith)
-too_many verb a b c (d ∷ rest) some = refl
+-- more than four fields
+pub too_many : (verb : Verb) (a b c d : List ℕ) (rest : List (List ℕ)) → 0 < length rest → act_with verb (a ∷ b ∷ c ∷ d ∷ rest) ≡ None
+too_many verb a b c d [] some = absurd (omega arith)
+too_many verb a b c d (e ∷ rest) some = refl
 
 -- more than three words of a cluster
 pub too_long : (a b c : List ℕ) (rest : List (List ℕ)) → 0 < length rest → size_of (a ∷ b ∷ c ∷ rest) ≡ None

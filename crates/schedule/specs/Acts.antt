@@ -7,7 +7,8 @@ use Rattle.schedule.specs.declared.verb.Verb.TheVariants.{Check, Merge, Accept, 
 use Rattle.line_words.specs.Words.{number_of}
 use Rattle.line_words.specs.Lines.{bytes_of}
 use Rattle.schedule.specs.Verbs.{verb_of}
-use Rattle.schedule.specs.Fields.{node_of, queue_of, payload_of}
+use Rattle.schedule.specs.Fields.{node_of, queue_of, priority_of, payload_of}
+use Rattle.job_model.specs.declared.work.Work.{Work}
 
 -- what is made of two or three fields, where all of them can be read
 abbrev pub of_two : {A B C : Type 0} → (A → B → C) → Option A → Option B → Option C
@@ -17,6 +18,14 @@ of_two make (Some a) b = option_map (make a) b
 abbrev pub of_three : {A B C D : Type 0} → (A → B → C → D) → Option A → Option B → Option C → Option D
 of_three make None b c = None
 of_three make (Some a) b c = of_two (make a) b c
+
+-- the work of these parts
+abbrev pub work : ℕ → List ℕ → ℕ → Work
+work queue payload priority = record { queue = queue; priority = priority; payload = payload }
+
+-- a job that is submitted with this priority, if it is one
+abbrev pub submit_act : List ℕ → List ℕ → List ℕ → Option ℕ → Option Act
+submit_act node queue payload priority = of_two act.Submit (node_of node) (of_three work (queue_of queue) (payload_of payload) priority)
 
 -- a verb with one field
 abbrev pub short_act : Verb → List ℕ → Option Act
@@ -68,12 +77,31 @@ long_act Deliver a b c = None
 long_act Lose a b c = None
 long_act Cut a b c = None
 long_act Mend a b c = None
-long_act Submit node queue payload = of_three act.Submit (node_of node) (queue_of queue) (payload_of payload)
+long_act Submit node queue payload = submit_act node queue payload (Some 0)
 long_act Finish node origin id = of_three act.Finish (node_of node) (node_of origin) (number_of id)
 long_act Arm a b c = None
 long_act Crash a b c = None
 long_act Recover a b c = None
 long_act Compact a b c = None
+
+-- a verb with four fields: a job that is submitted with a priority
+abbrev pub longest_act : Verb → List ℕ → List ℕ → List ℕ → List ℕ → Option Act
+longest_act Check a b c d = None
+longest_act Merge a b c d = None
+longest_act Accept a b c d = None
+longest_act Ready a b c d = None
+longest_act Coord a b c d = None
+longest_act Dispatch a b c d = None
+longest_act Deliver a b c d = None
+longest_act Lose a b c d = None
+longest_act Cut a b c d = None
+longest_act Mend a b c d = None
+longest_act Submit node queue payload priority = submit_act node queue payload (priority_of priority)
+longest_act Finish a b c d = None
+longest_act Arm a b c d = None
+longest_act Crash a b c d = None
+longest_act Recover a b c d = None
+longest_act Compact a b c d = None
 
 abbrev pub with_verb : {A : Type 0} → (Verb → Option A) → Option Verb → Option A
 with_verb read None = None
@@ -85,7 +113,8 @@ act_with verb [] = None
 act_with verb (a ∷ []) = short_act verb a
 act_with verb (a ∷ b ∷ []) = middle_act verb a b
 act_with verb (a ∷ b ∷ c ∷ []) = long_act verb a b c
-act_with verb (a ∷ b ∷ c ∷ d ∷ rest) = None
+act_with verb (a ∷ b ∷ c ∷ d ∷ []) = longest_act verb a b c d
+act_with verb (a ∷ b ∷ c ∷ d ∷ e ∷ rest) = None
 
 -- the act of these words
 abbrev pub act_of : List (List ℕ) → Option Act

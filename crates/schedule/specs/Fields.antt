@@ -22,5 +22,9 @@ node_of word = number_below NODES word
 abbrev pub queue_of : List ℕ → Option ℕ
 queue_of word = number_below QUEUES word
 
+-- a priority that is named isn't 0, which is left out
+abbrev pub priority_of : List ℕ → Option ℕ
+priority_of word = number_between 1 255 word
+
 abbrev pub payload_of : List ℕ → Option (List ℕ)
 payload_of word = kept_if (λ bytes. nat_le (length bytes) PAYLOAD_CAPACITY) (bytes_of word)

@@ -1,5 +1,5 @@
 use group_task::NodeId;
-use job_model::{Payload, Queue};
+use job_model::Work;
 use std::alloc::{AllocError, Global};
 use std::marker::Model;
 
@@ -33,34 +33,34 @@ impl Fill {
     }
 }
 
-/// The payload of a job that is submitted, kept apart from its act: a schedule is a long list of
+/// The work of a job that is submitted, kept apart from its act: a schedule is a long list of
 /// acts, most of which have none.
 #[derive(Drop)]
 pub struct Submitted {
-    payload: Box<Payload>,
+    work: Box<Work>,
 }
 
 impl Model for Submitted {
-    ghost use Rattle.job_model.specs.declared.payload.Payload.{Payload};
+    ghost use Rattle.job_model.specs.declared.work.Work.{Work};
 
-    ghost Value = { Payload };
+    ghost Value = { Work };
 
-    ghost view = { λ a. a.payload.value };
+    ghost view = { λ a. a.work.value };
 }
 
 impl Submitted {
-    pub fn new(alloc: Global, payload: Payload) -> Result<Submitted, AllocError>
-        ensures { IfOk result (λ submitted. submitted ≡ payload) }
+    pub fn new(alloc: Global, work: Work) -> Result<Submitted, AllocError>
+        ensures { IfOk result (λ submitted. submitted ≡ work) }
     {
         Ok(Submitted {
-            payload: Box::new(alloc, payload)?,
+            work: Box::new(alloc, work)?,
         })
     }
 
-    pub fn payload(&self) -> &Payload
+    pub fn work(&self) -> &Work
         ensures { result.now ≡ self.now }
     {
-        &self.payload
+        &self.work
     }
 }
 
@@ -77,7 +77,7 @@ pub enum Act {
     Lose(u64),
     Cut(NodeId, NodeId),
     Mend(NodeId, NodeId),
-    Submit(NodeId, Queue, Submitted),
+    Submit(NodeId, Submitted),
     Finish(NodeId, NodeId, u64),
     Arm(NodeId, u64),
     Crash(NodeId, Fill),

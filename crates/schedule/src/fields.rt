@@ -1,5 +1,5 @@
 ghost use Rattle.std.specs.Prelude.{◌≡◌, ◌≤◌, IfOk};
-ghost use Rattle.schedule.specs.Fields.{node_of, queue_of, payload_of, number_between};
+ghost use Rattle.schedule.specs.Fields.{node_of, queue_of, priority_of, payload_of, number_between};
 
 use group_task::NodeId;
 use job_model::{Payload, Queue};
@@ -18,6 +18,13 @@ pub fn queue(word: &[u8]) -> Option<Queue>
     ensures { result ≡ queue_of word.now }
 {
     Queue::new(u8::try_from(number(word)?).ok()?)
+}
+
+/// The priority that a word names: it isn't 0, which is left out.
+pub fn priority(word: &[u8]) -> Option<u8>
+    ensures { result ≡ priority_of word.now }
+{
+    Some(between(1, u64::from(u8::MAX), word)? as u8)
 }
 
 /// The payload that a word spells.

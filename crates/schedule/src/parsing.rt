@@ -1,11 +1,12 @@
 ghost use Rattle.std.specs.Prelude.{◌≡◌, IfOk};
 ghost use Rattle.line_words.specs.Words.{words_of};
-ghost use Rattle.schedule.specs.Acts.{act_of, act_with, short_act, middle_act, long_act};
-ghost use Rattle.schedule.specs.declared.verb.Verb.TheVariants.{Cut, Mend, Arm, Crash, Submit, Finish};
+ghost use Rattle.schedule.specs.Acts.{act_of, act_with, short_act, middle_act, long_act, longest_act, submit_act};
+ghost use Rattle.schedule.specs.declared.verb.Verb.TheVariants.{Cut, Mend, Arm, Crash, Finish};
 
 use crate::act::{Act, Fill, Submitted};
-use crate::fields::{node, payload, queue};
+use crate::fields::{node, payload, priority, queue};
 use crate::verb::Verb;
+use job_model::Work;
 use line_words::{bytes, cut_word, number};
 use std::alloc::{AllocError, Global};
 
@@ -31,11 +32,14 @@ fn act_with(alloc: Global, verb: Verb, fields: &[u8]) -> Result<Option<Act>, All
     let Some((first, more)) = cut_word(fields) else {
         return Ok(short(alloc, verb, fields));
     };
-    let Some((second, third)) = cut_word(more) else {
+    let Some((second, rest)) = cut_word(more) else {
         return middle(alloc, verb, first, more);
     };
-    match cut_word(third) {
-        None => long(alloc, verb, first, second, third),
+    let Some((third, fourth)) = cut_word(rest) else {
+        return long(alloc, verb, first, second, rest);
+    };
+    match cut_word(fourth) {
+        None => longest(alloc, verb, first, second, third, fourth),
         Some(_) => Ok(None),
     }
 }
@@ -84,8 +88,25 @@ fn long(
     ensures { IfOk result (λ act. act ≡ long_act verb first.now second.now third.now) }
 {
     match verb {
-        Verb::Submit => submit(alloc, first, second, third),
+        Verb::Submit => submit(alloc, first, second, third, Some(0)),
         Verb::Finish => Ok(finish(first, second, third)),
+        _ => Ok(None),
+    }
+}
+
+/// A verb with four fields.
+fn longest(
+    alloc: Global,
+    verb: Verb,
+    first: &[u8],
+    second: &[u8],
+    third: &[u8],
+    fourth: &[u8],
+) -> Result<Option<Act>, AllocError>
+    ensures { IfOk result (λ act. act ≡ longest_act verb first.now second.now third.now fourth.now) }
+{
+    match verb {
+        Verb::Submit => submit(alloc, first, second, third, priority(fourth)),
         _ => Ok(None),
     }
 }
@@ -125,16 +146,22 @@ fn submit(
     first: &[u8],
     second: &[u8],
     third: &[u8],
+    priority: Option<u8>,
 ) -> Result<Option<Act>, AllocError>
-    ensures { IfOk result (λ act. act ≡ long_act Submit first.now second.now third.now) }
+    ensures { IfOk result (λ act. act ≡ submit_act first.now second.now third.now priority) }
 {
-    let (Some(node), Some(queue)) = (node(first), queue(second)) else {
+    let (Some(node), Some(queue), Some(priority)) = (node(first), queue(second), priority) else {
         return Ok(None);
     };
-    match payload(alloc, third)? {
-        Some(payload) => Ok(Some(Act::Submit(node, queue, Submitted::new(alloc, payload)?))),
-        None => Ok(None),
-    }
+    let Some(payload) = payload(alloc, third)? else {
+        return Ok(None);
+    };
+    let work = Work {
+        queue,
+        priority,
+        payload,
+    };
+    Ok(Some(Act::Submit(node, Submitted::new(alloc, work)?)))
 }
 
 fn finish(first: &[u8], second: &[u8], third: &[u8]) -> Option<Act>

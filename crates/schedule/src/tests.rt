@@ -20,12 +20,10 @@ fn told(act: &Act) -> (&'static str, [u64; 3], &[u8]) {
         Act::Lose(message) => ("lose", [*message, 0, 0], none),
         Act::Cut(one, other) => ("cut", ends(one.number(), other.number()), none),
         Act::Mend(one, other) => ("mend", ends(one.number(), other.number()), none),
-        Act::Submit(node, queue, payload) => {
-            (
-                "submit",
-                ends(node.number(), queue.number()),
-                payload.payload().as_slice(),
-            )
+        Act::Submit(node, submitted) => {
+            let work = submitted.work();
+            let numbers = [node.number(), work.queue.number(), work.priority];
+            ("submit", numbers.map(u64::from), work.payload.as_slice())
         }
         Act::Finish(node, origin, id) => {
             let numbers = [u64::from(node.number()), u64::from(origin.number()), *id];
@@ -69,6 +67,8 @@ fn acts_with_their_fields(rt: HostRuntime) -> Result<(), Fail> {
         ("cut 1 1", ("cut", [1, 1, 0], "")),
         ("submit 1 15 6869", ("submit", [1, 15, 0], "hi")),
         ("submit 1 0 -", ("submit", [1, 0, 0], "")),
+        ("submit 1 15 6869 1", ("submit", [1, 15, 1], "hi")),
+        ("submit 1 0 - 255", ("submit", [1, 0, 255], "")),
         ("finish 1 2 3", ("finish", [1, 2, 3], "")),
         (
             "finish 1 2 18446744073709551615",
@@ -157,6 +157,11 @@ fn bad_fields(rt: HostRuntime) -> Result<(), Fail> {
             ("submit 1 1 0", 2),
             ("submit 1 1 0x", 2),
             ("submit 1 1 ", 2),
+            ("submit 1 1 61 256", 2),
+            ("submit 1 1 61 01", 2),
+            ("submit 1 1 61 +1", 2),
+            ("submit 1 1 61 -", 2),
+            ("submit 1 1 61 ", 2),
             ("finish 128 1 1", 2),
             ("finish 1 128 1", 2),
             ("finish 1 1 01", 2),
@@ -188,6 +193,8 @@ fn bad_shapes(rt: HostRuntime) -> Result<(), Fail> {
             ("mend 1 2 3", 2),
             ("submit 1 1", 2),
             ("submit 1 1 - 0", 2),
+            ("submit 1 1 - 1 1", 2),
+            ("finish 1 1 1 1 1", 2),
             ("finish 1 1", 2),
             ("finish 1 1 1 1", 2),
             ("arm 1", 2),

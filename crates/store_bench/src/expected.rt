@@ -1,14 +1,14 @@
 // What a journal has to keep, by the commands that it acknowledged: it knows neither records nor areas.
 use crate::random::Random;
 use anyhow::Context;
-use job_model::{Command, JobTable, Payload, Queue};
+use job_model::{Command, JobTable, Payload, Queue, Work};
 use std::alloc::{AllocError, Global};
 
-/// The ids of the pending jobs, in order, each with its queue; the payload of a job is its id in eight bytes.
+/// The ids of the pending jobs, in order, each with its queue and its priority; the payload of a job is its id in eight bytes.
 #[derive(Drop)]
 pub struct Expected {
     next: u64,
-    pending: Vec<(u64, u8)>,
+    pending: Vec<(u64, u8, u8)>,
     // Whether more jobs are to be put than done, until the journal is full.
     rises: bool,
 }
@@ -30,12 +30,17 @@ impl Expected {
         let puts = if self.rises { 3 } else { 1 };
         let jobs = self.pending.len() as u64;
         if jobs == 0 || random.below(4) < puts {
-            let queue = Queue::new((random.next() % 16) as u8).context("no queue")?;
+            let drawn = random.next();
+            let queue = Queue::new((drawn % 16) as u8).context("no queue")?;
             let payload = Payload::new(&self.next.to_be_bytes()).context("no payload")?;
-            return Ok(Command::Put(queue, payload));
+            return Ok(Command::Put(Work {
+                queue,
+                priority: (drawn / 16 % 256) as u8,
+                payload,
+            }));
         }
         let at = random.below(jobs) as usize;
-        let (id, _) = self.pending[at];
+        let (id, ..) = self.pending[at];
         Ok(Command::Done(id))
     }
 
@@ -63,8 +68,9 @@ impl Expected {
 
     pub fn apply(&mut self, command: &Command) -> Result<(), AllocError> {
         match command {
-            Command::Put(queue, _) => {
-                self.pending.push((self.next, queue.number()))?;
+            Command::Put(work) => {
+                self.pending
+                    .push((self.next, work.queue.number(), work.priority))?;
                 self.next = self.next.saturating_add(1);
             }
             Command::Done(id) => self.pending.retain(|job| job.0 != *id),
@@ -77,8 +83,9 @@ impl Expected {
             && table.pending().len() == self.pending.len()
             && table.pending().iter().zip(self.pending.iter()).all(|(job, kept)| {
                 job.id == kept.0
-                    && job.queue.number() == kept.1
-                    && job.payload.as_slice() == kept.0.to_be_bytes().as_slice()
+                    && job.work.queue.number() == kept.1
+                    && job.work.priority == kept.2
+                    && job.work.payload.as_slice() == kept.0.to_be_bytes().as_slice()
             })
     }
 }

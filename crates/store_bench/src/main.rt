@@ -16,7 +16,7 @@ ghost use Rattle.std.specs.Prelude.{◌≡◌, IfOk, length};
 
 use crate::life::Life;
 use anyhow::Context;
-use job_model::{Command, Payload, Queue};
+use job_model::{Command, Payload, Queue, Work};
 use node_store::NodeStore;
 use sector_disk::MemDisk;
 use std::alloc::Global;
@@ -106,7 +106,11 @@ fn compact(alloc: Global, jobs: u64, rounds: u64) -> anyhow::Result<()> {
 fn put() -> anyhow::Result<Command> {
     let queue = Queue::new(0).context("no queue")?;
     let payload = Payload::new(b"hi").context("no payload")?;
-    Ok(Command::Put(queue, payload))
+    Ok(Command::Put(Work {
+        queue,
+        priority: 0,
+        payload,
+    }))
 }
 
 // A disk with so many records: each job is put and then done.

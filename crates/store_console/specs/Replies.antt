@@ -1,8 +1,9 @@
 -- What a request is answered, by what is mounted.
-use Rattle.std.specs.Prelude.{◌≡◌, ◌⊎◌, ℕ, ◌+◌, List, [], ◌∷◌, ◌++◌, flat_map, Option, Some, None, IsTrue, IsFalse, Result, Ok, Err, codes, decimal}
+use Rattle.std.specs.Prelude.{◌≡◌, ◌⊎◌, ℕ, ◌+◌, ◌==◌, if◌then◌else◌, List, [], ◌∷◌, ◌++◌, flat_map, Option, Some, None, IsTrue, IsFalse, Result, Ok, Err, codes, decimal}
 use Rattle.job_model.specs.Command.{Command, Raise, Put, Done}
 use Rattle.job_model.specs.Durable.{Durable}
 use Rattle.job_model.specs.declared.job.Job.{Job}
+use Rattle.job_model.specs.declared.work.Work.{Work}
 use Rattle.job_model.specs.declared.command.Command.TheVariants as change
 use Rattle.file_disk.specs.File.{FileState}
 use Rattle.node_store.specs.Store.{StoreState, durable_of, append_refusal, compaction_refusal, raise_refusal, Changed}
@@ -76,13 +77,13 @@ abbrev pub Replies : Mounted → Request → Reply → Mounted → Type 0
 Replies old (request.Format slots) answered new = IsFormatted answered × (new ≡ None)
 Replies old request.Mount answered new = IsMounted answered new
 Replies None request.Raise answered new = IsBroken answered new
-Replies None (request.Put queue payload) answered new = IsBroken answered new
+Replies None (request.Put work) answered new = IsBroken answered new
 Replies None (request.Done id) answered new = IsBroken answered new
 Replies None request.Compact answered new = IsBroken answered new
 Replies None request.List answered new = IsBroken answered new
 Replies (Some old) request.Raise answered new = Tries (Commanded old Raise reply.Value answered) (raise_refusal old) old answered new
-Replies (Some old) (request.Put queue payload) answered new =
-    Tries (Commanded old (Put queue payload) reply.Value answered) (append_refusal old (change.Put queue payload)) old answered new
+Replies (Some old) (request.Put work) answered new =
+    Tries (Commanded old (Put work) reply.Value answered) (append_refusal old (change.Put work)) old answered new
 Replies (Some old) (request.Done id) answered new =
     Tries (Commanded old (Done id) (λ _. reply.Done) answered) (append_refusal old (change.Done id)) old answered new
 Replies (Some old) request.Compact answered new = Tries (Compacted old answered) (compaction_refusal old) old answered new
@@ -101,8 +102,15 @@ fault_text StoreFault.NoSuchJob = codes "NoSuchJob"
 fault_text StoreFault.NoMemory = codes "NoMemory"
 fault_text StoreFault.TooSmall = codes "TooSmall"
 
+-- a priority, which is left out where it is 0
+abbrev pub priority_text : ℕ → List ℕ
+priority_text priority = if priority == 0 then [] else codes " " ++ decimal priority
+
+abbrev pub work_text : Work → List ℕ
+work_text work = decimal work.queue ++ codes " " ++ bytes_text work.payload ++ priority_text work.priority
+
 abbrev pub job_text : Job → List ℕ
-job_text job = codes "job " ++ decimal job.id ++ codes " " ++ decimal job.queue ++ codes " " ++ bytes_text job.payload
+job_text job = codes "job " ++ decimal job.id ++ codes " " ++ work_text job.work
 
 -- the counter, the next id, and the jobs in the order of their ids
 abbrev pub list_text : Durable → List ℕ

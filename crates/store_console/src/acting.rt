@@ -7,7 +7,7 @@ ghost use Rattle.store_console.specs.Replies.{IsFormatted, IsMounted, Replies, v
 use crate::reply::Reply;
 use crate::request::Request;
 use file_disk::{FileDisk, OpenFault};
-use job_model::{Payload, Queue};
+use job_model::Work;
 use node_store::{NodeStore, StoreFault, format};
 use std::alloc::{AllocError, Global};
 use std::fs::{File, Files};
@@ -30,7 +30,7 @@ pub fn reply<P: AsPath>(
         }
         Request::Mount => mount(rt, alloc, path, mounted),
         Request::Raise => Ok(raise(mounted)),
-        Request::Put(queue, payload) => Ok(put(mounted, *queue, *payload)),
+        Request::Put(work) => Ok(put(mounted, *work)),
         Request::Done(id) => Ok(done(mounted, *id)),
         Request::Compact => Ok(compact(mounted)),
         Request::List => Ok(list(mounted)),
@@ -100,12 +100,12 @@ fn raise(mounted: &mut Option<NodeStore<FileDisk>>) -> Reply
     }
 }
 
-fn put(mounted: &mut Option<NodeStore<FileDisk>>, queue: Queue, payload: Payload) -> Reply
-    ensures { Replies mounted.old (asked.Put queue payload) result mounted.new }
+fn put(mounted: &mut Option<NodeStore<FileDisk>>, work: Work) -> Reply
+    ensures { Replies mounted.old (asked.Put work) result mounted.new }
 {
     match mounted {
         None => Reply::Refused(StoreFault::Broken),
-        Some(store) => valued(store.put(queue, payload)),
+        Some(store) => valued(store.put(work)),
     }
 }
 

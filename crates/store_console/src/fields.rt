@@ -1,5 +1,5 @@
 ghost use Rattle.std.specs.Prelude.{◌≡◌, ◌≤◌, IfOk};
-ghost use Rattle.store_console.specs.Requests.{queue_of, payload_of, slots_of};
+ghost use Rattle.store_console.specs.Requests.{queue_of, priority_of, payload_of, slots_of};
 
 use crate::request::{LEAST_SLOTS, MOST_SLOTS};
 use job_model::{Payload, Queue};
@@ -11,6 +11,14 @@ pub fn queue(word: &[u8]) -> Option<Queue>
     ensures { result ≡ queue_of word.now }
 {
     Queue::new(u8::try_from(number(word)?).ok()?)
+}
+
+/// The priority that a word names: it isn't 0, which is left out.
+pub fn priority(word: &[u8]) -> Option<u8>
+    ensures { result ≡ priority_of word.now }
+{
+    let priority = u8::try_from(number(word)?).ok()?;
+    if priority == 0 { None } else { Some(priority) }
 }
 
 /// The payload that a word spells.

@@ -1,9 +1,10 @@
 ghost use Rattle.std.specs.Prelude.{◌≡◌, bytes_eq, IfOk};
 ghost use Rattle.line_words.specs.Words.{words_of};
-ghost use Rattle.store_console.specs.Requests.{request_of, alone_of, with_one, with_two};
+ghost use Rattle.store_console.specs.Requests.{request_of, alone_of, with_one, with_two, with_three, put_with};
 
-use crate::fields::{payload, queue, slots};
+use crate::fields::{payload, priority, queue, slots};
 use crate::request::Request;
+use job_model::Work;
 use line_words::{cut_word, number};
 use std::alloc::{AllocError, Global};
 
@@ -15,11 +16,14 @@ pub fn request(alloc: Global, line: &[u8]) -> Result<Option<Request>, AllocError
     let Some((name, fields)) = cut_word(line) else {
         return Ok(alone(line));
     };
-    let Some((first, second)) = cut_word(fields) else {
+    let Some((first, more)) = cut_word(fields) else {
         return Ok(one(name, fields));
     };
-    match cut_word(second) {
-        None => two(alloc, name, first, second),
+    let Some((second, third)) = cut_word(more) else {
+        return two(alloc, name, first, more);
+    };
+    match cut_word(third) {
+        None => three(alloc, name, first, second, third),
         Some(_) => Ok(None),
     }
 }
@@ -63,16 +67,49 @@ fn two(
 ) -> Result<Option<Request>, AllocError>
     ensures { IfOk result (λ request. request ≡ with_two name.now first.now second.now) }
 {
-    if !is(name, "put") {
-        return Ok(None);
+    if is(name, "put") {
+        put(alloc, first, second, Some(0))
+    } else {
+        Ok(None)
     }
-    let Some(queue) = queue(first) else {
+}
+
+/// A request with three fields.
+fn three(
+    alloc: Global,
+    name: &[u8],
+    first: &[u8],
+    second: &[u8],
+    third: &[u8],
+) -> Result<Option<Request>, AllocError>
+    ensures { IfOk result (λ request. request ≡ with_three name.now first.now second.now third.now) }
+{
+    if is(name, "put") {
+        put(alloc, first, second, priority(third))
+    } else {
+        Ok(None)
+    }
+}
+
+fn put(
+    alloc: Global,
+    first: &[u8],
+    second: &[u8],
+    priority: Option<u8>,
+) -> Result<Option<Request>, AllocError>
+    ensures { IfOk result (λ request. request ≡ put_with first.now second.now priority) }
+{
+    let (Some(queue), Some(priority)) = (queue(first), priority) else {
         return Ok(None);
     };
-    match payload(alloc, second)? {
-        Some(payload) => Ok(Some(Request::Put(queue, payload))),
-        None => Ok(None),
-    }
+    let Some(payload) = payload(alloc, second)? else {
+        return Ok(None);
+    };
+    Ok(Some(Request::Put(Work {
+        queue,
+        priority,
+        payload,
+    })))
 }
 
 /// Whether a word is this name.

@@ -1,4 +1,4 @@
-use job_model::{Payload, Queue};
+use job_model::Work;
 
 /// How many slots an area of the journal has at least.
 pub const LEAST_SLOTS: u64 = 4;
@@ -13,7 +13,7 @@ pub enum Request {
     Format(u64),
     Mount,
     Raise,
-    Put(Queue, Payload),
+    Put(Work),
     /// The job of this id is done.
     Done(u64),
     Compact,

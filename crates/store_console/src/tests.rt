@@ -46,8 +46,8 @@ fn session(rt: HostRuntime) -> Result<(), Fail> {
         &rt,
         rt.alloc(),
         path.as_path(),
-        "mount\n\nraise\nput 15 -\nlist",
-        "ok\nok 2\nok 1\ncount 2 next 2\njob 1 15 -\n",
+        "mount\n\nraise\nput 15 -\nput 1 62 7\nlist",
+        "ok\nok 2\nok 1\nok 2\ncount 2 next 3\njob 1 15 -\njob 2 1 62 7\n",
         0,
     );
     fs::remove_file(&rt, path.as_path())?;
@@ -173,6 +173,11 @@ fn bad_lines(rt: HostRuntime) -> Result<(), Fail> {
         "put 1 6",
         "put 1 ",
         "put 1 61 0",
+        "put 1 61 256",
+        "put 1 61 01",
+        "put 1 61 -",
+        "put 1 61 ",
+        "put 1 61 1 1",
         "done",
         "done -1",
         "done 18446744073709551616",

@@ -41,7 +41,7 @@ event_same ms more p bytes kept.ReadyTimer h = refl
 event_same ms more p bytes kept.CoordTimer h = refl
 event_same ms more p bytes kept.DispatchTimer h = refl
 event_same ms more p bytes (kept.Deliver place) h = ap (λ (o : Option Envelope). delivered o) (get_same ms more place h)
-event_same ms more p bytes (kept.Submit queue start len) h = ap (λ (xs : List ℕ). on.Submit queue xs) (part_same p bytes start len h.0)
+event_same ms more p bytes (kept.Submit queue priority start len) h = ap (λ (xs : List ℕ). on.Submit (record { queue = queue; priority = priority; payload = xs })) (part_same p bytes start len h.0)
 event_same ms more p bytes (kept.Finish origin id) h = refl
 event_same ms more p bytes kept.Recover h = refl
 
@@ -85,7 +85,7 @@ event_again ms p on.ReadyTimer = refl
 event_again ms p on.CoordTimer = refl
 event_again ms p on.DispatchTimer = refl
 event_again ms p (on.Deliver m) = ap (λ (o : Option Envelope). delivered o) (get_again ms m)
-event_again ms p (on.Submit queue payload) = ap (λ (xs : List ℕ). on.Submit queue xs) (part_again p payload)
+event_again ms p (on.Submit work) = ap (λ (xs : List ℕ). on.Submit (record work { payload = xs })) (part_again p work.payload)
 event_again ms p (on.Finish origin id) = refl
 event_again ms p on.Recover = refl
 
@@ -105,7 +105,7 @@ event_stands ms p on.ReadyTimer few = tt
 event_stands ms p on.CoordTimer few = tt
 event_stands ms p on.DispatchTimer few = tt
 event_stands ms p (on.Deliver m) few = omega (arith, length-append ms (m ∷ []))
-event_stands ms p (on.Submit queue payload) few = (omega (arith, length-append p payload), few)
+event_stands ms p (on.Submit work) few = (omega (arith, length-append p work.payload), few)
 event_stands ms p (on.Finish origin id) few = tt
 event_stands ms p on.Recover few = tt
 
@@ -127,7 +127,7 @@ event_longer m m' p p' kept.ReadyTimer a b h = tt
 event_longer m m' p p' kept.CoordTimer a b h = tt
 event_longer m m' p p' kept.DispatchTimer a b h = tt
 event_longer m m' p p' (kept.Deliver place) a b h = omega (arith, a, h)
-event_longer m m' p p' (kept.Submit queue start len) a b h = (let within = h.0 in omega (arith, b, within), h.1)
+event_longer m m' p p' (kept.Submit queue priority start len) a b h = (let within = h.0 in omega (arith, b, within), h.1)
 event_longer m m' p p' (kept.Finish origin id) a b h = tt
 event_longer m m' p p' kept.Recover a b h = tt
 

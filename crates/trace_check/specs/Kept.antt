@@ -23,7 +23,7 @@ kept_event messages payloads on.ReadyTimer = kept.ReadyTimer
 kept_event messages payloads on.CoordTimer = kept.CoordTimer
 kept_event messages payloads on.DispatchTimer = kept.DispatchTimer
 kept_event messages payloads (on.Deliver m) = kept.Deliver messages
-kept_event messages payloads (on.Submit queue payload) = kept.Submit queue payloads (length payload)
+kept_event messages payloads (on.Submit work) = kept.Submit work.queue work.priority payloads (length work.payload)
 kept_event messages payloads (on.Finish origin id) = kept.Finish origin id
 kept_event messages payloads on.Recover = kept.Recover
 
@@ -35,7 +35,7 @@ payload_of on.ReadyTimer = []
 payload_of on.CoordTimer = []
 payload_of on.DispatchTimer = []
 payload_of (on.Deliver m) = []
-payload_of (on.Submit queue payload) = payload
+payload_of (on.Submit work) = work.payload
 payload_of (on.Finish origin id) = []
 payload_of on.Recover = []
 
@@ -73,7 +73,7 @@ event_said messages payloads kept.ReadyTimer = on.ReadyTimer
 event_said messages payloads kept.CoordTimer = on.CoordTimer
 event_said messages payloads kept.DispatchTimer = on.DispatchTimer
 event_said messages payloads (kept.Deliver place) = delivered (slice_get messages place)
-event_said messages payloads (kept.Submit queue start len) = on.Submit queue (take len (drop start payloads))
+event_said messages payloads (kept.Submit queue priority start len) = on.Submit (record { queue = queue; priority = priority; payload = take len (drop start payloads) })
 event_said messages payloads (kept.Finish origin id) = on.Finish origin id
 event_said messages payloads kept.Recover = on.Recover
 
@@ -98,7 +98,7 @@ EventStands messages payloads kept.ReadyTimer = ⊤
 EventStands messages payloads kept.CoordTimer = ⊤
 EventStands messages payloads kept.DispatchTimer = ⊤
 EventStands messages payloads (kept.Deliver place) = place < messages
-EventStands messages payloads (kept.Submit queue start len) = (start + len ≤ payloads) × (len ≤ PAYLOAD_CAPACITY)
+EventStands messages payloads (kept.Submit queue priority start len) = (start + len ≤ payloads) × (len ≤ PAYLOAD_CAPACITY)
 EventStands messages payloads (kept.Finish origin id) = ⊤
 EventStands messages payloads kept.Recover = ⊤
 

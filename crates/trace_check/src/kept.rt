@@ -9,7 +9,7 @@ ghost use Rattle.trace_check.specs.Kept.{kept_event, kept_deed, payload_of, payl
 
 use crate::trace::{Deed, RecoverFault};
 use group_task::NodeId;
-use job_model::{PAYLOAD_CAPACITY, Payload, Queue};
+use job_model::{PAYLOAD_CAPACITY, Payload, Queue, Work};
 use message_list::MessageList;
 use node_core::Event;
 
@@ -24,8 +24,8 @@ pub enum KeptEvent {
     DispatchTimer,
     /// The message stands at this place of its list.
     Deliver(usize),
-    /// The payload begins at this place of all payloads, and has so many bytes.
-    Submit(Queue, usize, u16),
+    /// A queue and a priority; the payload begins at this place of all payloads, and has so many bytes.
+    Submit(Queue, u8, usize, u16),
     Finish(NodeId, u64),
     Recover,
 }
@@ -90,10 +90,10 @@ fn keep_event(messages: &mut MessageList, payloads: &mut Vec<u8>, event: &Event)
             messages.push(message);
             KeptEvent::Deliver(place)
         }
-        Event::Submit(queue, payload) => {
+        Event::Submit(work) => {
             let start = payloads.len();
-            let _ = payloads.extend_from_slice(payload.as_slice());
-            KeptEvent::Submit(*queue, start, payload.len() as u16)
+            let _ = payloads.extend_from_slice(work.payload.as_slice());
+            KeptEvent::Submit(work.queue, work.priority, start, work.payload.len() as u16)
         }
         Event::Finish(origin, id) => KeptEvent::Finish(*origin, *id),
         Event::Recover => KeptEvent::Recover,
@@ -130,9 +130,10 @@ fn event_said(messages: &MessageList, payloads: &[u8], event: KeptEvent) -> Even
             Some(message) => Event::Deliver(message),
             None => unreachable!(),
         },
-        KeptEvent::Submit(queue, start, len) => {
+        KeptEvent::Submit(queue, priority, start, len) => {
             let bytes = &payloads[start..start + usize::from(len)];
-            Event::Submit(queue, Payload::new(bytes).unwrap())
+            let payload = Payload::new(bytes).unwrap();
+            Event::Submit(Work { queue, priority, payload })
         }
         KeptEvent::Finish(origin, id) => Event::Finish(origin, id),
         KeptEvent::Recover => Event::Recover,

@@ -1,6 +1,6 @@
 use crate::{Deed, History, RecoverFault, Trace, Verdict, check};
 use group_task::NodeId;
-use job_model::{Payload, Queue};
+use job_model::{Payload, Queue, Work};
 use node_core::Event;
 use std::alloc::{AllocError, Global};
 use std::test::Fail;
@@ -128,7 +128,11 @@ fn a_doubt_is_settled_once(rt: HostRuntime) -> Result<(), Fail> {
 // one deed of each kind
 fn deed(place: usize) -> Option<Deed> {
     let message = asked(0)?;
-    let submit = Event::Submit(Queue::new(3)?, Payload::new(b"hi")?);
+    let submit = Event::Submit(Work {
+        queue: Queue::new(3)?,
+        priority: 255,
+        payload: Payload::new(b"hi")?,
+    });
     Some(match place {
         0 => Deed::Nothing,
         1 => Deed::Done(Event::CheckTimer),

@@ -98,6 +98,10 @@ const ENTRIES: [(&str, &str); 36] = [
         "Run 0\n",
     ),
     (
+        r#"{"do":"submit","queue":0,"priority":1,"payload":"","sent":[]},{"do":"submit","queue":0,"priority":255,"payload":"","sent":[]}"#,
+        "Run 0 0\n",
+    ),
+    (
         r#"{"do":"crash","sent":[]},{"do":"submit","queue":0,"payload":"","sent":[]}"#,
         "NotARun 0 1\n",
     ),
@@ -206,6 +210,11 @@ const BAD: [&str; 42] = [
     r#"{"do":"submit","queue":1.0,"payload":"","sent":[]}"#,
     r#"{"do":"submit","queue":1e0,"payload":"","sent":[]}"#,
     r#"{"do":"submit","queue":0,"sent":[]}"#,
+    r#"{"do":"submit","queue":0,"priority":0,"payload":"","sent":[]}"#,
+    r#"{"do":"submit","queue":0,"priority":256,"payload":"","sent":[]}"#,
+    r#"{"do":"submit","queue":0,"priority":-1,"payload":"","sent":[]}"#,
+    r#"{"do":"submit","queue":0,"priority":"1","payload":"","sent":[]}"#,
+    r#"{"do":"submit","queue":0,"priority":null,"payload":"","sent":[]}"#,
     r#"{"do":"submit","queue":0,"payload":"-","sent":[]}"#,
     r#"{"do":"submit","queue":0,"payload":[],"sent":[]}"#,
     r#"{"do":"finish","id":0,"sent":[]}"#,

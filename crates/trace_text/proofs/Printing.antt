@@ -1,5 +1,5 @@
 -- The tokens of a trace are those of its JSON value.
-use Rattle.std.proofs.Common.{◌≡◌, ◌≤◌, ◌+◌, ℕ, List, [], ◌∷◌, ◌++◌, length, drop, map, slice_get, Some, codes, decimal, refl, sym, ap, ◌∙◌, append_assoc, arith}
+use Rattle.std.proofs.Common.{◌≡◌, ◌≤◌, ◌+◌, ℕ, zero, suc, List, [], ◌∷◌, ◌++◌, length, drop, map, slice_get, Some, codes, decimal, refl, sym, ap, ◌∙◌, append_assoc, arith}
 use Rattle.std.specs.Prelude.{OnOk, Result}
 use Rattle.std.specs.declared.alloc.AllocError.{AllocError}
 use Rattle.std.proofs.lemmas.Result.{on_ok_weaker}
@@ -22,12 +22,16 @@ use Rattle.node_core.specs.declared.event.Event.TheVariants as on
 use Rattle.trace_check.specs.declared.trace.Deed.{Deed}
 use Rattle.trace_check.specs.declared.trace.Deed.TheVariants as deed
 use Rattle.trace_check.specs.Claims.{Claim}
-use Rattle.trace_text.specs.Written.{message_data, event_members, deed_name, deed_members, entry_data, history_data, trace_data}
-use Rattle.trace_text.specs.Tokens.{Adds, event_tokens, deed_tokens, message_tokens, entry_tokens, entries_tokens, history_tokens, histories_tokens, trace_tokens}
+use Rattle.trace_text.specs.Written.{message_data, event_members, priority_members, deed_name, deed_members, entry_data, history_data, trace_data}
+use Rattle.trace_text.specs.Tokens.{Adds, priority_tokens, event_tokens, deed_tokens, message_tokens, entry_tokens, entries_tokens, history_tokens, histories_tokens, trace_tokens}
 
 messages_of : (ms : List Envelope) → items_tokens (items_outline (items_of (map message_data ms))) ≡ message_tokens ms ++ token.end_array ∷ []
 messages_of [] = refl
 messages_of (m ∷ ms) = ap (λ (ts : List Token). token.string (encode_lower (spelling m)) ∷ ts) (messages_of ms)
+
+priority_of : (priority : ℕ) (rest : Members) → members_tokens (members_outline (priority_members priority rest)) ≡ priority_tokens priority ++ members_tokens (members_outline rest)
+priority_of zero rest = refl
+priority_of (suc n) rest = refl
 
 event_of : (e : Event) (rest : Members) → members_tokens (members_outline (event_members e rest)) ≡ event_tokens e ++ members_tokens (members_outline rest)
 event_of on.CheckTimer rest = refl
@@ -37,7 +41,10 @@ event_of on.ReadyTimer rest = refl
 event_of on.CoordTimer rest = refl
 event_of on.DispatchTimer rest = refl
 event_of (on.Deliver m) rest = refl
-event_of (on.Submit queue payload) rest = refl
+event_of (on.Submit work) rest =
+    ap (λ (ts : List Token). token.key (codes "payload") ∷ token.string (encode_lower work.payload) ∷ ts)
+    (priority_of work.priority (member (codes "queue") (number (unsigned work.queue)) rest)
+    ∙ sym (append_assoc (priority_tokens work.priority) (token.key (codes "queue") ∷ token.number (decimal work.queue) ∷ []) (members_tokens (members_outline rest))))
 event_of (on.Finish origin id) rest = refl
 event_of on.Recover rest = refl
 

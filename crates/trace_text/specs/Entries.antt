@@ -1,5 +1,5 @@
 -- The entry that a JSON value stands for.
-use Rattle.std.specs.Prelude.{ℕ, Bool, true, false, List, [], ◌∷◌, Option, Some, None, option_map, option_and_then, if◌then◌else◌, nat_lt, nat_le, length, codes, Result, Ok, Err}
+use Rattle.std.specs.Prelude.{ℕ, Bool, true, false, List, [], ◌∷◌, Option, Some, None, option_map, option_and_then, if◌then◌else◌, ◌&&◌, nat_lt, nat_le, length, codes, Result, Ok, Err}
 use Rattle.std.specs.Str.{bytes_eq}
 use Rattle.serde_json.specs.Data.{Data, Items, no_items, item}
 use Rattle.serde_json.specs.Find.{get, as_str, as_bool, as_array, as_number, as_u64}
@@ -52,9 +52,23 @@ short bytes = if nat_le (length bytes) PAYLOAD_CAPACITY then Some bytes else Non
 
 -- ---- what was done
 
+-- a priority: 0 where it is left out
+abbrev pub ranked : ℕ → Option ℕ
+ranked n = if nat_lt 0 n && nat_lt n 256 then Some n else None
+
+abbrev pub priority_in : Option Data → Option ℕ
+priority_in None = Some 0
+priority_in (Some d) = option_and_then ranked (number_in (Some d))
+
+abbrev pub submitted : Option ℕ → Option ℕ → Option (List ℕ) → Option Event
+submitted None priority payload = None
+submitted (Some queue) None payload = None
+submitted (Some queue) (Some priority) None = None
+submitted (Some queue) (Some priority) (Some payload) = Some (on.Submit (record { queue = queue; priority = priority; payload = payload }))
+
 abbrev pub submit_in : Data → Option Event
 submit_in d =
-    option_and_then (λ (queue : ℕ). option_map (λ (payload : List ℕ). on.Submit queue payload) (option_and_then short (bytes_in (get (codes "payload") d)))) (option_and_then (below QUEUES) (number_in (get (codes "queue") d)))
+    submitted (option_and_then (below QUEUES) (number_in (get (codes "queue") d))) (priority_in (get (codes "priority") d)) (option_and_then short (bytes_in (get (codes "payload") d)))
 
 abbrev pub finish_in : Data → Option Event
 finish_in d =

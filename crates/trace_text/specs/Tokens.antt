@@ -1,9 +1,10 @@
 -- The tokens that a trace is written by.
-use Rattle.std.specs.Prelude.{ℕ, ◌≡◌, List, [], ◌∷◌, ◌++◌, length, map, codes, decimal}
+use Rattle.std.specs.Prelude.{ℕ, ◌≡◌, ◌==◌, if◌then◌else◌, List, [], ◌∷◌, ◌++◌, length, map, codes, decimal}
 use Rattle.hex.specs.Hex.{encode_lower}
 use Rattle.json.specs.Token.{Token}
 use Rattle.json.specs.Token as token
 use Rattle.json.specs.Written.{Written}
+use Rattle.job_model.specs.declared.work.Work.{Work}
 use Rattle.wire_msg.specs.Envelope.{Envelope}
 use Rattle.wire_msg.specs.Spelling.{spelling}
 use Rattle.node_core.specs.declared.event.Event.{Event}
@@ -18,6 +19,13 @@ pub record Adds (old new : Written) (ts : List Token) : Type 0 where
   pub before : new.before ≡ old.before
   pub tokens : new.tokens ≡ old.tokens ++ ts
 
+-- a priority, left out where it is 0
+abbrev pub priority_tokens : ℕ → List Token
+priority_tokens priority = if priority == 0 then [] else token.key (codes "priority") ∷ token.number (decimal priority) ∷ []
+
+abbrev pub work_tokens : Work → List Token
+work_tokens work = token.key (codes "payload") ∷ token.string (encode_lower work.payload) ∷ (priority_tokens work.priority ++ token.key (codes "queue") ∷ token.number (decimal work.queue) ∷ [])
+
 abbrev pub event_tokens : Event → List Token
 event_tokens on.CheckTimer = []
 event_tokens on.MergeTimer = []
@@ -26,7 +34,7 @@ event_tokens on.ReadyTimer = []
 event_tokens on.CoordTimer = []
 event_tokens on.DispatchTimer = []
 event_tokens (on.Deliver m) = token.key (codes "msg") ∷ token.string (encode_lower (spelling m)) ∷ []
-event_tokens (on.Submit queue payload) = token.key (codes "payload") ∷ token.string (encode_lower payload) ∷ token.key (codes "queue") ∷ token.number (decimal queue) ∷ []
+event_tokens (on.Submit work) = work_tokens work
 event_tokens (on.Finish origin id) = token.key (codes "id") ∷ token.number (decimal id) ∷ token.key (codes "origin") ∷ token.number (decimal origin) ∷ []
 event_tokens on.Recover = []
 

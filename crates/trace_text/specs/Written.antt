@@ -1,5 +1,5 @@
 -- The JSON value that a trace is written as: the members of an object stand in the order of their keys.
-use Rattle.std.specs.Prelude.{ℕ, List, [], ◌∷◌, length, map, codes}
+use Rattle.std.specs.Prelude.{ℕ, ◌==◌, if◌then◌else◌, List, [], ◌∷◌, length, map, codes}
 use Rattle.hex.specs.Hex.{encode_lower}
 use Rattle.serde_json.specs.Data.{Data, boolean, number, unsigned, string, array, object, Members, no_members, member}
 use Rattle.serde_json.specs.View.{items_of}
@@ -24,9 +24,13 @@ event_name on.ReadyTimer = codes "ready"
 event_name on.CoordTimer = codes "coord"
 event_name on.DispatchTimer = codes "dispatch"
 event_name (on.Deliver m) = codes "deliver"
-event_name (on.Submit queue payload) = codes "submit"
+event_name (on.Submit work) = codes "submit"
 event_name (on.Finish origin id) = codes "finish"
 event_name on.Recover = codes "recover"
+
+-- a priority in front of other members, left out where it is 0
+abbrev pub priority_members : ℕ → Members → Members
+priority_members priority rest = if priority == 0 then rest else member (codes "priority") (number (unsigned priority)) rest
 
 -- the members of an event, in front of others
 abbrev pub event_members : Event → Members → Members
@@ -37,7 +41,7 @@ event_members on.ReadyTimer rest = rest
 event_members on.CoordTimer rest = rest
 event_members on.DispatchTimer rest = rest
 event_members (on.Deliver m) rest = member (codes "msg") (message_data m) rest
-event_members (on.Submit queue payload) rest = member (codes "payload") (string (encode_lower payload)) (member (codes "queue") (number (unsigned queue)) rest)
+event_members (on.Submit work) rest = member (codes "payload") (string (encode_lower work.payload)) (priority_members work.priority (member (codes "queue") (number (unsigned work.queue)) rest))
 event_members (on.Finish origin id) rest = member (codes "id") (number (unsigned id)) (member (codes "origin") (number (unsigned origin)) rest)
 event_members on.Recover rest = rest
 

@@ -5,11 +5,11 @@ ghost use Rattle.hex.specs.Hex.{decode_of};
 ghost use Rattle.wire_msg.specs.Reading.{message_of};
 ghost use Rattle.group_task.specs.declared.node.TheConstants.{NODES};
 ghost use Rattle.job_model.specs.declared.queue.TheConstants.{QUEUES};
-ghost use Rattle.trace_text.specs.Entries.{claim_of, good, below, bytes_in, message_in, messages_in, number_in, submit_in, finish_in, event_in, device_in, recover_in, deed_in, claim_in};
+ghost use Rattle.trace_text.specs.Entries.{claim_of, good, below, bytes_in, message_in, messages_in, number_in, priority_in, submit_in, finish_in, event_in, device_in, recover_in, deed_in, claim_in};
 
 use group_task::{NODES, NodeId};
 use hex::FromHexError;
-use job_model::{Payload, QUEUES, Queue};
+use job_model::{Payload, QUEUES, Queue, Work};
 use node_core::Event;
 use serde_json::Value;
 use std::alloc::{AllocError, Global};
@@ -226,12 +226,34 @@ fn read_submit(alloc: Global, value: &Value) -> Result<Option<Event>, AllocError
     let Some(queue) = queue_of(number_at(value, "queue")) else {
         return Ok(None);
     };
+    let Some(priority) = priority_at(value) else {
+        return Ok(None);
+    };
     let Some(bytes) = bytes_at(alloc, value, "payload")? else {
         return Ok(None);
     };
     match Payload::new(&bytes) {
-        Some(payload) => Ok(Some(Event::Submit(queue, payload))),
+        Some(payload) => Ok(Some(Event::Submit(Work {
+            queue,
+            priority,
+            payload,
+        }))),
         None => Ok(None),
+    }
+}
+
+// A priority is left out where it is 0.
+fn priority_at(value: &Value) -> Option<u8>
+    ensures { result ≡ priority_in (get (codes "priority") (view value.now)) }
+{
+    let Some(priority) = value.get("priority") else {
+        return Some(0);
+    };
+    let number = priority.as_u64()?;
+    if 0 < number && number < 256 {
+        Some(number as u8)
+    } else {
+        None
     }
 }
 

@@ -3,7 +3,7 @@ ghost use Rattle.hex.specs.Hex.{encode_lower};
 ghost use Rattle.json.specs.Token.{begin_array, begin_object, end_array, end_object, key, string, number};
 ghost use Rattle.serde_json.specs.Written.{compact_text};
 ghost use Rattle.trace_check.specs.Traces.{claim_seen};
-ghost use Rattle.trace_text.specs.Tokens.{Adds, deed_tokens, event_tokens, message_tokens, entry_tokens, history_tokens, histories_tokens, trace_tokens};
+ghost use Rattle.trace_text.specs.Tokens.{Adds, deed_tokens, event_tokens, priority_tokens, message_tokens, entry_tokens, history_tokens, histories_tokens, trace_tokens};
 ghost use Rattle.trace_text.specs.Written.{trace_data, deed_name, event_name, fault_name};
 ghost use Rattle.wire_msg.specs.Spelling.{spelling};
 
@@ -172,9 +172,10 @@ fn write_event(alloc: Global, out: &mut Writer, event: &Event) -> Result<(), All
             out.key("msg")?;
             write_message(alloc, out, message)
         }
-        Event::Submit(queue, payload) => {
-            write_bytes(alloc, out, "payload", payload.as_slice())?;
-            write_number(out, "queue", u64::from(queue.number()))
+        Event::Submit(work) => {
+            write_bytes(alloc, out, "payload", work.payload.as_slice())?;
+            write_priority(out, work.priority)?;
+            write_number(out, "queue", u64::from(work.queue.number()))
         }
         Event::Finish(origin, id) => {
             write_number(out, "id", *id)?;
@@ -182,6 +183,16 @@ fn write_event(alloc: Global, out: &mut Writer, event: &Event) -> Result<(), All
         }
         _ => Ok(()),
     }
+}
+
+// A priority is left out where it is 0.
+fn write_priority(out: &mut Writer, priority: u8) -> Result<(), AllocError>
+    ensures { OnOk result (Adds out.old out.new (priority_tokens priority)) }
+{
+    if priority == 0 {
+        return Ok(());
+    }
+    write_number(out, "priority", u64::from(priority))
 }
 
 fn write_number(out: &mut Writer, name: &str, value: u64) -> Result<(), AllocError>

@@ -1,3 +1,4 @@
+use Rattle.job_model.specs.declared.work.Work.{Work}
 use Rattle.std.proofs.Common.{◌≡◌, ℕ, List, ap, ◌∙◌}
 use Rattle.job_model.specs.declared.job.Job.{Job}
 use Rattle.job_model.specs.Command.{Put}
@@ -7,16 +8,16 @@ use Rattle.job_model.specs.Table.{Table, durable_of}
 use Rattle.trace_check.proofs.ledger.put.Goals as goal
 use Rattle.trace_check.proofs.ledger.put.Goals.{then-not-can_apply+in_ok-table, else-not-can_apply}
 
-put_step : (old mid new : Table) (queue : ℕ) (payload : List ℕ) → mid.next ≡ old.next → mid.pending ≡ old.pending
-    → ((counter : ℕ) → durable_of counter new ≡ after_command (durable_of counter mid) (Put queue payload)) → (counter : ℕ) → durable_of counter new ≡ after_command (durable_of counter old) (Put queue payload)
-put_step old mid new queue payload next pending step counter =
+put_step : (old mid new : Table) (work : Work) → mid.next ≡ old.next → mid.pending ≡ old.pending
+    → ((counter : ℕ) → durable_of counter new ≡ after_command (durable_of counter mid) (Put work)) → (counter : ℕ) → durable_of counter new ≡ after_command (durable_of counter old) (Put work)
+put_step old mid new work next pending step counter =
     let same : durable_of counter mid ≡ durable_of counter old =
     ap (λ (n : ℕ). durable_of counter (record mid { next = n })) next ∙ ap (λ (jobs : List Job). durable_of counter (record { next = old.next; pending = jobs; room = mid.room })) pending in
-    step counter ∙ ap (λ (d : Durable). after_command d (Put queue payload)) same
+    step counter ∙ ap (λ (d : Durable). after_command d (Put work)) same
 
 pub returns-clause-step : goal.returns-clause-step
 returns-clause-step c =
     elim c.if-not-can_apply.branch [
-      | then-not-can_apply+in_ok-table w ↦ put_step c.args.table.now c.if-not-can_apply.table c.apply.new.self c.args.queue c.args.payload (ap (λ (t : Table). t.next) w.table-is ∙ w.in_ok-table.ensures.next) (ap (λ (t : Table). t.pending) w.table-is ∙ w.in_ok-table.ensures.pending) c.apply.ensures.step
-      | else-not-can_apply w ↦ put_step c.args.table.now c.if-not-can_apply.table c.apply.new.self c.args.queue c.args.payload (ap (λ (t : Table). t.next) w.table-is) (ap (λ (t : Table). t.pending) w.table-is) c.apply.ensures.step
+      | then-not-can_apply+in_ok-table w ↦ put_step c.args.table.now c.if-not-can_apply.table c.apply.new.self c.args.work (ap (λ (t : Table). t.next) w.table-is ∙ w.in_ok-table.ensures.next) (ap (λ (t : Table). t.pending) w.table-is ∙ w.in_ok-table.ensures.pending) c.apply.ensures.step
+      | else-not-can_apply w ↦ put_step c.args.table.now c.if-not-can_apply.table c.apply.new.self c.args.work (ap (λ (t : Table). t.next) w.table-is) (ap (λ (t : Table). t.pending) w.table-is) c.apply.ensures.step
     ]

@@ -15,7 +15,7 @@ pub returns-in-Put-clause-step : goal.returns-in-Put-clause-step
 returns-in-Put-clause-step c =
     on_ok _ _ c.put.result
     (λ step.
-    step c.self.inside.counter ∙ ap (λ (d : Durable). after_command d (Put c.in-Put.queue c.in-Put.payload)) c.self.view_is
+    step c.self.inside.counter ∙ ap (λ (d : Durable). after_command d (Put c.in-Put.work)) c.self.view_is
     ∙ ap (λ (w : Wanted). after_wanted c.args.self.now (wanted_by w)) (sym c.in-Put.is))
     c.put.ensures.step
 
