@@ -142,7 +142,7 @@ recovery_takes nodes w (act.Deliver k) step b is mounting = absurd (let bad = mo
 recovery_takes nodes w (act.Lose k) step b is mounting = absurd (let bad = mounting in cc)
 recovery_takes nodes w (act.Cut x y) step b is mounting = absurd (let bad = mounting in cc)
 recovery_takes nodes w (act.Mend x y) step b is mounting = absurd (let bad = mounting in cc)
-recovery_takes nodes w (act.Submit n queue payload) step b is mounting = absurd (let bad = mounting in cc)
+recovery_takes nodes w (act.Submit n work) step b is mounting = absurd (let bad = mounting in cc)
 recovery_takes nodes w (act.Finish n origin id) step b is mounting = absurd (let bad = mounting in cc)
 recovery_takes nodes w (act.Arm n calls) step b is mounting = absurd (let bad = mounting in cc)
 recovery_takes nodes w (act.Crash n fill) step b is mounting = absurd (let bad = mounting in cc)
@@ -228,7 +228,7 @@ command_still nodes w (act.Deliver k) step is = ap command_brought (message_stil
 command_still nodes w (act.Lose k) step is = refl
 command_still nodes w (act.Cut x y) step is = refl
 command_still nodes w (act.Mend x y) step is = refl
-command_still nodes w (act.Submit n queue payload) step is = refl
+command_still nodes w (act.Submit n work) step is = refl
 command_still nodes w (act.Finish n origin id) step is = refl
 command_still nodes w (act.Arm n calls) step is = refl
 command_still nodes w (act.Crash n fill) step is = refl

@@ -81,8 +81,8 @@ taken (act.Deliver k) = tt
 taken (act.Lose k) = tt
 taken (act.Cut a b) = tt
 taken (act.Mend a b) = tt
-taken (act.Submit n queue payload) =
-    (refl, λ nodes w step at. at_more (nat_lt n nodes) n 0 (CameOf (on.Submit queue payload)) (IsOf (on.Submit queue payload)) step (of_event (on.Submit queue payload) (λ e. cc)) at)
+taken (act.Submit n work) =
+    (refl, λ nodes w step at. at_more (nat_lt n nodes) n 0 (CameOf (on.Submit work)) (IsOf (on.Submit work)) step (of_event (on.Submit work) (λ e. cc)) at)
 taken (act.Finish n origin id) = (refl, λ nodes w step at. at_more (nat_lt n nodes) n 0 (CameOf (on.Finish origin id)) (IsOf (on.Finish origin id)) step (of_event (on.Finish origin id) (λ e. cc)) at)
 taken (act.Arm n calls) = tt
 taken (act.Crash n fill) = tt
@@ -121,7 +121,7 @@ event_no_compaction (act.Deliver k) n event is = refl
 event_no_compaction (act.Lose k) n event is = refl
 event_no_compaction (act.Cut a b) n event is = refl
 event_no_compaction (act.Mend a b) n event is = refl
-event_no_compaction (act.Submit k queue payload) n event is = refl
+event_no_compaction (act.Submit k work) n event is = refl
 event_no_compaction (act.Finish k origin id) n event is = refl
 event_no_compaction (act.Arm k calls) n event is = refl
 event_no_compaction (act.Crash k fill) n event is = refl
@@ -278,7 +278,7 @@ no_other (act.Deliver k) none deliver lose cut mend arm crash compact = deliver 
 no_other (act.Lose k) none deliver lose cut mend arm crash compact = lose k refl
 no_other (act.Cut a b) none deliver lose cut mend arm crash compact = cut a b refl
 no_other (act.Mend a b) none deliver lose cut mend arm crash compact = mend a b refl
-no_other (act.Submit n queue payload) none deliver lose cut mend arm crash compact = let bad = none in cc
+no_other (act.Submit n work) none deliver lose cut mend arm crash compact = let bad = none in cc
 no_other (act.Finish n origin id) none deliver lose cut mend arm crash compact = let bad = none in cc
 no_other (act.Arm n calls) none deliver lose cut mend arm crash compact = arm n calls refl
 no_other (act.Crash n fill) none deliver lose cut mend arm crash compact = crash n fill refl

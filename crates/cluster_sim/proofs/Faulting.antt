@@ -66,7 +66,7 @@ named_by_event (act.Deliver k) n event nodes sent is = absurd (let bad = is in c
 named_by_event (act.Lose k) n event nodes sent is = absurd (let bad = is in cc)
 named_by_event (act.Cut a b) n event nodes sent is = absurd (let bad = is in cc)
 named_by_event (act.Mend a b) n event nodes sent is = absurd (let bad = is in cc)
-named_by_event (act.Submit k queue payload) n event nodes sent is = ap (λ (p : ℕ × Event). node_or_first nodes p.0) (is_some _ _ is)
+named_by_event (act.Submit k work) n event nodes sent is = ap (λ (p : ℕ × Event). node_or_first nodes p.0) (is_some _ _ is)
 named_by_event (act.Finish k origin id) n event nodes sent is = ap (λ (p : ℕ × Event). node_or_first nodes p.0) (is_some _ _ is)
 named_by_event (act.Arm k calls) n event nodes sent is = absurd (let bad = is in cc)
 named_by_event (act.Crash k fill) n event nodes sent is = absurd (let bad = is in cc)

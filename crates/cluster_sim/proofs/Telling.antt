@@ -53,7 +53,7 @@ aims n command mounts = record { node = n; command = command; mounts = mounts }
 done_parts : (n count first many : ℕ) (d : Durable) (c : Command) (found : Option Durable)
     → PartsTold n count (tried_marks d (Some c)) (numbered n (raised d (Some c))) (aims n (Some c) false) (outcome.Done (answer_if_wanted d (Some c)) first many) found
 done_parts n count first many d Raise found = record { tried = refl; mounted = refl; given = refl; answered = λ k raise is. (let same : d.counter + 1 ≡ k = is_some (d.counter + 1) k is in omega (arith, same)) }
-done_parts n count first many d (Put queue payload) found = record { tried = refl; mounted = refl; given = refl; answered = λ k raise is. absurd (let bad = raise in cc) }
+done_parts n count first many d (Put work) found = record { tried = refl; mounted = refl; given = refl; answered = λ k raise is. absurd (let bad = raise in cc) }
 done_parts n count first many d (JobDone id) found = record { tried = refl; mounted = refl; given = refl; answered = λ k raise is. absurd (let bad = raise in cc) }
 
 did_parts : (n count first many : ℕ) (d : Durable) (wants command : Option Command) (found : Option Durable) → ((c : Command) → wants ≡ Some c → command ≡ Some c)
@@ -65,7 +65,7 @@ did_parts n count first many d (Some c) command found matches =
 
 failed_once : (n count : ℕ) (c : Command) (found : Option Durable) → PartsTold n count (failed_marks (Some c)) [] (aims n (Some c) false) outcome.Faulted found
 failed_once n count Raise found = record { tried = refl; mounted = refl; given = refl; answered = tt }
-failed_once n count (Put queue payload) found = record { tried = refl; mounted = refl; given = refl; answered = tt }
+failed_once n count (Put work) found = record { tried = refl; mounted = refl; given = refl; answered = tt }
 failed_once n count (JobDone id) found = record { tried = refl; mounted = refl; given = refl; answered = tt }
 
 failed_parts : (n count : ℕ) (wants command : Option Command) (found : Option Durable) → IsWanted wants → ((c : Command) → wants ≡ Some c → command ≡ Some c)
@@ -202,7 +202,7 @@ said_is from pending (says.Invitation group) s c is = none_is None c is
 said_is from pending (says.Accept group) s c is = none_is None c is
 said_is from pending (says.Ready task) s c is = none_is None c is
 said_is from pending (says.ReadyAck group) s c is = none_is None c is
-said_is from pending (says.Work group id queue payload) s c is = none_is None c is
+said_is from pending (says.Work group id work) s c is = none_is None c is
 said_is from pending (says.Done id) s c is = done_is _ id c is
 
 -- ---- one act
@@ -303,8 +303,8 @@ act_told nodes w counts (act.Cut a b) step found s is may at mounts =
     known_told (nat_lt a nodes && nat_lt b nodes) nodes w counts step (Cuts a b) found is (record { tried = refl; mounted = refl; given = refl; answered = λ n raise bad. absurd (let no = bad in cc) })
 act_told nodes w counts (act.Mend a b) step found s is may at mounts =
     known_told (nat_lt a nodes && nat_lt b nodes) nodes w counts step (Mends a b) found is (record { tried = refl; mounted = refl; given = refl; answered = λ n raise bad. absurd (let no = bad in cc) })
-act_told nodes w counts (act.Submit n queue payload) step found s is may at mounts =
-    event_told n nodes 0 (on.Submit queue payload) w counts step (Some (Put queue payload)) found s is may at (λ c wants. wants)
+act_told nodes w counts (act.Submit n work) step found s is may at mounts =
+    event_told n nodes 0 (on.Submit work) w counts step (Some (Put work)) found s is may at (λ c wants. wants)
 act_told nodes w counts (act.Finish n origin id) step found s is may at mounts =
     event_told n nodes 0 (on.Finish origin id) w counts step (Some (JobDone id)) found s is may at (done_is _ id)
 act_told nodes w counts (act.Arm n calls) step found s is may at mounts = quiet_told n nodes (Rests Nothing) w counts step found s is may at (quiet_parts n (counts n) (length w.net.sent) None found)

@@ -61,7 +61,7 @@ told_report r = record { opening = r.opening; moments = map told_moment r.moment
 
 abbrev pub command_of : KeptCommand → Command
 command_of kept.Raise = Raise
-command_of (kept.Put queue payload) = Put queue payload
+command_of (kept.Put work) = Put work
 command_of (kept.Done id) = JobDone id
 
 abbrev pub tried_of : Marked → TriedAt
@@ -107,7 +107,7 @@ command_by sent (act.Merge n) = Some Raise
 command_by sent (act.Ready n) = Some Raise
 command_by sent (act.Coord n) = Some Raise
 command_by sent (act.Deliver k) = command_brought (slice_get sent k)
-command_by sent (act.Submit n queue payload) = Some (Put queue payload)
+command_by sent (act.Submit n work) = Some (Put work)
 command_by sent (act.Finish n origin id) = Some (JobDone id)
 command_by sent (act.Recover n) = Some Raise
 command_by sent a = None
@@ -156,7 +156,7 @@ mounted_at n before (Some d) = Some (record { node = n; mounting = record { befo
 abbrev pub given_for : ℕ → Command → Option ℕ → List Group
 given_for n Raise None = []
 given_for n Raise (Some count) = own_group n count ∷ []
-given_for n (Put queue payload) acked = []
+given_for n (Put work) acked = []
 given_for n (JobDone id) acked = []
 
 abbrev pub given_in : Option TriedAt → List Group

@@ -17,7 +17,7 @@ pub(crate) fn event_at(act: &Act) -> Option<(NodeId, Event)>
         Act::Ready(id) => (id, Event::ReadyTimer),
         Act::Coord(id) => (id, Event::CoordTimer),
         Act::Dispatch(id) => (id, Event::DispatchTimer),
-        Act::Submit(id, queue, job) => (id, Event::Submit(*queue, *job.payload())),
+        Act::Submit(id, job) => (id, Event::Submit(*job.work())),
         Act::Finish(id, origin, job) => (id, Event::Finish(*origin, *job)),
         Act::Recover(id) => (id, Event::Recover),
         _ => return None,

@@ -98,7 +98,7 @@ fn node_named(nodes: u8, net: &Net, act: &Act) -> NodeId
         | Act::Ready(id)
         | Act::Coord(id)
         | Act::Dispatch(id)
-        | Act::Submit(id, _, _)
+        | Act::Submit(id, _)
         | Act::Finish(id, _, _)
         | Act::Arm(id, _)
         | Act::Crash(id, _)
@@ -127,7 +127,7 @@ pub(crate) fn command_by(net: &Net, act: &Act) -> Option<Command>
 {
     match act {
         Act::Merge(_) | Act::Ready(_) | Act::Coord(_) | Act::Recover(_) => Some(Command::Raise),
-        Act::Submit(_, queue, job) => Some(Command::Put(*queue, *job.payload())),
+        Act::Submit(_, job) => Some(Command::Put(*job.work())),
         Act::Finish(_, _, id) => Some(Command::Done(*id)),
         Act::Deliver(number) => command_said(net.sent().get(*number as usize)?.body()),
         _ => None,

@@ -1,7 +1,7 @@
 // What is told of a run of a cluster.
 use crate::outcome::Outcome;
 use group_task::{GroupNo, NodeId};
-use job_model::{Job, Payload, Queue};
+use job_model::{Job, Work};
 use node_core::Vector;
 use schedule::Act;
 
@@ -49,7 +49,7 @@ pub enum Command {
     /// The counter of groups rises by one.
     Raise,
     /// A job becomes pending.
-    Put(Queue, Payload),
+    Put(Work),
     /// The job of this id, which is pending, is done.
     Done(u64),
 }

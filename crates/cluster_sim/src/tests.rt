@@ -1,6 +1,6 @@
 use super::*;
 use group_task::{GroupNo, NodeId};
-use job_model::{Payload, Queue};
+use job_model::{Payload, Queue, Work};
 use node_core::Phase;
 use schedule::{Act, Fill, Submitted};
 use std::test::Fail;
@@ -39,9 +39,14 @@ fn a_job_outlives_a_crash(rt: HostRuntime) -> Result<(), Fail> {
     let zero = NodeId::new(0).ok_or("0")?;
     let queue = Queue::new(0).ok_or("queue 0")?;
     let payload = Payload::new(b"a").ok_or("a payload")?;
+    let work = Work {
+        queue,
+        priority: 3,
+        payload,
+    };
     let mut acts = Vec::new(rt.alloc());
-    let submitted = Submitted::new(rt.alloc(), payload)?;
-    acts.push(Act::Submit(zero, queue, submitted))?;
+    let submitted = Submitted::new(rt.alloc(), work)?;
+    acts.push(Act::Submit(zero, submitted))?;
     acts.push(Act::Crash(zero, Fill::new(Vec::new(rt.alloc()))))?;
     acts.push(Act::Recover(zero))?;
     let (report, _) = run(rt.alloc(), 1, 4, acts)?;
@@ -51,7 +56,7 @@ fn a_job_outlives_a_crash(rt: HostRuntime) -> Result<(), Fail> {
     assert!(rt;
         put == Marked {
             node: zero,
-            command: Command::Put(queue, payload),
+            command: Command::Put(work),
             acked: Some(0)
         }
     );

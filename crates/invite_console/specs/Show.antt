@@ -32,8 +32,8 @@ abbrev pub task_text : Assignment → List ℕ
 task_text task = codes "Ready " ++ group_text task.group ++ codes " members " ++ ids_text task.members
 
 abbrev pub work_text : Group → ℕ → ℕ → List ℕ → List ℕ
-work_text g id queue payload =
-    codes "Work " ++ group_text g ++ codes " " ++ decimal id ++ codes " " ++ decimal queue ++ codes " " ++ bytes_text payload
+work_text g id work =
+    codes "Work " ++ group_text g ++ codes " " ++ decimal id ++ codes " " ++ decimal work.queue ++ codes " " ++ bytes_text work.payload ++ priority_text work.priority
 
 -- what a message says: its name, and then its fields
 abbrev pub body_text : Body → List ℕ
@@ -45,7 +45,7 @@ body_text (Invitation g) = codes "Invitation " ++ group_text g
 body_text (Accept g) = codes "Accept " ++ group_text g
 body_text (Ready task) = task_text task
 body_text (ReadyAck g) = codes "ReadyAck " ++ group_text g
-body_text (Work g id queue payload) = work_text g id queue payload
+body_text (Work g id work) = work_text g id work
 body_text (Done id) = codes "Done " ++ decimal id
 
 abbrev pub message_text : Envelope → List ℕ

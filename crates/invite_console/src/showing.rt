@@ -9,7 +9,7 @@ use console_text::{
     Ending, Printout, Trouble, bad_line, print, push_bytes_text, push_number, push_text, read_input,
 };
 use group_task::{GroupNo, Task};
-use job_model::{Payload, Queue};
+use job_model::Work;
 use line_words::LineFault;
 use std::alloc::{AllocError, Global};
 use std::io::{Read, Write};
@@ -112,12 +112,7 @@ fn push_body(text: &mut Vec<u8>, body: &Body) -> Result<(), AllocError>
         Body::Accept(group) => push_named(text, "Accept ", *group),
         Body::Ready(task) => push_task(text, task),
         Body::ReadyAck(group) => push_named(text, "ReadyAck ", *group),
-        Body::Work {
-            group,
-            id,
-            queue,
-            payload,
-        } => push_work(text, *group, *id, *queue, payload),
+        Body::Work { group, id, work } => push_work(text, *group, *id, work),
         Body::Done(id) => {
             push_text(text, "Done ")?;
             push_number(text, *id)
@@ -148,20 +143,26 @@ fn push_task(text: &mut Vec<u8>, task: &Task) -> Result<(), AllocError>
     push_ids(text, task.members())
 }
 
-fn push_work(
-    text: &mut Vec<u8>,
-    group: GroupNo,
-    id: u64,
-    queue: Queue,
-    payload: &Payload,
-) -> Result<(), AllocError>
-    ensures { OnOk result (text.new.items ≡ text.old.items ++ work_text group id queue payload.now) }
+fn push_work(text: &mut Vec<u8>, group: GroupNo, id: u64, work: &Work) -> Result<(), AllocError>
+    ensures { OnOk result (text.new.items ≡ text.old.items ++ work_text group id work.now) }
 {
     push_named(text, "Work ", group)?;
     push_text(text, " ")?;
     push_number(text, id)?;
     push_text(text, " ")?;
-    push_number(text, u64::from(queue.number()))?;
+    push_number(text, u64::from(work.queue.number()))?;
     push_text(text, " ")?;
-    push_bytes_text(text, payload.as_slice())
+    push_bytes_text(text, work.payload.as_slice())?;
+    push_priority(text, work.priority)
+}
+
+/// A priority is left out where it is 0.
+fn push_priority(text: &mut Vec<u8>, priority: u8) -> Result<(), AllocError>
+    ensures { OnOk result (text.new.items ≡ text.old.items ++ priority_text priority) }
+{
+    if priority == 0 {
+        return Ok(());
+    }
+    push_text(text, " ")?;
+    push_number(text, u64::from(priority))
 }

@@ -168,7 +168,7 @@ recovers on.ReadyTimer is = absurd cc
 recovers on.CoordTimer is = absurd cc
 recovers on.DispatchTimer is = absurd cc
 recovers (on.Deliver m) is = absurd cc
-recovers (on.Submit queue payload) is = absurd cc
+recovers (on.Submit work) is = absurd cc
 recovers (on.Finish origin id) is = absurd cc
 recovers on.Recover is = refl
 

@@ -52,10 +52,10 @@ loss word = lost (node_of word)
 abbrev pub submitted : Option ℕ → Option (List ℕ) → Asked
 submitted None payload = ask.Bad
 submitted (Some queue) None = ask.Bad
-submitted (Some queue) (Some payload) = ask.Event (on.Submit queue payload)
+submitted (Some work.queue) (Some payload) = ask.Event (on.Submit work)
 
 abbrev pub submission : List ℕ → List ℕ → Asked
-submission queue payload = submitted (queue_of queue) (payload_of payload)
+submission work = submitted (queue_of work.queue) (payload_of payload)
 
 abbrev pub completed : Option ℕ → Option ℕ → Asked
 completed None id = ask.Bad

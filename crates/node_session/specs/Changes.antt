@@ -38,7 +38,7 @@ pair_in pairs origin id = list_any (λ pair. pair.0 == origin && pair.1 == id) p
 
 -- with its queue and its payload
 abbrev pub held_text : InHand → List ℕ
-held_text job = decimal job.origin ++ codes " " ++ decimal job.id ++ codes " " ++ decimal job.queue ++ codes " " ++ bytes_text job.payload
+held_text job = decimal job.origin ++ codes " " ++ decimal job.id ++ codes " " ++ decimal job.work.queue ++ codes " " ++ bytes_text job.work.payload
 
 abbrev pub take_line : InHand → List ℕ
 take_line job = codes "take " ++ held_text job ++ codes "\n"
@@ -86,7 +86,7 @@ gone_by (says.Invitation group) id = []
 gone_by (says.Accept group) id = []
 gone_by (says.Ready task) id = []
 gone_by (says.ReadyAck group) id = []
-gone_by (says.Work group job queue payload) id = []
+gone_by (says.Work group job work) id = []
 
 -- the answer to a command that takes a job out of the table is its id
 abbrev pub gone_at : Option Event → ℕ → List ℕ

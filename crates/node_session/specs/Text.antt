@@ -94,7 +94,7 @@ id_text (Some id) = codes " id " ++ decimal id
 
 -- the id of a submitted job, which nothing else tells
 abbrev pub answer_text : Event → Option ℕ → List ℕ
-answer_text (on.Submit queue payload) answer = id_text answer
+answer_text (on.Submit work) answer = id_text answer
 answer_text event answer = []
 
 abbrev pub closing : ℕ → Ended → List ℕ
@@ -131,7 +131,7 @@ abbrev pub state_line : NodeState → List ℕ
 state_line s = state_by (is_down s.state.phase) s
 
 abbrev pub pending_line : Job → List ℕ
-pending_line job = codes "pending " ++ decimal job.id ++ codes " " ++ decimal job.queue ++ codes " " ++ bytes_text job.payload ++ codes "\n"
+pending_line job = codes "pending " ++ decimal job.id ++ codes " " ++ decimal job.work.queue ++ codes " " ++ bytes_text job.work.payload ++ codes "\n"
 
 abbrev pub hand_line : InHand → List ℕ
 hand_line job = codes "hand " ++ held_text job ++ codes "\n"

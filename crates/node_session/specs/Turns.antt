@@ -156,7 +156,7 @@ IsTimer on.ReadyTimer = Unit {0}
 IsTimer on.CoordTimer = Unit {0}
 IsTimer on.DispatchTimer = Unit {0}
 IsTimer (on.Deliver m) = ⊥
-IsTimer (on.Submit queue payload) = ⊥
+IsTimer (on.Submit work) = ⊥
 IsTimer (on.Finish origin id) = ⊥
 IsTimer on.Recover = Unit {0}
 
