@@ -1,8 +1,12 @@
 -- The words that texts are made of.
-use Rattle.std.specs.Prelude.{ℕ, List, [], ◌∷◌, codes}
+use Rattle.std.specs.Prelude.{ℕ, ◌==◌, if◌then◌else◌, List, [], ◌∷◌, ◌++◌, codes, decimal}
 use Rattle.hex.specs.Hex.{encode_lower}
 
 -- bytes in hex digits; a dash stands for none
 abbrev pub bytes_text : List ℕ → List ℕ
 bytes_text [] = codes "-"
 bytes_text (b ∷ bytes) = encode_lower (b ∷ bytes)
+
+-- a priority behind other words, left out where it is 0
+abbrev pub priority_text : ℕ → List ℕ
+priority_text priority = if priority == 0 then [] else codes " " ++ decimal priority

@@ -2,7 +2,7 @@
 
 ghost use Rattle.std.specs.Prelude.{◌≡◌, ◌++◌, OnOk, decimal};
 ghost use Rattle.hex.specs.Hex.{encode_lower};
-ghost use Rattle.console_text.specs.Words.{bytes_text};
+ghost use Rattle.console_text.specs.Words.{bytes_text, priority_text};
 
 use itoa::Buffer;
 use std::alloc::AllocError;
@@ -49,4 +49,15 @@ pub fn push_bytes_text(text: &mut Vec<u8>, bytes: &[u8]) -> Result<(), AllocErro
         [] => push_text(text, "-"),
         _ => push_hex(text, bytes),
     }
+}
+
+/// Adds the priority of a job behind its other words: it is left out where it is 0.
+pub fn push_priority(text: &mut Vec<u8>, priority: u8) -> Result<(), AllocError>
+    ensures { OnOk result (text.new.items ≡ text.old.items ++ priority_text priority) }
+{
+    if priority == 0 {
+        return Ok(());
+    }
+    push_text(text, " ")?;
+    push_number(text, u64::from(priority))
 }

@@ -3,12 +3,13 @@ use Rattle.std.specs.Prelude.{ℕ, List, [], ◌∷◌, ◌++◌, codes, decimal
 use Rattle.std.specs.List.{flat_map}
 use Rattle.group_task.specs.Group.{Group}
 use Rattle.group_task.specs.Assignment.{Assignment}
+use Rattle.job_model.specs.declared.work.Work.{Work as JobWork}
 use Rattle.wire_msg.specs.Envelope.{Envelope}
 use Rattle.wire_msg.specs.declared.body.Body.{Body}
 use Rattle.wire_msg.specs.declared.body.Body.TheVariants.{AreYouCoordinator, Coordinator, AreYouThere, Here, Invitation, Accept, Ready, ReadyAck, Work, Done}
 use Rattle.wire_msg.specs.Contents.{messages_in, unfinished_in}
 use Rattle.console_text.specs.Ends.{Outcome, line, refused, before}
-use Rattle.console_text.specs.Words.{bytes_text}
+use Rattle.console_text.specs.Words.{bytes_text, priority_text}
 use Rattle.invite_console.specs.Lines.{over_hex_lines}
 
 abbrev pub truth_text : Bool → List ℕ
@@ -31,7 +32,7 @@ ids_text (id ∷ ids) = decimal id ++ more_ids_text ids
 abbrev pub task_text : Assignment → List ℕ
 task_text task = codes "Ready " ++ group_text task.group ++ codes " members " ++ ids_text task.members
 
-abbrev pub work_text : Group → ℕ → ℕ → List ℕ → List ℕ
+abbrev pub work_text : Group → ℕ → JobWork → List ℕ
 work_text g id work =
     codes "Work " ++ group_text g ++ codes " " ++ decimal id ++ codes " " ++ decimal work.queue ++ codes " " ++ bytes_text work.payload ++ priority_text work.priority
 

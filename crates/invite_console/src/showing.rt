@@ -6,7 +6,8 @@ use crate::batches::{PIECE, next_batch};
 use crate::lines::hex_lines;
 use crate::words::{push_group, push_ids, push_truth};
 use console_text::{
-    Ending, Printout, Trouble, bad_line, print, push_bytes_text, push_number, push_text, read_input,
+    Ending, Printout, Trouble, bad_line, print, push_bytes_text, push_number, push_priority, push_text,
+    read_input,
 };
 use group_task::{GroupNo, Task};
 use job_model::Work;
@@ -154,15 +155,4 @@ fn push_work(text: &mut Vec<u8>, group: GroupNo, id: u64, work: &Work) -> Result
     push_text(text, " ")?;
     push_bytes_text(text, work.payload.as_slice())?;
     push_priority(text, work.priority)
-}
-
-/// A priority is left out where it is 0.
-fn push_priority(text: &mut Vec<u8>, priority: u8) -> Result<(), AllocError>
-    ensures { OnOk result (text.new.items ≡ text.old.items ++ priority_text priority) }
-{
-    if priority == 0 {
-        return Ok(());
-    }
-    push_text(text, " ")?;
-    push_number(text, u64::from(priority))
 }

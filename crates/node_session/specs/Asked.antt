@@ -5,7 +5,7 @@ use Rattle.wire_msg.specs.Reading.{message_of}
 use Rattle.node_core.specs.declared.event.Event.TheVariants as on
 use Rattle.line_words.specs.Words.{number_of, words_of}
 use Rattle.line_words.specs.Lines.{bytes_of}
-use Rattle.schedule.specs.Fields.{node_of, queue_of, payload_of}
+use Rattle.schedule.specs.Fields.{node_of, queue_of, priority_of, payload_of}
 use Rattle.node_session.specs.declared.asked.Asked.{Asked}
 use Rattle.node_session.specs.declared.asked.Asked.TheVariants as ask
 
@@ -49,13 +49,15 @@ lost (Some node) = ask.Lost node
 abbrev pub loss : List ℕ → Asked
 loss word = lost (node_of word)
 
-abbrev pub submitted : Option ℕ → Option (List ℕ) → Asked
-submitted None payload = ask.Bad
-submitted (Some queue) None = ask.Bad
-submitted (Some work.queue) (Some payload) = ask.Event (on.Submit work)
+abbrev pub submitted : Option ℕ → Option (List ℕ) → Option ℕ → Asked
+submitted None payload priority = ask.Bad
+submitted (Some queue) None priority = ask.Bad
+submitted (Some queue) (Some payload) None = ask.Bad
+submitted (Some queue) (Some payload) (Some priority) = ask.Event (on.Submit (record { queue = queue; priority = priority; payload = payload }))
 
-abbrev pub submission : List ℕ → List ℕ → Asked
-submission work = submitted (queue_of work.queue) (payload_of payload)
+-- a job that is submitted with this priority, if it is one
+abbrev pub submission : List ℕ → List ℕ → Option ℕ → Asked
+submission queue payload priority = submitted (queue_of queue) (payload_of payload) priority
 
 abbrev pub completed : Option ℕ → Option ℕ → Asked
 completed None id = ask.Bad
@@ -73,15 +75,19 @@ one_field name a =
 
 abbrev pub two_fields : List ℕ → List ℕ → List ℕ → Asked
 two_fields name a b =
-    if bytes_eq name (codes "submit") then submission a b else
+    if bytes_eq name (codes "submit") then submission a b (Some 0) else
     if bytes_eq name (codes "finish") then completion a b else ask.Bad
+
+abbrev pub three_fields : List ℕ → List ℕ → List ℕ → List ℕ → Asked
+three_fields name a b c = if bytes_eq name (codes "submit") then submission a b (priority_of c) else ask.Bad
 
 abbrev pub asked_words : List (List ℕ) → Asked
 asked_words [] = ask.Bad
 asked_words (name ∷ []) = alone_asked name
 asked_words (name ∷ a ∷ []) = one_field name a
 asked_words (name ∷ a ∷ b ∷ []) = two_fields name a b
-asked_words (name ∷ a ∷ b ∷ c ∷ rest) = ask.Bad
+asked_words (name ∷ a ∷ b ∷ c ∷ []) = three_fields name a b c
+asked_words (name ∷ a ∷ b ∷ c ∷ d ∷ rest) = ask.Bad
 
 -- what a line asks for
 abbrev pub asked_of : List ℕ → Asked

@@ -1,12 +1,12 @@
 // What a line asks for.
 ghost use Rattle.std.specs.Prelude.{◌≡◌, IfOk, bytes_eq};
 ghost use Rattle.line_words.specs.Words.{words_of};
-ghost use Rattle.schedule.specs.Fields.{node_of, queue_of, payload_of};
+ghost use Rattle.schedule.specs.Fields.{node_of, queue_of, priority_of, payload_of};
 ghost use Rattle.wire_msg.specs.Reading.{message_of};
-ghost use Rattle.node_session.specs.Asked.{alone_asked, asked_of, asked_words, completion, delivered, delivery, loss, one_field, submission, ticking, timer_asked, two_fields};
+ghost use Rattle.node_session.specs.Asked.{alone_asked, asked_of, asked_words, completion, delivered, delivery, loss, one_field, submission, three_fields, ticking, timer_asked, two_fields};
 
 use group_task::NodeId;
-use job_model::{Payload, Queue};
+use job_model::{Payload, Queue, Work};
 use line_words::{bytes, cut_word, number};
 use node_core::Event;
 use std::alloc::{AllocError, Global};
@@ -53,8 +53,11 @@ fn words(alloc: Global, line: &[u8]) -> Result<Asked, AllocError>
     let Some((first, more)) = cut_word(fields) else {
         return one_field(alloc, name, fields);
     };
-    match cut_word(more) {
-        None => two_fields(alloc, name, first, more),
+    let Some((second, rest)) = cut_word(more) else {
+        return two_fields(alloc, name, first, more);
+    };
+    match cut_word(rest) {
+        None => three_fields(alloc, name, first, second, rest),
         Some(_) => Ok(Asked::Bad),
     }
 }
@@ -121,9 +124,25 @@ fn two_fields(alloc: Global, name: &[u8], first: &[u8], second: &[u8]) -> Result
     ensures { IfOk result (λ asked. asked ≡ two_fields name.now first.now second.now) }
 {
     if is(name, "submit") {
-        submission(alloc, first, second)
+        submission(alloc, first, second, Some(0))
     } else if is(name, "finish") {
         Ok(completion(first, second))
+    } else {
+        Ok(Asked::Bad)
+    }
+}
+
+fn three_fields(
+    alloc: Global,
+    name: &[u8],
+    first: &[u8],
+    second: &[u8],
+    third: &[u8],
+) -> Result<Asked, AllocError>
+    ensures { IfOk result (λ asked. asked ≡ three_fields name.now first.now second.now third.now) }
+{
+    if is(name, "submit") {
+        submission(alloc, first, second, priority_in(third))
     } else {
         Ok(Asked::Bad)
     }
@@ -165,16 +184,29 @@ fn loss(field: &[u8]) -> Asked
     }
 }
 
-fn submission(alloc: Global, queue: &[u8], payload: &[u8]) -> Result<Asked, AllocError>
-    ensures { IfOk result (λ asked. asked ≡ submission queue.now payload.now) }
+fn submission(
+    alloc: Global,
+    queue: &[u8],
+    payload: &[u8],
+    priority: Option<u8>,
+) -> Result<Asked, AllocError>
+    ensures { IfOk result (λ asked. asked ≡ submission queue.now payload.now priority) }
 {
     let Some(queue) = queue_in(queue) else {
         return Ok(Asked::Bad);
     };
-    match payload_in(alloc, payload)? {
-        Some(payload) => Ok(Asked::Event(Event::Submit(queue, payload))),
-        None => Ok(Asked::Bad),
-    }
+    let Some(payload) = payload_in(alloc, payload)? else {
+        return Ok(Asked::Bad);
+    };
+    let Some(priority) = priority else {
+        return Ok(Asked::Bad);
+    };
+    let work = Work {
+        queue,
+        priority,
+        payload,
+    };
+    Ok(Asked::Event(Event::Submit(work)))
 }
 
 fn completion(origin: &[u8], id: &[u8]) -> Asked
@@ -196,6 +228,17 @@ fn queue_in(word: &[u8]) -> Option<Queue>
     ensures { result ≡ queue_of word.now }
 {
     Queue::new(u8::try_from(number(word)?).ok()?)
+}
+
+fn priority_in(word: &[u8]) -> Option<u8>
+    ensures { result ≡ priority_of word.now }
+{
+    let number = number(word)?;
+    if 1 <= number && number <= 255 {
+        Some(number as u8)
+    } else {
+        None
+    }
 }
 
 fn payload_in(alloc: Global, word: &[u8]) -> Result<Option<Payload>, AllocError>

@@ -5,13 +5,13 @@ ghost use Rattle.job_model.specs.Table.{durable_of};
 ghost use Rattle.node_core.specs.State.{state_of};
 ghost use Rattle.durable_node.specs.Node.{Stands};
 ghost use Rattle.histories.specs.NodeState.{NodeState};
-ghost use Rattle.node_session.specs.Changes.{held_text};
+ghost use Rattle.node_session.specs.Changes.{held_text, work_text};
 ghost use Rattle.node_session.specs.Text.{asks_part, group_part, hand_line, jobs_lines, jobs_part, pending_line, sets_part, state_line, up_line};
 
 use crate::words::{phase_word, push_group, push_ids, push_truth};
-use console_text::{push_bytes_text, push_number, push_text};
+use console_text::{push_bytes_text, push_number, push_priority, push_text};
 use durable_node::DurableNode;
-use job_model::{Job, JobTable};
+use job_model::{Job, JobTable, Work};
 use node_core::{InHand, Phase, Vector};
 use sector_disk::SectorDisk;
 use std::alloc::AllocError;
@@ -64,9 +64,7 @@ fn push_kept(text: &mut Vec<u8>, job: &Job) -> Result<(), AllocError>
     push_text(text, "pending ")?;
     push_number(text, job.id)?;
     push_text(text, " ")?;
-    push_number(text, u64::from(job.queue.number()))?;
-    push_text(text, " ")?;
-    push_bytes_text(text, job.payload.as_slice())?;
+    push_work(text, &job.work)?;
     push_text(text, "\n")
 }
 
@@ -81,7 +79,7 @@ fn push_hand(text: &mut Vec<u8>, jobs: &[InHand]) -> Result<(), AllocError>
     Ok(())
 }
 
-/// Adds a job in hand: the node that keeps it, its id there, its queue and its payload.
+/// Adds a job in hand: the node that keeps it, its id there, and its work.
 pub(crate) fn push_held(text: &mut Vec<u8>, job: &InHand) -> Result<(), AllocError>
     ensures { OnOk result (text.new.items ≡ text.old.items ++ held_text job.now) }
 {
@@ -89,9 +87,16 @@ pub(crate) fn push_held(text: &mut Vec<u8>, job: &InHand) -> Result<(), AllocErr
     push_text(text, " ")?;
     push_number(text, job.id)?;
     push_text(text, " ")?;
-    push_number(text, u64::from(job.queue.number()))?;
+    push_work(text, &job.work)
+}
+
+fn push_work(text: &mut Vec<u8>, work: &Work) -> Result<(), AllocError>
+    ensures { OnOk result (text.new.items ≡ text.old.items ++ work_text work.now) }
+{
+    push_number(text, u64::from(work.queue.number()))?;
     push_text(text, " ")?;
-    push_bytes_text(text, job.payload.as_slice())
+    push_bytes_text(text, work.payload.as_slice())?;
+    push_priority(text, work.priority)
 }
 
 fn push_up(

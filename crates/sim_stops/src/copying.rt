@@ -18,9 +18,8 @@ pub fn copied(alloc: Global, act: &Act) -> Result<Act, AllocError>
         Act::Lose(number) => Ok(Act::Lose(*number)),
         Act::Cut(a, b) => Ok(Act::Cut(*a, *b)),
         Act::Mend(a, b) => Ok(Act::Mend(*a, *b)),
-        Act::Submit(id, queue, submitted) => {
-            let payload = *submitted.payload();
-            Ok(Act::Submit(*id, *queue, Submitted::new(alloc, payload)?))
+        Act::Submit(id, submitted) => {
+            Ok(Act::Submit(*id, Submitted::new(alloc, *submitted.work())?))
         }
         Act::Finish(id, origin, job) => Ok(Act::Finish(*id, *origin, *job)),
         Act::Arm(id, calls) => Ok(Act::Arm(*id, *calls)),

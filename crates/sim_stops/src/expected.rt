@@ -83,11 +83,10 @@ impl Expected {
     fn apply(&mut self, command: &Command) -> Result<(), AllocError> {
         match command {
             Command::Raise => self.count = self.count.saturating_add(1),
-            Command::Put(queue, payload) => {
+            Command::Put(work) => {
                 self.pending.push(Job {
                     id: self.next,
-                    queue: *queue,
-                    payload: *payload,
+                    work: *work,
                 })?;
                 self.next = self.next.saturating_add(1);
             }

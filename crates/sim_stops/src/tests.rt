@@ -1,7 +1,7 @@
 use super::*;
 use cluster_sim::{Command, Marked, Mounted};
 use group_task::NodeId;
-use job_model::{Job, Payload, Queue};
+use job_model::{Job, Payload, Queue, Work};
 use schedule::read_schedule;
 use std::alloc::Global;
 use std::process::Abort;
@@ -146,17 +146,18 @@ fn a_doubt_is_settled_once(rt: HostRuntime) -> Result<(), Fail> {
 fn jobs_have_to_be_found(rt: HostRuntime) -> Result<(), Fail> {
     let queue = Queue::new(1).ok_or("queue 1")?;
     let payload = Payload::new(b"a").ok_or("a payload")?;
+    let work = Work {
+        queue,
+        priority: 0,
+        payload,
+    };
     let mut expected = Expected::new(rt.alloc());
-    assert!(rt; !expected.take(&marked(Command::Put(queue, payload), Some(1)))?);
+    assert!(rt; !expected.take(&marked(Command::Put(work), Some(1)))?);
     let mut expected = Expected::new(rt.alloc());
-    assert!(rt; expected.take(&marked(Command::Put(queue, payload), Some(0)))?);
+    assert!(rt; expected.take(&marked(Command::Put(work), Some(0)))?);
     assert!(rt; !expected.find(&mounted(rt.alloc(), 1, 0, 1))?);
     let mut found = mounted(rt.alloc(), 1, 0, 1);
-    found.pending.push(Job {
-        id: 0,
-        queue,
-        payload,
-    })?;
+    found.pending.push(Job { id: 0, work })?;
     assert!(rt; expected.find(&found)?);
     assert!(rt; expected.take(&marked(Command::Done(0), Some(0)))?);
     assert!(rt; expected.find(&mounted(rt.alloc(), 2, 0, 1))?);

@@ -10,7 +10,7 @@ use Rattle.node_store.specs.Store.{StoreState, durable_of, append_refusal, compa
 use Rattle.node_store.specs.Told.{IsMountFault}
 use Rattle.node_store.specs.declared.fault.StoreFault.{StoreFault}
 use Rattle.console_text.specs.Ends.{line}
-use Rattle.console_text.specs.Words.{bytes_text}
+use Rattle.console_text.specs.Words.{bytes_text, priority_text}
 use Rattle.store_console.specs.declared.request.Request.{Request}
 use Rattle.store_console.specs.declared.request.Request.TheVariants as request
 use Rattle.store_console.specs.declared.reply.Reply.{Reply}
@@ -101,10 +101,6 @@ fault_text StoreFault.Full = codes "Full"
 fault_text StoreFault.NoSuchJob = codes "NoSuchJob"
 fault_text StoreFault.NoMemory = codes "NoMemory"
 fault_text StoreFault.TooSmall = codes "TooSmall"
-
--- a priority, which is left out where it is 0
-abbrev pub priority_text : ℕ → List ℕ
-priority_text priority = if priority == 0 then [] else codes " " ++ decimal priority
 
 abbrev pub work_text : Work → List ℕ
 work_text work = decimal work.queue ++ codes " " ++ bytes_text work.payload ++ priority_text work.priority

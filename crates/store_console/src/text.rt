@@ -3,10 +3,10 @@
 ghost use Rattle.std.specs.Prelude.{◌≡◌, ◌++◌, OnOk, flat_map};
 ghost use Rattle.job_model.specs.Table.{durable_of};
 ghost use Rattle.console_text.specs.Ends.{line};
-ghost use Rattle.store_console.specs.Replies.{fault_text, job_text, list_text, priority_text, reply_text, work_text};
+ghost use Rattle.store_console.specs.Replies.{fault_text, job_text, list_text, reply_text, work_text};
 
 use crate::reply::Reply;
-use console_text::{push_bytes_text, push_number, push_text};
+use console_text::{push_bytes_text, push_number, push_priority, push_text};
 use file_disk::FileDisk;
 use job_model::{Job, JobTable, Work};
 use node_store::{NodeStore, StoreFault};
@@ -97,15 +97,4 @@ fn push_work(text: &mut Vec<u8>, work: &Work) -> Result<(), AllocError>
     push_text(text, " ")?;
     push_bytes_text(text, work.payload.as_slice())?;
     push_priority(text, work.priority)
-}
-
-/// Adds a priority, which is left out where it is 0.
-fn push_priority(text: &mut Vec<u8>, priority: u8) -> Result<(), AllocError>
-    ensures { OnOk result (text.new.items ≡ text.old.items ++ priority_text priority) }
-{
-    if priority == 0 {
-        return Ok(());
-    }
-    push_text(text, " ")?;
-    push_number(text, u64::from(priority))
 }
