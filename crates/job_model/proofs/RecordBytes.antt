@@ -7,10 +7,9 @@ use Rattle.std.proofs.lemmas.List.{drop_at, take_at, drop-replicate, length-take
 use Rattle.sector_disk.specs.Blank.{is_blank}
 use Rattle.sector_disk.proofs.Blanks.{blank}
 use Rattle.job_model.specs.declared.job.Job.{Job}
-use Rattle.job_model.specs.declared.work.Work.{Work}
 use Rattle.job_model.specs.declared.payload.TheConstants.{PAYLOAD_CAPACITY}
 use Rattle.job_model.specs.declared.queue.TheConstants.{QUEUES}
-use Rattle.job_model.specs.Records.{id_in, length_in, number_of, job_at, job_of, old_job_of, number_bytes, payload_bytes, job_bytes, old_job_bytes}
+use Rattle.job_model.specs.Records.{id_in, length_in, number_of, job_at, job_of, old_job_of, number_bytes, job_bytes, old_job_bytes}
 
 pub number_of-number_bytes : (kind number : ℕ) → number < 2 ^ 64 → number_of (number_bytes kind number) ≡ Some number
 unfolding number_of

@@ -1,5 +1,5 @@
 -- What a request is answered, by what is mounted.
-use Rattle.std.specs.Prelude.{◌≡◌, ◌⊎◌, ℕ, ◌+◌, ◌==◌, if◌then◌else◌, List, [], ◌∷◌, ◌++◌, flat_map, Option, Some, None, IsTrue, IsFalse, Result, Ok, Err, codes, decimal}
+use Rattle.std.specs.Prelude.{◌≡◌, ◌⊎◌, ℕ, ◌==◌, if◌then◌else◌, List, [], ◌++◌, flat_map, Option, Some, None, IsTrue, IsFalse, Result, Ok, Err, codes, decimal}
 use Rattle.job_model.specs.Command.{Command, Raise, Put, Done}
 use Rattle.job_model.specs.Durable.{Durable}
 use Rattle.job_model.specs.declared.job.Job.{Job}

@@ -1,6 +1,5 @@
 -- The requests that lines spell.
 use Rattle.std.specs.Prelude.{ℕ, ◌+◌, List, [], ◌∷◌, ◌++◌, length, nat_lt, nat_le, Bool, false, bytes_eq, codes, if◌then◌else◌, Option, Some, None, option_map, Result, Ok, Err}
-use Rattle.job_model.specs.declared.work.Work.{Work}
 use Rattle.job_model.specs.declared.queue.TheConstants.{QUEUES}
 use Rattle.job_model.specs.declared.payload.TheConstants.{PAYLOAD_CAPACITY}
 use Rattle.line_words.specs.Words.{number_of, words_of}
