@@ -84,7 +84,7 @@ fn push_answer(text: &mut Vec<u8>, act: &Act, answer: Option<u64>) -> Result<(),
     ensures { OnOk result (text.new.items ≡ text.old.items ++ answer_text act.now answer) }
 {
     match (act, answer) {
-        (Act::Submit(_, _, _), Some(id)) => {
+        (Act::Submit(_, _), Some(id)) => {
             push_text(text, " id ")?;
             push_number(text, id)
         }

@@ -61,7 +61,7 @@ fn push_answer(text: &mut Vec<u8>, event: &Event, answer: Option<u64>) -> Result
     ensures { OnOk result (text.new.items ≡ text.old.items ++ answer_text event.now answer) }
 {
     match (event, answer) {
-        (Event::Submit(_, _), Some(id)) => {
+        (Event::Submit(_), Some(id)) => {
             push_text(text, " id ")?;
             push_number(text, id)
         }

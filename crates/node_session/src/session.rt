@@ -295,7 +295,7 @@ impl<D: SectorDisk + Drop> Session<D> {
     {
         match event {
             Event::Deliver(message) => self.pace.heard(message.sender()),
-            Event::Submit(_, _) | Event::Finish(_, _) => self.pace.worked(),
+            Event::Submit(_) | Event::Finish(_, _) => self.pace.worked(),
             _ => {}
         }
     }

@@ -1,6 +1,6 @@
 -- The tokens of a trace are those of its JSON value.
-use Rattle.std.proofs.Common.{◌≡◌, ◌≤◌, ◌+◌, ℕ, zero, suc, List, [], ◌∷◌, ◌++◌, length, drop, map, slice_get, Some, codes, decimal, refl, sym, ap, ◌∙◌, append_assoc, arith}
-use Rattle.std.specs.Prelude.{OnOk, Result}
+use Rattle.std.proofs.Common.{◌≡◌, ◌≤◌, ◌+◌, ℕ, Bool, true, false, List, [], ◌∷◌, ◌++◌, length, drop, map, slice_get, Some, codes, decimal, refl, sym, ap, ◌∙◌, append_assoc, arith}
+use Rattle.std.specs.Prelude.{OnOk, Result, if◌then◌else◌, ◌==◌}
 use Rattle.std.specs.declared.alloc.AllocError.{AllocError}
 use Rattle.std.proofs.lemmas.Result.{on_ok_weaker}
 use Rattle.json.specs.Written.{Written}
@@ -30,8 +30,11 @@ messages_of [] = refl
 messages_of (m ∷ ms) = ap (λ (ts : List Token). token.string (encode_lower (spelling m)) ∷ ts) (messages_of ms)
 
 priority_of : (priority : ℕ) (rest : Members) → members_tokens (members_outline (priority_members priority rest)) ≡ priority_tokens priority ++ members_tokens (members_outline rest)
-priority_of zero rest = refl
-priority_of (suc n) rest = refl
+priority_of priority rest = by_zero (priority == 0)
+  where
+    by_zero : (b : Bool) → members_tokens (members_outline (if b then rest else member (codes "priority") (number (unsigned priority)) rest)) ≡ (if b then [] else token.key (codes "priority") ∷ token.number (decimal priority) ∷ []) ++ members_tokens (members_outline rest)
+    by_zero true = refl
+    by_zero false = refl
 
 event_of : (e : Event) (rest : Members) → members_tokens (members_outline (event_members e rest)) ≡ event_tokens e ++ members_tokens (members_outline rest)
 event_of on.CheckTimer rest = refl

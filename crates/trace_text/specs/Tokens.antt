@@ -23,8 +23,12 @@ pub record Adds (old new : Written) (ts : List Token) : Type 0 where
 abbrev pub priority_tokens : ℕ → List Token
 priority_tokens priority = if priority == 0 then [] else token.key (codes "priority") ∷ token.number (decimal priority) ∷ []
 
+-- where a job stands: its priority and its queue
+abbrev pub rank_tokens : Work → List Token
+rank_tokens work = priority_tokens work.priority ++ token.key (codes "queue") ∷ token.number (decimal work.queue) ∷ []
+
 abbrev pub work_tokens : Work → List Token
-work_tokens work = token.key (codes "payload") ∷ token.string (encode_lower work.payload) ∷ (priority_tokens work.priority ++ token.key (codes "queue") ∷ token.number (decimal work.queue) ∷ [])
+work_tokens work = token.key (codes "payload") ∷ token.string (encode_lower work.payload) ∷ rank_tokens work
 
 abbrev pub event_tokens : Event → List Token
 event_tokens on.CheckTimer = []

@@ -3,10 +3,11 @@ ghost use Rattle.hex.specs.Hex.{encode_lower};
 ghost use Rattle.json.specs.Token.{begin_array, begin_object, end_array, end_object, key, string, number};
 ghost use Rattle.serde_json.specs.Written.{compact_text};
 ghost use Rattle.trace_check.specs.Traces.{claim_seen};
-ghost use Rattle.trace_text.specs.Tokens.{Adds, deed_tokens, event_tokens, priority_tokens, message_tokens, entry_tokens, history_tokens, histories_tokens, trace_tokens};
+ghost use Rattle.trace_text.specs.Tokens.{Adds, deed_tokens, event_tokens, priority_tokens, rank_tokens, work_tokens, message_tokens, entry_tokens, history_tokens, histories_tokens, trace_tokens};
 ghost use Rattle.trace_text.specs.Written.{trace_data, deed_name, event_name, fault_name};
 ghost use Rattle.wire_msg.specs.Spelling.{spelling};
 
+use job_model::Work;
 use json::Writer;
 use node_core::Event;
 use std::alloc::{AllocError, Global};
@@ -172,17 +173,27 @@ fn write_event(alloc: Global, out: &mut Writer, event: &Event) -> Result<(), All
             out.key("msg")?;
             write_message(alloc, out, message)
         }
-        Event::Submit(work) => {
-            write_bytes(alloc, out, "payload", work.payload.as_slice())?;
-            write_priority(out, work.priority)?;
-            write_number(out, "queue", u64::from(work.queue.number()))
-        }
+        Event::Submit(work) => write_work(alloc, out, work),
         Event::Finish(origin, id) => {
             write_number(out, "id", *id)?;
             write_number(out, "origin", u64::from(origin.number()))
         }
         _ => Ok(()),
     }
+}
+
+fn write_work(alloc: Global, out: &mut Writer, work: &Work) -> Result<(), AllocError>
+    ensures { OnOk result (Adds out.old out.new (work_tokens work.now)) }
+{
+    write_bytes(alloc, out, "payload", work.payload.as_slice())?;
+    write_rank(out, work)
+}
+
+fn write_rank(out: &mut Writer, work: &Work) -> Result<(), AllocError>
+    ensures { OnOk result (Adds out.old out.new (rank_tokens work.now)) }
+{
+    write_priority(out, work.priority)?;
+    write_number(out, "queue", u64::from(work.queue.number()))
 }
 
 // A priority is left out where it is 0.
