@@ -1,5 +1,6 @@
 use super::*;
-use cluster_sim::{Command, Marked, Mounted};
+use cluster_sim::{Marked, Mounted};
+use histories::Command;
 use group_task::NodeId;
 use job_model::{Job, Payload, Queue};
 use schedule::read_schedule;
