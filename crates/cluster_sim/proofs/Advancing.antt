@@ -189,10 +189,10 @@ jobs_fit old new report w r a deed n room tells p named fits node d at mounting 
     let m = moved old new w p.acted.step n node tells.stands p.acted.stands at in
     ⊎_elim
     (λ t. (let down : is_down m.s.state.phase ≡ true = mounts_down n (length w.states) m.s t.what t.possible (sym t.tells.mounted ∙ mounting) in
-        let enough = fits m.before m.at_before (ap (λ (x : State). is_down x.phase) m.stood.state ∙ down) in
-        let is = found_settled m.s t.what d (sym t.found ∙ found) in
-        let few : length d.pending ≤ old.slots = subst (λ (x : Durable). length x.pending ≤ old.slots) (sym is.1) (left_few (length old.nodes) old.slots w r tells.left n m.s m.was is.0) in
-        omega (arith, few, enough)))
+    let enough = fits m.before m.at_before (ap (λ (x : State). is_down x.phase) m.stood.state ∙ down) in
+    let is = found_settled m.s t.what d (sym t.found ∙ found) in
+    let few : length d.pending ≤ old.slots = subst (λ (x : Durable). length x.pending ≤ old.slots) (sym is.1) (left_few (length old.nodes) old.slots w r tells.left n m.s m.was is.0) in
+    omega (arith, few, enough)))
     (λ none. absurd (let bad : true ≡ false = sym mounting ∙ none.1 in cc))
     (named_step w a deed new n node m.s p (named_in old w a n tells.stands named) at m.was)
 

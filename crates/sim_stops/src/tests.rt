@@ -1,7 +1,7 @@
 use super::*;
 use cluster_sim::{Marked, Mounted};
-use histories::Command;
 use group_task::NodeId;
+use histories::Command;
 use job_model::{Job, Payload, Queue};
 use schedule::read_schedule;
 use std::alloc::Global;

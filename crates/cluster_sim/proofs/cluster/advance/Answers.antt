@@ -21,8 +21,8 @@ add-requires-clause-hand c =
     let acted = (c.in_ok-deed.ensures.acted inv.world inv.tells.stands).acted in
     hand_fits c.args.simulation.now c.perform.new.self (report_in c.args.report.now) inv.world inv.run c.args.act c.in_ok-deed.deed.outcome c.node_named-id.result c.in_ok-room.room.vector.hand.room inv.tells acted
     (λ node at. (let same : c.node.result.now ≡ node = is_some c.node.result.now node (sym c.node.ensures ∙ at) in
-        subst (λ (x : Node Memory). length x.state.hand + pending_room c.args.simulation.now.slots (is_down x.state.phase) x.kept + 1 ≤ c.in_ok-room.room.vector.hand.room) same
-        (subst (λ (k : ℕ). length c.node.result.now.state.hand + pending_room k (is_down c.node.result.now.state.phase) c.node.result.now.kept + 1 ≤ c.in_ok-room.room.vector.hand.room) c.slots.ensures.value c.in_ok-room.ensures.hand)))
+    subst (λ (x : Node Memory). length x.state.hand + pending_room c.args.simulation.now.slots (is_down x.state.phase) x.kept + 1 ≤ c.in_ok-room.room.vector.hand.room) same
+    (subst (λ (k : ℕ). length c.node.result.now.state.hand + pending_room k (is_down c.node.result.now.state.phase) c.node.result.now.kept + 1 ≤ c.in_ok-room.room.vector.hand.room) c.slots.ensures.value c.in_ok-room.ensures.hand)))
     c.node-2.result.now c.node-2.ensures
 
 pub add-requires-clause-jobs : goal.add-requires-clause-jobs
@@ -31,7 +31,7 @@ add-requires-clause-jobs c found mounted is =
     jobs_fit c.args.simulation.now c.perform.new.self (report_in c.args.report.now) inv.world inv.run c.args.act c.in_ok-deed.deed c.node_named-id.result (vec_capacity c.in_ok-room.room.pending) inv.tells
     (c.in_ok-deed.ensures.acted inv.world inv.tells.stands) (named_by c.count.result c.args.simulation.now c.net.result.now.network c.args.act c.node_named-id.result c.count.ensures.value c.net.ensures c.node_named-id.ensures.named)
     (λ node at down. (let same : node ≡ c.node.result.now = is_some node c.node.result.now (sym at ∙ c.node.ensures) in
-        subst (λ (k : ℕ). k ≤ vec_capacity c.in_ok-room.room.pending) c.slots.ensures.value (c.in_ok-room.ensures.jobs (ap (λ (x : Node Memory). is_down x.state.phase) (sym same) ∙ down))))
+    subst (λ (k : ℕ). k ≤ vec_capacity c.in_ok-room.room.pending) c.slots.ensures.value (c.in_ok-room.ensures.jobs (ap (λ (x : Node Memory). is_down x.state.phase) (sym same) ∙ down))))
     c.node-2.result.now found c.node-2.ensures mounted is
 
 pub add-requires-clause-count : goal.add-requires-clause-count
