@@ -1,15 +1,12 @@
 -- An act that is recorded: the room for it, and the report after it.
-use Rattle.std.proofs.Common.{◌≡◌, ◌≢◌, ℕ, zero, suc, ◌+◌, ◌<◌, ◌≤◌, Bool, true, false, List, [], ◌∷◌, ◌++◌, length, map, slice_get, nat_lt, refl, sym, ◌∙◌, ap, subst, arith, Option, Some, None, option_map}
-use Rattle.std.specs.Prelude.{◌&&◌, ◌==◌, slice_set, if◌then◌else◌, is_some as is_some_option}
+use Rattle.std.proofs.Common.{◌≡◌, ◌⊎◌, inl, inr, ⊎_elim, ◌≢◌, ℕ, suc, ◌+◌, ◌<◌, ◌≤◌, Bool, true, false, List, [], ◌∷◌, ◌++◌, length, map, slice_get, refl, sym, ◌∙◌, ap, subst, arith, Option, Some, None, option_map}
+use Rattle.std.specs.Prelude.{◌==◌, slice_set, if◌then◌else◌, is_some as is_some_option}
 use Rattle.std.proofs.lemmas.List.{append-nil, length-set, map-append, length-append}
 use Rattle.std.proofs.lemmas.Option.{slice_get_within}
 use Rattle.std.proofs.lemmas.Bool.Decides.{nat_tests}
-use Rattle.job_model.specs.Command.{Command}
 use Rattle.job_model.specs.Durable.{Durable}
 use Rattle.sector_disk.specs.Memory.{Memory, state_of}
-use Rattle.wire_msg.specs.Envelope.{Envelope}
-use Rattle.sim_net.specs.declared.fault.NetFault.TheVariants.{NoSuch}
-use Rattle.sim_net.specs.Network.{Network, delivery}
+use Rattle.sim_net.specs.Network.{Network}
 use Rattle.node_core.specs.State.{State, is_down}
 use Rattle.durable_node.specs.Node.{Node, Stands}
 use Rattle.histories.specs.NodeState.{NodeState, settled}
@@ -20,26 +17,28 @@ use Rattle.histories.specs.Kept.{Tried}
 use Rattle.durable_node.proofs.Nodes.{is_some}
 use Rattle.histories.proofs.Tests.{eq_nat}
 use Rattle.schedule.specs.declared.act.Act.{Act}
-use Rattle.schedule.specs.declared.act.Act.TheVariants as act
 use Rattle.cluster_sim.specs.declared.outcome.Outcome.{Outcome}
-use Rattle.cluster_sim.specs.declared.report.Marked.{Marked}
 use Rattle.runs.specs.World.{World}
-use Rattle.runs.specs.Step.{Step, Takes, Loses, Cuts, Mends, Denies, OfNet, world_after}
-use Rattle.runs.specs.Acts.{At, Brings, IsRecovery, IsStepOf, act_outcome}
+use Rattle.runs.specs.Step.{Step, Takes, Loses, Cuts, Mends, Denies, world_after}
+use Rattle.runs.specs.Acts.{IsStepOf}
 use Rattle.runs.specs.Given.{groups_at}
 use Rattle.runs.specs.Tagged.{step_marks}
-use Rattle.runs.specs.Reporting.{TriedAt, Report, commands_in, mountings_in, own_commands, node_named, moment_of, state_at, state_or_down, step_sent}
+use Rattle.runs.specs.Reporting.{TriedAt, Report, commands_in, mountings_in, own_commands, node_named, moment_of, state_at, state_or_down}
 use Rattle.runs.specs.Growth.{grown, tried_so_far, IsLeft}
-use Rattle.cluster_sim.specs.Told.{told}
-use Rattle.cluster_sim.specs.Machine.{Machine, StandsFor, Shows, Acted}
-use Rattle.cluster_sim.specs.Recorded.{AimTold, AreCounted, IsAnswered, ToldReport, Tells, GoesOn, command_brought, command_by, recovers, pending_room, tried_by, tried_at, mounted_at, mounted_now, given_in, listed, tried_of, told_moment, told_report, with_act}
+use Rattle.cluster_sim.specs.Machine.{Machine, DeedOf, Performed, StandsFor, Shows, Tells, Acted, is_mounting}
+use Rattle.cluster_sim.specs.Recorded.{AreCounted, ToldReport, Tells as Told, GoesOn, pending_room, tried_as, tried_by, tried_at, mounted_at, mounted_now, given_in, listed, told_moment, told_report, with_deed}
+use Rattle.cluster_sim.specs.declared.outcome.Deed.{Deed}
+use Rattle.histories.specs.declared.what.Command.{Command as KeptCommand}
+use Rattle.histories.specs.What.{command_of}
+use Rattle.histories.specs.Possible.{IsPossible}
+use Rattle.runs.specs.Run.{IsAllowed}
+use Rattle.runs.proofs.Shown.{taker_named}
 use Rattle.runs.proofs.Grown.{runs_grow, step_length}
 use Rattle.runs.proofs.Hands.{step_gains}
 use Rattle.runs.proofs.Keeping.{AllStates, states_keep}
-use Rattle.cluster_sim.proofs.Numbered.{step_adds}
 use Rattle.runs.proofs.Rooms.{left_few}
 use Rattle.runs.proofs.Runs.{at_place, get_set_same, get_set_other}
-use Rattle.cluster_sim.proofs.Telling.{ToldAs, Mounts, aim_at, act_told}
+use Rattle.cluster_sim.proofs.Telling.{StepTold, quiet_told, takes_told}
 
 -- ---- the hand after a step
 
@@ -104,7 +103,7 @@ moved old new w step n node stood stands at =
 pub same_count : (old new : Machine) (w : World) (a : Act) (o : Outcome) → StandsFor old w → Acted w a o new → length new.nodes ≡ length old.nodes
 same_count old new w a o stands acted = acted.stands.count ∙ step_length (length w.states) w acted.step ∙ sym stands.count
 
-pub hand_fits : (old new : Machine) (report : ToldReport) (w : World) (r : Report) (a : Act) (o : Outcome) (n limit : ℕ) → Tells (record { machine = old; report = report }) w r → Acted w a o new
+pub hand_fits : (old new : Machine) (report : ToldReport) (w : World) (r : Report) (a : Act) (o : Outcome) (n limit : ℕ) → Told (record { machine = old; report = report }) w r → Acted w a o new
     → ((node : Node Memory) → slice_get old.nodes n ≡ Some node → length node.state.hand + pending_room old.slots (is_down node.state.phase) node.kept + 1 ≤ limit)
     → (node : Node Memory) → slice_get new.nodes n ≡ Some node → length node.state.hand ≤ limit
 hand_fits old new report w r a o n limit tells acted fits node at =
@@ -130,154 +129,115 @@ found_settled s MountFailed d is = absurd (let bad = is in cc)
 found_settled s (RaiseFailed kept) d is = (kept, sym (is_some (settled kept s) d is))
 found_settled s (RaiseRefused kept) d is = (kept, sym (is_some (settled kept s) d is))
 
--- the recovery of a node of the cluster is a step of that node
-recovery_takes : (nodes : ℕ) (w : World) (a : Act) (step : Step) (b : Bool) → IsStepOf nodes w a step → (recovers nodes a && b) ≡ true → (what : What) × (step ≡ Takes (node_named nodes w.net.sent a) 0 what)
-recovery_takes nodes w (act.Check n) step b is mounting = absurd (let bad = mounting in cc)
-recovery_takes nodes w (act.Merge n) step b is mounting = absurd (let bad = mounting in cc)
-recovery_takes nodes w (act.Accept n) step b is mounting = absurd (let bad = mounting in cc)
-recovery_takes nodes w (act.Ready n) step b is mounting = absurd (let bad = mounting in cc)
-recovery_takes nodes w (act.Coord n) step b is mounting = absurd (let bad = mounting in cc)
-recovery_takes nodes w (act.Dispatch n) step b is mounting = absurd (let bad = mounting in cc)
-recovery_takes nodes w (act.Deliver k) step b is mounting = absurd (let bad = mounting in cc)
-recovery_takes nodes w (act.Lose k) step b is mounting = absurd (let bad = mounting in cc)
-recovery_takes nodes w (act.Cut x y) step b is mounting = absurd (let bad = mounting in cc)
-recovery_takes nodes w (act.Mend x y) step b is mounting = absurd (let bad = mounting in cc)
-recovery_takes nodes w (act.Submit n work) step b is mounting = absurd (let bad = mounting in cc)
-recovery_takes nodes w (act.Finish n origin id) step b is mounting = absurd (let bad = mounting in cc)
-recovery_takes nodes w (act.Arm n calls) step b is mounting = absurd (let bad = mounting in cc)
-recovery_takes nodes w (act.Crash n fill) step b is mounting = absurd (let bad = mounting in cc)
-recovery_takes nodes w (act.Compact n) step b is mounting = absurd (let bad = mounting in cc)
-recovery_takes nodes w (act.Recover n) step b is mounting = known (nat_lt n nodes) is mounting
-  where
-    known : (c : Bool) → At c n 0 IsRecovery step → (c && b) ≡ true → (what : What) × (step ≡ Takes (if c then n else 0) 0 what)
-    known true at mounting = (at.0, at.1)
-    known false at mounting = absurd (let bad = mounting in cc)
+-- a node that mounts is down
+mounts_down : (id nodes : ℕ) (s : NodeState) (what : What) → IsPossible id nodes s what → is_mounting what ≡ true → is_down s.state.phase ≡ true
+mounts_down id nodes s (Did event) may is = absurd cc
+mounts_down id nodes s (Refused event fault) may is = absurd cc
+mounts_down id nodes s (Faulted event) may is = absurd cc
+mounts_down id nodes s (Rests rest) may is = absurd cc
+mounts_down id nodes s Crashed may is = absurd cc
+mounts_down id nodes s (Recovered kept) may is = may.0
+mounts_down id nodes s MountFailed may is = absurd cc
+mounts_down id nodes s (RaiseFailed kept) may is = may.0
+mounts_down id nodes s (RaiseRefused kept) may is = may.0
 
-pub jobs_fit : (old new : Machine) (report : ToldReport) (w : World) (r : Report) (a : Act) (o : Outcome) (n : ℕ) (mounts : Bool) → Tells (record { machine = old; report = report }) w r → Acted w a o new
-    → n ≡ node_named (length old.nodes) old.net.sent a → ((node : Node Memory) → slice_get old.nodes n ≡ Some node → mounts ≡ (recovers (length old.nodes) a && is_down node.state.phase))
-    → (node : Node Memory) (d : Durable) → slice_get new.nodes n ≡ Some node → mounts ≡ true → node.found ≡ Some d → length d.pending ≤ old.slots
-jobs_fit old new report w r a o n mounts tells acted named aims node d at mounting found =
-    let m = moved old new w acted.step n node tells.stands acted.stands at in
-    let named_w : n ≡ node_named (length w.states) w.net.sent a = named ∙ (λ i. node_named (tells.stands.count i) (tells.stands.net i).sent a) in
-    let recovery : (recovers (length w.states) a && is_down m.before.state.phase) ≡ true =
-    sym (ap (λ (k : ℕ). recovers k a && is_down m.before.state.phase) tells.stands.count) ∙ sym (aims m.before m.at_before) ∙ mounting in
-    let takes = recovery_takes (length w.states) w a acted.step (is_down m.before.state.phase) acted.next.of_act recovery in
-    let step : acted.step ≡ Takes n 0 takes.0 = takes.1 ∙ ap (λ (k : ℕ). Takes k 0 takes.0) (sym named_w) in
-    let shows : Shows w (Takes n 0 takes.0) new = subst (λ (x : Step). Shows w x new) step acted.shows in
-    let is = found_settled m.s takes.0 d (sym (shows node m.s at m.was) ∙ found) in
-    subst (λ (x : Durable). length x.pending ≤ old.slots) (sym is.1) (left_few (length old.nodes) old.slots w r tells.left n m.s m.was is.0)
+-- ---- one act, at the node that it names
+
+record Taken (w : World) (step : Step) (n : ℕ) (deed : Deed) (node : Node Memory) (m : NodeState) : Type 0 where
+  number : ℕ
+  what : What
+  is : step ≡ Takes n number what
+  possible : IsPossible n (length w.states) m what
+  tells : DeedOf n (length w.states) m what deed
+  found : node.found ≡ found_at m what
+
+-- it took the step, or nothing is told
+named_step : (w : World) (a : Act) (deed : Deed) (new : Machine) (n : ℕ) (node : Node Memory) (s : NodeState) → (p : Performed w a deed new) → n ≡ node_named (length w.states) w.net.sent a → slice_get new.nodes n ≡ Some node → slice_get w.states n ≡ Some s
+    → Taken w p.acted.step n deed node s ⊎ ((deed.command ≡ None) × (deed.mounted ≡ false) × ((nodes : ℕ) (counts : ℕ → ℕ) → (step_marks nodes w counts p.acted.step ≡ []) × (groups_at nodes w p.acted.step ≡ [])))
+named_step w a deed new n node s p named at was = by_step p.acted.step p.acted.next.of_act p.acted.next.allowed p.acted.shows p.tells
+  where
+    by_step : (step : Step) → IsStepOf (length w.states) w a step → IsAllowed (length w.states) w step → Shows w step new → Tells w step deed
+        → Taken w step n deed node s ⊎ ((deed.command ≡ None) × (deed.mounted ≡ false) × ((nodes : ℕ) (counts : ℕ → ℕ) → (step_marks nodes w counts step ≡ []) × (groups_at nodes w step ≡ [])))
+    by_step (Takes m number what) of may shows tells =
+        let same : m ≡ n = sym (named ∙ taker_named (length w.states) w a m number what of) in
+        let was_m : slice_get w.states m ≡ Some s = subst (λ (k : ℕ). slice_get w.states k ≡ Some s) (sym same) was in
+        let possible : IsPossible m (length w.states) s what = subst (λ (x : NodeState). IsPossible m (length w.states) x what) (is_some may.0 s (sym may.1 ∙ was_m)) may.2 in
+        inl (record {
+          number = number;
+          what = what;
+          is = ap (λ (k : ℕ). Takes k number what) same;
+          possible = subst (λ (k : ℕ). IsPossible k (length w.states) s what) same possible;
+          tells = subst (λ (k : ℕ). DeedOf k (length w.states) s what deed) same (tells s was_m);
+          found = shows node s (subst (λ (k : ℕ). slice_get new.nodes k ≡ Some node) (sym same) at) was_m;
+        })
+    by_step (Loses k) of may shows tells = inr (tells.0, tells.1, λ nodes counts. (refl, refl))
+    by_step (Cuts x y) of may shows tells = inr (tells.0, tells.1, λ nodes counts. (refl, refl))
+    by_step (Mends x y) of may shows tells = inr (tells.0, tells.1, λ nodes counts. (refl, refl))
+    by_step (Denies why) of may shows tells = inr (tells.0, tells.1, λ nodes counts. (refl, refl))
+
+-- the node that code names
+pub named_by : (count : ℕ) (old : Machine) (net : Network) (a : Act) (n : ℕ) → count ≡ length old.nodes → net ≡ old.net → n ≡ node_named count net.sent a → n ≡ node_named (length old.nodes) old.net.sent a
+named_by count old net a n many same named = named ∙ (λ i. node_named (many i) (same i).sent a)
+
+pub named_in : (old : Machine) (w : World) (a : Act) (n : ℕ) → StandsFor old w → n ≡ node_named (length old.nodes) old.net.sent a → n ≡ node_named (length w.states) w.net.sent a
+named_in old w a n stands named = named ∙ (λ i. node_named (stands.count i) (stands.net i).sent a)
+
+pub jobs_fit : (old new : Machine) (report : ToldReport) (w : World) (r : Report) (a : Act) (deed : Deed) (n room : ℕ) → Told (record { machine = old; report = report }) w r → Performed w a deed new
+    → n ≡ node_named (length old.nodes) old.net.sent a → ((node : Node Memory) → slice_get old.nodes n ≡ Some node → is_down node.state.phase ≡ true → old.slots ≤ room)
+    → (node : Node Memory) (d : Durable) → slice_get new.nodes n ≡ Some node → deed.mounted ≡ true → node.found ≡ Some d → length d.pending ≤ room
+jobs_fit old new report w r a deed n room tells p named fits node d at mounting found =
+    let m = moved old new w p.acted.step n node tells.stands p.acted.stands at in
+    ⊎_elim
+    (λ t. (let down : is_down m.s.state.phase ≡ true = mounts_down n (length w.states) m.s t.what t.possible (sym t.tells.mounted ∙ mounting) in
+    let enough = fits m.before m.at_before (ap (λ (x : State). is_down x.phase) m.stood.state ∙ down) in
+    let is = found_settled m.s t.what d (sym t.found ∙ found) in
+    let few : length d.pending ≤ old.slots = subst (λ (x : Durable). length x.pending ≤ old.slots) (sym is.1) (left_few (length old.nodes) old.slots w r tells.left n m.s m.was is.0) in
+    omega (arith, few, enough)))
+    (λ none. absurd (let bad : true ≡ false = sym mounting ∙ none.1 in cc))
+    (named_step w a deed new n node m.s p (named_in old w a n tells.stands named) at m.was)
 
 -- ---- the report
 
-shown_mounts : (w : World) (step : Step) (new : Machine) (n : ℕ) (node : Node Memory) → Shows w step new → slice_get new.nodes n ≡ Some node → Mounts n w step node.found
-shown_mounts w (Takes m number what) new n node shows at = λ s was same. shows node s (subst (λ (k : ℕ). slice_get new.nodes k ≡ Some node) same at) was
-shown_mounts w (Loses k) new n node shows at = tt
-shown_mounts w (Cuts a b) new n node shows at = tt
-shown_mounts w (Mends a b) new n node shows at = tt
-shown_mounts w (Denies why) new n node shows at = tt
-
--- the aim that code has of an act
-pub record IsAim (old : Machine) (a : Act) (aim : AimTold) : Type 0 where
-  pub node : aim.node ≡ node_named (length old.nodes) old.net.sent a
-  pub command : aim.command ≡ command_by old.net.sent a
-  pub mounts : (node : Node Memory) → slice_get old.nodes aim.node ≡ Some node → aim.mounts ≡ (recovers (length old.nodes) a && is_down node.state.phase)
-
-aim_is : (old : Machine) (w : World) (a : Act) (aim : AimTold) (before : Node Memory) (s : NodeState) → StandsFor old w → IsAim old a aim → slice_get old.nodes aim.node ≡ Some before → Stands state_of before s
-    → aim ≡ aim_at (length w.states) w a s
-aim_is old w a aim before s stands is at stood =
-    let node : aim.node ≡ node_named (length w.states) w.net.sent a = is.node ∙ (λ i. node_named (stands.count i) (stands.net i).sent a) in
-    let command : aim.command ≡ command_by w.net.sent a = is.command ∙ (λ i. command_by (stands.net i).sent a) in
-    let mounts : aim.mounts ≡ (recovers (length w.states) a && is_down s.state.phase) = is.mounts before at ∙ (λ i. recovers (stands.count i) a && is_down (stood.state i).phase) in
-    λ i. record { node = node i; command = command i; mounts = mounts i }
-
 -- what the act adds is what is told of it
-step_is_told : (old new : Machine) (w : World) (a : Act) (o : Outcome) (aim : AimTold) (counts : ℕ → ℕ) (node : Node Memory) → StandsFor old w → (acted : Acted w a o new) → IsAim old a aim → slice_get new.nodes aim.node ≡ Some node
-    → ToldAs (act_outcome (length w.states) w a acted.step) (length w.states) w counts acted.step aim node.found
-step_is_told old new w a o aim counts node stands acted is at =
-    let m = moved old new w acted.step aim.node node stands acted.stands at in
-    let same = aim_is old w a aim m.before m.s stands is m.at_before m.stood in
-    let named : aim.node ≡ node_named (length w.states) w.net.sent a = ap (λ (x : AimTold). x.node) same in
-    let was : slice_get w.states (node_named (length w.states) w.net.sent a) ≡ Some m.s = subst (λ (k : ℕ). slice_get w.states k ≡ Some m.s) named m.was in
-    let mounts : Mounts (node_named (length w.states) w.net.sent a) w acted.step node.found =
-    subst (λ (k : ℕ). Mounts k w acted.step node.found) named (shown_mounts w acted.step new aim.node node acted.shows at) in
-    subst (λ (x : AimTold). ToldAs (act_outcome (length w.states) w a acted.step) (length w.states) w counts acted.step x node.found) (sym same)
-    (act_told (length w.states) w counts a acted.step node.found m.s acted.next.of_act acted.next.allowed was mounts)
-
--- ---- the command of an act, once the act is done
-
-at_left : {A : Type 0} (xs ys : List A) (k : ℕ) (x : A) → slice_get xs k ≡ Some x → slice_get (xs ++ ys) k ≡ Some x
-at_left [] ys k x at = absurd (let bad = at in cc)
-at_left (y ∷ xs) ys zero x at = at
-at_left (y ∷ xs) ys (suc k) x at = at_left xs ys k x at
-
--- the message of an act stays at its place, and where there is none, none is sent
-message_still : (nodes : ℕ) (w : World) (k : ℕ) (step : Step) (m : Option Envelope) → slice_get w.net.sent k ≡ m → Brings nodes k (delivery w.net k) step → slice_get (world_after nodes w step).net.sent k ≡ m
-message_still nodes w k step None none is =
-    let denied : step ≡ Denies (OfNet NoSuch) = rw none at is in
-    subst (λ (x : Step). slice_get (world_after nodes w x).net.sent k ≡ None) (sym denied) none
-message_still nodes w k step (Some m) there is = ap (λ (ms : List Envelope). slice_get ms k) (step_adds nodes w step) ∙ at_left w.net.sent (step_sent nodes w step) k m there
-
-command_still : (nodes : ℕ) (w : World) (a : Act) (step : Step) → IsStepOf nodes w a step → command_by (world_after nodes w step).net.sent a ≡ command_by w.net.sent a
-command_still nodes w (act.Check n) step is = refl
-command_still nodes w (act.Merge n) step is = refl
-command_still nodes w (act.Accept n) step is = refl
-command_still nodes w (act.Ready n) step is = refl
-command_still nodes w (act.Coord n) step is = refl
-command_still nodes w (act.Dispatch n) step is = refl
-command_still nodes w (act.Deliver k) step is = ap command_brought (message_still nodes w k step _ refl is)
-command_still nodes w (act.Lose k) step is = refl
-command_still nodes w (act.Cut x y) step is = refl
-command_still nodes w (act.Mend x y) step is = refl
-command_still nodes w (act.Submit n work) step is = refl
-command_still nodes w (act.Finish n origin id) step is = refl
-command_still nodes w (act.Arm n calls) step is = refl
-command_still nodes w (act.Crash n fill) step is = refl
-command_still nodes w (act.Recover n) step is = refl
-command_still nodes w (act.Compact n) step is = refl
-
-pub same_command : (old new : Machine) (w : World) (a : Act) (o : Outcome) → StandsFor old w → Acted w a o new → command_by new.net.sent a ≡ command_by old.net.sent a
-same_command old new w a o stands acted =
-    let said : Network → Option Command = λ net. command_by net.sent a in
-    ap said acted.stands.net ∙ (command_still (length w.states) w a acted.step acted.next.of_act ∙ sym (ap said stands.net))
-
-pub answered_by : (old new : Machine) (w : World) (a : Act) (o : Outcome) (aim : AimTold) → StandsFor old w → Acted w a o new → IsAim old a aim → aim.node < length new.nodes → IsAnswered aim.command o
-answered_by old new w a o aim stands acted is within =
-    let node = at_place new.nodes aim.node within in
-    subst (λ (x : Outcome). IsAnswered aim.command x) (sym acted.is_told) (step_is_told old new w a o aim (λ (k : ℕ). 0) node.0 stands acted is node.1).answered
+pub step_is_told : (old new : Machine) (w : World) (a : Act) (deed : Deed) (n : ℕ) (counts : ℕ → ℕ) (node : Node Memory) → StandsFor old w → (p : Performed w a deed new) → n ≡ node_named (length old.nodes) old.net.sent a → slice_get new.nodes n ≡ Some node
+    → StepTold (length w.states) w counts p.acted.step n deed node.found
+step_is_told old new w a deed n counts node stands p named at =
+    let m = moved old new w p.acted.step n node stands p.acted.stands at in
+    ⊎_elim
+    (λ t. subst (λ (x : Step). StepTold (length w.states) w counts x n deed node.found) (sym t.is) (takes_told n (length w.states) t.number w counts t.what m.s deed node.found m.was t.tells t.found))
+    (λ none. quiet_told (length w.states) w counts p.acted.step n deed node.found (none.2 (length w.states) counts).0 (none.2 (length w.states) counts).1 none.0 none.1)
+    (named_step w a deed new n node m.s p (named_in old w a n stands named) at m.was)
 
 -- the report with the act is what is told of the grown one
-report_is : (old new : Machine) (report : ToldReport) (w : World) (r : Report) (a : Act) (o : Outcome) (aim : AimTold) (node : Node Memory) (before : ℕ) → StandsFor old w → report ≡ told_report r → (acted : Acted w a o new) → IsAim old a aim
-    → slice_get new.nodes aim.node ≡ Some node → before ≡ length (own_commands aim.node report.commands)
-    → with_act (record { act = a; node = aim.node; outcome = o; state = node.state }) (tried_at aim.node (tried_by aim o node.found)) (mounted_at aim.node before (mounted_now aim.mounts node.found)) report
-    ≡ told_report (grown (length w.states) w a acted.step r)
-report_is old new report w r a o aim node before stands is_told acted is at counted =
+report_is : (old new : Machine) (report : ToldReport) (w : World) (r : Report) (a : Act) (deed : Deed) (n : ℕ) (node : Node Memory) (before : ℕ) → StandsFor old w → report ≡ told_report r → (p : Performed w a deed new)
+    → n ≡ node_named (length old.nodes) old.net.sent a → slice_get new.nodes n ≡ Some node → before ≡ length (own_commands n report.commands)
+    → with_deed n before a deed node report ≡ told_report (grown (length w.states) w a p.acted.step r)
+report_is old new report w r a deed n node before stands is_told p named at counted =
     let nodes = length w.states in
-    let step = acted.step in
-    let t = step_is_told old new w a o aim (tried_so_far r) node stands acted is at in
-    let m = moved old new w step aim.node node stands acted.stands at in
-    let named : aim.node ≡ node_named nodes w.net.sent a = ap (λ (x : AimTold). x.node) (aim_is old w a aim m.before m.s stands is m.at_before m.stood) in
-    let shown : node.state ≡ state_at (world_after nodes w step).states aim.node = m.stands.state ∙ ap state_or_down (sym m.now) in
-    let moment : record { act = a; node = aim.node; outcome = o; state = node.state } ≡ told_moment (moment_of nodes w a step) =
-    (λ i. record { act = a; node = named i; outcome = acted.is_told i; state = (shown ∙ ap (λ (k : ℕ). state_at (world_after nodes w step).states k) named) i }) in
-    let moments : report.moments ++ record { act = a; node = aim.node; outcome = o; state = node.state } ∷ [] ≡ map told_moment (r.moments ++ moment_of nodes w a step ∷ []) =
+    let step = p.acted.step in
+    let t = step_is_told old new w a deed n (tried_so_far r) node stands p named at in
+    let m = moved old new w step n node stands p.acted.stands at in
+    let named_w : n ≡ node_named nodes w.net.sent a = named_in old w a n stands named in
+    let shown : node.state ≡ state_at (world_after nodes w step).states n = m.stands.state ∙ ap state_or_down (sym m.now) in
+    let moment : record { act = a; node = n; outcome = deed.outcome; state = node.state } ≡ told_moment (moment_of nodes w a step) =
+    (λ i. record { act = a; node = named_w i; outcome = p.acted.is_told i; state = (shown ∙ ap (λ (k : ℕ). state_at (world_after nodes w step).states k) named_w) i }) in
+    let moments : report.moments ++ record { act = a; node = n; outcome = deed.outcome; state = node.state } ∷ [] ≡ map told_moment (r.moments ++ moment_of nodes w a step ∷ []) =
     (λ i. (is_told i).moments ++ moment i ∷ []) ∙ sym (map-append told_moment r.moments (moment_of nodes w a step ∷ [])) in
-    let tries : tried_at aim.node (tried_by aim o node.found) ≡ tried_at aim.node (tried_by aim (told (act_outcome nodes w a step)) node.found) = ap (λ (x : Outcome). tried_at aim.node (tried_by aim x node.found)) acted.is_told in
-    let groups : report.groups ++ given_in (tried_at aim.node (tried_by aim o node.found)) ≡ r.groups ++ groups_at nodes w step =
-    (λ i. (is_told i).groups ++ (ap given_in tries ∙ sym t.given) i) in
-    let commands : report.commands ++ listed (tried_at aim.node (tried_by aim o node.found)) ≡ r.commands ++ commands_in (step_marks nodes w (tried_so_far r) step) =
-    (λ i. (is_told i).commands ++ (ap (λ (x : Option TriedAt). listed x) tries ∙ sym t.tried) i) in
-    let so_many : before ≡ tried_so_far r aim.node = counted ∙ ap (λ (x : ToldReport). length (own_commands aim.node x.commands)) is_told in
-    let mounted : report.mounted ++ listed (mounted_at aim.node before (mounted_now aim.mounts node.found)) ≡ r.mounted ++ mountings_in (step_marks nodes w (tried_so_far r) step) =
-    (λ i. (is_told i).mounted ++ (ap (λ (k : ℕ). listed (mounted_at aim.node k (mounted_now aim.mounts node.found))) so_many ∙ sym t.mounted) i) in
+    let groups : report.groups ++ given_in (tried_at n (tried_by deed)) ≡ r.groups ++ groups_at nodes w step = (λ i. (is_told i).groups ++ sym t.given i) in
+    let commands : report.commands ++ listed (tried_at n (tried_by deed)) ≡ r.commands ++ commands_in (step_marks nodes w (tried_so_far r) step) = (λ i. (is_told i).commands ++ sym t.tried i) in
+    let so_many : before ≡ tried_so_far r n = counted ∙ ap (λ (x : ToldReport). length (own_commands n x.commands)) is_told in
+    let mounted : report.mounted ++ listed (mounted_at n before (mounted_now deed.mounted node.found)) ≡ r.mounted ++ mountings_in (step_marks nodes w (tried_so_far r) step) =
+    (λ i. (is_told i).mounted ++ (ap (λ (k : ℕ). listed (mounted_at n k (mounted_now deed.mounted node.found))) so_many ∙ sym t.mountings) i) in
     λ i. record { opening = (is_told i).opening; moments = moments i; groups = groups i; commands = commands i; mounted = mounted i }
 
-pub goes_on : (old new : Machine) (report report' : ToldReport) (w : World) (r : Report) (a : Act) (o : Outcome) (aim : AimTold) (node : Node Memory) (before : ℕ) → Tells (record { machine = old; report = report }) w r
-    → new.slots ≡ old.slots → Acted w a o new → IsAim old a aim → slice_get new.nodes aim.node ≡ Some node → before ≡ length (own_commands aim.node report.commands)
-    → report' ≡ with_act (record { act = a; node = aim.node; outcome = o; state = node.state }) (tried_at aim.node (tried_by aim o node.found)) (mounted_at aim.node before (mounted_now aim.mounts node.found)) report
-    → GoesOn w r a o (record { machine = new; report = report' })
-goes_on old new report report' w r a o aim node before tells same_slots acted is at counted recorded =
+pub goes_on : (old new : Machine) (report report' : ToldReport) (w : World) (r : Report) (a : Act) (deed : Deed) (n : ℕ) (node : Node Memory) (before : ℕ) → Told (record { machine = old; report = report }) w r
+    → new.slots ≡ old.slots → Performed w a deed new → n ≡ node_named (length old.nodes) old.net.sent a → slice_get new.nodes n ≡ Some node → before ≡ length (own_commands n report.commands)
+    → report' ≡ with_deed n before a deed node report
+    → GoesOn w r a deed.outcome (record { machine = new; report = report' })
+goes_on old new report report' w r a deed n node before tells same_slots p named at counted recorded =
     let nodes = length w.states in
-    let same : length new.nodes ≡ length old.nodes = same_count old new w a o tells.stands acted in
+    let acted = p.acted in
+    let same : length new.nodes ≡ length old.nodes = same_count old new w a deed.outcome tells.stands acted in
     let left : IsLeft nodes new.slots w r = subst (λ (k : ℕ). IsLeft k new.slots w r) tells.stands.count (subst (λ (k : ℕ). IsLeft (length old.nodes) k w r) (sym same_slots) tells.left) in
     record {
       step = acted.step;
@@ -286,7 +246,7 @@ goes_on old new report report' w r a o aim node before tells same_slots acted is
       tells = record {
         stands = acted.stands;
         left = subst (λ (k : ℕ). IsLeft k new.slots (world_after nodes w acted.step) (grown nodes w a acted.step r)) (sym (same ∙ tells.stands.count)) (runs_grow nodes new.slots w r a acted.step left acted.next);
-        is_told = recorded ∙ report_is old new report w r a o aim node before tells.stands tells.is_told acted is at counted;
+        is_told = recorded ∙ report_is old new report w r a deed n node before tells.stands tells.is_told p named at counted;
       };
     }
 
@@ -336,15 +296,20 @@ counted_more nodes n before commands counts t counted at is = record { as_many =
 pub counted_same : (nodes : ℕ) (commands : List TriedAt) (counts : List ℕ) → AreCounted nodes commands counts → AreCounted nodes (commands ++ []) counts
 counted_same nodes commands counts counted = subst (λ (ts : List TriedAt). AreCounted nodes ts counts) (sym (append-nil commands)) counted
 
-tried_node : (n : ℕ) (x : Option Tried) (t : TriedAt) → tried_at n x ≡ Some t → t.node ≡ n
-tried_node n None t is = absurd (let bad = is in cc)
-tried_node n (Some x) t is = ap (λ (y : TriedAt). y.node) (sym (is_some (record { node = n; tried = x }) t is))
+by_command : (nodes n before : ℕ) (commands : List TriedAt) (counts : List ℕ) (c : Option KeptCommand) (acked : Option ℕ) → AreCounted nodes commands counts → slice_get counts n ≡ Some before → is_some_option c ≡ true
+    → AreCounted nodes (commands ++ listed (tried_at n (tried_as (option_map command_of c) acked))) (slice_set counts n (before + 1))
+by_command nodes n before commands counts None acked counted at some = absurd (let bad = some in cc)
+by_command nodes n before commands counts (Some c) acked counted at some = counted_more nodes n before commands counts _ counted at refl
 
-pub counted_some : (nodes n before : ℕ) (commands : List TriedAt) (counts : List ℕ) (o : Option Marked) (x : Option Tried) → AreCounted nodes commands counts → slice_get counts n ≡ Some before → is_some_option o ≡ true
-    → option_map tried_of o ≡ tried_at n x → AreCounted nodes (commands ++ listed (option_map tried_of o)) (slice_set counts n (before + 1))
-counted_some nodes n before commands counts None x counted at some is = absurd (let bad = some in cc)
-counted_some nodes n before commands counts (Some m) x counted at some is = counted_more nodes n before commands counts (tried_of m) counted at (tried_node n x (tried_of m) (sym is))
+pub counted_some : (nodes n before : ℕ) (commands : List TriedAt) (counts : List ℕ) (deed : Deed) → AreCounted nodes commands counts → slice_get counts n ≡ Some before → is_some_option deed.command ≡ true
+    → AreCounted nodes (commands ++ listed (tried_at n (tried_by deed))) (slice_set counts n (before + 1))
+counted_some nodes n before commands counts deed counted at some = by_command nodes n before commands counts deed.command deed.acked counted at some
 
-pub counted_none : (nodes : ℕ) (commands : List TriedAt) (counts : List ℕ) (o : Option Marked) → AreCounted nodes commands counts → is_some_option o ≡ false → AreCounted nodes (commands ++ listed (option_map tried_of o)) counts
-counted_none nodes commands counts None counted none = counted_same nodes commands counts counted
-counted_none nodes commands counts (Some m) counted none = absurd (let bad = none in cc)
+by_none : (nodes n : ℕ) (commands : List TriedAt) (counts : List ℕ) (c : Option KeptCommand) (acked : Option ℕ) → AreCounted nodes commands counts → is_some_option c ≡ false
+    → AreCounted nodes (commands ++ listed (tried_at n (tried_as (option_map command_of c) acked))) counts
+by_none nodes n commands counts None acked counted none = counted_same nodes commands counts counted
+by_none nodes n commands counts (Some c) acked counted none = absurd (let bad = none in cc)
+
+pub counted_none : (nodes n : ℕ) (commands : List TriedAt) (counts : List ℕ) (deed : Deed) → AreCounted nodes commands counts → is_some_option deed.command ≡ false
+    → AreCounted nodes (commands ++ listed (tried_at n (tried_by deed))) counts
+counted_none nodes n commands counts deed counted none = by_none nodes n commands counts deed.command deed.acked counted none

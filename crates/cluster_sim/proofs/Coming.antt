@@ -1,5 +1,5 @@
 -- What came of a call of a node, as the cluster tells it.
-use Rattle.std.proofs.Common.{◌≡◌, ℕ, ◌+◌, ◌*◌, ◌≤◌, List, length, refl, sym, ◌∙◌, ap, subst, arith, Option, Some, None, Result, Ok}
+use Rattle.std.proofs.Common.{◌≡◌, ℕ, ◌+◌, ◌*◌, ◌≤◌, List, length, refl, sym, ◌∙◌, ap, subst, arith, Option, Some, None, Result, Ok, option_map}
 use Rattle.std.specs.Prelude.{IsSome}
 use Rattle.sector_disk.specs.Memory.{Memory, state_of}
 use Rattle.job_model.specs.Durable.{Durable}
@@ -8,7 +8,7 @@ use Rattle.sim_net.specs.Network.{Network, after_all_sent}
 use Rattle.node_core.specs.declared.event.Event.{Event}
 use Rattle.histories.specs.declared.what.Refusal.{Refusal as Reason}
 use Rattle.histories.specs.declared.what.Refusal.TheVariants as reason
-use Rattle.histories.specs.What.{reason_of}
+use Rattle.histories.specs.What.{command_of, reason_of}
 use Rattle.node_store.specs.Store.{slots_for}
 use Rattle.durable_node.specs.declared.fault.NodeFault.{NodeFault}
 use Rattle.durable_node.specs.declared.fault.NodeFault.TheVariants as node
@@ -25,7 +25,8 @@ use Rattle.cluster_sim.specs.declared.outcome.Outcome.TheVariants as outcome
 use Rattle.runs.specs.Acts.{RefusedAct, what_outcome}
 use Rattle.cluster_sim.specs.Told.{told, came_told}
 use Rattle.durable_node.specs.Stepping.{CameOf}
-use Rattle.cluster_sim.specs.Machine.{IsOfSize, IsSame, IsCounted, Comes}
+use Rattle.cluster_sim.specs.Machine.{IsOfSize, IsSame, IsCounted, CameAt as Told, is_mounting}
+use Rattle.cluster_sim.specs.declared.outcome.Deed.{Deed}
 
 -- a refusal
 refused_told : (why : Reason) (first : ℕ) (came : Came) → came_told (Some (shown (reason_of why))) first came ≡ told (RefusedAct (reason_of why))
@@ -63,22 +64,25 @@ same_by old new result has id nodes counts = record {
   size = λ slots was_size now at. let was = some_of old.disk has in (counts was.0 now was.1 at).sectors ∙ was_size was.0 was.1;
 }
 
-pub comes_by : (event : Event) (old new : Node Memory) (net net' : Network) (came : Came) (outcome : Outcome) → IsSome old.disk → Steps state_of old new event came
-    → outcome ≡ came_told (fault_of came.what) (length net.sent) came → net' ≡ after_all_sent net came.sent.items
-    → (slots : ℕ) (s : NodeState) → slots ≤ 4096 → IsOfSize slots old.disk → Stands state_of old s → Comes slots old.id old.nodes (CameOf event) s outcome new net net'
-comes_by event old new net net' came outcome has steps is_told sent slots s most size stands =
+pub comes_by : (event : Event) (old new : Node Memory) (net net' : Network) (came : Came) (deed : Deed) → IsSome old.disk → Steps state_of old new event came
+    → deed.command ≡ came.command → deed.acked ≡ came.answer → deed.mounted ≡ is_mounting came.what → deed.outcome ≡ came_told (fault_of came.what) (length net.sent) came → net' ≡ after_all_sent net came.sent.items
+    → (slots : ℕ) (s : NodeState) → slots ≤ 4096 → IsOfSize slots old.disk → Stands state_of old s → Told slots old.id old.nodes (CameOf event) s deed new net net'
+comes_by event old new net net' came deed has steps command acked mounted is_told sent slots s most size stands =
     let was = some_of old.disk has in
     let step = steps was.0 s was.1 stands (λ _. refl) in
     let does = step.0 in
     record {
-      what = came.what;
-      is = does.of;
-      possible = does.possible;
-      of_slots = subst (λ (n : ℕ). IsOfSlots n old.id old.nodes s came.what) (ap slots_for (size was.0 was.1) ∙ slots_of_size slots most) does.of_slots;
-      is_told = is_told ∙ what_told (slots_for (state_of was.0).sectors) old.id old.nodes (length net.sent) s event came new.found came.what does;
-      sent = sent ∙ ap (λ (ms : List Envelope). after_all_sent net ms) does.sent;
-      found = does.mounted;
-      stands = step.1;
+      comes = record {
+        what = came.what;
+        is = does.of;
+        possible = does.possible;
+        of_slots = subst (λ (n : ℕ). IsOfSlots n old.id old.nodes s came.what) (ap slots_for (size was.0 was.1) ∙ slots_of_size slots most) does.of_slots;
+        is_told = is_told ∙ what_told (slots_for (state_of was.0).sectors) old.id old.nodes (length net.sent) s event came new.found came.what does;
+        sent = sent ∙ ap (λ (ms : List Envelope). after_all_sent net ms) does.sent;
+        found = does.mounted;
+        stands = step.1;
+      };
+      tells = record { command = ap (option_map command_of) command ∙ does.command; acked = acked ∙ does.answer; mounted = mounted };
     }
 
 still_stands : (old new : Node Memory) (s : NodeState) → new ≡ record old { found = None } → Stands state_of old s → Stands state_of new s

@@ -1,5 +1,5 @@
 -- What a cluster makes of an act, by the kind of the act.
-use Rattle.std.proofs.Common.{◌≡◌, ℕ, Bool, true, false, List, [], length, nat_lt, refl, sym, ◌∙◌, ap, subst, Option, Some, None, Result, Ok, Err}
+use Rattle.std.proofs.Common.{◌≡◌, ℕ, Bool, true, false, List, [], length, nat_lt, refl, sym, ◌∙◌, ap, subst, Option, Some, None, option_map, Result, Ok, Err}
 use Rattle.std.specs.Prelude.{◌&&◌, IfSome, IfOk}
 use Rattle.wire_msg.specs.Envelope.{Envelope}
 use Rattle.sim_net.specs.declared.fault.NetFault.{NetFault}
@@ -23,7 +23,11 @@ use Rattle.runs.specs.Run.{IsBrought}
 use Rattle.runs.specs.Acts.{IsOf, IsRecovery, At, Brings, lost_step, if_known, IsStepOf, IsCompaction, is_compaction, if_compaction, compaction_outcome, outcome_of, act_outcome}
 use Rattle.runs.specs.Events.{event_at}
 use Rattle.durable_node.specs.Stepping.{CameOf}
-use Rattle.cluster_sim.specs.Machine.{Machine, StandsFor, CompactedAs, bare_outcome, Makes, Acted}
+use Rattle.cluster_sim.specs.Machine.{Machine, StandsFor, CompactedAs, DeedOf, Made, Performed, Tells, bare_outcome, is_mounting, Makes, Acted}
+use Rattle.cluster_sim.specs.declared.outcome.Deed.{Deed}
+use Rattle.histories.specs.NodeState.{NodeState}
+use Rattle.histories.specs.What.{command_of}
+use Rattle.durable_node.specs.Stepping.{answer_at, command_at}
 
 -- ---- what comes of an event
 
@@ -104,10 +108,11 @@ acted_by Q w a o new other is_step makes = record {
   stands = makes.stands;
 }
 
-acted_if : {E : Type 0} (Q : Step → Type 0) (w : World) (a : Act) (result : Result Outcome E) (new : Machine) → is_compaction a ≡ false → ((step : Step) → Q step → IsStepOf (length w.states) w a step) → IfOk result (λ (o : Outcome). Makes Q w o new)
-    → IfOk result (λ (o : Outcome). Acted w a o new)
-acted_if Q w a (Ok o) new other is_step makes = acted_by Q w a o new other is_step makes
-acted_if Q w a (Err e) new other is_step makes = tt
+performed_if : {E : Type 0} (Q : Step → Type 0) (w : World) (a : Act) (result : Result Deed E) (new : Machine) → is_compaction a ≡ false → ((step : Step) → Q step → IsStepOf (length w.states) w a step) → IfOk result (λ (d : Deed). Made Q w d new)
+    → IfOk result (λ (d : Deed). Performed w a d new)
+unfolding acted_by
+performed_if Q w a (Ok d) new other is_step made = record { acted = acted_by Q w a d.outcome new other is_step made.makes; tells = made.tells }
+performed_if Q w a (Err e) new other is_step made = tt
 
 -- an event is no compaction
 event_no_compaction : (a : Act) (n : ℕ) (event : Event) → event_at a ≡ Some (n, event) → is_compaction a ≡ false
@@ -128,32 +133,36 @@ event_no_compaction (act.Crash k fill) n event is = refl
 event_no_compaction (act.Recover k) n event is = refl
 event_no_compaction (act.Compact k) n event is = absurd (let bad = is in cc)
 
-pub event_acted : {E : Type 0} (w : World) (a : Act) (n : ℕ) (event : Event) (result : Result Outcome E) (new : Machine) → event_at a ≡ Some (n, event)
-    → ((number : ℕ) → IsBrought w number (brought (Some event)) → AreAddressed n (brought (Some event)) → IfOk result (λ (o : Outcome). Makes (λ step. At (nat_lt n (length w.states)) n number (CameOf event) step) w o new))
-    → IfOk result (λ (o : Outcome). Acted w a o new)
+pub event_acted : {E : Type 0} (w : World) (a : Act) (n : ℕ) (event : Event) (result : Result Deed E) (new : Machine) → event_at a ≡ Some (n, event)
+    → ((number : ℕ) → IsBrought w number (brought (Some event)) → AreAddressed n (brought (Some event)) → IfOk result (λ (d : Deed). Made (λ step. At (nat_lt n (length w.states)) n number (CameOf event) step) w d new))
+    → IfOk result (λ (d : Deed). Performed w a d new)
 event_acted w a n event result new at makes =
     let is : IsTakenAs a (n, event) = subst (λ (x : Option (ℕ × Event)). IfSome x (IsTakenAs a)) at (taken a) in
-    acted_if (λ step. At (nat_lt n (length w.states)) n 0 (CameOf event) step) w a result new (event_no_compaction a n event at) (λ step at. is.1 (length w.states) w step at)
+    performed_if (λ step. At (nat_lt n (length w.states)) n 0 (CameOf event) step) w a result new (event_no_compaction a n event at) (λ step at. is.1 (length w.states) w step at)
     (makes 0 (subst (λ (ms : List Envelope). IsBrought w 0 ms) (sym is.0) tt) (subst (λ (ms : List Envelope). AreAddressed n ms) (sym is.0) tt))
 
 -- ---- the network's acts
 
-pub delivered : {E : Type 0} (w : World) (k : ℕ) (m : Envelope) (result : Result Outcome E) (new : Machine) → delivery w.net k ≡ Ok m
+pub delivered : {E : Type 0} (w : World) (k : ℕ) (m : Envelope) (result : Result Deed E) (new : Machine) → delivery w.net k ≡ Ok m
     → (IsBrought w k (brought (Some (on.Deliver m))) → AreAddressed m.receiver (brought (Some (on.Deliver m)))
-    → IfOk result (λ (o : Outcome). Makes (λ step. At (nat_lt m.receiver (length w.states)) m.receiver k (CameOf (on.Deliver m)) step) w o new))
-    → IfOk result (λ (o : Outcome). Acted w (act.Deliver k) o new)
-delivered w k m result new comes makes = acted_if (λ step. At (nat_lt m.receiver (length w.states)) m.receiver k (CameOf (on.Deliver m)) step) w (act.Deliver k) result new refl
+    → IfOk result (λ (d : Deed). Made (λ step. At (nat_lt m.receiver (length w.states)) m.receiver k (CameOf (on.Deliver m)) step) w d new))
+    → IfOk result (λ (d : Deed). Performed w (act.Deliver k) d new)
+delivered w k m result new comes makes = performed_if (λ step. At (nat_lt m.receiver (length w.states)) m.receiver k (CameOf (on.Deliver m)) step) w (act.Deliver k) result new refl
     (λ step at. subst (λ (d : Result Envelope NetFault). Brings (length w.states) k d step) (sym comes)
     (at_more (nat_lt m.receiver (length w.states)) m.receiver k (CameOf (on.Deliver m)) (IsOf (on.Deliver m)) step (of_event (on.Deliver m) (λ e. cc)) at))
     (makes (comes, tt) (refl, tt))
 
-pub undelivered : (w : World) (k : ℕ) (fault : NetFault) (machine : Machine) → StandsFor machine w → delivery w.net k ≡ Err fault → Acted w (act.Deliver k) (outcome.Refused (refusal.Net fault)) machine
+pub undelivered : (w : World) (k : ℕ) (fault : NetFault) (machine : Machine) → StandsFor machine w → delivery w.net k ≡ Err fault
+    → Performed w (act.Deliver k) (record { outcome = outcome.Refused (refusal.Net fault); command = None; acked = None; mounted = false }) machine
 undelivered w k fault machine stands is = record {
-  step = Denies (OfNet fault);
-  next = record { of_act = subst (λ (d : Result Envelope NetFault). Brings (length w.states) k d (Denies (OfNet fault))) (sym is) refl; allowed = tt; of_slots = tt };
-  is_told = refl;
-  shows = tt;
-  stands = stands;
+  acted = record {
+    step = Denies (OfNet fault);
+    next = record { of_act = subst (λ (d : Result Envelope NetFault). Brings (length w.states) k d (Denies (OfNet fault))) (sym is) refl; allowed = tt; of_slots = tt };
+    is_told = refl;
+    shows = tt;
+    stands = stands;
+  };
+  tells = (refl, refl);
 }
 
 -- the nodes stay, and the network is another
@@ -360,3 +369,59 @@ compacts_quietly w n o (Recovered kept) is = absurd is
 compacts_quietly w n o MountFailed is = absurd is
 compacts_quietly w n o (RaiseFailed kept) is = absurd is
 compacts_quietly w n o (RaiseRefused kept) is = absurd is
+
+-- ---- an act that brings no event tells nothing of a disk
+
+abbrev IsBare : Deed → Type 0
+IsBare d = (d.command ≡ None) × (d.acked ≡ None) × (d.mounted ≡ false)
+
+rest_bare : (id nodes : ℕ) (s : NodeState) (what : What) (d : Deed) → IsCompaction what → IsBare d → DeedOf id nodes s what d
+rest_bare id nodes s (Did e) d is plain = absurd is
+rest_bare id nodes s (Refused e why) d is plain = absurd is
+rest_bare id nodes s (Faulted e) d is plain = absurd is
+rest_bare id nodes s (Rests rest) d is plain = record { command = ap (option_map command_of) plain.0; acked = plain.1; mounted = plain.2 }
+rest_bare id nodes s Crashed d is plain = record { command = ap (option_map command_of) plain.0; acked = plain.1; mounted = plain.2 }
+rest_bare id nodes s (Recovered kept) d is plain = absurd is
+rest_bare id nodes s MountFailed d is plain = absurd is
+rest_bare id nodes s (RaiseFailed kept) d is plain = absurd is
+rest_bare id nodes s (RaiseRefused kept) d is plain = absurd is
+
+none_bare : (id nodes : ℕ) (s : NodeState) (what none : What) (d : Deed) → what ≡ none → DeedOf id nodes s none d → DeedOf id nodes s what d
+none_bare id nodes s what none d is deed = subst (λ (x : What). DeedOf id nodes s x d) (sym is) deed
+
+quiet_tells : (b : Bool) (n : ℕ) (P : What → Type 0) (w : World) (step : Step) (d : Deed) → ((what : What) (s : NodeState) → P what → DeedOf n (length w.states) s what d) → IsBare d → At b n 0 P step → Tells w step d
+quiet_tells true n P w step d tells plain at = subst (λ (x : Step). Tells w x d) (sym at.1) (λ s _. tells at.0 s at.2)
+quiet_tells false n P w step d tells plain at = subst (λ (x : Step). Tells w x d) (sym at) (plain.0, plain.2)
+
+known_tells : (b : Bool) (w : World) (step known : Step) (d : Deed) → step ≡ if_known b known → Tells w known d → IsBare d → Tells w step d
+known_tells true w step known d is tells plain = subst (λ (x : Step). Tells w x d) (sym is) tells
+known_tells false w step known d is tells plain = subst (λ (x : Step). Tells w x d) (sym is) (plain.0, plain.2)
+
+lost_tells : (k : ℕ) (r : Result Envelope NetFault) (w : World) (step : Step) (d : Deed) → step ≡ lost_step k r → IsBare d → Tells w step d
+lost_tells k (Ok m) w step d is plain = subst (λ (x : Step). Tells w x d) (sym is) (plain.0, plain.2)
+lost_tells k (Err why) w step d is plain = subst (λ (x : Step). Tells w x d) (sym is) (plain.0, plain.2)
+
+bare_of : (id nodes : ℕ) (s : NodeState) (none what : What) (d : Deed) → IsBare d → command_at id nodes s none ≡ None → answer_at id nodes s none ≡ None → is_mounting none ≡ false → what ≡ none → DeedOf id nodes s what d
+bare_of id nodes s none what d plain command acked mounted is =
+    none_bare id nodes s what none d is (record { command = ap (option_map command_of) plain.0 ∙ sym command; acked = plain.1 ∙ sym acked; mounted = plain.2 ∙ sym mounted })
+
+pub bare_tells : (w : World) (a : Act) (step : Step) (d : Deed) → event_at a ≡ None → ((k : ℕ) → a ≡ act.Deliver k → ⊥) → IsStepOf (length w.states) w a step → IsBare d → Tells w step d
+bare_tells w (act.Check n) step d none deliver is plain = absurd (let bad = none in cc)
+bare_tells w (act.Merge n) step d none deliver is plain = absurd (let bad = none in cc)
+bare_tells w (act.Accept n) step d none deliver is plain = absurd (let bad = none in cc)
+bare_tells w (act.Ready n) step d none deliver is plain = absurd (let bad = none in cc)
+bare_tells w (act.Coord n) step d none deliver is plain = absurd (let bad = none in cc)
+bare_tells w (act.Dispatch n) step d none deliver is plain = absurd (let bad = none in cc)
+bare_tells w (act.Deliver k) step d none deliver is plain = absurd (deliver k refl)
+bare_tells w (act.Lose k) step d none deliver is plain = lost_tells k (found w.net k) w step d is plain
+bare_tells w (act.Cut a b) step d none deliver is plain = known_tells (nat_lt a (length w.states) && nat_lt b (length w.states)) w step (Cuts a b) d is (plain.0, plain.2) plain
+bare_tells w (act.Mend a b) step d none deliver is plain = known_tells (nat_lt a (length w.states) && nat_lt b (length w.states)) w step (Mends a b) d is (plain.0, plain.2) plain
+bare_tells w (act.Submit n work) step d none deliver is plain = absurd (let bad = none in cc)
+bare_tells w (act.Finish n origin id) step d none deliver is plain = absurd (let bad = none in cc)
+bare_tells w (act.Arm n calls) step d none deliver is plain =
+    quiet_tells (nat_lt n (length w.states)) n (λ (what : What). what ≡ Rests Nothing) w step d (λ what s same. bare_of n (length w.states) s (Rests Nothing) what d plain refl refl refl same) plain is
+bare_tells w (act.Crash n fill) step d none deliver is plain =
+    quiet_tells (nat_lt n (length w.states)) n (λ (what : What). what ≡ Crashed) w step d (λ what s same. bare_of n (length w.states) s Crashed what d plain refl refl refl same) plain is
+bare_tells w (act.Recover n) step d none deliver is plain = absurd (let bad = none in cc)
+bare_tells w (act.Compact n) step d none deliver is plain =
+    quiet_tells (nat_lt n (length w.states)) n IsCompaction w step d (λ what s of. rest_bare n (length w.states) s what d of plain) plain is

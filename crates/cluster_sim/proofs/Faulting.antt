@@ -11,6 +11,7 @@ use Rattle.durable_node.specs.Node.{Node}
 use Rattle.durable_node.proofs.Nodes.{is_some}
 use Rattle.schedule.specs.declared.act.Act.{Act}
 use Rattle.schedule.specs.declared.act.Act.TheVariants as act
+use Rattle.cluster_sim.specs.declared.outcome.Deed.{Deed}
 use Rattle.cluster_sim.specs.declared.outcome.Outcome.{Outcome}
 use Rattle.cluster_sim.specs.declared.outcome.Outcome.TheVariants as outcome
 use Rattle.runs.specs.Events.{event_at}
@@ -47,10 +48,10 @@ faults_here slots n nodes old new net net' o now view at counted =
       elsewhere = λ k other. get_set_other nodes k n new other;
     }))
 
-pub faults_if : {E : Type 0} (slots n : ℕ) (nodes : List (Node Memory)) (old new : Node Memory) (net net' : Network) (result : Result Outcome E) (now : Machine) → record { slots = slots; nodes = nodes; net = net } ≡ now
-    → slice_get nodes n ≡ Some old → IfOk result (IsCounted old.disk new.disk)
-    → IfOk result (FaultsAt (node_or_first (length now.nodes) n) now (record { slots = slots; nodes = slice_set nodes n new; net = net' }))
-faults_if slots n nodes old new net net' (Ok o) now view at counted = faults_here slots n nodes old new net net' o now view at counted
+pub faults_if : {E : Type 0} (slots n : ℕ) (nodes : List (Node Memory)) (old new : Node Memory) (net net' : Network) (result : Result Deed E) (now : Machine) → record { slots = slots; nodes = nodes; net = net } ≡ now
+    → slice_get nodes n ≡ Some old → IfOk result (λ (d : Deed). IsCounted old.disk new.disk d.outcome)
+    → IfOk result (λ (d : Deed). FaultsAt (node_or_first (length now.nodes) n) now (record { slots = slots; nodes = slice_set nodes n new; net = net' }) d.outcome)
+faults_if slots n nodes old new net net' (Ok d) now view at counted = faults_here slots n nodes old new net net' d.outcome now view at counted
 faults_if slots n nodes old new net net' (Err e) now view at counted = tt
 
 -- ---- the node that an act names
@@ -73,8 +74,8 @@ named_by_event (act.Crash k fill) n event nodes sent is = absurd (let bad = is i
 named_by_event (act.Recover k) n event nodes sent is = ap (λ (p : ℕ × Event). node_or_first nodes p.0) (is_some _ _ is)
 named_by_event (act.Compact k) n event nodes sent is = absurd (let bad = is in cc)
 
-pub faults_received : {E : Type 0} (nodes : ℕ) (sent : List Envelope) (k receiver : ℕ) (m : Envelope) (old new : Machine) (result : Result Outcome E) → slice_get sent k ≡ Some m → receiver ≡ m.receiver
-    → IfOk result (FaultsAt (node_or_first nodes receiver) old new) → IfOk result (FaultsAt (receiver_or_first nodes (slice_get sent k)) old new)
+pub faults_received : {E : Type 0} (nodes : ℕ) (sent : List Envelope) (k receiver : ℕ) (m : Envelope) (old new : Machine) (result : Result Deed E) → slice_get sent k ≡ Some m → receiver ≡ m.receiver
+    → IfOk result (λ (d : Deed). FaultsAt (node_or_first nodes receiver) old new d.outcome) → IfOk result (λ (d : Deed). FaultsAt (receiver_or_first nodes (slice_get sent k)) old new d.outcome)
 faults_received nodes sent k receiver m old new result there is faults =
-    subst (λ (x : Option Envelope). IfOk result (FaultsAt (receiver_or_first nodes x) old new)) (sym there)
-    (subst (λ (r : ℕ). IfOk result (FaultsAt (node_or_first nodes r) old new)) is faults)
+    subst (λ (x : Option Envelope). IfOk result (λ (d : Deed). FaultsAt (receiver_or_first nodes x) old new d.outcome)) (sym there)
+    (subst (λ (r : ℕ). IfOk result (λ (d : Deed). FaultsAt (node_or_first nodes r) old new d.outcome)) is faults)

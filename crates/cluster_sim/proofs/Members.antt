@@ -1,5 +1,5 @@
 -- A cluster of which one node took a step, or the network alone, or nothing.
-use Rattle.std.proofs.Common.{◌≡◌, ◌≢◌, ℕ, ◌<◌, ◌≤◌, Bool, true, false, List, length, slice_get, get_or, nat_lt, refl, sym, ◌∙◌, ap, subst, arith, Option, Some, Result, Ok, Err}
+use Rattle.std.proofs.Common.{◌≡◌, ◌≢◌, ℕ, ◌<◌, ◌≤◌, Bool, true, false, List, length, slice_get, get_or, nat_lt, refl, sym, ◌∙◌, ap, subst, arith, Option, Some, None, Result, Ok, Err}
 use Rattle.std.specs.Prelude.{◌==◌, slice_set, IfOk, OnErr}
 use Rattle.std.proofs.lemmas.List.{length-set}
 use Rattle.std.proofs.lemmas.Option.{slice_get_within, slice_get_read}
@@ -19,7 +19,8 @@ use Rattle.runs.specs.Step.{Step, Takes, Denies, Stranger, state_after, sent_aft
 use Rattle.runs.specs.Run.{IsBrought}
 use Rattle.runs.specs.Acts.{At, IsOfSlotsAt, what_outcome, node_outcome}
 use Rattle.cluster_sim.specs.Told.{told}
-use Rattle.cluster_sim.specs.Machine.{Machine, IsMember, IsCluster, StandsFor, IsSame, Comes, Makes}
+use Rattle.cluster_sim.specs.Machine.{Machine, IsMember, IsCluster, StandsFor, IsSame, CameAt, Comes, DeedOf, Made, Makes}
+use Rattle.cluster_sim.specs.declared.outcome.Deed.{Deed}
 use Rattle.runs.proofs.Runs.{at_place, get_set_same, get_set_other}
 use Rattle.histories.proofs.Tests.{eq_nat}
 use Rattle.std.proofs.lemmas.Bool.Decides.{nat_tests}
@@ -76,6 +77,30 @@ moves slots n nodes old new net net' net'' w s s' at stands was is same_net = re
 pub true_within : (n count : ℕ) → n < count → nat_lt n count ≡ true
 true_within n count within = grind (arith, nat_tests)
 
+takes_at : (slots n number : ℕ) (P : What → Type 0) (nodes : List (Node Memory)) (old new : Node Memory) (net net' : Network) (outcome : Outcome) (w : World) (was : NodeState) → slice_get nodes n ≡ Some old
+    → StandsFor (record { slots = slots; nodes = nodes; net = net }) w
+    → ((what : What) → P what → IsBrought w number (brought (event_of what)) × AreAddressed n (brought (event_of what)))
+    → slice_get w.states n ≡ Some was → Comes slots n (length w.states) P was outcome new net net'
+    → Makes (λ step. At (nat_lt n (length w.states)) n number P step) w outcome (record { slots = slots; nodes = slice_set nodes n new; net = net' })
+takes_at slots n number P nodes old new net net' outcome w was at stands brings was_at came =
+    let within : n < length w.states = subst (λ (k : ℕ). n < k) stands.count (slice_get_within nodes n old at) in
+    let count = length w.states in
+    record {
+      step = Takes n number came.what;
+      is = subst (λ (b : Bool). At b n number P (Takes n number came.what)) (sym (true_within n count within)) (came.what, refl, came.is);
+      allowed = (was, was_at, came.possible, (brings came.what came.is).0, (brings came.what came.is).1);
+      of_slots = subst (λ (o : Option NodeState). IsOfSlotsAt slots n count o came.what) (sym was_at) came.of_slots;
+      is_told = came.is_told ∙ ap (λ (first : Network). told (what_outcome n count (length first.sent) was came.what)) stands.net
+          ∙ ap (λ (o : Option NodeState). told (node_outcome n count (length w.net.sent) o came.what)) (sym was_at);
+      shows = λ node s at_n was_n. ap (λ (x : Node Memory). x.found) (sym (is_some new node (sym (get_set_same nodes n old new at) ∙ at_n))) ∙ came.found
+          ∙ ap (λ (x : NodeState). found_at x came.what) (is_some was s (sym was_at ∙ was_n));
+      stands = subst (λ (o : Option NodeState). StandsFor (record { slots = slots; nodes = slice_set nodes n new; net = net' }) (record {
+        states = state_after n count o came.what w.states;
+        net = after_all_sent w.net (sent_after n count o came.what);
+      })) (sym was_at) (moves slots n nodes old new net net' _ w was (after n count was came.what) at stands was_at came.stands
+          (came.sent ∙ ap (λ (before : Network). after_all_sent before (sent_after n count (Some was) came.what)) stands.net));
+    }
+
 pub takes : (slots n number : ℕ) (P : What → Type 0) (nodes : List (Node Memory)) (old new : Node Memory) (net net' : Network) (outcome : Outcome) (w : World) → IsCluster slots nodes → slice_get nodes n ≡ Some old
     → StandsFor (record { slots = slots; nodes = nodes; net = net }) w
     → ((what : What) → P what → IsBrought w number (brought (event_of what)) × AreAddressed n (brought (event_of what)))
@@ -83,34 +108,34 @@ pub takes : (slots n number : ℕ) (P : What → Type 0) (nodes : List (Node Mem
     → Makes (λ step. At (nat_lt n (length w.states)) n number P step) w outcome (record { slots = slots; nodes = slice_set nodes n new; net = net' })
 takes slots n number P nodes old new net net' outcome w cluster at stands brings comes =
     let member = cluster.members n old at in
-    let within : n < length w.states = subst (λ (k : ℕ). n < k) stands.count (slice_get_within nodes n old at) in
-    let was = at_place w.states n within in
-    let came : Comes slots n (length w.states) P was.0 outcome new net net' =
-    subst (λ (k : ℕ). Comes slots n k P was.0 outcome new net net') (member.nodes_is ∙ stands.count)
-    (subst (λ (k : ℕ). Comes slots k old.nodes P was.0 outcome new net net') member.id_is (comes was.0 (stands.each n old was.0 at was.1))) in
-    let count = length w.states in
+    let was = at_place w.states n (subst (λ (k : ℕ). n < k) stands.count (slice_get_within nodes n old at)) in
+    takes_at slots n number P nodes old new net net' outcome w was.0 at stands brings was.1
+    (subst (λ (k : ℕ). Comes slots n k P was.0 outcome new net net') (member.nodes_is ∙ stands.count)
+    (subst (λ (k : ℕ). Comes slots k old.nodes P was.0 outcome new net net') member.id_is (comes was.0 (stands.each n old was.0 at was.1))))
+
+makes_deed : (slots n number : ℕ) (P : What → Type 0) (nodes : List (Node Memory)) (old new : Node Memory) (net net' : Network) (deed : Deed) (w : World) → IsCluster slots nodes → slice_get nodes n ≡ Some old
+    → StandsFor (record { slots = slots; nodes = nodes; net = net }) w
+    → ((what : What) → P what → IsBrought w number (brought (event_of what)) × AreAddressed n (brought (event_of what)))
+    → ((s : NodeState) → Stands state_of old s → CameAt slots old.id old.nodes P s deed new net net')
+    → Made (λ step. At (nat_lt n (length w.states)) n number P step) w deed (record { slots = slots; nodes = slice_set nodes n new; net = net' })
+unfolding takes_at
+makes_deed slots n number P nodes old new net net' deed w cluster at stands brings comes =
+    let member = cluster.members n old at in
+    let was = at_place w.states n (subst (λ (k : ℕ). n < k) stands.count (slice_get_within nodes n old at)) in
+    let came : CameAt slots n (length w.states) P was.0 deed new net net' =
+    subst (λ (k : ℕ). CameAt slots n k P was.0 deed new net net') (member.nodes_is ∙ stands.count)
+    (subst (λ (k : ℕ). CameAt slots k old.nodes P was.0 deed new net net') member.id_is (comes was.0 (stands.each n old was.0 at was.1))) in
     record {
-      step = Takes n number came.what;
-      is = subst (λ (b : Bool). At b n number P (Takes n number came.what)) (sym (true_within n count within)) (came.what, refl, came.is);
-      allowed = (was.0, was.1, came.possible, (brings came.what came.is).0, (brings came.what came.is).1);
-      of_slots = subst (λ (o : Option NodeState). IsOfSlotsAt slots n count o came.what) (sym was.1) came.of_slots;
-      is_told = came.is_told ∙ ap (λ (first : Network). told (what_outcome n count (length first.sent) was.0 came.what)) stands.net
-          ∙ ap (λ (o : Option NodeState). told (node_outcome n count (length w.net.sent) o came.what)) (sym was.1);
-      shows = λ node s at_n was_n. ap (λ (x : Node Memory). x.found) (sym (is_some new node (sym (get_set_same nodes n old new at) ∙ at_n))) ∙ came.found
-          ∙ ap (λ (x : NodeState). found_at x came.what) (is_some was.0 s (sym was.1 ∙ was_n));
-      stands = subst (λ (o : Option NodeState). StandsFor (record { slots = slots; nodes = slice_set nodes n new; net = net' }) (record {
-        states = state_after n count o came.what w.states;
-        net = after_all_sent w.net (sent_after n count o came.what);
-      })) (sym was.1) (moves slots n nodes old new net net' _ w was.0 (after n count was.0 came.what) at stands was.1 came.stands
-          (came.sent ∙ ap (λ (before : Network). after_all_sent before (sent_after n count (Some was.0) came.what)) stands.net));
+      makes = takes_at slots n number P nodes old new net net' deed.outcome w was.0 at stands brings was.1 came.comes;
+      tells = λ s at_s. subst (λ (x : NodeState). DeedOf n (length w.states) x came.comes.what deed) (is_some was.0 s (sym was.1 ∙ at_s)) came.tells;
     }
 
-pub takes_if : {E : Type 0} (slots n number : ℕ) (P : What → Type 0) (nodes : List (Node Memory)) (old new : Node Memory) (net net' : Network) (result : Result Outcome E) (w : World) → IsCluster slots nodes
+pub takes_if : {E : Type 0} (slots n number : ℕ) (P : What → Type 0) (nodes : List (Node Memory)) (old new : Node Memory) (net net' : Network) (result : Result Deed E) (w : World) → IsCluster slots nodes
     → slice_get nodes n ≡ Some old → StandsFor (record { slots = slots; nodes = nodes; net = net }) w
     → ((what : What) → P what → IsBrought w number (brought (event_of what)) × AreAddressed n (brought (event_of what)))
-    → ((s : NodeState) → Stands state_of old s → IfOk result (λ (o : Outcome). Comes slots old.id old.nodes P s o new net net'))
-    → IfOk result (λ (o : Outcome). Makes (λ step. At (nat_lt n (length w.states)) n number P step) w o (record { slots = slots; nodes = slice_set nodes n new; net = net' }))
-takes_if slots n number P nodes old new net net' (Ok o) w cluster at stands brings comes = takes slots n number P nodes old new net net' o w cluster at stands brings comes
+    → ((s : NodeState) → Stands state_of old s → IfOk result (λ (d : Deed). CameAt slots old.id old.nodes P s d new net net'))
+    → IfOk result (λ (d : Deed). Made (λ step. At (nat_lt n (length w.states)) n number P step) w d (record { slots = slots; nodes = slice_set nodes n new; net = net' }))
+takes_if slots n number P nodes old new net net' (Ok d) w cluster at stands brings comes = makes_deed slots n number P nodes old new net net' d w cluster at stands brings comes
 takes_if slots n number P nodes old new net net' (Err e) w cluster at stands brings comes = tt
 
 -- ---- a node that gave nothing, and a node outside the cluster
@@ -132,7 +157,7 @@ is_stranger n count beyond = grind (arith, nat_tests)
 pub denies : (Q : Step → Type 0) (machine : Machine) (w : World) → StandsFor machine w → Q (Denies Stranger) → Makes Q w (outcome.Refused refusal.Stranger) machine
 denies Q machine w stands is = record { step = Denies Stranger; is = is; allowed = tt; of_slots = tt; is_told = refl; shows = tt; stands = stands }
 
-pub rests_if : {E : Type 0} (slots n : ℕ) (nodes : List (Node Memory)) (old new : Node Memory) (net net' : Network) (result : Result Outcome E) (w : World) → slice_get nodes n ≡ Some old
+pub rests_if : {E : Type 0} (slots n : ℕ) (nodes : List (Node Memory)) (old new : Node Memory) (net net' : Network) (result : Result Deed E) (w : World) → slice_get nodes n ≡ Some old
     → StandsFor (record { slots = slots; nodes = nodes; net = net }) w → OnErr result ((s : NodeState) → Stands state_of old s → Stands state_of new s) → OnErr result (net' ≡ net)
     → OnErr result (StandsFor (record { slots = slots; nodes = slice_set nodes n new; net = net' }) w)
 rests_if slots n nodes old new net net' (Ok o) w at stands keeps same = tt
@@ -146,3 +171,8 @@ pub denied_at : (w : World) (id number : ℕ) (P : What → Type 0) (machine : M
     → Makes (λ step. At (nat_lt id (length w.states)) id number P step) w (outcome.Refused refusal.Stranger) machine
 denied_at w id number P machine stands beyond = denies (λ step. At (nat_lt id (length w.states)) id number P step) machine w stands
     (subst (λ (b : Bool). At b id number P (Denies Stranger)) (sym (is_stranger id (length w.states) (subst (λ (k : ℕ). k ≤ id) stands.count beyond))) refl)
+
+pub denied_deed : (w : World) (id number : ℕ) (P : What → Type 0) (machine : Machine) → StandsFor machine w → length machine.nodes ≤ id
+    → Made (λ step. At (nat_lt id (length w.states)) id number P step) w (record { outcome = outcome.Refused refusal.Stranger; command = None; acked = None; mounted = false }) machine
+unfolding denies denied_at
+denied_deed w id number P machine stands beyond = record { makes = denied_at w id number P machine stands beyond; tells = (refl, refl) }

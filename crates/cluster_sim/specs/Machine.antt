@@ -1,5 +1,5 @@
 -- What contracts see of a cluster, and what it stands for.
-use Rattle.std.specs.Prelude.{ℕ, ◌≡◌, ◌≢◌, ◌+◌, ◌*◌, ◌≤◌, List, length, slice_get, Option, Some, None}
+use Rattle.std.specs.Prelude.{ℕ, ◌≡◌, ◌≢◌, ◌+◌, ◌*◌, ◌≤◌, Bool, true, false, List, length, slice_get, Option, Some, None, option_map}
 use Rattle.group_task.specs.declared.node.TheConstants.{NODES}
 use Rattle.sector_disk.specs.Disk.{Counts}
 use Rattle.sector_disk.specs.Memory.{Memory, state_of}
@@ -7,12 +7,15 @@ use Rattle.sim_net.specs.Network.{Network, after_all_sent}
 use Rattle.durable_node.specs.Node.{Node, Stands}
 use Rattle.histories.specs.NodeState.{NodeState, opening}
 use Rattle.histories.specs.declared.what.What.{What}
-use Rattle.histories.specs.declared.what.What.TheVariants.{Rests, Crashed}
+use Rattle.histories.specs.declared.what.What.TheVariants.{Did, Refused, Faulted, Rests, Crashed, Recovered, MountFailed, RaiseFailed, RaiseRefused}
 use Rattle.histories.specs.declared.what.Rest.{Rest}
 use Rattle.histories.specs.declared.what.Rest.TheVariants.{Nothing, Compacted, CompactDown, CompactWorn}
 use Rattle.histories.specs.After.{after, sent_at, found_at}
 use Rattle.histories.specs.Possible.{IsPossible, IsOfSlots}
 use Rattle.schedule.specs.declared.act.Act.{Act}
+use Rattle.cluster_sim.specs.declared.outcome.Deed.{Deed}
+use Rattle.durable_node.specs.Stepping.{answer_at, command_at}
+use Rattle.histories.specs.What.{command_of}
 use Rattle.cluster_sim.specs.declared.outcome.Outcome.{Outcome}
 use Rattle.cluster_sim.specs.declared.outcome.Outcome.TheVariants as outcome
 use Rattle.runs.specs.World.{World}
@@ -71,6 +74,29 @@ pub record Comes (slots id nodes : ℕ) (P : What → Type 0) (s : NodeState) (o
   pub found : new.found ≡ found_at s what
   pub stands : Stands state_of new (after id nodes s what)
 
+-- whether it mounted the disk
+abbrev pub is_mounting : What → Bool
+is_mounting (Did event) = false
+is_mounting (Refused event fault) = false
+is_mounting (Faulted event) = false
+is_mounting (Rests rest) = false
+is_mounting Crashed = false
+is_mounting (Recovered kept) = true
+is_mounting MountFailed = false
+is_mounting (RaiseFailed kept) = true
+is_mounting (RaiseRefused kept) = true
+
+-- the node tells this of its disk
+pub record DeedOf (id nodes : ℕ) (s : NodeState) (what : What) (deed : Deed) : Type 0 where
+  pub command : option_map command_of deed.command ≡ command_at id nodes s what
+  pub acked : deed.acked ≡ answer_at id nodes s what
+  pub mounted : deed.mounted ≡ is_mounting what
+
+-- and such a thing came of a call
+pub record CameAt (slots id nodes : ℕ) (P : What → Type 0) (s : NodeState) (deed : Deed) (new : Node Memory) (net net' : Network) : Type 0 where
+  pub comes : Comes slots id nodes P s deed.outcome new net net'
+  pub tells : DeedOf id nodes s comes.what deed
+
 -- ---- a compaction
 
 -- what would be told of it if it were no compaction: a node that falls is told as one that crashed
@@ -125,6 +151,21 @@ pub record Acted (w : World) (act : Act) (outcome : Outcome) (new : Machine) : T
   pub is_told : outcome ≡ told (act_outcome (length w.states) w act step)
   pub shows : Shows w step new
   pub stands : StandsFor new (world_after (length w.states) w step)
+
+-- what the node of a step tells of its disk: where no node takes it, nothing
+abbrev pub Tells : World → Step → Deed → Type 0
+Tells w (Takes n number what) deed = (s : NodeState) → slice_get w.states n ≡ Some s → DeedOf n (length w.states) s what deed
+Tells w step deed = (deed.command ≡ None) × (deed.mounted ≡ false)
+
+-- a step of this kind, and what its node tells
+pub record Made (Q : Step → Type 0) (w : World) (deed : Deed) (new : Machine) : Type 0 where
+  pub makes : Makes Q w deed.outcome new
+  pub tells : Tells w makes.step deed
+
+-- the act, and what its node tells
+pub record Performed (w : World) (act : Act) (deed : Deed) (new : Machine) : Type 0 where
+  pub acted : Acted w act deed.outcome new
+  pub tells : Tells w acted.step deed
 
 -- the disk of a node, if there is such a node
 abbrev pub disk_of : Option (Node Memory) → Option Memory

@@ -1,24 +1,18 @@
 -- A cluster with its report, as code keeps it.
-use Rattle.std.specs.Prelude.{ℕ, ◌≡◌, ◌≤◌, ◌<◌, ◌&&◌, nat_lt, Bool, true, false, List, [], ◌∷◌, ◌++◌, map, length, slice_get, Option, Some, None, option_map, vec_len, vec_capacity}
+use Rattle.std.specs.Prelude.{ℕ, ◌≡◌, ◌<◌, Bool, true, false, List, [], ◌∷◌, ◌++◌, map, length, slice_get, Option, Some, None, option_map, vec_len, vec_capacity}
 use Rattle.group_task.specs.Group.{Group}
 use Rattle.job_model.specs.Command.{Command, Raise, Put, Done as JobDone}
 use Rattle.job_model.specs.Durable.{Durable, formatted}
 use Rattle.wire_msg.specs.Envelope.{Envelope}
-use Rattle.wire_msg.specs.declared.body.Body.{Body}
-use Rattle.wire_msg.specs.declared.body.Body.TheVariants as says
 use Rattle.node_core.specs.State.{State, state_of}
 use Rattle.node_core.specs.Words.{own_group}
 use Rattle.sector_disk.specs.Memory.{Memory}
 use Rattle.durable_node.specs.Node.{Node}
 use Rattle.histories.specs.Kept.{Tried}
 use Rattle.schedule.specs.declared.act.Act.{Act}
-use Rattle.schedule.specs.declared.act.Act.TheVariants as act
+use Rattle.cluster_sim.specs.declared.outcome.Deed.{Deed}
+use Rattle.histories.specs.What.{command_of}
 use Rattle.cluster_sim.specs.declared.outcome.Outcome.{Outcome}
-use Rattle.cluster_sim.specs.declared.outcome.Outcome.TheVariants as outcome
-use Rattle.cluster_sim.specs.declared.aim.Aim.{Aim}
-use Rattle.cluster_sim.specs.declared.recording.Told.{Told}
-use Rattle.cluster_sim.specs.declared.report.Command.{Command as KeptCommand}
-use Rattle.cluster_sim.specs.declared.report.Command.TheVariants as kept
 use Rattle.cluster_sim.specs.declared.report.Moment.{Moment as KeptMoment}
 use Rattle.cluster_sim.specs.declared.report.Marked.{Marked}
 use Rattle.cluster_sim.specs.declared.report.Mounted.{Mounted}
@@ -59,11 +53,6 @@ told_report r = record { opening = r.opening; moments = map told_moment r.moment
 
 -- ---- what code keeps
 
-abbrev pub command_of : KeptCommand → Command
-command_of kept.Raise = Raise
-command_of (kept.Put work) = Put work
-command_of (kept.Done id) = JobDone id
-
 abbrev pub tried_of : Marked → TriedAt
 tried_of m = record { node = m.node; tried = record { command = command_of m.command; acked = m.acked } }
 
@@ -91,58 +80,18 @@ pub record HasRoom (r : KeptReport) : Type 0 where
 
 -- ---- what an act adds
 
--- the command that a message makes a node try, if it makes it try one
-abbrev pub command_said : Body → Option Command
-command_said (says.Here group agreed) = Some Raise
-command_said (says.Done id) = Some (JobDone id)
-command_said body = None
-
-abbrev pub command_brought : Option Envelope → Option Command
-command_brought None = None
-command_brought (Some m) = command_said m.body
-
--- the command that an act makes its node try, if it makes it try one, where these messages were sent
-abbrev pub command_by : List Envelope → Act → Option Command
-command_by sent (act.Merge n) = Some Raise
-command_by sent (act.Ready n) = Some Raise
-command_by sent (act.Coord n) = Some Raise
-command_by sent (act.Deliver k) = command_brought (slice_get sent k)
-command_by sent (act.Submit n work) = Some (Put work)
-command_by sent (act.Finish n origin id) = Some (JobDone id)
-command_by sent (act.Recover n) = Some Raise
-command_by sent a = None
-
--- the act is the recovery of a node of the cluster
-abbrev pub recovers : ℕ → Act → Bool
-recovers nodes (act.Recover n) = nat_lt n nodes
-recovers nodes a = false
-
 -- what was mounted, where the act mounts
 abbrev pub mounted_now : Bool → Option Durable → Option Durable
 mounted_now true found = found
 mounted_now false found = None
 
-abbrev pub is_unmounted : Option Durable → Bool
-is_unmounted None = true
-is_unmounted (Some d) = false
+-- the command that was tried, as it is told
+abbrev pub tried_as : Option Command → Option ℕ → Option Tried
+tried_as None acked = None
+tried_as (Some c) acked = Some (record { command = c; acked = acked })
 
-abbrev pub acknowledged : Option Command → ℕ → Option Tried
-acknowledged None answer = None
-acknowledged (Some c) answer = Some (record { command = c; acked = Some answer })
-
--- a disk that couldn't be mounted was given no command
-abbrev pub unanswered : Bool → Option Command → Option Tried
-unanswered true command = None
-unanswered false None = None
-unanswered false (Some c) = Some (record { command = c; acked = None })
-
--- the command that was tried, where an act that was to mount the disk may not have come to do so: one that was
--- acknowledged has its answer
-abbrev pub tried_in : Bool → Option Command → Outcome → Option Tried
-tried_in unmounted command (outcome.Done None first many) = None
-tried_in unmounted command (outcome.Done (Some answer) first many) = acknowledged command answer
-tried_in unmounted command (outcome.Refused why) = None
-tried_in unmounted command outcome.Faulted = unanswered unmounted command
+abbrev pub tried_by : Deed → Option Tried
+tried_by deed = tried_as (option_map command_of deed.command) deed.acked
 
 abbrev pub tried_at : ℕ → Option Tried → Option TriedAt
 tried_at n None = None
@@ -177,31 +126,10 @@ with_act m tried mounted r = record {
   mounted = r.mounted ++ listed mounted;
 }
 
--- what is known of an act before it is done
-pub record AimTold : Type 0 where
-  pub node : ℕ
-  pub command : Option Command
-  pub mounts : Bool
-
--- with the command that the act makes its node try, where these messages were sent
-abbrev pub aim_told : List Envelope → Act → Aim → AimTold
-aim_told sent a aim = record { node = aim.id; command = command_by sent a; mounts = aim.mounts }
-
--- the command that was tried in an act with this aim
-abbrev pub tried_by : AimTold → Outcome → Option Durable → Option Tried
-tried_by aim o found = tried_in (aim.mounts && is_unmounted (mounted_now aim.mounts found)) aim.command o
-
--- this is told of an act that was done: its node is as it is now, and had tried so many commands before
-pub record IsToldOf (a : Act) (aim : AimTold) (o : Outcome) (node : Node Memory) (before : ℕ) (t : Told) : Type 0 where
-  pub moment : moment_in t.moment ≡ record { act = a; node = aim.node; outcome = o; state = node.state }
-  pub tried : option_map tried_of t.tried ≡ tried_at aim.node (tried_by aim o node.found)
-  pub mounted : option_map mounted_of t.mounted ≡ mounted_at aim.node before (mounted_now aim.mounts node.found)
-
--- a raise that was acknowledged answers a count
-abbrev pub IsAnswered : Option Command → Outcome → Type 0
-IsAnswered command (outcome.Done answer first many) = (count : ℕ) → command ≡ Some Raise → answer ≡ Some count → 1 ≤ count
-IsAnswered command (outcome.Refused why) = Unit {0}
-IsAnswered command outcome.Faulted = Unit {0}
+-- with this act of node n, which is as it is now and had tried so many commands before
+abbrev pub with_deed : ℕ → ℕ → Act → Deed → Node Memory → ToldReport → ToldReport
+with_deed n before a deed node r =
+    with_act (record { act = a; node = n; outcome = deed.outcome; state = node.state }) (tried_at n (tried_by deed)) (mounted_at n before (mounted_now deed.mounted node.found)) r
 
 -- a report with one more node that opened
 abbrev pub with_opening : ℕ → State → ToldReport → ToldReport
@@ -212,11 +140,6 @@ with_opening n s r = record {
   commands = r.commands ++ record { node = n; tried = record { command = Raise; acked = Some 1 } } ∷ [];
   mounted = r.mounted ++ record { node = n; mounting = record { before = 0; state = formatted } } ∷ [];
 }
-
--- a new count is no smaller than 1
-abbrev pub IsCount : Option Marked → Type 0
-IsCount None = Unit {0}
-IsCount (Some m) = (count : ℕ) → m.command ≡ kept.Raise → m.acked ≡ Some count → 1 ≤ count
 
 -- ---- a cluster with its report
 

@@ -8,9 +8,9 @@ ghost use Rattle.runs.specs.Growth.{acts_in};
 ghost use Rattle.runs.specs.Reporting.{Report as RunReport, node_named, report_of};
 ghost use Rattle.runs.specs.World.{World, start};
 
-use crate::aim::aim_of;
+use crate::naming::node_named;
 use crate::outcome::Outcome;
-use crate::recording::{ones, opened, tell};
+use crate::recording::{ones, opened};
 use crate::report::Report;
 use crate::simulation::Simulation;
 use durable_node::DurableNode;
@@ -162,17 +162,16 @@ fn advance(
     ensures memory { (w : World) (r : RunReport) → Tells (record { machine = simulation.old; report = report_in report.old }) w r
         → OnErr result (Tells (record { machine = simulation.new; report = report_in report.new }) w r) }
 {
-    let aim = aim_of(simulation, &act)?;
-    let room = report.reserve(alloc, &aim)?;
-    let outcome = simulation.step(&act)?;
-    let place = aim.place();
+    let id = node_named(simulation.count(), simulation.net(), &act);
+    let room = report.reserve(alloc, simulation.node(id), simulation.slots())?;
+    let deed = simulation.perform(&act)?;
+    let place = usize::from(id.number());
     let before = counts[place];
-    let told = tell(simulation, before, aim, act, &outcome, room);
-    if told.tried.is_some() {
+    if deed.command.is_some() {
         counts[place] = before + 1;
     }
-    report.add(told);
-    Ok(outcome)
+    report.add(simulation.node(id), id, before, act, deed, room);
+    Ok(deed.outcome)
 }
 
 /// Runs acts on a cluster that just opened, and gives its report, with the network that holds the messages. The numbers in an

@@ -4,9 +4,9 @@
 #![tactic(auto)]
 
 mod acts;
-mod aim;
 mod cluster;
 mod member;
+mod naming;
 mod outcome;
 mod recording;
 mod report;
@@ -16,5 +16,5 @@ mod tests;
 
 pub use cluster::{Cluster, run};
 pub use outcome::{Outcome, Refusal};
-pub use report::{Command, Marked, Moment, Mounted, Report};
+pub use report::{Marked, Moment, Mounted, Report};
 pub use simulation::Simulation;

@@ -8,13 +8,14 @@ ghost use Rattle.histories.specs.NodeState.{NodeState};
 ghost use Rattle.durable_node.specs.Stepping.{CameOf, most_by};
 ghost use Rattle.histories.specs.declared.what.What.TheVariants.{Rests, Crashed};
 ghost use Rattle.histories.specs.declared.what.Rest.TheVariants.{Nothing};
-ghost use Rattle.cluster_sim.specs.Machine.{IsOfSize, IsSame, IsCounted, Comes, CompactedAs, bare_outcome};
+ghost use Rattle.cluster_sim.specs.Machine.{IsOfSize, IsSame, IsCounted, CameAt, Comes, CompactedAs, bare_outcome, is_mounting};
 ghost use Rattle.cluster_sim.specs.Operated.{IsLeftWith};
 ghost use Rattle.cluster_sim.specs.Told.{IsCompactionTold, came_told};
 ghost use Rattle.durable_node.specs.Faults.{fault_of};
 
-use crate::outcome::{Outcome, Refusal};
+use crate::outcome::{Deed, Outcome, Refusal};
 use durable_node::{Came, DurableNode, NodeFault};
+use histories::What;
 use node_core::Event;
 use schedule::Fill;
 use sector_disk::MemDisk;
@@ -30,14 +31,14 @@ pub(crate) fn handle(
     net: &mut Net,
     nodes: usize,
     event: Event,
-) -> Result<Outcome, AllocError>
+) -> Result<Deed, AllocError>
     requires { node.old.nodes ≡ nodes }
     ensures same { IsSame node.old node.new }
     ensures came { (slots : ℕ) (s : NodeState) → slots ≤ 4096 → IsOfSize slots node.old.disk → Stands state_of node.old s
-        → IfOk result (λ outcome. Comes slots node.old.id node.old.nodes (CameOf event) s outcome node.new net.old.network net.new.network) }
+        → IfOk result (λ deed. CameAt slots node.old.id node.old.nodes (CameOf event) s deed node.new net.old.network net.new.network) }
     ensures memory { OnErr result ((s : NodeState) → Stands state_of node.old s → Stands state_of node.new s) }
     ensures unsent { OnErr result (net.new.network ≡ net.old.network) }
-    ensures counted { IfOk result (IsCounted node.old.disk node.new.disk) }
+    ensures counted { IfOk result (λ deed. IsCounted node.old.disk node.new.disk deed.outcome) }
 {
     node.has_disk();
     let most = most_messages(node, nodes);
@@ -50,7 +51,22 @@ pub(crate) fn handle(
         Err(_) => return Err(AllocError),
     };
     send_all(net, &came.sent);
-    Ok(outcome_of(&came, first))
+    Ok(Deed {
+        outcome: outcome_of(&came, first),
+        command: came.command,
+        acked: came.answer,
+        mounted: is_mounting(&came.what),
+    })
+}
+
+/// Whether the disk was mounted.
+fn is_mounting(what: &What) -> bool
+    ensures { result ≡ is_mounting what.now }
+{
+    matches!(
+        what,
+        What::Recovered(_) | What::RaiseFailed(_) | What::RaiseRefused(_)
+    )
 }
 
 /// What is told of what came of an event, where the first message that it sends has this number.

@@ -1,5 +1,6 @@
 // What comes of an act.
 use durable_node::NodeFault;
+use histories::Command;
 use sim_net::NetFault;
 
 /// What came of an act.
@@ -25,4 +26,16 @@ pub enum Refusal {
     Net(NetFault),
     /// It names a node outside the cluster.
     Stranger,
+}
+
+/// What came of an act, and what its node tells of its disk.
+#[derive(Clone, Copy)]
+pub(crate) struct Deed {
+    pub outcome: Outcome,
+    /// The command that the node tried on its disk, if it tried one.
+    pub command: Option<Command>,
+    /// The answer of that command. None where the device failed in it.
+    pub acked: Option<u64>,
+    /// Whether the node mounted its disk.
+    pub mounted: bool,
 }

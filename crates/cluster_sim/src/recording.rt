@@ -1,25 +1,24 @@
 // How a report grows by one act. All memory is taken before the act is done.
 ghost use Rattle.std.specs.Prelude.{◌≡◌, ◌≤◌, ◌<◌, ◌+◌, ◌++◌, [], ℕ, true, length, replicate, slice_get, option_map, IfOk, IfSome, OnOk, Some, vec_len, vec_capacity};
 ghost use Rattle.job_model.specs.Durable.{Durable};
-ghost use Rattle.sector_disk.specs.Memory.{Memory};
-ghost use Rattle.durable_node.specs.Node.{Node};
-ghost use Rattle.node_core.specs.State.{state_of};
+ghost use Rattle.histories.specs.What.{command_of};
+ghost use Rattle.node_core.specs.State.{is_down, state_of};
 ghost use Rattle.cluster_sim.specs.Machine.{StandsFor};
 ghost use Rattle.runs.specs.Reporting.{report_of};
 ghost use Rattle.runs.specs.World.{start};
-ghost use Rattle.cluster_sim.specs.Recorded.{report_in, moment_in, tried_of, mounted_of, command_by, command_of, HasRoom, IsAnswered, IsCount, IsToldOf, aim_told, listed, with_act, with_opening, given_in, mounted_at, told_report, tried_at, tried_in};
+ghost use Rattle.cluster_sim.specs.Recorded.{report_in, tried_of, mounted_of, HasRoom, listed, with_deed, with_opening, given_in, mounted_at, pending_room, told_report, tried_as, tried_at};
 
-use crate::aim::{Aim, command_by};
-use crate::outcome::Outcome;
-use crate::report::{Command, Marked, Moment, Mounted, Report};
+use crate::naming::hand_room;
+use crate::outcome::Deed;
+use crate::report::{Marked, Moment, Mounted, Report};
 use crate::simulation::Simulation;
 use durable_node::DurableNode;
 use group_task::{GroupNo, NodeId};
+use histories::Command;
 use job_model::Job;
-use node_core::Vector;
+use node_core::{Phase, Vector};
 use schedule::Act;
 use sector_disk::MemDisk;
-use sim_net::Net;
 use std::alloc::{AllocError, Global};
 
 /// Room for what is told of one act.
@@ -27,14 +26,6 @@ use std::alloc::{AllocError, Global};
 pub(crate) struct Room {
     pub vector: Vector,
     pub pending: Vec<Job>,
-}
-
-/// What is told of one act.
-#[derive(Drop)]
-pub(crate) struct Told {
-    pub moment: Moment,
-    pub tried: Option<Marked>,
-    pub mounted: Option<Mounted>,
 }
 
 impl Report {
@@ -51,36 +42,77 @@ impl Report {
         }
     }
 
-    /// Makes room for one act.
-    pub(crate) fn reserve(&mut self, alloc: Global, aim: &Aim) -> Result<Room, AllocError>
+    /// Makes room for one act of this node, whose disk has so many slots. A node that is Down may mount its disk.
+    pub(crate) fn reserve(
+        &mut self,
+        alloc: Global,
+        node: &DurableNode<MemDisk>,
+        slots: u64,
+    ) -> Result<Room, AllocError>
         ensures told { report_in self.new ≡ report_in self.old }
         ensures room { OnOk result (HasRoom self.new) }
-        ensures hand { IfOk result (λ room. aim.now.hand ≤ room.vector.hand.room) }
-        ensures jobs { IfOk result (λ room. (aim.now.jobs ≤ vec_capacity room.pending) × (room.pending.items ≡ [])) }
+        ensures hand { IfOk result (λ room. length node.now.state.hand + pending_room slots (is_down node.now.state.phase) node.now.kept + 1 ≤ room.vector.hand.room) }
+        ensures jobs { IfOk result (λ room. is_down node.now.state.phase ≡ true → slots ≤ vec_capacity room.pending) }
+        ensures empty { IfOk result (λ room. room.pending.items ≡ []) }
     {
         self.moments.reserve(1)?;
         self.groups.reserve(1)?;
         self.commands.reserve(1)?;
         self.mounted.reserve(1)?;
-        let mut vector = Vector::down(alloc, aim.id);
-        vector.room(aim.hand)?;
+        let known = node.vector();
+        let mut vector = Vector::down(alloc, known.coordinator);
+        vector.room(hand_room(node, slots)?)?;
+        let jobs = if matches!(known.phase, Phase::Down) {
+            slots as usize
+        } else {
+            0
+        };
         Ok(Room {
             vector,
-            pending: Vec::with_capacity(alloc, aim.jobs)?,
+            pending: Vec::with_capacity(alloc, jobs)?,
         })
     }
 
-    /// Adds what is told of one act, in the room that is there.
-    pub(crate) fn add(&mut self, told: Told)
+    /// Adds what is told of one act that was done, in the room that was made for it: its node had tried so many commands
+    /// before.
+    pub(crate) fn add(
+        &mut self,
+        node: &DurableNode<MemDisk>,
+        id: NodeId,
+        before: u64,
+        act: Act,
+        deed: Deed,
+        room: Room,
+    )
         requires room { HasRoom self.old }
-        requires count { IsCount told.tried }
-        ensures { report_in self.new ≡ with_act (moment_in told.moment) (option_map tried_of told.tried) (option_map mounted_of told.mounted) (report_in self.old) }
+        requires hand { length node.now.state.hand ≤ room.vector.hand.room }
+        requires empty { room.pending.items ≡ [] }
+        requires jobs { (found : Durable) → deed.mounted ≡ true → node.now.found ≡ Some found → length found.pending ≤ vec_capacity room.pending }
+        requires count { (count : ℕ) → deed.command ≡ Some Command.Raise → deed.acked ≡ Some count → 1 ≤ count }
+        ensures { report_in self.new ≡ with_deed id before act deed node.now (report_in self.old) }
     {
-        let group = given_by(&told.tried);
-        self.moments.push_reserved(told.moment);
+        let Room {
+            vector: mut copy,
+            pending,
+        } = room;
+        let mounted = if deed.mounted {
+            mounted_by(node, id, before, pending)
+        } else {
+            None
+        };
+        let group = given_by(id, deed.command, deed.acked);
+        let tried = tried_by(id, deed.command, deed.acked);
+        copy.set(node.vector());
+        copy.fit();
+        self.moments.push_reserved(Moment {
+            act,
+            node: id,
+            outcome: deed.outcome,
+            vector: copy,
+        });
         push_some(&mut self.groups, group);
-        push_some(&mut self.commands, told.tried);
-        push_some(&mut self.mounted, told.mounted);
+        push_some(&mut self.commands, tried);
+        push_some(&mut self.mounted, mounted);
     }
 
     /// Adds a node that opened.
@@ -111,20 +143,26 @@ impl Report {
 }
 
 /// The group of a raise that was acknowledged.
-fn given_by(tried: &Option<Marked>) -> Option<GroupNo>
-    requires { IsCount tried.now }
-    ensures { listed result ≡ given_in (option_map tried_of tried.now) }
+fn given_by(id: NodeId, command: Option<Command>, acked: Option<u64>) -> Option<GroupNo>
+    requires { (count : ℕ) → command ≡ Some Command.Raise → acked ≡ Some count → 1 ≤ count }
+    ensures { listed result ≡ given_in (tried_at id (tried_as (option_map command_of command) acked)) }
 {
-    match tried {
-        Some(
-            Marked {
-                node,
-                command: Command::Raise,
-                acked: Some(count),
-            },
-        ) => Some(GroupNo::numbered(*node, *count)),
+    match (command, acked) {
+        (Some(Command::Raise), Some(count)) => Some(GroupNo::numbered(id, count)),
         _ => None,
     }
+}
+
+/// The command that was tried.
+fn tried_by(id: NodeId, command: Option<Command>, acked: Option<u64>) -> Option<Marked>
+    ensures { option_map tried_of result ≡ tried_at id (tried_as (option_map command_of command) acked) }
+{
+    let command = command?;
+    Some(Marked {
+        node: id,
+        command,
+        acked,
+    })
 }
 
 /// Adds what there is, in the room that is there.
@@ -178,92 +216,6 @@ fn copy_jobs(jobs: &mut Vec<Job>, more: &[Job])
 {
     for job in more {
         jobs.push_reserved(*job);
-    }
-}
-
-/// The command that was tried in an act, by what came of it.
-pub(crate) fn marked_by(
-    id: NodeId,
-    net: &Net,
-    act: &Act,
-    unmounted: bool,
-    outcome: &Outcome,
-) -> Option<Marked>
-    ensures value { option_map tried_of result ≡ tried_at id (tried_in unmounted (command_by net.now.network.sent act.now) outcome.now) }
-    ensures same { IfSome result (λ tried. Some (command_of tried.command) ≡ command_by net.now.network.sent act.now) }
-{
-    let acked = match outcome {
-        Outcome::Done { answer, .. } => Some((*answer)?),
-        Outcome::Faulted if !unmounted => None,
-        _ => return None,
-    };
-    Some(Marked {
-        node: id,
-        command: command_by(net, act)?,
-        acked,
-    })
-}
-
-/// What is told of one act that was done, in the room that was made for it: its node had tried so many commands before.
-pub(crate) fn tell(
-    simulation: &Simulation,
-    before: u64,
-    aim: Aim,
-    act: Act,
-    outcome: &Outcome,
-    room: Room,
-) -> Told
-    requires within { aim.id < length simulation.now.nodes }
-    requires hand { (node : Node Memory) → slice_get simulation.now.nodes aim.id ≡ Some node → length node.state.hand ≤ room.vector.hand.room }
-    requires empty { room.pending.items ≡ [] }
-    requires jobs { (node : Node Memory) (found : Durable) → slice_get simulation.now.nodes aim.id ≡ Some node → aim.mounts ≡ true → node.found ≡ Some found → length found.pending ≤ vec_capacity room.pending }
-    requires answered { IsAnswered (command_by simulation.now.net.sent act) outcome.now }
-    ensures count { IsCount result.tried }
-    ensures told { (node : Node Memory) → slice_get simulation.now.nodes aim.id ≡ Some node → IsToldOf act (aim_told simulation.now.net.sent act aim) outcome.now node before result }
-{
-    let node = simulation.node(aim.id);
-    tell_of(node, simulation.net(), before, aim, act, outcome, room)
-}
-
-/// The same, of the node that the act is told of.
-fn tell_of(
-    node: &DurableNode<MemDisk>,
-    net: &Net,
-    before: u64,
-    aim: Aim,
-    act: Act,
-    outcome: &Outcome,
-    room: Room,
-) -> Told
-    requires hand { length node.now.state.hand ≤ room.vector.hand.room }
-    requires empty { room.pending.items ≡ [] }
-    requires jobs { (found : Durable) → aim.mounts ≡ true → node.now.found ≡ Some found → length found.pending ≤ vec_capacity room.pending }
-    requires answered { IsAnswered (command_by net.now.network.sent act) outcome.now }
-    ensures count { IsCount result.tried }
-    ensures told { IsToldOf act (aim_told net.now.network.sent act aim) outcome.now node.now before result }
-{
-    let Room {
-        vector: mut copy,
-        pending,
-    } = room;
-    let mounted = if aim.mounts {
-        mounted_by(node, aim.id, before, pending)
-    } else {
-        None
-    };
-    let unmounted = aim.mounts && mounted.is_none();
-    let tried = marked_by(aim.id, net, &act, unmounted, outcome);
-    copy.set(node.vector());
-    copy.fit();
-    Told {
-        moment: Moment {
-            act,
-            node: aim.id,
-            outcome: *outcome,
-            vector: copy,
-        },
-        tried,
-        mounted,
     }
 }
 

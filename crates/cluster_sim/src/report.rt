@@ -1,7 +1,8 @@
 // What is told of a run of a cluster.
 use crate::outcome::Outcome;
 use group_task::{GroupNo, NodeId};
-use job_model::{Job, Work};
+use histories::Command;
+use job_model::Job;
 use node_core::Vector;
 use schedule::Act;
 
@@ -41,17 +42,6 @@ pub struct Marked {
     /// The new count, the new id, or the id that is done. None where the device failed: whether the disk keeps the command is
     /// open until it is mounted.
     pub acked: Option<u64>,
-}
-
-/// What a node asks of its disk.
-#[derive(Clone, Copy, Debug, PartialEq, Eq)]
-pub enum Command {
-    /// The counter of groups rises by one.
-    Raise,
-    /// A job becomes pending.
-    Put(Work),
-    /// The job of this id, which is pending, is done.
-    Done(u64),
 }
 
 /// What a node found when it mounted its disk.

@@ -1,13 +1,13 @@
 // A cluster of nodes over disks in memory, and the network between them.
-ghost use Rattle.std.specs.Prelude.{◌≡◌, ◌≤◌, ◌<◌, ◌&&◌, length, nat_lt, slice_get, Some, None, IfOk, OnOk, OnErr, ℕ};
+ghost use Rattle.std.specs.Prelude.{◌≡◌, ◌≢◌, ◌≤◌, ◌<◌, ◌&&◌, length, nat_lt, slice_get, Some, None, IfOk, OnOk, OnErr, ℕ};
 ghost use Rattle.group_task.specs.declared.node.TheConstants.{NODES};
 ghost use Rattle.durable_node.specs.Arming.{armed_disk};
 ghost use Rattle.histories.specs.What.{brought, AreAddressed};
-ghost use Rattle.schedule.specs.declared.act.Act.TheVariants as act;
+ghost use Rattle.schedule.specs.declared.act.Act.TheVariants as acts;
 ghost use Rattle.runs.specs.Acts.{At};
 ghost use Rattle.runs.specs.Events.{event_at};
 ghost use Rattle.durable_node.specs.Stepping.{CameOf};
-ghost use Rattle.cluster_sim.specs.Machine.{AreOpened, StandsFor, Makes, Acted, FaultsAt};
+ghost use Rattle.cluster_sim.specs.Machine.{AreOpened, StandsFor, Made, Acted, Performed, FaultsAt};
 ghost use Rattle.cluster_sim.specs.Operated.{Operates, IsLeftWith, disk_at};
 ghost use Rattle.runs.specs.Reporting.{node_named, node_or_first, receiver_or_first};
 ghost use Rattle.runs.specs.Run.{IsBrought};
@@ -15,7 +15,7 @@ ghost use Rattle.runs.specs.World.{World, start};
 
 use crate::acts::event_at;
 use crate::member::{self, handle, nothing_sent};
-use crate::outcome::{Outcome, Refusal};
+use crate::outcome::{Deed, Outcome, Refusal};
 use durable_node::DurableNode;
 use group_task::NodeId;
 use node_core::Event;
@@ -72,10 +72,32 @@ impl Simulation {
         ensures faults { IfOk result (FaultsAt (node_named (length self.old.nodes) self.old.net.sent act.now) self.old self.new) }
         ensures disk { OnOk result (Operates act.now self.old self.new) }
     {
-        match event_at(act) {
-            Some(comes) => self.take(comes.0, comes.1),
-            None => self.apply(act),
+        match self.perform(act) {
+            Ok(deed) => Ok(deed.outcome),
+            Err(error) => Err(error),
         }
+    }
+
+    /// One act, with what its node tells of its disk.
+    pub(crate) fn perform(&mut self, act: &Act) -> Result<Deed, AllocError>
+        ensures slots { self.new.slots ≡ self.old.slots }
+        ensures acted { (w : World) → StandsFor self.old w → IfOk result (λ deed. Performed w act.now deed self.new) }
+        ensures memory { (w : World) → StandsFor self.old w → OnErr result (StandsFor self.new w) }
+        ensures faults { IfOk result (λ deed. FaultsAt (node_named (length self.old.nodes) self.old.net.sent act.now) self.old self.new deed.outcome) }
+        ensures disk { OnOk result (Operates act.now self.old self.new) }
+    {
+        if let Some(comes) = event_at(act) {
+            return self.take(comes.0, comes.1);
+        }
+        if let Act::Deliver(number) = act {
+            return self.deliver(*number);
+        }
+        Ok(Deed {
+            outcome: self.apply(act),
+            command: None,
+            acked: None,
+            mounted: false,
+        })
     }
 
     /// The node of this id.
@@ -119,38 +141,48 @@ impl Simulation {
     }
 
     /// An event at a node, and what is sent of it.
-    fn take(&mut self, id: NodeId, event: Event) -> Result<Outcome, AllocError>
+    fn take(&mut self, id: NodeId, event: Event) -> Result<Deed, AllocError>
         ensures slots { self.new.slots ≡ self.old.slots }
         ensures acted { (w : World) (number : ℕ) → StandsFor self.old w → IsBrought w number (brought (Some event)) → AreAddressed id (brought (Some event))
-            → IfOk result (λ outcome. Makes (λ step. At (nat_lt id (length w.states)) id number (CameOf event) step) w outcome self.new) }
+            → IfOk result (λ deed. Made (λ step. At (nat_lt id (length w.states)) id number (CameOf event) step) w deed self.new) }
         ensures memory { (w : World) → StandsFor self.old w → OnErr result (StandsFor self.new w) }
-        ensures faults { IfOk result (FaultsAt (node_or_first (length self.old.nodes) id) self.old self.new) }
+        ensures faults { IfOk result (λ deed. FaultsAt (node_or_first (length self.old.nodes) id) self.old self.new deed.outcome) }
     {
         let count = self.nodes.len();
         let place = usize::from(id.number());
         if place >= count {
-            return Ok(Outcome::Refused(Refusal::Stranger));
+            return Ok(Deed {
+                outcome: Outcome::Refused(Refusal::Stranger),
+                command: None,
+                acked: None,
+                mounted: false,
+            });
         }
         handle(&mut self.nodes[place], &mut self.net, count, event)
     }
 
     /// Delivers the message of this number at its receiver.
-    fn deliver(&mut self, number: u64) -> Result<Outcome, AllocError>
+    fn deliver(&mut self, number: u64) -> Result<Deed, AllocError>
         ensures slots { self.new.slots ≡ self.old.slots }
-        ensures acted { (w : World) → StandsFor self.old w → IfOk result (λ outcome. Acted w (act.Deliver number) outcome self.new) }
+        ensures acted { (w : World) → StandsFor self.old w → IfOk result (λ deed. Performed w (acts.Deliver number) deed self.new) }
         ensures memory { (w : World) → StandsFor self.old w → OnErr result (StandsFor self.new w) }
-        ensures faults { IfOk result (FaultsAt (receiver_or_first (length self.old.nodes) (slice_get self.old.net.sent number)) self.old self.new) }
+        ensures faults { IfOk result (λ deed. FaultsAt (receiver_or_first (length self.old.nodes) (slice_get self.old.net.sent number)) self.old self.new deed.outcome) }
     {
         match self.net.deliver(number) {
             Ok(message) => self.take(message.receiver(), Event::Deliver(message)),
-            Err(fault) => Ok(Outcome::Refused(Refusal::Net(fault))),
+            Err(fault) => Ok(Deed {
+                outcome: Outcome::Refused(Refusal::Net(fault)),
+                command: None,
+                acked: None,
+                mounted: false,
+            }),
         }
     }
 
     /// Loses the message of this number.
     fn lose(&mut self, number: u64) -> Outcome
         ensures slots { self.new.slots ≡ self.old.slots }
-        ensures acted { (w : World) → StandsFor self.old w → Acted w (act.Lose number) result self.new }
+        ensures acted { (w : World) → StandsFor self.old w → Acted w (acts.Lose number) result self.new }
         ensures faults { FaultsAt 0 self.old self.new result }
     {
         match self.net.lose(number) {
@@ -162,7 +194,7 @@ impl Simulation {
     /// Cuts two nodes from one another.
     fn cut(&mut self, a: NodeId, b: NodeId) -> Outcome
         ensures slots { self.new.slots ≡ self.old.slots }
-        ensures acted { (w : World) → StandsFor self.old w → Acted w (act.Cut a b) result self.new }
+        ensures acted { (w : World) → StandsFor self.old w → Acted w (acts.Cut a b) result self.new }
         ensures faults { FaultsAt 0 self.old self.new result }
     {
         if !self.has_both(a, b) {
@@ -175,7 +207,7 @@ impl Simulation {
     /// Joins two nodes again.
     fn mend(&mut self, a: NodeId, b: NodeId) -> Outcome
         ensures slots { self.new.slots ≡ self.old.slots }
-        ensures acted { (w : World) → StandsFor self.old w → Acted w (act.Mend a b) result self.new }
+        ensures acted { (w : World) → StandsFor self.old w → Acted w (acts.Mend a b) result self.new }
         ensures faults { FaultsAt 0 self.old self.new result }
     {
         if !self.has_both(a, b) {
@@ -196,7 +228,7 @@ impl Simulation {
     /// Arms the disk of a node.
     fn arm(&mut self, id: NodeId, calls: u64) -> Outcome
         ensures slots { self.new.slots ≡ self.old.slots }
-        ensures acted { (w : World) → StandsFor self.old w → Acted w (act.Arm id calls) result self.new }
+        ensures acted { (w : World) → StandsFor self.old w → Acted w (acts.Arm id calls) result self.new }
         ensures faults { FaultsAt (node_or_first (length self.old.nodes) id) self.old self.new result }
         ensures disk { disk_at self.new id ≡ armed_disk calls (disk_at self.old id) }
     {
@@ -210,7 +242,7 @@ impl Simulation {
     /// Crashes a node.
     fn crash(&mut self, id: NodeId, fill: &Fill) -> Outcome
         ensures slots { self.new.slots ≡ self.old.slots }
-        ensures acted { (w : World) → StandsFor self.old w → Acted w (act.Crash id fill.now) result self.new }
+        ensures acted { (w : World) → StandsFor self.old w → Acted w (acts.Crash id fill.now) result self.new }
         ensures faults { FaultsAt (node_or_first (length self.old.nodes) id) self.old self.new result }
         ensures disk { IsLeftWith fill.now (disk_at self.old id) (disk_at self.new id) }
     {
@@ -224,7 +256,7 @@ impl Simulation {
     /// Compacts the journal of a node.
     fn compact(&mut self, id: NodeId) -> Outcome
         ensures slots { self.new.slots ≡ self.old.slots }
-        ensures acted { (w : World) → StandsFor self.old w → Acted w (act.Compact id) result self.new }
+        ensures acted { (w : World) → StandsFor self.old w → Acted w (acts.Compact id) result self.new }
         ensures faults { FaultsAt (node_or_first (length self.old.nodes) id) self.old self.new result }
     {
         let place = usize::from(id.number());
@@ -234,23 +266,22 @@ impl Simulation {
         member::compact(&mut self.nodes[place], &self.net)
     }
 
-    /// An act that is no event of its own.
-    fn apply(&mut self, act: &Act) -> Result<Outcome, AllocError>
-        requires { event_at act.now ≡ None }
+    /// An act that is no event, nor brings one.
+    fn apply(&mut self, act: &Act) -> Outcome
+        requires event { event_at act.now ≡ None }
+        requires deliver { (k : ℕ) → act.now ≢ acts.Deliver k }
         ensures slots { self.new.slots ≡ self.old.slots }
-        ensures acted { (w : World) → StandsFor self.old w → IfOk result (λ outcome. Acted w act.now outcome self.new) }
-        ensures memory { (w : World) → StandsFor self.old w → OnErr result (StandsFor self.new w) }
-        ensures faults { IfOk result (FaultsAt (node_named (length self.old.nodes) self.old.net.sent act.now) self.old self.new) }
-        ensures disk { OnOk result (Operates act.now self.old self.new) }
+        ensures acted { (w : World) → StandsFor self.old w → Acted w act.now result self.new }
+        ensures faults { FaultsAt (node_named (length self.old.nodes) self.old.net.sent act.now) self.old self.new result }
+        ensures disk { Operates act.now self.old self.new }
     {
         match act {
-            Act::Deliver(number) => self.deliver(*number),
-            Act::Lose(number) => Ok(self.lose(*number)),
-            Act::Cut(a, b) => Ok(self.cut(*a, *b)),
-            Act::Mend(a, b) => Ok(self.mend(*a, *b)),
-            Act::Arm(id, calls) => Ok(self.arm(*id, *calls)),
-            Act::Crash(id, fill) => Ok(self.crash(*id, fill)),
-            Act::Compact(id) => Ok(self.compact(*id)),
+            Act::Lose(number) => self.lose(*number),
+            Act::Cut(a, b) => self.cut(*a, *b),
+            Act::Mend(a, b) => self.mend(*a, *b),
+            Act::Arm(id, calls) => self.arm(*id, *calls),
+            Act::Crash(id, fill) => self.crash(*id, fill),
+            Act::Compact(id) => self.compact(*id),
             _ => unreachable!(),
         }
     }

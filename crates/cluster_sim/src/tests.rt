@@ -1,5 +1,6 @@
 use super::*;
 use group_task::{GroupNo, NodeId};
+use histories::Command;
 use job_model::{Payload, Queue, Work};
 use node_core::Phase;
 use schedule::{Act, Fill, Submitted};

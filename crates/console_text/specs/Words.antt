@@ -10,3 +10,7 @@ bytes_text (b ∷ bytes) = encode_lower (b ∷ bytes)
 -- a priority behind other words, left out where it is 0
 abbrev pub priority_text : ℕ → List ℕ
 priority_text priority = if priority == 0 then [] else codes " " ++ decimal priority
+
+-- a job's queue, its payload and its priority
+abbrev pub work_text : ℕ → List ℕ → ℕ → List ℕ
+work_text queue payload priority = decimal queue ++ codes " " ++ bytes_text payload ++ priority_text priority

@@ -11,4 +11,4 @@ pub use ends::{Ending, Printout, Trouble};
 pub use input::{MAX_READS, read_input, read_within};
 pub use printing::{bad_line, print};
 pub use reads::Reads;
-pub use words::{push_bytes_text, push_hex, push_number, push_priority, push_text};
+pub use words::{push_bytes_text, push_hex, push_number, push_text, push_work};

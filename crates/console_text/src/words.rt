@@ -2,7 +2,7 @@
 
 ghost use Rattle.std.specs.Prelude.{◌≡◌, ◌++◌, OnOk, decimal};
 ghost use Rattle.hex.specs.Hex.{encode_lower};
-ghost use Rattle.console_text.specs.Words.{bytes_text, priority_text};
+ghost use Rattle.console_text.specs.Words.{bytes_text, priority_text, work_text};
 
 use itoa::Buffer;
 use std::alloc::AllocError;
@@ -51,8 +51,17 @@ pub fn push_bytes_text(text: &mut Vec<u8>, bytes: &[u8]) -> Result<(), AllocErro
     }
 }
 
-/// Adds the priority of a job behind its other words: it is left out where it is 0.
-pub fn push_priority(text: &mut Vec<u8>, priority: u8) -> Result<(), AllocError>
+/// Adds the words of a job: its queue, its payload, and its priority, which is left out where it is 0.
+pub fn push_work(text: &mut Vec<u8>, queue: u8, payload: &[u8], priority: u8) -> Result<(), AllocError>
+    ensures { OnOk result (text.new.items ≡ text.old.items ++ work_text queue payload.now priority) }
+{
+    push_number(text, u64::from(queue))?;
+    push_text(text, " ")?;
+    push_bytes_text(text, payload)?;
+    push_priority(text, priority)
+}
+
+fn push_priority(text: &mut Vec<u8>, priority: u8) -> Result<(), AllocError>
     ensures { OnOk result (text.new.items ≡ text.old.items ++ priority_text priority) }
 {
     if priority == 0 {

@@ -9,7 +9,7 @@ use Rattle.wire_msg.specs.declared.body.Body.{Body}
 use Rattle.wire_msg.specs.declared.body.Body.TheVariants.{AreYouCoordinator, Coordinator, AreYouThere, Here, Invitation, Accept, Ready, ReadyAck, Work, Done}
 use Rattle.wire_msg.specs.Contents.{messages_in, unfinished_in}
 use Rattle.console_text.specs.Ends.{Outcome, line, refused, before}
-use Rattle.console_text.specs.Words.{bytes_text, priority_text}
+use Rattle.console_text.specs.Words.{work_text}
 use Rattle.invite_console.specs.Lines.{over_hex_lines}
 
 abbrev pub truth_text : Bool → List ℕ
@@ -32,9 +32,9 @@ ids_text (id ∷ ids) = decimal id ++ more_ids_text ids
 abbrev pub task_text : Assignment → List ℕ
 task_text task = codes "Ready " ++ group_text task.group ++ codes " members " ++ ids_text task.members
 
-abbrev pub work_text : Group → ℕ → JobWork → List ℕ
-work_text g id work =
-    codes "Work " ++ group_text g ++ codes " " ++ decimal id ++ codes " " ++ decimal work.queue ++ codes " " ++ bytes_text work.payload ++ priority_text work.priority
+abbrev pub order_text : Group → ℕ → JobWork → List ℕ
+order_text g id work =
+    codes "Work " ++ group_text g ++ codes " " ++ decimal id ++ codes " " ++ work_text work.queue work.payload work.priority
 
 -- what a message says: its name, and then its fields
 abbrev pub body_text : Body → List ℕ
@@ -46,7 +46,7 @@ body_text (Invitation g) = codes "Invitation " ++ group_text g
 body_text (Accept g) = codes "Accept " ++ group_text g
 body_text (Ready task) = task_text task
 body_text (ReadyAck g) = codes "ReadyAck " ++ group_text g
-body_text (Work g id work) = work_text g id work
+body_text (Work g id work) = order_text g id work
 body_text (Done id) = codes "Done " ++ decimal id
 
 abbrev pub message_text : Envelope → List ℕ

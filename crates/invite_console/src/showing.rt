@@ -1,13 +1,13 @@
 ghost use Rattle.std.specs.Prelude.{◌≡◌, ◌++◌, [], IfOk, OnOk, codes};
 ghost use Rattle.console_text.specs.Ends.{line, outcome_of, IsFixed, Prints};
-ghost use Rattle.invite_console.specs.Show.{body_text, group_text, message_text, rest_text, shown, shown_of, show_text, task_text, truth_text, work_text};
+ghost use Rattle.invite_console.specs.Show.{body_text, group_text, message_text, rest_text, shown, shown_of, show_text, task_text, truth_text, order_text};
+ghost use Rattle.console_text.specs.Words.{work_text};
 
 use crate::batches::{PIECE, next_batch};
 use crate::lines::hex_lines;
 use crate::words::{push_group, push_ids, push_truth};
 use console_text::{
-    Ending, Printout, Trouble, bad_line, print, push_bytes_text, push_number, push_priority, push_text,
-    read_input,
+    Ending, Printout, Trouble, bad_line, print, push_number, push_text, push_work, read_input,
 };
 use group_task::{GroupNo, Task};
 use job_model::Work;
@@ -113,7 +113,7 @@ fn push_body(text: &mut Vec<u8>, body: &Body) -> Result<(), AllocError>
         Body::Accept(group) => push_named(text, "Accept ", *group),
         Body::Ready(task) => push_task(text, task),
         Body::ReadyAck(group) => push_named(text, "ReadyAck ", *group),
-        Body::Work { group, id, work } => push_work(text, *group, *id, work),
+        Body::Work { group, id, work } => push_order(text, *group, *id, work),
         Body::Done(id) => {
             push_text(text, "Done ")?;
             push_number(text, *id)
@@ -144,15 +144,18 @@ fn push_task(text: &mut Vec<u8>, task: &Task) -> Result<(), AllocError>
     push_ids(text, task.members())
 }
 
-fn push_work(text: &mut Vec<u8>, group: GroupNo, id: u64, work: &Work) -> Result<(), AllocError>
-    ensures { OnOk result (text.new.items ≡ text.old.items ++ work_text group id work.now) }
+fn push_order(text: &mut Vec<u8>, group: GroupNo, id: u64, work: &Work) -> Result<(), AllocError>
+    ensures { OnOk result (text.new.items ≡ text.old.items ++ order_text group id work.now) }
 {
     push_named(text, "Work ", group)?;
     push_text(text, " ")?;
     push_number(text, id)?;
     push_text(text, " ")?;
-    push_number(text, u64::from(work.queue.number()))?;
-    push_text(text, " ")?;
-    push_bytes_text(text, work.payload.as_slice())?;
-    push_priority(text, work.priority)
+    push_parts(text, work)
+}
+
+fn push_parts(text: &mut Vec<u8>, work: &Work) -> Result<(), AllocError>
+    ensures { OnOk result (text.new.items ≡ text.old.items ++ work_text work.now.queue work.now.payload work.now.priority) }
+{
+    push_work(text, work.queue.number(), work.payload.as_slice(), work.priority)
 }

@@ -10,7 +10,7 @@ use Rattle.node_session.specs.declared.ended.Ended.{Ended}
 use Rattle.node_session.specs.Turns.{Turn, after_turn, end_of, IsTimer, IsTimely, IsGoing, MayComeOf}
 use Rattle.node_session.specs.Chains.{AreGoing, AreTimely, IsOne, after_turns, last_end}
 use Rattle.node_session.specs.Text.{turn_text, turns_text}
-use Rattle.node_session.specs.Serving.{Progress, IsNodeOf, Turned, Turns, Called, Calls}
+use Rattle.node_session.specs.Serving.{Progress, IsNodeOf, Turns, Calls}
 
 -- ---- one more turn behind others
 

@@ -1,6 +1,6 @@
 -- What comes of an event, over any disk.
-use Rattle.std.proofs.Common.{◌≡◌, ◌⊎◌, inl, inr, ℕ, ◌+◌, ◌-◌, ◌^◌, ◌<◌, ◌++◌, Bool, true, false, List, [], ◌∷◌, refl, sym, ap, ◌∙◌, subst, append-nil, append_assoc, arith, Option, Some, None, Result, Ok, Err}
-use Rattle.std.specs.Prelude.{◌≢◌, IfOk, IfErr, IsTrue, IsOk, IsSome}
+use Rattle.std.proofs.Common.{◌≡◌, ◌⊎◌, inl, inr, ℕ, ◌+◌, ◌-◌, ◌^◌, ◌<◌, ◌++◌, Bool, true, false, List, [], refl, sym, ap, ◌∙◌, subst, append-nil, append_assoc, arith, Option, Some, None, Result, Ok, Err}
+use Rattle.std.specs.Prelude.{◌≢◌, IfOk, IfErr, IsTrue, IsSome}
 use Rattle.sector_disk.specs.Disk.{DiskState}
 use Rattle.job_model.specs.Durable.{Durable}
 use Rattle.wire_msg.specs.Envelope.{Envelope}
@@ -23,15 +23,15 @@ use Rattle.histories.specs.What.{event_of}
 use Rattle.histories.specs.After.{after, sent_at}
 use Rattle.histories.specs.Possible.{IsOfSlots}
 use Rattle.durable_node.specs.Compacting.{Compacts, CompactTold, RestTold}
-use Rattle.durable_node.specs.Stepping.{CameOf, CountsOf, Does, IsMounting, IsUnmountable, Steps, Stuck, answer_at, is_recover}
+use Rattle.durable_node.specs.Stepping.{CameOf, CountsOf, Does, IsMounting, Steps, Stuck, is_recover}
 use Rattle.durable_node.specs.Faults.{fault_of, told, told_as}
 use Rattle.node_core.specs.declared.fault.CoreFault.TheVariants.{NoMemory}
 use Rattle.durable_node.specs.Remounting.{Remounted}
 use Rattle.node_session.specs.declared.ended.Ended.{Ended}
 use Rattle.node_session.specs.declared.ended.Ended.TheVariants as end
 use Rattle.node_session.specs.Turns.{Turn, Goes, Unmounted, Begins, IsOf, MayComeOf, MayCompact, IsGoing, IsOfCompaction, after_turn, cause, compaction_end, end_at, end_of, ended_by, sent_by, sent_in}
-use Rattle.node_session.specs.Changes.{Sight, changes, gone_at, gone_told, is_finish, sight_of}
-use Rattle.node_session.specs.Text.{call_text, send_lines, turn_text}
+use Rattle.node_session.specs.Changes.{Sight, changes, gone_told, is_finish, sight_of}
+use Rattle.node_session.specs.Text.{call_text, send_lines}
 use Rattle.node_session.specs.Serving.{Progress, IsNodeOf, Turns}
 
 -- what came of an event over a disk, and how it is told

@@ -1,5 +1,5 @@
 -- The chains of histories that calls make.
-use Rattle.std.proofs.Common.{◌≡◌, ℕ, List, [], ◌∷◌, Bool, true, false, refl, sym, ap, ◌∙◌, subst}
+use Rattle.std.proofs.Common.{◌≡◌, ℕ, List, [], ◌∷◌, Bool, true, false, refl, sym, ◌∙◌, subst}
 use Rattle.job_model.specs.Durable.{Durable}
 use Rattle.histories.specs.declared.what.What.{What}
 use Rattle.histories.specs.What.{Entry}
@@ -11,7 +11,7 @@ use Rattle.node_core.specs.declared.event.Event.{Event}
 use Rattle.node_session.specs.declared.asked.Asked.{Asked}
 use Rattle.node_session.specs.declared.asked.Asked.TheVariants as ask
 use Rattle.node_session.specs.Asked.{asked_of}
-use Rattle.node_session.specs.Turns.{Turn, Goes, Unmounted, Begins, begun, after_begun, after_turn, IsGoing, IsTimely, MayComeOf, MayCompact}
+use Rattle.node_session.specs.Turns.{Turn, Goes, Unmounted, Begins, begun, after_begun, MayComeOf, MayCompact}
 use Rattle.node_session.specs.Chains.{At, AreGoing, AllGoing, AreOf, AreTimely, Comes, IsNone, IsOne, MayCome, after_by, after_line, after_lines, after_turns, entries_of, entries_in}
 
 -- each turn by which a history went on was possible there

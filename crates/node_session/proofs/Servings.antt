@@ -12,7 +12,7 @@ use Rattle.node_session.specs.declared.ended.Ended.TheVariants as end
 use Rattle.node_session.specs.Asked.{asked_of}
 use Rattle.node_core.specs.declared.event.Event.{Event}
 use Rattle.node_session.specs.Turns.{Turn, MayComeOf, MayCompact}
-use Rattle.node_session.specs.Chains.{At, AreGoing, AreTimely, Comes, MayCome, AreOf, after_by, after_line, after_lines, after_turns, is_failed, line_end, next}
+use Rattle.node_session.specs.Chains.{At, AreGoing, AreTimely, Comes, MayCome, AreOf, after_by, after_lines, after_turns, is_failed, line_end, next}
 use Rattle.node_session.specs.Text.{answer, answer_at, answers, bad_line, closing, event_closing, jobs_lines, ok_line, state_line, turns_text}
 use Rattle.node_session.specs.Serving.{Progress, Serves, Calls, Turns, IsNodeOf, at_of}
 use Rattle.node_session.proofs.Calls.{node_refl, node_then, one_call}

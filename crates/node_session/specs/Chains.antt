@@ -1,8 +1,6 @@
 -- What comes of each line, and the chains of histories that this makes.
-use Rattle.std.specs.Prelude.{ℕ, ◌≡◌, ◌+◌, List, [], ◌∷◌, Bool, true, false, None}
-use Rattle.node_core.specs.declared.event.Event.{Event}
+use Rattle.std.specs.Prelude.{ℕ, ◌+◌, List, [], ◌∷◌, Bool, true, false, None}
 use Rattle.histories.specs.NodeState.{NodeState}
-use Rattle.histories.specs.declared.what.What.{What}
 use Rattle.histories.specs.What.{Entry}
 use Rattle.histories.specs.After.{sent_at}
 use Rattle.durable_node.specs.declared.fault.NodeFault.{NodeFault}

@@ -1,8 +1,7 @@
 -- What a service that follows the node is told: that its group changed, and the jobs that came into its hand or left it.
 use Rattle.std.specs.Prelude.{ℕ, ◌==◌, ◌&&◌, List, [], ◌∷◌, ◌++◌, map, codes, decimal, bytes_eq, Bool, true, false, if◌then◌else◌, Option, Some, None}
 use Rattle.std.specs.List.{list_any}
-use Rattle.console_text.specs.Words.{bytes_text, priority_text}
-use Rattle.job_model.specs.declared.work.Work.{Work}
+use Rattle.console_text.specs.Words.{work_text}
 use Rattle.wire_msg.specs.declared.body.Body.{Body}
 use Rattle.wire_msg.specs.declared.body.Body.TheVariants as says
 use Rattle.node_core.specs.declared.event.Event.{Event}
@@ -38,12 +37,8 @@ abbrev pub pair_in : List (ℕ × ℕ) → ℕ → ℕ → Bool
 pair_in pairs origin id = list_any (λ pair. pair.0 == origin && pair.1 == id) pairs
 
 -- with its queue and its payload
--- a job's queue, its payload, and its priority where it isn't 0
-abbrev pub work_text : Work → List ℕ
-work_text work = decimal work.queue ++ codes " " ++ bytes_text work.payload ++ priority_text work.priority
-
 abbrev pub held_text : InHand → List ℕ
-held_text job = decimal job.origin ++ codes " " ++ decimal job.id ++ codes " " ++ work_text job.work
+held_text job = decimal job.origin ++ codes " " ++ decimal job.id ++ codes " " ++ work_text job.work.queue job.work.payload job.work.priority
 
 abbrev pub take_line : InHand → List ℕ
 take_line job = codes "take " ++ held_text job ++ codes "\n"

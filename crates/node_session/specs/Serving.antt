@@ -1,5 +1,5 @@
 -- A session, and what feeding it does.
-use Rattle.std.specs.Prelude.{ℕ, ◌≡◌, ◌≤◌, ◌++◌, List, [], ◌∷◌, Bool, true, false, IsTrue, IsFalse, Option, Some, None}
+use Rattle.std.specs.Prelude.{ℕ, ◌≡◌, ◌≤◌, ◌++◌, List, [], ◌∷◌, Bool, false, IsTrue, IsFalse, Option, Some, None}
 use Rattle.sector_disk.specs.Disk.{DiskState}
 use Rattle.job_model.specs.Durable.{Durable}
 use Rattle.node_core.specs.Start.{down}
@@ -11,7 +11,7 @@ use Rattle.histories.specs.After.{after}
 use Rattle.histories.specs.History.{Follows, FollowsSlots, replay}
 use Rattle.line_words.specs.Lines.{lines_of}
 use Rattle.node_session.specs.Turns.{Turn, Goes, Begins, begun, after_begun, after_turn, end_of, IsGoing}
-use Rattle.node_session.specs.Chains.{At, AreOf, AllGoing, AreGoing, after_lines, after_turns, entries_of, entries_in, last_end}
+use Rattle.node_session.specs.Chains.{At, AreOf, AllGoing, AreGoing, after_lines, after_turns, entries_in, last_end}
 use Rattle.node_session.specs.Text.{answers, turn_text, turns_text}
 use Rattle.node_session.specs.declared.ended.Ended.{Ended}
 

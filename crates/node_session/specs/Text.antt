@@ -25,7 +25,7 @@ use Rattle.node_session.specs.Asked.{asked_of}
 use Rattle.node_session.specs.Words.{group_text, ids_text, phase_text, truth_text}
 use Rattle.node_session.specs.Turns.{Turn, after_turn, cause, end_of, sent_in}
 use Rattle.node_session.specs.Chains.{At, after_line, line_end, next}
-use Rattle.node_session.specs.Changes.{changes, gone_told, held_text, is_finish, work_text}
+use Rattle.node_session.specs.Changes.{changes, gone_told, held_text, is_finish}
 
 -- ---- words
 
@@ -131,7 +131,7 @@ abbrev pub state_line : NodeState → List ℕ
 state_line s = state_by (is_down s.state.phase) s
 
 abbrev pub pending_line : Job → List ℕ
-pending_line job = codes "pending " ++ decimal job.id ++ codes " " ++ work_text job.work ++ codes "\n"
+pending_line job = codes "pending " ++ decimal job.id ++ codes " " ++ work_text job.work.queue job.work.payload job.work.priority ++ codes "\n"
 
 abbrev pub hand_line : InHand → List ℕ
 hand_line job = codes "hand " ++ held_text job ++ codes "\n"

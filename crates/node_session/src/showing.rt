@@ -5,11 +5,12 @@ ghost use Rattle.job_model.specs.Table.{durable_of};
 ghost use Rattle.node_core.specs.State.{state_of};
 ghost use Rattle.durable_node.specs.Node.{Stands};
 ghost use Rattle.histories.specs.NodeState.{NodeState};
-ghost use Rattle.node_session.specs.Changes.{held_text, work_text};
+ghost use Rattle.node_session.specs.Changes.{held_text};
+ghost use Rattle.console_text.specs.Words.{work_text};
 ghost use Rattle.node_session.specs.Text.{asks_part, group_part, hand_line, jobs_lines, jobs_part, pending_line, sets_part, state_line, up_line};
 
 use crate::words::{phase_word, push_group, push_ids, push_truth};
-use console_text::{push_bytes_text, push_number, push_priority, push_text};
+use console_text::{push_number, push_text, push_work};
 use durable_node::DurableNode;
 use job_model::{Job, JobTable, Work};
 use node_core::{InHand, Phase, Vector};
@@ -64,7 +65,7 @@ fn push_kept(text: &mut Vec<u8>, job: &Job) -> Result<(), AllocError>
     push_text(text, "pending ")?;
     push_number(text, job.id)?;
     push_text(text, " ")?;
-    push_work(text, &job.work)?;
+    push_parts(text, &job.work)?;
     push_text(text, "\n")
 }
 
@@ -87,16 +88,13 @@ pub(crate) fn push_held(text: &mut Vec<u8>, job: &InHand) -> Result<(), AllocErr
     push_text(text, " ")?;
     push_number(text, job.id)?;
     push_text(text, " ")?;
-    push_work(text, &job.work)
+    push_parts(text, &job.work)
 }
 
-fn push_work(text: &mut Vec<u8>, work: &Work) -> Result<(), AllocError>
-    ensures { OnOk result (text.new.items ≡ text.old.items ++ work_text work.now) }
+fn push_parts(text: &mut Vec<u8>, work: &Work) -> Result<(), AllocError>
+    ensures { OnOk result (text.new.items ≡ text.old.items ++ work_text work.now.queue work.now.payload work.now.priority) }
 {
-    push_number(text, u64::from(work.queue.number()))?;
-    push_text(text, " ")?;
-    push_bytes_text(text, work.payload.as_slice())?;
-    push_priority(text, work.priority)
+    push_work(text, work.queue.number(), work.payload.as_slice(), work.priority)
 }
 
 fn push_up(

@@ -36,7 +36,7 @@ receiver_named nodes k w (Ok x) m number what is h =
     rw (comes_sent w.net k x is) (named_by (nat_lt x.receiver nodes) x.receiver k (IsOf (on.Deliver x)) m number what h)
 receiver_named nodes k w (Err why) m number what is h = absurd cc
 
-taker_named : (nodes : ℕ) (w : World) (a : Act) (m number : ℕ) (what : What) → IsStepOf nodes w a (Takes m number what) → node_of nodes w a ≡ m
+pub taker_named : (nodes : ℕ) (w : World) (a : Act) (m number : ℕ) (what : What) → IsStepOf nodes w a (Takes m number what) → node_of nodes w a ≡ m
 taker_named nodes w (act.Check n) m number what h = named_by (nat_lt n nodes) n 0 (IsOf on.CheckTimer) m number what h
 taker_named nodes w (act.Merge n) m number what h = named_by (nat_lt n nodes) n 0 (IsOf on.MergeTimer) m number what h
 taker_named nodes w (act.Accept n) m number what h = named_by (nat_lt n nodes) n 0 (IsOf on.AcceptTimer) m number what h

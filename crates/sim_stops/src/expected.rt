@@ -1,4 +1,5 @@
-use cluster_sim::{Command, Marked, Mounted};
+use cluster_sim::{Marked, Mounted};
+use histories::Command;
 use job_model::Job;
 use std::alloc::{AllocError, Global};
 

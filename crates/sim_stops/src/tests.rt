@@ -1,6 +1,7 @@
 use super::*;
-use cluster_sim::{Command, Marked, Mounted};
+use cluster_sim::{Marked, Mounted};
 use group_task::NodeId;
+use histories::Command;
 use job_model::{Job, Payload, Queue, Work};
 use schedule::read_schedule;
 use std::alloc::Global;

@@ -10,7 +10,7 @@ use Rattle.node_store.specs.Store.{StoreState, durable_of, append_refusal, compa
 use Rattle.node_store.specs.Told.{IsMountFault}
 use Rattle.node_store.specs.declared.fault.StoreFault.{StoreFault}
 use Rattle.console_text.specs.Ends.{line}
-use Rattle.console_text.specs.Words.{bytes_text, priority_text}
+use Rattle.console_text.specs.Words.{work_text}
 use Rattle.store_console.specs.declared.request.Request.{Request}
 use Rattle.store_console.specs.declared.request.Request.TheVariants as request
 use Rattle.store_console.specs.declared.reply.Reply.{Reply}
@@ -102,11 +102,8 @@ fault_text StoreFault.NoSuchJob = codes "NoSuchJob"
 fault_text StoreFault.NoMemory = codes "NoMemory"
 fault_text StoreFault.TooSmall = codes "TooSmall"
 
-abbrev pub work_text : Work → List ℕ
-work_text work = decimal work.queue ++ codes " " ++ bytes_text work.payload ++ priority_text work.priority
-
 abbrev pub job_text : Job → List ℕ
-job_text job = codes "job " ++ decimal job.id ++ codes " " ++ work_text job.work
+job_text job = codes "job " ++ decimal job.id ++ codes " " ++ work_text job.work.queue job.work.payload job.work.priority
 
 -- the counter, the next id, and the jobs in the order of their ids
 abbrev pub list_text : Durable → List ℕ

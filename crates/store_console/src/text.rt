@@ -3,12 +3,12 @@
 ghost use Rattle.std.specs.Prelude.{◌≡◌, ◌++◌, OnOk, flat_map};
 ghost use Rattle.job_model.specs.Table.{durable_of};
 ghost use Rattle.console_text.specs.Ends.{line};
-ghost use Rattle.store_console.specs.Replies.{fault_text, job_text, list_text, reply_text, work_text};
+ghost use Rattle.store_console.specs.Replies.{fault_text, job_text, list_text, reply_text};
 
 use crate::reply::Reply;
-use console_text::{push_bytes_text, push_number, push_priority, push_text};
+use console_text::{push_number, push_text, push_work};
 use file_disk::FileDisk;
-use job_model::{Job, JobTable, Work};
+use job_model::{Job, JobTable};
 use node_store::{NodeStore, StoreFault};
 use std::alloc::AllocError;
 
@@ -86,15 +86,7 @@ fn push_job(text: &mut Vec<u8>, job: &Job) -> Result<(), AllocError>
     push_text(text, "job ")?;
     push_number(text, job.id)?;
     push_text(text, " ")?;
-    push_work(text, &job.work)?;
+    let work = &job.work;
+    push_work(text, work.queue.number(), work.payload.as_slice(), work.priority)?;
     push_text(text, "\n")
-}
-
-fn push_work(text: &mut Vec<u8>, work: &Work) -> Result<(), AllocError>
-    ensures { OnOk result (text.new.items ≡ text.old.items ++ work_text work.now) }
-{
-    push_number(text, u64::from(work.queue.number()))?;
-    push_text(text, " ")?;
-    push_bytes_text(text, work.payload.as_slice())?;
-    push_priority(text, work.priority)
 }

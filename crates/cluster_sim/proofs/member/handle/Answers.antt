@@ -1,4 +1,4 @@
-use Rattle.std.proofs.Common.{◌≡◌, ℕ, length, List, ◌∙◌, ap}
+use Rattle.std.proofs.Common.{◌≡◌, ℕ, length, List, ◌∙◌, ap, refl}
 use Rattle.wire_msg.specs.Envelope.{Envelope}
 use Rattle.sim_net.specs.Network.{Network, after_all_sent}
 use Rattle.durable_node.specs.Faults.{fault_of, told}
@@ -20,7 +20,7 @@ returns-clause-came c =
     let net = c.args.net.now.network in
     let came = c.in-Ok.came in
     let first : c.len-first.result ≡ length net.sent = c.len-first.ensures ∙ ap (λ (ms : List Envelope). length ms) c.sent.ensures ∙ ap (λ (n : Network). length n.sent) c.reserve.ensures.network in
-    comes_by c.args.event c.args.node.now c.step.new.self net c.send_all.new.net.network came c.outcome_of.result c.has_disk.ensures c.in-Ok.ensures.step
+    comes_by c.args.event c.args.node.now c.step.new.self net c.send_all.new.net.network came _ c.has_disk.ensures c.in-Ok.ensures.step refl refl c.is_mounting.ensures
     (c.outcome_of.ensures ∙ ap (λ (n : ℕ). came_told (fault_of came.what) n came) first)
     (c.send_all.ensures ∙ (λ i. after_all_sent (c.reserve.ensures.network i) (c.deref.ensures.value i)))
 

@@ -3,10 +3,10 @@ use Rattle.std.specs.Prelude.{IfOk}
 use Rattle.sim_net.specs.Network.{Network, delivery}
 use Rattle.node_core.specs.declared.event.Event.TheVariants as on
 use Rattle.histories.specs.What.{AreAddressed}
-use Rattle.cluster_sim.specs.declared.outcome.Outcome.{Outcome}
+use Rattle.cluster_sim.specs.declared.outcome.Deed.{Deed}
 use Rattle.runs.specs.Acts.{At}
 use Rattle.durable_node.specs.Stepping.{CameOf}
-use Rattle.cluster_sim.specs.Machine.{Machine, Makes}
+use Rattle.cluster_sim.specs.Machine.{Machine, Made}
 use Rattle.cluster_sim.proofs.Doings.{delivered, undelivered}
 use Rattle.cluster_sim.proofs.Faulting.{faults_still, faults_received}
 use Rattle.cluster_sim.proofs.simulation.Simulation.deliver.Goals as goal
@@ -22,7 +22,7 @@ returns-in-Ok-clause-acted c = λ w stands.
     let net = ap (λ (m : Machine). m.net) c.self.view_is ∙ stands.net in
     let m = c.in-Ok.message in
     delivered w c.args.number m c.take.result c.take.new.self (ap (λ (n : Network). delivery n c.args.number) (sym net) ∙ sym c.deliver.ensures ∙ c.in-Ok.is)
-    (λ brings goes. subst (λ (n : ℕ). IfOk c.take.result (λ (o : Outcome). Makes (λ step. At (nat_lt n (length w.states)) n c.args.number (CameOf (on.Deliver m)) step) w o c.take.new.self)) c.receiver.ensures.value
+    (λ brings goes. subst (λ (n : ℕ). IfOk c.take.result (λ (d : Deed). Made (λ step. At (nat_lt n (length w.states)) n c.args.number (CameOf (on.Deliver m)) step) w d c.take.new.self)) c.receiver.ensures.value
     (c.take.ensures.acted w c.args.number stands brings (subst (λ (n : ℕ). AreAddressed n (m ∷ [])) (sym c.receiver.ensures.value) goes)))
 
 pub returns-in-Err-clause-faults : goal.returns-in-Err-clause-faults

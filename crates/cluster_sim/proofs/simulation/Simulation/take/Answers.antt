@@ -1,11 +1,11 @@
 use Rattle.std.proofs.Common.{◌≡◌, ℕ, ◌<◌, ◌≤◌, length, nat_lt, refl, sym, ◌∙◌, ap, subst, arith}
 use Rattle.std.specs.Prelude.{slice_set, IfOk, OnErr}
-use Rattle.cluster_sim.specs.declared.outcome.Outcome.{Outcome}
+use Rattle.cluster_sim.specs.declared.outcome.Deed.{Deed}
 use Rattle.runs.specs.Acts.{At}
 use Rattle.durable_node.specs.Stepping.{CameOf}
-use Rattle.cluster_sim.specs.Machine.{Machine, IsCluster, StandsFor, Makes, FaultsAt}
+use Rattle.cluster_sim.specs.Machine.{Machine, IsCluster, StandsFor, Made, FaultsAt}
 use Rattle.runs.specs.Reporting.{node_or_first}
-use Rattle.cluster_sim.proofs.Members.{place_at, denied_at, still_cluster, takes_if, rests_if}
+use Rattle.cluster_sim.proofs.Members.{place_at, denied_deed, still_cluster, takes_if, rests_if}
 use Rattle.cluster_sim.proofs.Doings.{brought_came}
 use Rattle.cluster_sim.proofs.Faulting.{faults_still, faults_if}
 use Rattle.cluster_sim.proofs.simulation.Simulation.take.Goals as goal
@@ -18,7 +18,7 @@ returns-then-place-count-clause-acted c = λ w number stands brings goes.
     let past : c.len-count.result ≤ c.from-place.result = grind (arith) in
     let same = ap (λ (m : Machine). length m.nodes) c.self.view_is in
     let beyond : length c.args.self.now.nodes ≤ c.args.id = omega (arith, place, len, past, same) in
-    denied_at w c.args.id number (CameOf c.args.event) c.args.self.now stands beyond
+    denied_deed w c.args.id number (CameOf c.args.event) c.args.self.now stands beyond
 
 pub handle-requires : goal.handle-requires
 handle-requires c =
@@ -48,7 +48,7 @@ returns-clause-acted c = λ w number stands brings goes.
     let at = place_at was.nodes.items c.len-count.result c.from-place.result c.args.id c.index_mut.result.now len within place c.index_mut.ensures.value in
     let before : StandsFor (record { slots = was.slots; nodes = was.nodes.items; net = was.net.network }) w = subst (λ (m : Machine). StandsFor m w) (sym c.self.view_is) stands in
     let member = c.self.invariant.members c.args.id c.index_mut.result.now at in
-    subst (λ (k : ℕ). IfOk c.handle.result (λ (o : Outcome). Makes (λ step. At (nat_lt c.args.id (length w.states)) c.args.id number (CameOf c.args.event) step) w o
+    subst (λ (k : ℕ). IfOk c.handle.result (λ (d : Deed). Made (λ step. At (nat_lt c.args.id (length w.states)) c.args.id number (CameOf c.args.event) step) w d
     (record { slots = was.slots; nodes = slice_set was.nodes.items k c.handle.new.node; net = c.handle.new.net.network }))) (sym place)
     (takes_if was.slots c.args.id number (CameOf c.args.event) was.nodes.items c.index_mut.result.now c.handle.new.node was.net.network c.handle.new.net.network c.handle.result w c.self.invariant at before
     (brought_came w c.args.id number c.args.event brings goes) (λ s is. c.handle.ensures.came was.slots s c.self.invariant.most_slots member.size is))
@@ -74,5 +74,5 @@ returns-clause-faults c =
     let len : c.len-count.result ≡ length was.nodes.items = grind (arith) in
     let within : c.from-place.result < c.len-count.result = grind (arith) in
     let at = place_at was.nodes.items c.len-count.result c.from-place.result c.args.id c.index_mut.result.now len within place c.index_mut.ensures.value in
-    subst (λ (k : ℕ). IfOk c.handle.result (FaultsAt (node_or_first (length c.args.self.now.nodes) c.args.id) c.args.self.now (record { slots = was.slots; nodes = slice_set was.nodes.items k c.handle.new.node; net = c.handle.new.net.network }))) (sym place)
+    subst (λ (k : ℕ). IfOk c.handle.result (λ (d : Deed). FaultsAt (node_or_first (length c.args.self.now.nodes) c.args.id) c.args.self.now (record { slots = was.slots; nodes = slice_set was.nodes.items k c.handle.new.node; net = c.handle.new.net.network }) d.outcome)) (sym place)
     (faults_if was.slots c.args.id was.nodes.items c.index_mut.result.now c.handle.new.node was.net.network c.handle.new.net.network c.handle.result c.args.self.now c.self.view_is at c.handle.ensures.counted)

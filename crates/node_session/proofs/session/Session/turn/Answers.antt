@@ -1,5 +1,3 @@
-use Rattle.std.proofs.Common.{ap, ◌∙◌}
-use Rattle.node_session.specs.Changes.{sight_of}
 use Rattle.node_session.proofs.Happens.{turn_so}
 use Rattle.node_session.proofs.session.Session.turn.Goals as goal
 
