@@ -47,7 +47,7 @@ pub(crate) fn node_named(nodes: u8, net: &Net, act: &Act) -> NodeId
         | Act::Ready(id)
         | Act::Coord(id)
         | Act::Dispatch(id)
-        | Act::Submit(id, _, _)
+        | Act::Submit(id, _)
         | Act::Finish(id, _, _)
         | Act::Arm(id, _)
         | Act::Crash(id, _)
