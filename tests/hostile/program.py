@@ -13,6 +13,7 @@ class Tried:
     def __init__(self, program, name, is_long=False):
         self.program, self.name, self.is_long = os.path.abspath(program), name, is_long
         self.passed = self.failed = 0
+        self.error = b""
         self.counts = {}
 
     def count(self, what, by=1):
@@ -34,14 +35,34 @@ class Tried:
             ended = subprocess.run([self.program, *words], input=fed, capture_output=True, timeout=seconds, env=env)
         except subprocess.TimeoutExpired:
             return None, b"", f"no end within {seconds} s"
-        trouble = ""
-        if ended.returncode not in STATUSES[words[0]]:
-            trouble = f"status {ended.returncode}"
-        elif not ERRORS.fullmatch(ended.stderr):
-            trouble = f"standard error {ended.stderr[:200]!r}"
-        elif ended.stderr and words[0] not in ("node", "format"):
-            trouble = f"{words[0]} writes to standard error"
-        return ended.returncode, ended.stdout, trouble
+        self.error = ended.stderr
+        return ended.returncode, ended.stdout, self.trouble_in(words, ended.returncode)
+
+    def trouble_in(self, words, status):
+        if status not in STATUSES[words[0]]:
+            return f"status {status}"
+        if not ERRORS.fullmatch(self.error):
+            return f"standard error {self.error[:200]!r}"
+        return f"{words[0]} writes to standard error" if self.error and words[0] not in ("node", "format") else ""
+
+    def talk(self, words, fed, env=None):
+        """The same for a node that is fed line by line, each when the one before was answered."""
+        out = b""
+        with subprocess.Popen([self.program, *words], stdin=subprocess.PIPE, stdout=subprocess.PIPE, stderr=subprocess.PIPE, env=env, bufsize=0) as child:
+            try:
+                for at, line in enumerate(fed.splitlines(True), 1):
+                    child.stdin.write(line)
+                    closing = re.compile(rb"(ok|bad|refused|fault) %d\b" % at)
+                    for answer in child.stdout:
+                        out += answer
+                        if closing.match(answer):
+                            break
+                child.stdin.close()
+            except BrokenPipeError:
+                pass
+            out += child.stdout.read()
+            self.error = child.stderr.read()
+        return child.returncode, out, self.trouble_in(words, child.returncode)
 
     def expect(self, words, fed, status, text, note="", seconds=SECONDS):
         """The program prints this text and ends with this status."""
