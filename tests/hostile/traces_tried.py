@@ -1,6 +1,7 @@
 """Traces with each byte replaced, cut at each byte, with each field missing, of another type or out of its range, and nested too deep."""
-import json, re
+import json
 import rows, traces
+from node_model import Search
 
 VALUES = ["null", "true", "false", "0", "-0", "1", "-1", "00", "01", "1.0", "1e0", "1E2", "0.5", "15", "16", "63", "64", "127", "128", "255", "256", "65536",
           "18446744073709551615", "18446744073709551616", "1e400", "1e-400", '""', '"0"', '"-"', '"f"', '"zz"', '"FF"', '"device"', '"mount"', '"raise"', '"Device"', '"check"', '"none"',
@@ -8,28 +9,18 @@ VALUES = ["null", "true", "false", "0", "-0", "1", "-1", "00", "01", "1.0", "1e0
           '{"do":"none","sent":[]}', "nan", "Infinity", "'a'", "", "[1,]", "{,}", "tru", '"' + "a5" * 400 + '"', '"' + "a5" * 401 + '"']
 
 
-def judged(tried, data, note):
-    """The program's verdict is a bad trace just where this reader's is; an order of a run takes each entry once."""
+def verdict(data):
+    """The status and the text of a trace."""
     try:
-        nodes, histories = traces.read(data)
+        return Search(*traces.read(data)).verdict()
     except traces.Bad as bad:
-        tried.count("bad traces")
-        tried.expect(["trace"], data, 1, f"{bad}\n".encode(), note)
-        return
-    status, out, trouble = tried.run(["trace"], data)
-    words = out.decode("ascii", "replace").split() or [""]
-    if not trouble and not re.fullmatch(rb"Run( \d+)*\n|NotARun \d+ \d+\n", out):
-        trouble = f"it prints {out[:200]!r}"
-    elif not trouble and words[0] == "Run":
-        order = [int(word) for word in words[1:]]
-        if status != 0 or [order.count(node) for node in range(nodes)] != [len(history) for history in histories]:
-            trouble = f"status {status}, it prints {out[:200]!r}"
-    elif not trouble:
-        node, index = int(words[1]), int(words[2])
-        if status != 1 or node >= nodes or index >= len(histories[node]):
-            trouble = f"status {status}, it prints {out[:200]!r}"
-    tried.count("runs" if words[0] == "Run" else "no runs")
-    tried.tell(trouble, (note, data[:400]))
+        return 1, f"{bad}\n"
+
+
+def judged(tried, data, note):
+    status, text = verdict(data)
+    tried.count("bad traces" if text.startswith("bad") else "no runs" if status else "runs")
+    tried.expect(["trace"], data, status, text.encode(), note)
 
 
 def try_each_byte(tried):
