@@ -5,7 +5,7 @@ what is worked out here.
     fuzz.py PROGRAM SECONDS SEED [COMMAND..]
 
 The same seed tries the same inputs. The last line counts the runs; an input that went wrong is left in a file that is named."""
-import os, random, re, sys, tempfile, time
+import itertools, os, random, re, sys, tempfile, time
 
 sys.dont_write_bytecode = True
 sys.path.insert(0, os.path.dirname(os.path.abspath(__file__)))
@@ -13,6 +13,7 @@ import grammar, rows, tables, wire
 from files_tried import GREATEST, Model
 from node_model import Cluster, Search
 from program import Tried
+from session_model import Session
 from spelling import HAS_PRIORITIES
 from traces_tried import VALUES, verdict
 from vectors import MESSAGES, OTHERS, stream_to
@@ -133,6 +134,17 @@ class Inputs:
             return f"arm {node} {chance.randrange(30)}"
         fill = chance.choice(("", " -", " a5", " " + "37" * 512, " " + "ff" * 512, " " + "a5" * 1024, " 01" + "00" * 600))
         return chance.choice((f"crash {node}{fill}", f"recover {node}", f"recover {node}", f"compact {node}"))
+
+    def session(self):
+        """What node 0 of a random cluster was brought, and what its operator asked of it."""
+        _, cluster = self.schedule(self.chance.choice((20, 60, 200)), False)
+        lines = ["recover"]
+        for own, event, args, _ in cluster.taken:
+            if own == 0 and event != "crash":
+                words = {"deliver": lambda data: [data.hex()], "submit": lambda queue, payload, priority: [str(queue), payload.hex() or "-"] + ([str(priority)] if priority else []),
+                         "finish": lambda origin, job: [str(origin), str(job)]}.get(event, lambda: [])(*args)
+                lines.append(" ".join([event, *words]))
+        return "\n".join(lines).encode()
 
     def trace(self):
         """What a random run of a cluster did, with some of it spoiled."""
@@ -280,17 +292,31 @@ def one_node(fuzz):
     path = os.path.join(fuzz.folder, "node")
     if os.path.exists(path):
         os.remove(path)
-    tried.run(["format", path, str(chance.choice((4, 5, 16))), "0", "3"], b"")
-    seen = Seen()
+    slots = chance.choice((4, 5, 16))
+    tried.run(["format", path, str(slots), "0", "3"], b"")
+    seen, session = Seen(), Session(0, 3, slots)
     for _ in range(2):
-        fed = inputs.lines_changed(chance.choice(others), others) + b"\nstate\n"
-        requests = grammar.node_requests(fed)
+        fed = inputs.lines_changed(inputs.session() if chance.random() < 0.5 else chance.choice(others), others) + b"\nstate\n"
+        requests, lines = grammar.node_requests(fed), [line for line in fed.split(b"\n")[:-1] if line]
         status, out, trouble = tried.run(["node", path, "0", "3"], fed)
-        trouble = trouble or (f"status {status}" if status != 0 else seen.problem(out.decode(), requests, [line for line in fed.split(b"\n")[:-1] if line]))
+        trouble = trouble or (f"status {status}" if status != 0 else seen.problem(out.decode(), requests, lines))
+        if session and any(read and line.startswith((b"tick", b"lost")) for read, line in zip(requests, lines)):
+            session = None
+        if session and not trouble:
+            tried.count("lives that were foreseen")
+            session.begin()
+            text = "".join(answer + "\n" for read, line in zip(requests, lines) for answer in session.answer(line.decode("latin1"), read))
+            trouble = unlike(in_order(out), in_order(text.encode()))
         if trouble:
             return ["node", path, "0", "3"], fed, lambda *_: trouble
     fed = b"recover\njobs\n"
     return ["node", path, "0", "3"], fed, seen.ends_well
+
+
+def in_order(out):
+    """The jobs of a hand are told in no order that the pages name: those that are told one behind the other are sorted."""
+    told = itertools.groupby(out.splitlines(True), lambda line: line.split(b" ")[0])
+    return b"".join(b"".join(sorted(lines) if word in (b"take", b"drop", b"hand") else lines) for word, lines in told)
 
 
 class Seen:

@@ -1,5 +1,5 @@
 """Every line of the grammars of `sim`, `store`, `node` and `format`, spoiled word by word."""
-import os, re, tempfile
+import os, re, tempfile, time
 from grammar import NODE, SIM, STORE, bad_in_pieces, bad_in_schedule, bad_in_store, is_number, is_read
 
 OF_SIM = """check 0;merge 0;accept 0;ready 0;coord 0;dispatch 0;deliver 0;lose 0;cut 0 1;mend 0 1;submit 0 3 6869;submit 0 3 6869 7;finish 0 0 0
@@ -138,6 +138,20 @@ def try_node(tried, folder):
                 tried.tell("" if right else f"it answers {close!r}, and the line can{'' if read else 'not'} be read", ("node", line[:300]))
 
 
+def try_endless(tried, folder):
+    """Lines of a node without an end. Expected to fail: the time that a line takes grows as the square of its length, so it is shown and not
+    counted as a failure."""
+    path, took = os.path.join(folder, "endless"), []
+    tried.run(["format", path, "4", "0", "3"], b"")
+    for megabytes in (6, 24):
+        fed = b"state\n" + b"a" * (megabytes << 20) + b"\nstate\n"
+        begun = time.monotonic()
+        tried.expect(["node", path, "0", "3"], fed, 0, b"state Down\nok 1\nbad 2\nstate Down\nok 3\n", f"a line of {megabytes} MB")
+        took.append(time.monotonic() - begun)
+    if took[1] > 8 * took[0]:
+        print("lines: known: a node's line of 6 MB takes %.2f s and one of 24 MB %.2f s" % tuple(took))
+
+
 def try_format(tried, folder):
     """The words of a command line: what isn't a number in its range ends with status 2, and makes no file."""
     path = os.path.join(folder, "made")
@@ -170,4 +184,6 @@ def try_lines(tried):
         try_pieces(tried)
         try_store(tried, folder)
         try_node(tried, folder)
+        if tried.is_long:
+            try_endless(tried, folder)
         try_format(tried, folder)

@@ -1,6 +1,6 @@
 """Each allocation of some small runs is refused in turn. What is printed is the text that is printed with ample memory, or `no memory` alone with
 status 1. In `sim` a refused growth of a disk's record is a fault of that act's device. What a store or a node had answered is in its file."""
-import os, tempfile
+import os, resource, tempfile
 import rows, shim, tables
 from files_tried import Model, as_commands, feed, found_in, node_text, read
 
@@ -164,8 +164,37 @@ def try_format(refusing, folder):
         tried.tell("" if (status, made) in ((0, True), (1, False)) else f"status {status}, {made}", ("format", "allocation", at))
 
 
+MEGABYTE = 1 << 20
+
+
+def try_little_room(tried, folder):
+    """Inputs that need more memory than the process may have: each way ends in `no memory` alone, whatever had been done before."""
+    def limited(words, fed, megabytes, status, text):
+        limit = lambda: resource.setrlimit(resource.RLIMIT_AS, (megabytes * MEGABYTE,) * 2)
+        got, out, trouble = tried.run(words, fed, limit=limit)
+        tried.tell(trouble or ("" if (got, out) == (status, text) else f"status {got}, it prints {out[:100]!r}"), (words, len(fed), megabytes))
+    two = rows.lines("cluster 2 4096;check 0;deliver 0;deliver 1;merge 0;deliver 2;deliver 3;accept 0;deliver 4;deliver 5")
+    jobs = (b"submit 0 1 " + b"61" * 400 + b"\n") * 1000
+    entries = b",".join([b'{"do":"none","sent":[]}'] * 200_000)
+    node, store = os.path.join(folder, "node"), os.path.join(folder, "store")
+    none = b"no memory\n"
+    limited(["sim"], b"cluster 128 4\n" + b"check 0\n" * 20_000, 80, 1, none)
+    limited(["sim"], two + jobs + b"dispatch 0\n" * 100, 40, 1, none)
+    limited(["sim"], b"cluster 128 4096\n", 100, 1, none)
+    limited(["trace"], b'{"nodes":1,"histories":[[' + entries + b"]]}", 80, 1, none)
+    limited(["trace"], b'{"nodes":1,"histories":[[' + entries + b"]]}", 20, 1, none)
+    limited(["show"], b"a" * (40 * MEGABYTE), 20, 1, none)
+    limited(["answer", "0", "3"], b"010101000000\n" * MEGABYTE, 20, 1, none)
+    limited(["store", store], b"format 4\nmount\n" + b"list\n" * MEGABYTE, 20, 1, none)
+    tried.run(["format", node, "4", "0", "3"], b"")
+    # what was answered before is written, and the node ends
+    limited(["node", node, "0", "3"], b"recover\n" + b"a" * (12 * MEGABYTE), 12, 1, b"group Normal 0 0:1 0\nok 1\n")
+    tried.expect(["node", node, "0", "3"], b"recover\n", 0, b"group Normal 0 0:2 0\nok 1\n", "begun again")
+
+
 def try_memory(tried):
     with tempfile.TemporaryDirectory() as folder:
+        try_little_room(tried, folder)
         library = shim.built(folder)
         if library is None:
             print("there is no C compiler cc, so no allocation was refused")

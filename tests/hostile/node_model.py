@@ -116,7 +116,7 @@ class Node:
         queue, payload, priority = self.pending[job]
         owner = self.owner(queue)
         if owner == self.own:
-            self.hand.setdefault((self.own, job), True)
+            self.hand.setdefault((self.own, job), (queue, payload, priority))
             return []
         body = spell_group(self.group) + job.to_bytes(8, "big") + bytes([queue] + ([priority] if priority else [])) + len(payload).to_bytes(2, "big") + payload
         return self.say(11 if priority else 9, [owner], body, [self.group[0]])
@@ -206,7 +206,7 @@ class Node:
 
     def on9(self, sender, message):
         if self.phase == NORMAL and message["group"] == self.group and sender in self.members and self.owner(message["queue"]) == self.own:
-            self.hand.setdefault((sender, message["job"]), True)
+            self.hand.setdefault((sender, message["job"]), (message["queue"], message["payload"], message["priority"]))
         return []
 
     on11 = on9

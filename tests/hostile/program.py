@@ -29,10 +29,10 @@ class Tried:
             print(f"FAILED {self.name}: {problem}: {str(case)[:600]}")
         return False
 
-    def run(self, words, fed, env=None, seconds=SECONDS):
+    def run(self, words, fed, env=None, seconds=SECONDS, limit=None):
         """The status, the output and the trouble there was with how it ended."""
         try:
-            ended = subprocess.run([self.program, *words], input=fed, capture_output=True, timeout=seconds, env=env)
+            ended = subprocess.run([self.program, *words], input=fed, capture_output=True, timeout=seconds, env=env, preexec_fn=limit)
         except subprocess.TimeoutExpired:
             return None, b"", f"no end within {seconds} s"
         self.error = ended.stderr
