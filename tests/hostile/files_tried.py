@@ -3,6 +3,7 @@ word that the layout says. Of arbitrary damage no more is promised; where a cras
 import os, random, tempfile
 import shim
 from layout import SECTOR, File, Refused, cell, listed, mounted
+from spelling import HAS_PRIORITIES
 
 SECTORS = 32
 # Six slots in each area: 32 sectors, and each of them is damaged in turn.
@@ -14,6 +15,8 @@ HISTORIES = {
     "compacted twice": ["raise", "put 1 61", "put 0 62", "compact", "done 0", "put 4 64", "compact", "put 3 63", "raise", "raise"],
     "a full journal": ["put 0 61", "done 0", "put 0 62", "done 1", "put 0 63", "put 0 64"],
 }
+if HAS_PRIORITIES:
+    HISTORIES["priorities"] = ["raise", "put 1 61 7", "put 0 62", "put 2 - 255", "done 1", "compact", "put 3 63 1"]
 GREATEST = 2**64 - 1
 
 
@@ -128,6 +131,16 @@ def made(tried, path, history):
     return data, model
 
 
+def as_before_priorities(data):
+    """The same file with the records that were written when jobs had no priorities, for the jobs that have none."""
+    bodies = [data[at:at + SECTOR] for at in range(0, SECTORS * SECTOR, SECTOR)]
+    for at in range(8, SECTORS, 2):
+        body = bodies[at]
+        if body[0] in (5, 6) and body[10] == 0:
+            bodies[at] = bytes([{5: 1, 6: 4}[body[0]]]) + body[1:10] + body[11:] + b"\0"
+    return b"".join(bodies) + data[SECTORS * SECTOR:]
+
+
 # What is done with a damaged file. A compaction comes last: a put after it is answered by its new area.
 COMMANDS = ["raise", "put 3 7a", "raise", "put 0 -", "compact", "put 0 7b"]
 
@@ -177,6 +190,8 @@ def try_damage(tried, folder):
     for name, history in HISTORIES.items():
         data, before = made(tried, path, history)
         one_store(tried, path, data, Model(0, 0, {}, 6), None, name, (name, "undamaged"))
+        if HAS_PRIORITIES:
+            one_store(tried, path, as_before_priorities(data), Model(0, 0, {}, 6), None, name, (name, "as before priorities"))
         for at in range(SECTORS):
             for fill, bytes_there in fills(tried.is_long, at):
                 one_store(tried, path, damaged(data, at, bytes_there), before, at, name, (name, "sector", at, fill))
