@@ -9,9 +9,10 @@ import itertools, os, random, re, sys, tempfile, time
 
 sys.dont_write_bytecode = True
 sys.path.insert(0, os.path.dirname(os.path.abspath(__file__)))
-import grammar, rows, tables, wire
-from files_tried import GREATEST, Model
-from node_model import Cluster, Search
+import grammar, rows, shim, tables, wire
+from files_tried import Model
+from memory_tried import trouble_in_faulted
+from node_model import Cluster
 from program import Tried
 from session_model import Session
 from spelling import HAS_PRIORITIES
@@ -370,7 +371,30 @@ class Seen:
         return f"status {status}" if status != 0 else unlike(out, (text + "ok 2\n").encode())
 
 
-COMMANDS = {"pieces": one_piece, "sim": one_schedule, "trace": one_trace, "store": one_store, "node": one_node}
+def one_refusal(fuzz):
+    """One of the commands that read their whole input, with one allocation refused by chance, behind those of the command line."""
+    chance, tried = fuzz.chance, fuzz.tried
+    words, fed, _ = chance.choice((one_piece, one_schedule, one_schedule, one_trace, one_store))(fuzz)
+    begin = lambda: os.path.exists(words[-1]) and os.remove(words[-1]) if words[0] == "store" else None
+    begin()
+    status, whole, trouble = tried.run(words, fed, shim.environment(fuzz.library, fuzz.told))
+    total = shim.read_told(fuzz.told)[1]
+    if trouble or total < 100:
+        return words, fed, lambda *_: trouble
+    begin()
+    at = chance.randrange(100, total + 1)
+    got, out, trouble = tried.run(words, fed, shim.environment(fuzz.library, fuzz.told, REFUSE_AT=at))
+    shim.read_told(fuzz.told)
+    begin()
+    if not trouble and (got, out) not in ((status, whole), (1, b"no memory\n")):
+        acts = [line.decode() for line in fed.split(b"\n") if line][1:]
+        is_sim = words == ["sim"] and got == 0 == status
+        trouble = trouble_in_faulted(out.decode(), whole.decode(), acts) if is_sim else f"status {got}, it prints {out[:200]!r}"
+        tried.count("disks that found no memory")
+    return words, fed, lambda *_: f"allocation {at} of {total}: {trouble}" if trouble else ""
+
+
+COMMANDS = {"pieces": one_piece, "sim": one_schedule, "trace": one_trace, "store": one_store, "node": one_node, "refusals": one_refusal}
 
 
 class Fuzz:
@@ -378,6 +402,9 @@ class Fuzz:
         self.tried, self.folder, self.names, self.seed = Tried(program, f"fuzz {seed}"), folder, names, seed
         self.chance = random.Random(seed)
         self.inputs = Inputs(self.chance)
+        self.library, self.told = shim.built(folder), os.path.join(folder, "told")
+        if self.library is None:
+            self.names = [name for name in names if name != "refusals"]
 
     def turn(self):
         name = self.chance.choice(self.names)

@@ -60,10 +60,12 @@ def try_batches(refusing, words, fed, want, note):
 
 
 def trouble_in_faulted(out, whole, acts):
-    """A schedule in which one more act is a fault of its device: before it all is printed as ever."""
+    """A schedule in which an act is a fault of its device: before it all is printed as ever. Where the device was to fail in that act anyway, it
+    fails in an earlier call now, and what differs comes later."""
     lines, wanted = out.split("\n"), whole.split("\n")
     first = next((k for k, (a, b) in enumerate(zip(lines, wanted)) if a != b), None)
-    if first is None or first >= len(acts) or lines[first] != f"{first} fault Device":
+    is_fault = first is not None and first < len(acts) and lines[first] == f"{first} fault Device"
+    if not is_fault and not any(line.endswith("fault Device") for line in lines[:first]):
         return f"line {first} is {lines[first] if first is not None else ''!r}"
     return tables.problem_in(out, acts)
 
