@@ -52,12 +52,24 @@ def try_closed(streams):
     for words, fed in INPUTS.items():
         for closed in ((0,), (1,), (2,), (0, 1), (0, 1, 2)):
             status = streams.start(words, fed, closed)
-            # nothing can be read, or nothing written; a store has done then what it was asked
-            trouble = streams.trouble(status, (1,) if 0 in closed or 1 in closed else (0,))
-            if words[0] == "node" and closed != (2,):
+            # nothing can be read, which may count as an input that has ended, or nothing written; a store has done then what it was asked
+            trouble = streams.trouble(status, (0, 1) if 0 in closed else (1,) if 1 in closed else (0,))
+            if words[0] == "node" and closed == (1,):
                 streams.known(trouble, (words, "closed", closed), "the node's file takes the place of a closed stream")
             else:
                 streams.tried.tell(trouble, (words, "closed", closed))
+
+
+def try_own_file(streams):
+    """A node with no input, whose file has a job with a line in its payload, does nothing."""
+    def begun():
+        streams.start(("node", "FILE", "0", "3"), b"recover\nsubmit 0 " + b"\nrecover\n".hex().encode() + b"\n")
+        return read(streams.path)
+    before = begun()
+    with subprocess.Popen([streams.tried.program, "node", streams.path, "0", "3"], preexec_fn=lambda: os.close(0), stdout=subprocess.DEVNULL, stderr=subprocess.DEVNULL) as child:
+        status = child.wait(20)
+    trouble = "" if status in (0, 1) and read(streams.path) == before else f"status {status}, and the file is another"
+    streams.known(trouble, "a closed input and a line in a payload", "the node reads its own file")
 
 
 def try_failing(streams):
@@ -104,5 +116,6 @@ def try_streams(tried):
     with tempfile.TemporaryDirectory() as folder:
         streams = Streams(tried, folder)
         try_closed(streams)
+        try_own_file(streams)
         try_failing(streams)
         try_words(streams)
