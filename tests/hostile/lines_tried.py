@@ -138,18 +138,29 @@ def try_node(tried, folder):
                 tried.tell("" if right else f"it answers {close!r}, and the line can{'' if read else 'not'} be read", ("node", line[:300]))
 
 
-def try_endless(tried, folder):
-    """Lines of a node without an end. Expected to fail: the time that a line takes grows as the square of its length, so it is shown and not
-    counted as a failure."""
-    path, took = os.path.join(folder, "endless"), []
-    tried.run(["format", path, "4", "0", "3"], b"")
-    for megabytes in (6, 24):
-        fed = b"state\n" + b"a" * (megabytes << 20) + b"\nstate\n"
+def grows(tried, path, what, small, great, most):
+    """How much longer a node takes for an input four times as great. Where that is above `most` it is told, and isn't counted as a failure."""
+    took = []
+    for lines, text in (small, great):
+        if os.path.exists(path):
+            os.remove(path)
+        tried.run(["format", path, "4096", "0", "3"], b"")
         begun = time.monotonic()
-        tried.expect(["node", path, "0", "3"], fed, 0, b"state Down\nok 1\nbad 2\nstate Down\nok 3\n", f"a line of {megabytes} MB")
+        status, out, trouble = tried.run(["node", path, "0", "3"], lines, seconds=120)
+        tried.tell(trouble or ("" if status == 0 and out.endswith(text) else f"status {status}, it ends with {out[-100:]!r}"), what)
         took.append(time.monotonic() - begun)
-    if took[1] > 8 * took[0]:
-        print("lines: known: a node's line of 6 MB takes %.2f s and one of 24 MB %.2f s" % tuple(took))
+    if took[1] > most * took[0]:
+        tried.count("known to be wrong")
+        print(f"lines: known: {what}: {took[0]:.2f} s, and four times as much {took[1]:.2f} s")
+
+
+def try_growth(tried, folder):
+    """Lines without an end, and jobs in hand. Expected to fail: the time grows as the square of the line, and of the jobs for each request."""
+    path = os.path.join(folder, "growth")
+    line = lambda megabytes: (b"state\n" + b"a" * (megabytes << 20) + b"\nstate\n", b"bad 2\nstate Down\nok 3\n")
+    grows(tried, path, "a line of 6 MB to a node", line(6), line(24), 8)
+    jobs = lambda many: (b"recover\n" + b"submit 0 61\n" * many, b"ok %d id %d\n" % (many + 1, many - 1))
+    grows(tried, path, "500 jobs that a node takes in hand", jobs(500), jobs(2000), 12)
 
 
 def try_format(tried, folder):
@@ -185,5 +196,5 @@ def try_lines(tried):
         try_store(tried, folder)
         try_node(tried, folder)
         if tried.is_long:
-            try_endless(tried, folder)
+            try_growth(tried, folder)
         try_format(tried, folder)
