@@ -350,6 +350,25 @@ def begun_again(tried, words, image, note):
     tried.expect(words, feed(["recover", "jobs", "submit 0 61"]), 0, feed(lines), note)
 
 
+def try_half_made(tried, folder, library):
+    """The making of a node's file is ended at each write and sync: then it is no node's file."""
+    path, told = os.path.join(folder, "half"), os.path.join(folder, "told")
+    words, at, status = ["format", path, "4", "0", "3", "5"], 0, None
+    while status != 0 and at < 1000:
+        at += 1
+        if os.path.exists(path):
+            os.remove(path)
+        status = tried.run(words, b"", shim.environment(library, told, END_AT=at))[0]
+        shim.read_told(told)
+        if status == 0:
+            tried.expect(["node", path, "0", "3"], b"recover\n", 0, b"group Normal 0 0:6 0\nok 1\n", "a whole file")
+            continue
+        data = read(path)
+        got, out, trouble = tried.run(["node", path, "0", "3"], b"recover\n")
+        tried.tell(trouble or ("" if (status, got, out) == (-9, 5, b"") and read(path) == data else f"status {got}, {out!r}"), ("half made", at))
+        tried.tell("" if tried.run(words, b"")[0] == 1 and read(path) == data else "it is made over what is there", ("half made", at))
+
+
 def try_files(tried):
     with tempfile.TemporaryDirectory() as folder:
         try_damage(tried, folder)
@@ -360,3 +379,4 @@ def try_files(tried):
             print("there is no C compiler cc, so no process was ended at a call")
         else:
             try_crashes(tried, folder, library)
+            try_half_made(tried, folder, library)
