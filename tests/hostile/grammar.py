@@ -1,0 +1,105 @@
+"""Which lines can be read, from docs/SCHEDULES.md, docs/STORE.md and docs/NODE.md."""
+import re
+from spelling import HAS_PRIORITIES
+from wire import Malformed, decode
+
+GREATEST = 2**64 - 1
+MOST_ACTS = 65_536
+TIMERS = ("check", "merge", "accept", "ready", "coord", "dispatch")
+
+
+def is_number(word, most=GREATEST, least=0):
+    return re.fullmatch(rb"0|[1-9][0-9]*", word) is not None and len(word) <= 20 and least <= int(word) <= most
+
+
+def is_hex(word, most=None):
+    """Bytes in hex, at most so many; `-` for none."""
+    if word == b"-":
+        return True
+    return re.fullmatch(rb"([0-9a-fA-F]{2})+", word) is not None and (most is None or len(word) <= 2 * most)
+
+
+def is_node(word):
+    return is_number(word, 127)
+
+
+def is_message(word):
+    if word == b"-" or not is_hex(word):
+        return False
+    try:
+        data = bytes.fromhex(word.decode())
+        if len(data) < 6 or len(data) != 6 + int.from_bytes(data[4:6], "big"):
+            return False
+        decode(data)
+        return True
+    except Malformed:
+        return False
+
+
+number, node, queue = is_number, is_node, lambda word: is_number(word, 15)
+payload = lambda word: is_hex(word, 400)
+priority = lambda word: is_number(word, 255, 1)
+rows = lambda *fields: [fields]
+job = [(queue, payload), (queue, payload, priority)] if HAS_PRIORITIES else [(queue, payload)]
+
+# Of each word the lists of fields that may stand behind it.
+SIM = {
+    **{timer.encode(): rows(node) for timer in (*TIMERS, "recover", "compact")},
+    b"deliver": rows(number), b"lose": rows(number),
+    b"cut": rows(node, node), b"mend": rows(node, node),
+    b"submit": [(node, *fields) for fields in job], b"finish": rows(node, node, number),
+    b"arm": rows(node, number), b"crash": [(node,), (node, is_hex)],
+}
+STORE = {
+    b"format": rows(lambda word: is_number(word, 4096, 4)), b"mount": rows(), b"raise": rows(), b"compact": rows(), b"list": rows(),
+    b"put": job, b"done": rows(number),
+}
+NODE = {
+    **{timer.encode(): rows() for timer in (*TIMERS, "recover", "compact", "state", "jobs")},
+    b"deliver": rows(is_message), b"tick": rows(number), b"lost": rows(node),
+    b"submit": job, b"finish": rows(node, number),
+}
+
+
+def is_read(line, grammar):
+    """Whether a line that isn't empty can be read."""
+    verb, *fields = line.split(b" ")
+    return any(len(kinds) == len(fields) and all(kind(word) for kind, word in zip(kinds, fields)) for kinds in grammar.get(verb, []))
+
+
+def lines_in(data):
+    """The lines of an input, numbered from 1."""
+    lines = data.split(b"\n")
+    return list(enumerate(lines if lines[-1] else lines[:-1], 1))
+
+
+def bad_in_schedule(data):
+    """The number of the line of a schedule that can't be read, or None."""
+    lines, acts = lines_in(data), None
+    for at, line in lines:
+        if not line:
+            continue
+        if acts is None:
+            words = line.split(b" ")
+            if len(words) != 3 or words[0] != b"cluster" or not is_number(words[1], 128, 1) or not is_number(words[2], 4096, 4):
+                return at
+            acts = 0
+            continue
+        acts += 1
+        if acts > MOST_ACTS or not is_read(line, SIM):
+            return at
+    return len(lines) + 1 if acts is None else None
+
+
+def bad_in_store(data):
+    return next((at for at, line in lines_in(data) if line and not is_read(line, STORE)), None)
+
+
+def bad_in_pieces(data):
+    """The number of the line of `answer` or `show` that can't be read, or None."""
+    return next((at for at, line in lines_in(data) if line and not is_hex(line)), None)
+
+
+def node_requests(data):
+    """For each request of a node whether it can be read; a last line that isn't whole is none."""
+    return [is_read(line, NODE) for line in data.split(b"\n")[:-1] if line]

@@ -1,0 +1,79 @@
+"""Runs the program, and counts what was tried. Whatever it is fed, it ends by itself, with a status that the texts allow, without a signal
+and with nothing on standard error but the word that a node's command says there."""
+import os, re, subprocess, sys
+
+SECONDS = 20
+ERRORS = re.compile(rb"(invite: [ -~]+\n)?")
+STATUSES = {"answer": {0, 1}, "show": {0, 1}, "sim": {0, 1}, "trace": {0, 1}, "store": {0, 1}, "format": {0, 1, 2, 3, 4, 5}, "node": {0, 1, 3, 4, 5}}
+
+
+class Tried:
+    """What was tried: how many runs, and how many of them were wrong. The first of a kind are shown."""
+
+    def __init__(self, program, name, is_long=False):
+        self.program, self.name, self.is_long = os.path.abspath(program), name, is_long
+        self.passed = self.failed = 0
+        self.error = b""
+        self.counts = {}
+
+    def count(self, what, by=1):
+        self.counts[what] = self.counts.get(what, 0) + by
+
+    def tell(self, problem, case):
+        """Counts a check; a problem that isn't empty is shown with its case."""
+        if not problem:
+            self.passed += 1
+            return True
+        self.failed += 1
+        if self.failed <= 20:
+            print(f"FAILED {self.name}: {problem}: {str(case)[:600]}")
+        return False
+
+    def run(self, words, fed, env=None, seconds=SECONDS, limit=None):
+        """The status, the output and the trouble there was with how it ended."""
+        try:
+            ended = subprocess.run([self.program, *words], input=fed, capture_output=True, timeout=seconds, env=env, preexec_fn=limit)
+        except subprocess.TimeoutExpired:
+            return None, b"", f"no end within {seconds} s"
+        self.error = ended.stderr
+        return ended.returncode, ended.stdout, self.trouble_in(words, ended.returncode)
+
+    def trouble_in(self, words, status):
+        if status not in STATUSES[words[0]]:
+            return f"status {status}"
+        if not ERRORS.fullmatch(self.error):
+            return f"standard error {self.error[:200]!r}"
+        return f"{words[0]} writes to standard error" if self.error and words[0] not in ("node", "format") else ""
+
+    def talk(self, words, fed, env=None):
+        """The same for a node that is fed line by line, each when the one before was answered."""
+        out = b""
+        with subprocess.Popen([self.program, *words], stdin=subprocess.PIPE, stdout=subprocess.PIPE, stderr=subprocess.PIPE, env=env, bufsize=0) as child:
+            try:
+                for at, line in enumerate(fed.splitlines(True), 1):
+                    child.stdin.write(line)
+                    closing = re.compile(rb"(ok|bad|refused|fault) %d\b" % at)
+                    for answer in child.stdout:
+                        out += answer
+                        if closing.match(answer):
+                            break
+                child.stdin.close()
+            except BrokenPipeError:
+                pass
+            out += child.stdout.read()
+            self.error = child.stderr.read()
+        return child.returncode, out, self.trouble_in(words, child.returncode)
+
+    def expect(self, words, fed, status, text, note="", seconds=SECONDS):
+        """The program prints this text and ends with this status."""
+        got, out, trouble = self.run(words, fed, seconds=seconds)
+        if not trouble and got != status:
+            trouble = f"status {got} in place of {status}, it prints {out[-200:]!r}"
+        if not trouble and out != text:
+            trouble = f"it prints {out[-300:]!r} in place of {text[-300:]!r}"
+        return self.tell(trouble, (note, words, fed if len(fed) < 400 else fed[:200] + b"..."))
+
+    def close(self):
+        told = "".join(f", {count} {what}" for what, count in sorted(self.counts.items()))
+        print(f"{self.name}: {self.passed + self.failed} runs, {self.failed} wrong{told}", flush=True)
+        return self.passed, self.failed
