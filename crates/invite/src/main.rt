@@ -14,7 +14,9 @@ use console_text::Ending;
 use group_task::{NODES, NodeId};
 use node_console::{LEAST_SLOTS, MOST_SLOTS, Status};
 use std::alloc::{AllocError, Global};
+use std::fs::File;
 use std::io;
+use std::io::ErrorKind;
 use std::process::ExitCode;
 
 /// The exit status of a command line that can't be read.
@@ -63,14 +65,24 @@ struct Place {
 fn main(rt: HostRuntime) -> ExitCode {
     match run(&rt) {
         Ok(status) => ExitCode::from(status),
-        Err(_) => ExitCode::FAILURE,
+        Err(error) => failed(&rt, &error),
     }
+}
+
+/// Want of memory is told as the commands tell it; where the output failed there is nobody to tell.
+fn failed(rt: &HostRuntime, error: &io::Error) -> ExitCode {
+    if error.kind() == ErrorKind::OutOfMemory {
+        let _ = rt.println("no memory");
+    }
+    ExitCode::FAILURE
 }
 
 /// Runs the command, and answers its exit status. The command line is judged before any input is read.
 fn run(rt: &HostRuntime) -> io::Result<u8> {
-    let alloc = rt.alloc();
-    let words: Vec<String> = std::env::args(rt)?.collect(alloc)?;
+    let _held = [null(rt)?, null(rt)?, null(rt)?];
+    let Some(words) = words(rt)? else {
+        return Ok(UNREADABLE);
+    };
     let Some(task) = task_of(rt, words.as_slice())? else {
         return Ok(UNREADABLE);
     };
@@ -79,6 +91,24 @@ fn run(rt: &HostRuntime) -> io::Result<u8> {
         Task::Trace => Ok(trace(rt).status()),
         Task::Format(path, making) => format(rt, path.as_str(), &making),
         Task::Node(path, place) => node(rt, path.as_str(), place),
+    }
+}
+
+/// Takes the number of a standard stream that the caller left closed, if there is one: a file that was opened in its place would be read as
+/// the input, or written over by the output.
+fn null(rt: &HostRuntime) -> io::Result<File> {
+    File::options().read(true).write(true).open(rt, "/dev/null")
+}
+
+/// The words of the command line. Where one of them isn't UTF-8, says so.
+fn words(rt: &HostRuntime) -> io::Result<Option<Vec<String>>> {
+    match std::env::args(rt) {
+        Ok(words) => Ok(Some(words.collect(rt.alloc())?)),
+        Err(error) if error.kind() == ErrorKind::InvalidData => {
+            rt.println("error: a word of the command line isn't UTF-8\n\nFor more information, try '--help'.")?;
+            Ok(None)
+        }
+        Err(error) => Err(error),
     }
 }
 
@@ -160,6 +190,9 @@ fn task_of<'a>(rt: &HostRuntime, words: &'a [String]) -> io::Result<Option<Task>
             Ok(task)
         }
         Err(error) => {
+            if error.kind() == clap::error::ErrorKind::OutOfMemory {
+                return Err(io::Error::from(ErrorKind::OutOfMemory));
+            }
             let is_mistake = error.use_stderr();
             rt.print(error)?;
             if is_mistake {
