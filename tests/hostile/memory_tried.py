@@ -4,16 +4,12 @@ import os, resource, tempfile
 import rows, shim, tables
 from files_tried import Model, as_commands, feed, found_in, node_text, read
 
-# Expected to fail: where memory runs out while the command line is read, the program prints nothing and ends with status 1, or it prints what
-# the reader of the command line says and ends with status 2, or 1 where nothing more can be had. It is `no memory` alone and status 1 only once the command has begun.
-USAGE = b"error: out of memory\n"
-
 
 class Refusing:
     """Runs one command again and again, with one allocation more that is granted each time."""
 
     def __init__(self, tried, library, folder):
-        self.tried, self.library, self.told, self.has_begun = tried, library, os.path.join(folder, "told"), False
+        self.tried, self.library, self.told = tried, library, os.path.join(folder, "told")
 
     def every(self, words, fed, before=lambda: None, run=None):
         """Of each run: its number, status, output, what was wrong with its end, and what is printed with ample memory."""
@@ -23,7 +19,6 @@ class Refusing:
         total = shim.read_told(self.told)[1]
         self.tried.tell(trouble or ("" if total else "no allocation was counted"), words)
         for more in ({}, {"REFUSE_ALL": 1}) if self.tried.is_long else ({},):
-            self.has_begun = False
             for at in range(1, total + 1):
                 before()
                 status, out, trouble = run(words, fed, shim.environment(self.library, self.told, REFUSE_AT=at, **more))
@@ -32,13 +27,7 @@ class Refusing:
                 yield at, status, out, trouble, whole
 
     def is_over(self, status, out, trouble, note):
-        """Whether the run ended before its command began, or as none may end."""
-        silent = status == 1 and out == b"" and self.tried.error == b""
-        if not self.has_begun and (silent or (status in (1, 2) and out.startswith(USAGE))):
-            self.tried.count("in the command line")
-            self.tried.passed += 1
-            return True
-        self.has_begun = self.has_begun or out == b"no memory\n" or self.tried.error != b""
+        """Whether the run ended as none may end."""
         if trouble:
             self.tried.tell(trouble, note)
         return trouble != ""

@@ -39,14 +39,6 @@ class Streams:
             wrong.append(f"then the file holds {found.listed()!r}")
         return ", ".join(wrong)
 
-    def known(self, trouble, case, reason):
-        """A check that is expected to fail: it is told, and counts as none where it does."""
-        if trouble:
-            self.tried.count("known to be wrong")
-            print(f"streams: known: {trouble}: {case}: {reason}")
-        else:
-            self.tried.tell("", case)
-
 
 def try_closed(streams):
     for words, fed in INPUTS.items():
@@ -54,10 +46,7 @@ def try_closed(streams):
             status = streams.start(words, fed, closed)
             # nothing can be read, which may count as an input that has ended, or nothing written; a store has done then what it was asked
             trouble = streams.trouble(status, (0, 1) if 0 in closed else (1,) if 1 in closed else (0,))
-            if words[0] == "node" and closed == (1,):
-                streams.known(trouble, (words, "closed", closed), "the node's file takes the place of a closed stream")
-            else:
-                streams.tried.tell(trouble, (words, "closed", closed))
+            streams.tried.tell(trouble, (words, "closed", closed))
 
 
 def try_own_file(streams):
@@ -69,7 +58,7 @@ def try_own_file(streams):
     with subprocess.Popen([streams.tried.program, "node", streams.path, "0", "3"], preexec_fn=lambda: os.close(0), stdout=subprocess.DEVNULL, stderr=subprocess.DEVNULL) as child:
         status = child.wait(20)
     trouble = "" if status in (0, 1) and read(streams.path) == before else f"status {status}, and the file is another"
-    streams.known(trouble, "a closed input and a line in a payload", "the node reads its own file")
+    streams.tried.tell(trouble, "a closed input and a line in a payload")
 
 
 def try_failing(streams):
@@ -98,7 +87,7 @@ def try_words(streams):
                   ["node", "a", "0", "3", ""], ["format", "a", "4", "0", "3", "0", ""], ["trace", long], ["node", "a", "3", "3"], ["store", "a", "b"], ["show", "--version"], ["--version"], ["-h"], ["help", "show"]):
         streams.tried.tell(strange(tried, words, (2,)), [word[:40] for word in words])
     for words in ([b"answer", b"\xff", b"3"], [b"\xff"], [b"show", b"\xff\xfe"]):
-        streams.known(strange(tried, words, (2,)), words, "a word that isn't UTF-8 is no command line")
+        streams.tried.tell(strange(tried, words, (2,)), words)
     for path in ("", "a" * 300, "/" * 5000, "a/" * 3000, "no\nfolder/none", "\u00e9/none"):
         for command, status in ((["store", path], 0), (["node", path, "0", "3"], (3, 5)), (["format", path, "4", "0", "3"], (3, 5))):
             allowed = status if isinstance(status, tuple) else (status,)

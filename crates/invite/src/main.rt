@@ -95,9 +95,9 @@ fn run(rt: &HostRuntime) -> io::Result<u8> {
 }
 
 /// Takes the number of a standard stream that the caller left closed, if there is one: a file that was opened in its place would be read as
-/// the input, or written over by the output.
+/// the input, or written over by the output. Here an input ends at once, and a write fails.
 fn null(rt: &HostRuntime) -> io::Result<File> {
-    File::options().read(true).write(true).open(rt, "/dev/null")
+    File::open(rt, "/dev/null")
 }
 
 /// The words of the command line. Where one of them isn't UTF-8, says so.
