@@ -109,7 +109,8 @@ def happens(now, what, *of):
     elif what == "submit":
         leads = [i for i in range(NODES) if leader[i] == i]
         if leads:
-            tell(chance.choice(leads), f"submit {chance.randrange(16)} {chance.getrandbits(32):08x}")
+            priority = chance.randrange(4)
+            tell(chance.choice(leads), f"submit {chance.randrange(16)} {chance.getrandbits(32):08x}" + (f" {priority}" if priority else ""))
         later(0.05, "submit")
     elif what == "kill":
         i = chance.randrange(NODES)
