@@ -87,6 +87,11 @@ fn push_job(text: &mut Vec<u8>, job: &Job) -> Result<(), AllocError>
     push_number(text, job.id)?;
     push_text(text, " ")?;
     let work = &job.work;
-    push_work(text, work.queue.number(), work.payload.as_slice(), work.priority)?;
+    push_work(
+        text,
+        work.queue.number(),
+        work.payload.as_slice(),
+        work.priority,
+    )?;
     push_text(text, "\n")
 }
