@@ -1,7 +1,6 @@
 -- A node whose journal is compacted: nothing is sent.
-use Rattle.std.proofs.Common.{◌≡◌, ◌≢◌, ◌⊎◌, inl, inr, ℕ, length, refl, sym, ◌∙◌, ap, subst, Option, None, Result, Ok, Err}
+use Rattle.std.proofs.Common.{◌≡◌, ◌≢◌, ◌⊎◌, inl, inr, ℕ, length, refl, sym, ◌∙◌, ap, Option, None, Result, Ok, Err}
 use Rattle.std.specs.Prelude.{IsOk, IsErrOf, IfErr}
-use Rattle.sector_disk.specs.Disk.{Counts}
 use Rattle.sector_disk.specs.Memory.{Memory, state_of}
 use Rattle.sim_net.specs.Network.{Network}
 use Rattle.node_core.specs.declared.fault.CoreFault.TheVariants.{Down}

@@ -22,7 +22,8 @@ use Rattle.runs.specs.Step.{Step, Takes, Loses, Cuts, Mends, Denies, OfNet, Stra
 use Rattle.runs.specs.Run.{IsBrought}
 use Rattle.runs.specs.Acts.{IsOf, IsRecovery, At, Brings, lost_step, if_known, IsStepOf, IsCompaction, is_compaction, if_compaction, compaction_outcome, outcome_of, act_outcome}
 use Rattle.runs.specs.Events.{event_at}
-use Rattle.cluster_sim.specs.Machine.{Machine, StandsFor, CameOf, CompactedAs, bare_outcome, Makes, Acted}
+use Rattle.durable_node.specs.Stepping.{CameOf}
+use Rattle.cluster_sim.specs.Machine.{Machine, StandsFor, CompactedAs, bare_outcome, Makes, Acted}
 
 -- ---- what comes of an event
 

@@ -30,7 +30,7 @@ use Rattle.cluster_sim.specs.declared.outcome.Refusal.{Refusal}
 use Rattle.runs.specs.World.{World}
 use Rattle.runs.specs.Step.{Step, Takes, Loses, Cuts, Mends, Denies, Denial, OfNet, Stranger}
 use Rattle.runs.specs.Run.{IsAllowed}
-use Rattle.runs.specs.Acts.{IsOf, IsRecovery, At, Brings, lost_step, if_known, IsStepOf, what_outcome, node_outcome, ActOutcome, IsCompaction, compaction_outcome, fall_outcome, FaultedAct, outcome_of, act_outcome}
+use Rattle.runs.specs.Acts.{IsOf, IsRecovery, At, Brings, lost_step, if_known, IsStepOf, what_outcome, node_outcome, ActOutcome, IsCompaction, compaction_outcome, fall_outcome, outcome_of, act_outcome}
 use Rattle.runs.specs.Given.{numbered, given_by, groups_at}
 use Rattle.runs.specs.Tagged.{tagged, marks_for, step_marks}
 use Rattle.runs.specs.Reporting.{commands_in, mountings_in, node_named, node_or_first, receiver_or_first}

@@ -4,12 +4,10 @@ use Rattle.group_task.specs.declared.node.TheConstants.{NODES}
 use Rattle.sector_disk.specs.Disk.{Counts}
 use Rattle.sector_disk.specs.Memory.{Memory, state_of}
 use Rattle.sim_net.specs.Network.{Network, after_all_sent}
-use Rattle.node_core.specs.declared.event.Event.{Event}
-use Rattle.node_core.specs.declared.event.Event.TheVariants as on
 use Rattle.durable_node.specs.Node.{Node, Stands}
 use Rattle.histories.specs.NodeState.{NodeState, opening}
 use Rattle.histories.specs.declared.what.What.{What}
-use Rattle.histories.specs.declared.what.What.TheVariants.{Did, Refused, Faulted, Rests, Crashed, Recovered, MountFailed, RaiseFailed, RaiseRefused}
+use Rattle.histories.specs.declared.what.What.TheVariants.{Rests, Crashed}
 use Rattle.histories.specs.declared.what.Rest.{Rest}
 use Rattle.histories.specs.declared.what.Rest.TheVariants.{Nothing, Compacted, CompactDown, CompactWorn}
 use Rattle.histories.specs.After.{after, sent_at, found_at}
@@ -61,18 +59,6 @@ pub record AreOpened (slots count so_far : ℕ) (nodes : List (Node Memory)) : T
   pub opens : (k : ℕ) (node : Node Memory) → slice_get nodes k ≡ Some node → Stands state_of node (opening k)
 
 -- ---- one node
-
--- it came of this event, or of the mounting that the event Recover makes at a node that is down
-abbrev pub CameOf : Event → What → Type 0
-CameOf event (Did e) = e ≡ event
-CameOf event (Refused e fault) = e ≡ event
-CameOf event (Faulted e) = e ≡ event
-CameOf event (Rests rest) = ⊥
-CameOf event Crashed = ⊥
-CameOf event (Recovered kept) = event ≡ on.Recover
-CameOf event MountFailed = event ≡ on.Recover
-CameOf event (RaiseFailed kept) = event ≡ on.Recover
-CameOf event (RaiseRefused kept) = event ≡ on.Recover
 
 -- one such thing came of a call at a node that was in this state, and so it is told, sent and kept
 pub record Comes (slots id nodes : ℕ) (P : What → Type 0) (s : NodeState) (outcome : Outcome) (new : Node Memory) (net net' : Network) : Type 0 where

@@ -1,6 +1,6 @@
 -- How what came of an act is told.
-use Rattle.std.specs.Prelude.{ℕ, ◌≡◌, ◌≢◌, ◌⊎◌, None, Result, Ok, Err}
-use Rattle.node_core.specs.declared.fault.CoreFault.TheVariants.{NoMemory}
+use Rattle.std.specs.Prelude.{ℕ, ◌≡◌, ◌≢◌, ◌⊎◌, Option, Some, None, length, Result, Ok, Err}
+use Rattle.durable_node.specs.declared.came.Came.{Came}
 use Rattle.durable_node.specs.declared.fault.NodeFault.{NodeFault}
 use Rattle.durable_node.specs.declared.fault.NodeFault.TheVariants as node
 use Rattle.durable_node.specs.Faults.{shown}
@@ -17,9 +17,16 @@ told (DeniedAct Stranger) = outcome.Refused refusal.Stranger
 told (RefusedAct fault) = outcome.Refused (refusal.Node (shown fault))
 told FaultedAct = outcome.Faulted
 
--- how a fault of a node is told: a growth that was refused is the caller's, and a device that fails refuses nothing
-abbrev pub IsToldFault : NodeFault → Outcome → Type 0
-IsToldFault fault o = (fault ≢ node.Core NoMemory) × (((fault ≡ node.Device) × (o ≡ outcome.Faulted)) ⊎ ((fault ≢ node.Device) × (o ≡ outcome.Refused (refusal.Node fault))))
+-- how what came of an event is told, by why it wasn't done, where so many messages were sent before it
+abbrev pub came_told : Option NodeFault → ℕ → Came → Outcome
+came_told None first came = outcome.Done came.answer first (length came.sent.items)
+came_told (Some (node.Core fault)) first came = outcome.Refused (refusal.Node (node.Core fault))
+came_told (Some node.Full) first came = outcome.Refused (refusal.Node node.Full)
+came_told (Some node.Exhausted) first came = outcome.Refused (refusal.Node node.Exhausted)
+came_told (Some node.Device) first came = outcome.Faulted
+came_told (Some node.NotFormatted) first came = outcome.Refused (refusal.Node node.NotFormatted)
+came_told (Some (node.Damaged sector)) first came = outcome.Refused (refusal.Node (node.Damaged sector))
+came_told (Some node.TooSmall) first came = outcome.Refused (refusal.Node node.TooSmall)
 
 -- how a compaction is told, where so many messages were sent: it sends none
 abbrev pub IsCompactionTold : {A : Type 0} → ℕ → Result A NodeFault → Outcome → Type 0

@@ -5,17 +5,17 @@ ghost use Rattle.sim_net.specs.Network.{after_all_sent};
 ghost use Rattle.durable_node.specs.Arming.{armed_disk};
 ghost use Rattle.durable_node.specs.Node.{Stands};
 ghost use Rattle.histories.specs.NodeState.{NodeState};
-ghost use Rattle.durable_node.specs.Stepping.{most_by};
+ghost use Rattle.durable_node.specs.Stepping.{CameOf, most_by};
 ghost use Rattle.histories.specs.declared.what.What.TheVariants.{Rests, Crashed};
 ghost use Rattle.histories.specs.declared.what.Rest.TheVariants.{Nothing};
-ghost use Rattle.cluster_sim.specs.Machine.{IsOfSize, IsSame, IsCounted, CameOf, Comes, CompactedAs, bare_outcome};
+ghost use Rattle.cluster_sim.specs.Machine.{IsOfSize, IsSame, IsCounted, Comes, CompactedAs, bare_outcome};
 ghost use Rattle.cluster_sim.specs.Operated.{IsLeftWith};
-ghost use Rattle.cluster_sim.specs.Told.{IsCompactionTold, IsToldFault};
-ghost use Rattle.node_core.specs.declared.fault.CoreFault.TheVariants.{NoMemory};
+ghost use Rattle.cluster_sim.specs.Told.{IsCompactionTold, came_told};
+ghost use Rattle.durable_node.specs.Faults.{fault_of};
 
 use crate::outcome::{Outcome, Refusal};
-use durable_node::{DurableNode, NodeFault};
-use node_core::{CoreFault, Event};
+use durable_node::{Came, DurableNode, NodeFault};
+use node_core::Event;
 use schedule::Fill;
 use sector_disk::MemDisk;
 use sim_net::Net;
@@ -45,28 +45,26 @@ pub(crate) fn handle(
         return Err(AllocError);
     }
     let first = net.sent().len() as u64;
-    match node.step(&event) {
-        Ok(step) => {
-            send_all(net, &step.sent);
-            Ok(Outcome::Done {
-                answer: step.answer,
-                first,
-                many: step.sent.len() as u64,
-            })
-        }
-        Err(fault) => fault_told(fault),
-    }
+    let came = match node.step(&event) {
+        Ok(came) => came,
+        Err(_) => return Err(AllocError),
+    };
+    send_all(net, &came.sent);
+    Ok(outcome_of(&came, first))
 }
 
-/// What is told of an event that a node refused, or at which its device failed.
-fn fault_told(fault: NodeFault) -> Result<Outcome, AllocError>
-    ensures outcome { IfOk result (λ outcome. IsToldFault fault outcome) }
-    ensures memory { OnErr result (fault ≡ NodeFault.Core NoMemory) }
+/// What is told of what came of an event, where the first message that it sends has this number.
+fn outcome_of(came: &Came, first: u64) -> Outcome
+    ensures { result ≡ came_told (fault_of came.now.what) first came.now }
 {
-    match fault {
-        NodeFault::Core(CoreFault::NoMemory) => Err(AllocError),
-        NodeFault::Device => Ok(Outcome::Faulted),
-        other => Ok(Outcome::Refused(Refusal::Node(other))),
+    match came.fault() {
+        None => Outcome::Done {
+            answer: came.answer,
+            first,
+            many: came.sent.len() as u64,
+        },
+        Some(NodeFault::Device) => Outcome::Faulted,
+        Some(fault) => Outcome::Refused(Refusal::Node(fault)),
     }
 }
 

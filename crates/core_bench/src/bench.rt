@@ -4,7 +4,7 @@ ghost use Rattle.node_core.specs.Planned.{wanted_by};
 
 use anyhow::{Context, bail};
 use group_task::{GroupNo, NodeId};
-use job_model::{Command, JobTable, Payload, QUEUES, Queue};
+use job_model::{Command, JobTable, Payload, QUEUES, Queue, Work};
 use node_core::{Durable, Event, NodeCore};
 use std::alloc::Global;
 use std::mem;
@@ -67,7 +67,7 @@ impl Node {
                 self.count = self.count.saturating_add(1);
                 self.count
             }
-            Durable::Put(queue, payload) => self.apply(Command::Put(queue, payload)),
+            Durable::Put(work) => self.apply(Command::Put(work)),
             Durable::Done(id) => self.apply(Command::Done(id)),
         }
     }
@@ -95,7 +95,12 @@ impl Node {
         let payload = Payload::new(b"a job").context("too long")?;
         for job in 0..jobs {
             let queue = Queue::new((job % u64::from(QUEUES)) as u8).context("no such queue")?;
-            self.step(&Event::Submit(queue, payload))?;
+            let work = Work {
+                queue,
+                priority: 0,
+                payload,
+            };
+            self.step(&Event::Submit(work))?;
         }
         Ok(())
     }

@@ -8,7 +8,7 @@ use crate::texts::{
     phase_word, put, put_fault, put_group, put_hand, put_hex, put_ids, put_number, put_pending,
 };
 use group_task::{NODES, NodeId};
-use job_model::{Command, JobTable, Payload, Queue};
+use job_model::{Command, JobTable, Payload, Queue, Work};
 use node_core::{CoreFault, Durable, Event, NodeCore};
 use std::alloc::{AllocError, Global};
 use std::process::Abort;
@@ -30,7 +30,10 @@ pub enum Act {
     Deliver(usize),
     /// A message comes to this node, whoever its receiver is.
     DeliverTo(u8, usize),
+    /// A job of priority 0 comes in at a node.
     Submit(u8, u8, &'static [u8]),
+    /// A job of this priority comes in at a node.
+    SubmitWith(u8, u8, &'static [u8], u8),
     Finish(u8, u8, u64),
 }
 
@@ -90,7 +93,7 @@ impl Node {
                 self.count = self.count.saturating_add(1);
                 self.count
             }
-            Durable::Put(queue, payload) => self.apply(Command::Put(queue, payload)),
+            Durable::Put(work) => self.apply(Command::Put(work)),
             Durable::Done(id) => self.apply(Command::Done(id)),
         }
     }
@@ -182,16 +185,24 @@ impl Cluster {
                 let message = *self.sent.get(number).ok_or("no such message")?;
                 self.step(node, Event::Deliver(message))
             }
-            Act::Submit(node, queue, payload) => {
-                let queue = Queue::new(queue).ok_or("no such queue")?;
-                let payload = Payload::new(payload).ok_or("too long")?;
-                self.step(node, Event::Submit(queue, payload))
+            Act::Submit(node, queue, payload) => self.submit(node, queue, payload, 0),
+            Act::SubmitWith(node, queue, payload, priority) => {
+                self.submit(node, queue, payload, priority)
             }
             Act::Finish(node, origin, id) => {
                 let origin = NodeId::new(origin).ok_or("no id of a node")?;
                 self.step(node, Event::Finish(origin, id))
             }
         }
+    }
+
+    fn submit(&mut self, node: u8, queue: u8, payload: &[u8], priority: u8) -> Result<(), Fail> {
+        let work = Work {
+            queue: Queue::new(queue).ok_or("no such queue")?,
+            priority,
+            payload: Payload::new(payload).ok_or("too long")?,
+        };
+        self.step(node, Event::Submit(work))
     }
 
     fn crash(&mut self, node: u8) -> Result<(), Fail> {
@@ -202,7 +213,7 @@ impl Cluster {
 
     fn step(&mut self, node: u8, event: Event) -> Result<(), Fail> {
         let node = self.nodes.get_mut(usize::from(node)).ok_or("no such node")?;
-        let puts = matches!(event, Event::Submit(_, _));
+        let puts = matches!(event, Event::Submit(_));
         match node.step(&event) {
             Ok((answer, messages)) => {
                 put(&mut self.text, "ok")?;

@@ -384,6 +384,70 @@ fn unknown_jobs(rt: HostRuntime) -> Result<(), Fail> {
     )
 }
 
+/// Of two pending jobs the one of the greater priority is sent first, though it came last.
+#[test]
+fn greater_priority_first(rt: HostRuntime) -> Result<(), Fail> {
+    let mut cluster = Cluster::new(&rt, rt.alloc(), 2)?;
+    cluster.run(&[
+        Act::Check(0),
+        Act::Deliver(0),
+        Act::Deliver(1),
+        Act::Merge(0),
+        Act::Deliver(2),
+        Act::Deliver(3),
+        Act::Accept(0),
+        Act::Deliver(4),
+        Act::Deliver(5),
+    ])?;
+    cluster.text.clear();
+    check(
+        &rt,
+        &mut cluster,
+        &[
+            Act::Submit(0, 1, b"a"),
+            Act::SubmitWith(0, 1, b"b", 7),
+            Act::Dispatch(0),
+            Act::Deliver(8),
+            Act::Deliver(9),
+        ],
+        "ok id 0 6:010900010015000000000000000002000000000000000001000161
+ok id 1 7:010b0001001600000000000000000200000000000000010107000162
+ok 8:010b0001001600000000000000000200000000000000010107000162 9:010900010015000000000000000002000000000000000001000161
+ok
+ok
+",
+        "node 0 Normal coord 0 group 0:2 up 1 members 0,1 count 2 pending 0,1 hand -
+node 1 Normal coord 0 group 0:2 up - members 0,1 count 1 pending - hand 0:1,0:0
+",
+    )
+}
+
+/// A node takes its own jobs in hand by falling priority, those of equal priority by rising id.
+#[test]
+fn equal_priorities_by_id(rt: HostRuntime) -> Result<(), Fail> {
+    let mut cluster = three_after(&rt, rt.alloc(), &[])?;
+    check(
+        &rt,
+        &mut cluster,
+        &[
+            Act::Submit(0, 0, b"a"),
+            Act::SubmitWith(0, 0, b"b", 255),
+            Act::SubmitWith(0, 3, b"c", 7),
+            Act::SubmitWith(0, 1, b"d", 255),
+            Act::Submit(0, 2, b"e"),
+            Act::SubmitWith(0, 0, b"f", 1),
+            Act::Recover(0),
+            Act::Dispatch(0),
+            Act::Dispatch(0),
+        ],
+        "ok id 0\nok id 1\nok id 2\nok id 3\nok id 4\nok id 5\nok\nok\nok\n",
+        "node 0 Normal coord 0 group 0:2 up - members 0 count 2 pending 0,1,2,3,4,5 hand 0:1,0:3,0:2,0:5,0:0,0:4
+node 1 Normal coord 1 group 1:1 up - members 1 count 1 pending - hand -
+node 2 Normal coord 2 group 2:1 up - members 2 count 1 pending - hand -
+",
+    )
+}
+
 /// How long a node of six waits that asked, and whom these answered that they coordinate.
 fn wait_after(rt: &impl Abort, alloc: Global, node: u8, found: &[u8]) -> Result<Option<u64>, Fail> {
     let mut cluster = Cluster::new(rt, alloc, 6)?;

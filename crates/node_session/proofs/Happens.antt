@@ -1,6 +1,6 @@
 -- What comes of an event, over any disk.
 use Rattle.std.proofs.Common.{◌≡◌, ◌⊎◌, inl, inr, ℕ, ◌+◌, ◌-◌, ◌^◌, ◌<◌, ◌++◌, Bool, true, false, List, [], ◌∷◌, refl, sym, ap, ◌∙◌, subst, append-nil, append_assoc, arith, Option, Some, None, Result, Ok, Err}
-use Rattle.std.specs.Prelude.{IsTrue, IsOk, IsSome}
+use Rattle.std.specs.Prelude.{◌≢◌, IfOk, IfErr, IsTrue, IsOk, IsSome}
 use Rattle.sector_disk.specs.Disk.{DiskState}
 use Rattle.job_model.specs.Durable.{Durable}
 use Rattle.wire_msg.specs.Envelope.{Envelope}
@@ -12,7 +12,7 @@ use Rattle.node_core.specs.declared.durable.Durable.TheVariants as wanted
 use Rattle.node_store.specs.Store.{slots_for}
 use Rattle.durable_node.specs.declared.fault.NodeFault.{NodeFault}
 use Rattle.durable_node.specs.declared.fault.NodeFault.TheVariants as node
-use Rattle.durable_node.specs.declared.step.Step.{Step}
+use Rattle.durable_node.specs.declared.came.Came.{Came}
 use Rattle.durable_node.specs.Node.{Node, Stands, IsLeft}
 use Rattle.histories.specs.NodeState.{NodeState}
 use Rattle.histories.specs.declared.what.What.{What}
@@ -23,17 +23,19 @@ use Rattle.histories.specs.What.{event_of}
 use Rattle.histories.specs.After.{after, sent_at}
 use Rattle.histories.specs.Possible.{IsOfSlots}
 use Rattle.durable_node.specs.Compacting.{Compacts, CompactTold, RestTold}
-use Rattle.durable_node.specs.Stepping.{Steps, IsToldBy, CountsOf, IsMounting, is_recover, sent_by, answer_by, answer_at}
+use Rattle.durable_node.specs.Stepping.{CameOf, CountsOf, Does, IsMounting, IsUnmountable, Steps, Stuck, answer_at, is_recover}
+use Rattle.durable_node.specs.Faults.{fault_of, told, told_as}
+use Rattle.node_core.specs.declared.fault.CoreFault.TheVariants.{NoMemory}
 use Rattle.durable_node.specs.Remounting.{Remounted}
 use Rattle.node_session.specs.declared.ended.Ended.{Ended}
 use Rattle.node_session.specs.declared.ended.Ended.TheVariants as end
-use Rattle.node_session.specs.Turns.{Turn, Goes, Unmounted, Begins, IsOf, MayComeOf, MayCompact, IsGoing, IsOfCompaction, after_turn, cause, compaction_end, end_at, end_of, ended_by, sent_in}
+use Rattle.node_session.specs.Turns.{Turn, Goes, Unmounted, Begins, IsOf, MayComeOf, MayCompact, IsGoing, IsOfCompaction, after_turn, cause, compaction_end, end_at, end_of, ended_by, sent_by, sent_in}
 use Rattle.node_session.specs.Changes.{Sight, changes, gone_at, gone_told, is_finish, sight_of}
 use Rattle.node_session.specs.Text.{call_text, send_lines, turn_text}
 use Rattle.node_session.specs.Serving.{Progress, IsNodeOf, Turns}
 
 -- what came of an event over a disk, and how it is told
-record Happens {Disk : Type 0} (disks : Disk → DiskState) (slots : ℕ) (old new : Node Disk) (honest : Bool) (s : NodeState) (event : Event) (result : Result Step NodeFault) : Type 0 where
+record Happens {Disk : Type 0} (disks : Disk → DiskState) (slots : ℕ) (old new : Node Disk) (honest : Bool) (s : NodeState) (event : Event) (result : Result Came NodeFault) : Type 0 where
   pub turn : Turn
   pub may : MayComeOf old.id old.nodes event slots s turn
   pub going : IsTrue honest → IsGoing turn
@@ -43,47 +45,57 @@ record Happens {Disk : Type 0} (disks : Disk → DiskState) (slots : ℕ) (old n
 
 -- ---- the history goes on
 
-is_of : (event : Event) (result : Result Step NodeFault) (what : What) → IsToldBy what event result → IsOf event what
-is_of event result (Did e) told = told.0
-is_of event result (Refused e fault) told = told.0
-is_of event result (Faulted e) told = told.0
-is_of event result (Rests rest) told = absurd told
-is_of event result Crashed told = absurd told
-is_of event result (Recovered kept) told = told.0
-is_of event result MountFailed told = told.0
-is_of event result (RaiseFailed kept) told = told.0
-is_of event result (RaiseRefused kept) told = told.0
+is_of : (event : Event) (what : What) → CameOf event what → IsOf event what
+is_of event (Did e) of = of
+is_of event (Refused e fault) of = of
+is_of event (Faulted e) of = of
+is_of event (Rests rest) of = absurd of
+is_of event Crashed of = absurd of
+is_of event (Recovered kept) of = of
+is_of event MountFailed of = of
+is_of event (RaiseFailed kept) of = of
+is_of event (RaiseRefused kept) of = of
 
-done_so : (result : Result Step NodeFault) (number : Option ℕ) → IsOk result → answer_by result ≡ number → ended_by result ≡ end.Done number
-done_so (Ok step) number ok told = ap end.Done told
-done_so (Err fault) number ok told = absurd cc
+ends : (slots self nodes : ℕ) (s : NodeState) (event : Event) (came : Came) (found : Option Durable) (what : What) → Does slots self nodes s event came found what
+    → (ended_by (told_as came (fault_of what)) ≡ end_at self nodes s what) × (sent_by (told_as came (fault_of what)) ≡ sent_at self nodes s what)
+ends slots self nodes s event came found (Did e) does = (ap end.Done does.answer, does.sent)
+ends slots self nodes s event came found (Refused e fault) does = (refl, refl)
+ends slots self nodes s event came found (Faulted e) does = (refl, refl)
+ends slots self nodes s event came found (Rests rest) does = absurd does.of
+ends slots self nodes s event came found Crashed does = absurd does.of
+ends slots self nodes s event came found (Recovered kept) does = (ap end.Done does.answer, does.sent)
+ends slots self nodes s event came found MountFailed does = (refl, refl)
+ends slots self nodes s event came found (RaiseFailed kept) does = (refl, refl)
+ends slots self nodes s event came found (RaiseRefused kept) does = (refl, refl)
 
-ends : (self nodes : ℕ) (s : NodeState) (event : Event) (result : Result Step NodeFault) (what : What) → IsToldBy what event result → answer_by result ≡ answer_at self nodes s what
-    → ended_by result ≡ end_at self nodes s what
-ends self nodes s event result (Did e) told number = done_so result _ told.1 number
-ends self nodes s event result (Refused e fault) told number = ap ended_by told.1
-ends self nodes s event result (Faulted e) told number = ap ended_by told.1
-ends self nodes s event result (Rests rest) told number = absurd told
-ends self nodes s event result Crashed told number = absurd told
-ends self nodes s event result (Recovered kept) told number = done_so result _ told.1 number
-ends self nodes s event result MountFailed told number = ap ended_by told.1
-ends self nodes s event result (RaiseFailed kept) told number = ap ended_by told.1
-ends self nodes s event result (RaiseRefused kept) told number = ap ended_by told.1
+-- a disk of a history is one that can be mounted
+not_stuck : {Disk : Type 0} (disks : Disk → DiskState) (old new : Node Disk) (event : Event) (fault : NodeFault) (was : Disk) (s : NodeState) → Stuck disks old new event fault → fault ≢ node.Core NoMemory
+    → old.disk ≡ Some was → Stands disks old s → (IsMounting old.state event → IsTrue (disks was).honest) → ⊥
+not_stuck disks old new event (node.Core f) was s stuck memory is stands honest = memory (ap node.Core stuck.0)
+not_stuck disks old new event node.Full was s stuck memory is stands honest = stuck
+not_stuck disks old new event node.Exhausted was s stuck memory is stands honest = stuck
+not_stuck disks old new event node.Device was s stuck memory is stands honest = stuck
+not_stuck disks old new event node.NotFormatted was s stuck memory is stands honest = stuck.strange was s is stands (honest stuck.mounting)
+not_stuck disks old new event (node.Damaged sector) was s stuck memory is stands honest = stuck.strange was s is stands (honest stuck.mounting)
+not_stuck disks old new event node.TooSmall was s stuck memory is stands honest = stuck.strange was s is stands (honest stuck.mounting)
 
-goes_on : {Disk : Type 0} (disks : Disk → DiskState) (old new : Node Disk) (event : Event) (result : Result Step NodeFault) (was : Disk) (s : NodeState) → Steps disks old new event result
-    → old.disk ≡ Some was → Stands disks old s → (IsMounting old.state event → IsTrue (disks was).honest) → Happens disks (slots_for (disks was).sectors) old new (disks was).honest s event result
-goes_on disks old new event result was s steps is stands honest =
+goes_on : {Disk : Type 0} (disks : Disk → DiskState) (old new : Node Disk) (event : Event) (reply : Result Came NodeFault) (was : Disk) (s : NodeState)
+    → IfOk reply (Steps disks old new event) → IfErr reply (Stuck disks old new event) → reply ≢ Err (node.Core NoMemory)
+    → old.disk ≡ Some was → Stands disks old s → (IsMounting old.state event → IsTrue (disks was).honest) → Happens disks (slots_for (disks was).sectors) old new (disks was).honest s event (told reply)
+goes_on disks old new event (Ok came) was s steps stuck memory is stands honest =
     let step = steps was s is stands honest in
-    let what = step.0 in
-    let does = step.1 in
+    let does = step.0 in
+    let told_so = ends (slots_for (disks was).sectors) old.id old.nodes s event came new.found came.what does in
     record {
-      turn = Goes what;
-      may = (is_of event result what does.told, does.possible, does.of_slots);
+      turn = Goes came.what;
+      may = (is_of event came.what does.of, does.possible, does.of_slots);
       going = λ _. tt;
-      stands = step.2;
-      ended = ends old.id old.nodes s event result what does.told does.answer;
-      sent = does.sent;
+      stands = step.1;
+      ended = told_so.0;
+      sent = told_so.1;
     }
+goes_on disks old new event (Err fault) was s steps stuck memory is stands honest =
+    absurd (not_stuck disks old new event fault was s stuck (λ e. memory (ap (λ (f : NodeFault). Err f) e)) is stands honest)
 
 -- ---- a history begins
 
@@ -95,11 +107,11 @@ left_anyhow old new s t sectors dishonest left = record {
   sound = λ honest. absurd cc;
 }
 
-begins : {Disk : Type 0} (disks : Disk → DiskState) (slots : ℕ) (old new : Node Disk) (result : Result Step NodeFault) (found : Option Durable) (s : NodeState) → Remounted old new result found
+begins : {Disk : Type 0} (disks : Disk → DiskState) (slots : ℕ) (old new : Node Disk) (result : Result Came NodeFault) (found : Option Durable) (s : NodeState) → Remounted old new result found
     → (is_down old.state.phase ≡ true → old.state ≡ down_state old.id) → is_down old.state.phase ≡ true → Stands disks old s → ((t : NodeState) (d : Disk) → new.disk ≡ Some d → IsLeft (disks d) t)
     → Happens disks slots old new false s on.Recover result
-begins disks slots old new (Ok step) None s mounted fallen down stands left = absurd mounted
-begins disks slots old new (Ok step) (Some found) s mounted fallen down stands left = record {
+begins disks slots old new (Ok came) None s mounted fallen down stands left = absurd mounted
+begins disks slots old new (Ok came) (Some found) s mounted fallen down stands left = record {
   turn = Begins found (Recovered false);
   may = (refl, ap (λ (v : State). is_down v.phase) (sym stands.state) ∙ down, tt, (refl, tt, mounted.5));
   going = λ honest. absurd cc;
@@ -160,27 +172,28 @@ recovers (on.Submit queue payload) is = absurd cc
 recovers (on.Finish origin id) is = absurd cc
 recovers on.Recover is = refl
 
-happens : {Disk : Type 0} (disks : Disk → DiskState) (old new : Node Disk) (event : Event) (result : Result Step NodeFault) (was : Disk) (s : NodeState) → Steps disks old new event result
-    → (is_down old.state.phase ≡ true → event ≡ on.Recover → Remounted old new result new.found) → (is_down old.state.phase ≡ true → old.state ≡ down_state old.id) → old.disk ≡ Some was → Stands disks old s
+happens : {Disk : Type 0} (disks : Disk → DiskState) (old new : Node Disk) (event : Event) (reply : Result Came NodeFault) (was : Disk) (s : NodeState)
+    → IfOk reply (Steps disks old new event) → IfErr reply (Stuck disks old new event) → reply ≢ Err (node.Core NoMemory)
+    → (is_down old.state.phase ≡ true → event ≡ on.Recover → Remounted old new (told reply) new.found) → (is_down old.state.phase ≡ true → old.state ≡ down_state old.id) → old.disk ≡ Some was → Stands disks old s
     → ((d : Disk) → new.disk ≡ Some d → ((disks d).sectors ≡ (disks was).sectors) × ((disks d).honest ≡ (disks was).honest))
-    → Happens disks (slots_for (disks was).sectors) old new (disks was).honest s event result
-happens {Disk} disks old new event result was s steps mounting fallen is stands same = by_honesty (disks was).honest refl
+    → Happens disks (slots_for (disks was).sectors) old new (disks was).honest s event (told reply)
+happens {Disk} disks old new event reply was s steps stuck memory mounting fallen is stands same = by_honesty (disks was).honest refl
   where
-    begun_at : (disks was).honest ≡ false → is_down old.state.phase ≡ true → event ≡ on.Recover → Happens disks (slots_for (disks was).sectors) old new (disks was).honest s event result
+    begun_at : (disks was).honest ≡ false → is_down old.state.phase ≡ true → event ≡ on.Recover → Happens disks (slots_for (disks was).sectors) old new (disks was).honest s event (told reply)
     begun_at dishonest down recover =
-        subst (λ (e : Event). Happens disks (slots_for (disks was).sectors) old new (disks was).honest s e result) (sym recover)
-        (subst (λ (b : Bool). Happens disks (slots_for (disks was).sectors) old new b s on.Recover result) (sym dishonest)
-        (begins disks (slots_for (disks was).sectors) old new result new.found s (mounting down recover) fallen down stands
+        subst (λ (e : Event). Happens disks (slots_for (disks was).sectors) old new (disks was).honest s e (told reply)) (sym recover)
+        (subst (λ (b : Bool). Happens disks (slots_for (disks was).sectors) old new b s on.Recover (told reply)) (sym dishonest)
+        (begins disks (slots_for (disks was).sectors) old new (told reply) new.found s (mounting down recover) fallen down stands
         (λ t d at. left_anyhow (disks was) (disks d) s t (same d at).0 ((same d at).1 ∙ dishonest) (stands.disk was is))))
 
     by_event : (disks was).honest ≡ false → (down recover : Bool) → is_down old.state.phase ≡ down → is_recover event ≡ recover
-        → Happens disks (slots_for (disks was).sectors) old new (disks was).honest s event result
+        → Happens disks (slots_for (disks was).sectors) old new (disks was).honest s event (told reply)
     by_event dishonest true true down recover = begun_at dishonest down (recovers event recover)
-    by_event dishonest true false down recover = goes_on disks old new event result was s steps is stands (λ both. (let bad = both.1 in absurd cc))
-    by_event dishonest false recovering down recover = goes_on disks old new event result was s steps is stands (λ both. (let bad = both.0 in absurd cc))
+    by_event dishonest true false down recover = goes_on disks old new event reply was s steps stuck memory is stands (λ both. (let bad = both.1 in absurd cc))
+    by_event dishonest false recovering down recover = goes_on disks old new event reply was s steps stuck memory is stands (λ both. (let bad = both.0 in absurd cc))
 
-    by_honesty : (b : Bool) → (disks was).honest ≡ b → Happens disks (slots_for (disks was).sectors) old new (disks was).honest s event result
-    by_honesty true honest = goes_on disks old new event result was s steps is stands (λ _. honest)
+    by_honesty : (b : Bool) → (disks was).honest ≡ b → Happens disks (slots_for (disks was).sectors) old new (disks was).honest s event (told reply)
+    by_honesty true honest = goes_on disks old new event reply was s steps stuck memory is stands (λ _. honest)
     by_honesty false honest = by_event honest (is_down old.state.phase) (is_recover event) refl refl
 
 some_is : {A : Type 0} (o : Option A) → IsSome o → (x : A) × (o ≡ Some x)
@@ -225,47 +238,47 @@ three_texts a b c d x y z first second third =
     third ∙ (ap (λ (t : List ℕ). t ++ z) second ∙ (append_assoc b y z ∙ (ap (λ (t : List ℕ). t ++ (y ++ z)) first ∙ append_assoc a x (y ++ z))))
 
 -- as the code does it
-pub event_turns : {Disk : Type 0} (disks : Disk → DiskState) (old : Progress Disk) (node' : Node Disk) (event : Event) (result : Result Step NodeFault) (sent changed text : List ℕ)
-    → node'.id ≡ old.node.id → node'.nodes ≡ old.node.nodes → Steps disks old.node node' event result
-    → (is_down old.node.state.phase ≡ true → event ≡ on.Recover → Remounted old.node node' result node'.found) → (is_down old.node.state.phase ≡ true → old.node.state ≡ down_state old.node.id)
-    → CountsOf disks old.node.disk node'.disk result → IsSome node'.disk
-    → sent ≡ old.text ++ send_lines (sent_by result) → changed ≡ sent ++ changes (is_finish (Some event)) old.node.state node'.state → text ≡ changed ++ gone_told (Some event) (ended_by result)
-    → Turns disks old (record old { node = node'; text = text }) (MayComeOf old.node.id old.node.nodes event) (ended_by result)
-event_turns {Disk} disks old node' event result sent changed text id nodes steps mounting fallen counts there first second third = record {
-  node = same_node disks old.node node' result id nodes counts there;
+pub event_turns : {Disk : Type 0} (disks : Disk → DiskState) (old : Progress Disk) (node' : Node Disk) (event : Event) (reply : Result Came NodeFault) (sent changed text : List ℕ)
+    → node'.id ≡ old.node.id → node'.nodes ≡ old.node.nodes → IfOk reply (Steps disks old.node node' event) → IfErr reply (Stuck disks old.node node' event) → reply ≢ Err (node.Core NoMemory)
+    → (is_down old.node.state.phase ≡ true → event ≡ on.Recover → Remounted old.node node' (told reply) node'.found) → (is_down old.node.state.phase ≡ true → old.node.state ≡ down_state old.node.id)
+    → CountsOf disks old.node.disk node'.disk (told reply) → IsSome node'.disk
+    → sent ≡ old.text ++ send_lines (sent_by (told reply)) → changed ≡ sent ++ changes (is_finish (Some event)) old.node.state node'.state → text ≡ changed ++ gone_told (Some event) (ended_by (told reply))
+    → Turns disks old (record old { node = node'; text = text }) (MayComeOf old.node.id old.node.nodes event) (ended_by (told reply))
+event_turns {Disk} disks old node' event reply sent changed text id nodes steps stuck memory mounting fallen counts there first second third = record {
+  node = same_node disks old.node node' (told reply) id nodes counts there;
   same = refl;
-  turned = λ was s is stands. (let h = happens disks old.node node' event result was s steps mounting fallen is stands
+  turned = λ was s is stands. (let h = happens disks old.node node' event reply was s steps stuck memory mounting fallen is stands
       (λ d at. (let same = counts was d is at in (same.sectors, same.honest))) in
       let self = old.node.id in
       let count = old.node.nodes in
       let t = after_turn self count s h.turn in
-      let all : text ≡ old.text ++ call_text (Some event) (sent_by result) old.node.state node'.state (ended_by result) = three_texts old.text sent changed text _ _ _ first second third in
+      let all : text ≡ old.text ++ call_text (Some event) (sent_by (told reply)) old.node.state node'.state (ended_by (told reply)) = three_texts old.text sent changed text _ _ _ first second third in
       record {
         turn = h.turn;
         may = h.may;
         honest = h.going;
         stands = h.stands;
         ended_so = h.ended;
-        text = all ∙ (ap (λ (u : List ℕ). old.text ++ u) (caused self count (slots_for (disks was).sectors) s event h.turn (sent_by result) old.node.state node'.state (ended_by result) h.may)
-            ∙ (ap (λ (v : State). old.text ++ call_text (cause h.turn) (sent_by result) v node'.state (ended_by result)) stands.state
-            ∙ (ap (λ (v : State). old.text ++ call_text (cause h.turn) (sent_by result) s.state v (ended_by result)) h.stands.state
-            ∙ (ap (λ (ms : List Envelope). old.text ++ call_text (cause h.turn) ms s.state t.state (ended_by result)) h.sent
+        text = all ∙ (ap (λ (u : List ℕ). old.text ++ u) (caused self count (slots_for (disks was).sectors) s event h.turn (sent_by (told reply)) old.node.state node'.state (ended_by (told reply)) h.may)
+            ∙ (ap (λ (v : State). old.text ++ call_text (cause h.turn) (sent_by (told reply)) v node'.state (ended_by (told reply))) stands.state
+            ∙ (ap (λ (v : State). old.text ++ call_text (cause h.turn) (sent_by (told reply)) s.state v (ended_by (told reply))) h.stands.state
+            ∙ (ap (λ (ms : List Envelope). old.text ++ call_text (cause h.turn) ms s.state t.state (ended_by (told reply))) h.sent
             ∙ ap (λ (e : Ended). old.text ++ call_text (cause h.turn) (sent_in self count s h.turn) s.state t.state e) h.ended))));
       });
 }
 
 -- by what the code keeps of the state before
-pub turn_so : {Disk : Type 0} (disks : Disk → DiskState) (old here : Progress Disk) (node' : Node Disk) (event : Event) (result : Result Step NodeFault) (ended : Ended) (finished : Bool) (seen : Sight) (before after : State)
-    (sent changed text : List ℕ) → here ≡ old → node'.id ≡ here.node.id → node'.nodes ≡ here.node.nodes → Steps disks here.node node' event result
-    → (is_down here.node.state.phase ≡ true → event ≡ on.Recover → Remounted here.node node' result node'.found) → (is_down here.node.state.phase ≡ true → here.node.state ≡ down_state here.node.id)
-    → CountsOf disks here.node.disk node'.disk result → IsSome node'.disk
-    → seen ≡ sight_of before → before ≡ here.node.state → after ≡ node'.state → finished ≡ is_finish (Some event) → ended ≡ ended_by result
-    → sent ≡ here.text ++ send_lines (sent_by result) → ((s : State) → seen ≡ sight_of s → changed ≡ sent ++ changes finished s after) → text ≡ changed ++ gone_told (Some event) ended
+pub turn_so : {Disk : Type 0} (disks : Disk → DiskState) (old here : Progress Disk) (node' : Node Disk) (event : Event) (reply : Result Came NodeFault) (ended : Ended) (finished : Bool) (seen : Sight) (before after : State)
+    (sent changed text : List ℕ) → here ≡ old → node'.id ≡ here.node.id → node'.nodes ≡ here.node.nodes → IfOk reply (Steps disks here.node node' event) → IfErr reply (Stuck disks here.node node' event) → reply ≢ Err (node.Core NoMemory)
+    → (is_down here.node.state.phase ≡ true → event ≡ on.Recover → Remounted here.node node' (told reply) node'.found) → (is_down here.node.state.phase ≡ true → here.node.state ≡ down_state here.node.id)
+    → CountsOf disks here.node.disk node'.disk (told reply) → IsSome node'.disk
+    → seen ≡ sight_of before → before ≡ here.node.state → after ≡ node'.state → finished ≡ is_finish (Some event) → ended ≡ ended_by (told reply)
+    → sent ≡ here.text ++ send_lines (sent_by (told reply)) → ((s : State) → seen ≡ sight_of s → changed ≡ sent ++ changes finished s after) → text ≡ changed ++ gone_told (Some event) ended
     → Turns disks old (record here { node = node'; text = text }) (MayComeOf old.node.id old.node.nodes event) ended
-turn_so {Disk} disks old here node' event result ended finished seen before after sent changed text is id nodes steps mounting fallen counts there sees was now finish ends_so first second third =
+turn_so {Disk} disks old here node' event reply ended finished seen before after sent changed text is id nodes steps stuck memory mounting fallen counts there sees was now finish ends_so first second third =
     subst (λ (p : Progress Disk). Turns disks p (record here { node = node'; text = text }) (MayComeOf p.node.id p.node.nodes event) ended) is
     (subst (λ (e : Ended). Turns disks here (record here { node = node'; text = text }) (MayComeOf here.node.id here.node.nodes event) e) (sym ends_so)
-    (event_turns disks here node' event result sent changed text id nodes steps mounting fallen counts there first
+    (event_turns disks here node' event reply sent changed text id nodes steps stuck memory mounting fallen counts there first
     (second before sees ∙ (ap (λ (b : Bool). sent ++ changes b before after) finish ∙ (ap (λ (v : State). sent ++ changes (is_finish (Some event)) v after) was
     ∙ ap (λ (v : State). sent ++ changes (is_finish (Some event)) here.node.state v) now)))
     (third ∙ ap (λ (e : Ended). changed ++ gone_told (Some event) e) ends_so)))

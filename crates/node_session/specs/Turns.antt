@@ -12,12 +12,12 @@ use Rattle.histories.specs.declared.what.What.{What}
 use Rattle.histories.specs.declared.what.What.TheVariants.{Did, Refused, Faulted, Rests, Crashed, Recovered, MountFailed, RaiseFailed, RaiseRefused}
 use Rattle.histories.specs.declared.what.Rest.{Rest}
 use Rattle.histories.specs.declared.what.Rest.TheVariants.{Nothing, Compacted, CompactDown, CompactWorn}
-use Rattle.histories.specs.What.{event_of}
+use Rattle.histories.specs.What.{event_of, reason_of}
 use Rattle.histories.specs.After.{after, sent_at}
 use Rattle.histories.specs.Possible.{IsPossible, IsOfSlots}
 use Rattle.durable_node.specs.declared.fault.NodeFault.{NodeFault}
 use Rattle.durable_node.specs.declared.fault.NodeFault.TheVariants as node
-use Rattle.durable_node.specs.declared.step.Step.{Step}
+use Rattle.durable_node.specs.declared.came.Came.{Came}
 use Rattle.durable_node.specs.Faults.{shown}
 use Rattle.durable_node.specs.Remounting.{IsUnmounted}
 use Rattle.durable_node.specs.Stepping.{answer_at}
@@ -76,7 +76,7 @@ rest_end CompactWorn = end.Denied node.Exhausted
 
 abbrev pub end_at : ℕ → ℕ → NodeState → What → Ended
 end_at self nodes s (Did event) = end.Done (answer_at self nodes s (Did event))
-end_at self nodes s (Refused event fault) = end.Denied (shown fault)
+end_at self nodes s (Refused event fault) = end.Denied (shown (reason_of fault))
 end_at self nodes s (Faulted event) = end.Denied node.Device
 end_at self nodes s (Rests rest) = rest_end rest
 end_at self nodes s Crashed = end.Denied node.Device
@@ -174,9 +174,13 @@ IsGoing (Begins found what) = ⊥
 
 -- ---- for the code
 
-abbrev pub ended_by : Result Step NodeFault → Ended
-ended_by (Ok step) = end.Done step.answer
+abbrev pub ended_by : Result Came NodeFault → Ended
+ended_by (Ok came) = end.Done came.answer
 ended_by (Err fault) = end.Denied fault
+
+abbrev pub sent_by : Result Came NodeFault → List Envelope
+sent_by (Ok came) = came.sent.items
+sent_by (Err fault) = []
 
 abbrev pub compaction_end : {A : Type 0} → Result A NodeFault → Ended
 compaction_end (Ok done) = end.Done None

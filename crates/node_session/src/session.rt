@@ -10,9 +10,9 @@ ghost use Rattle.node_session.specs.declared.ended.Ended.TheVariants as end;
 ghost use Rattle.node_session.specs.Asked.{asked_of};
 ghost use Rattle.node_session.specs.Chains.{AreTimely, MayCome, is_failed};
 ghost use Rattle.node_session.specs.Serving.{opened, Calls, Fed, Serves, Turns};
-ghost use Rattle.durable_node.specs.Stepping.{sent_by};
+ghost use Rattle.durable_node.specs.Faults.{told};
 ghost use Rattle.node_session.specs.Text.{send_lines};
-ghost use Rattle.node_session.specs.Turns.{compaction_end, ended_by, IsTimely, IsTimer, MayComeOf, MayCompact};
+ghost use Rattle.node_session.specs.Turns.{compaction_end, ended_by, sent_by, IsTimely, IsTimer, MayComeOf, MayCompact};
 
 use crate::asked::{Asked, read_line};
 use crate::closing::{push_bad, push_closing, push_event_closing, push_ok};
@@ -20,7 +20,7 @@ use crate::ended::Ended;
 use crate::seen::{Seen, is_finish, push_gone};
 use crate::sending::push_messages;
 use crate::showing::{push_all_jobs, push_state};
-use durable_node::{DurableNode, NodeFault, Step};
+use durable_node::{Came, DurableNode, NodeFault};
 use group_task::NodeId;
 use line_words::cut_line;
 use node_core::{CoreFault, Event, Phase, Vector};
@@ -343,22 +343,25 @@ impl<D: SectorDisk + Drop> Session<D> {
 fn push_sent(
     text: &mut Vec<u8>,
     bytes: &mut Vec<u8>,
-    reply: &Result<Step, NodeFault>,
+    reply: &Result<Came, NodeFault>,
 ) -> Result<(), AllocError>
-    ensures { OnOk result (text.new.items ≡ text.old.items ++ send_lines (sent_by reply.now)) }
+    ensures { OnOk result (text.new.items ≡ text.old.items ++ send_lines (sent_by (told reply.now))) }
 {
     match reply {
-        Ok(step) => push_messages(text, bytes, &step.sent),
-        Err(_) => Ok(()),
+        Ok(came) if came.fault().is_none() => push_messages(text, bytes, &came.sent),
+        _ => Ok(()),
     }
 }
 
 /// How a step ended.
-fn ended_by(reply: &Result<Step, NodeFault>) -> Ended
-    ensures { result ≡ ended_by reply.now }
+fn ended_by(reply: &Result<Came, NodeFault>) -> Ended
+    ensures { result ≡ ended_by (told reply.now) }
 {
     match reply {
-        Ok(step) => Ended::Done(step.answer),
+        Ok(came) => match came.fault() {
+            None => Ended::Done(came.answer),
+            Some(fault) => Ended::Denied(fault),
+        },
         Err(fault) => Ended::Denied(*fault),
     }
 }
@@ -374,7 +377,7 @@ fn compaction_end(done: &Result<(), NodeFault>) -> Ended
 }
 
 /// Whether there was no memory for a call.
-fn ran_out(reply: &Result<Step, NodeFault>) -> bool
+fn ran_out(reply: &Result<Came, NodeFault>) -> bool
     ensures { IsTrue result ↔ (reply.now ≡ Err (NodeFault.Core NoMemory)) }
 {
     matches!(reply, Err(NodeFault::Core(CoreFault::NoMemory)))

@@ -1,19 +1,21 @@
 -- A sector without its last zeros, and back.
 use Rattle.std.proofs.Common.{◌≡◌, ◌<◌, ◌+◌, ◌-◌, ◌≤◌, ⊎_elim, ℕ, List, ◌++◌, length, take, drop, replicate, min, sym, ◌∙◌, ap, arith, take-append-drop}
-use Rattle.std.proofs.lemmas.List.{take_all, drop_all, drop-replicate, length-take, replicate-append-replicate, drop-drop}
+use Rattle.std.proofs.lemmas.List.{take_all, drop_all, drop-replicate, length-take, length-drop, take-replicate, replicate-append-replicate, drop-drop}
 use Rattle.std.proofs.lemmas.Bool.{cases_lt}
 use Rattle.sector_disk.specs.Undo.{whole}
 use Rattle.sector_disk.specs.Crash.{filled}
 
-pub trim_step : (s : List ℕ) (n : ℕ) → 32 ≤ n → n ≤ 512 → take (n - (n - 32)) (drop (n - 32) s) ≡ replicate 32 0 → drop n s ≡ replicate (512 - n) 0 → drop (n - 32) s ≡ replicate (512 - (n - 32)) 0
-trim_step s n some most block rest =
-    let size : n - (n - 32) ≡ 32 = omega (arith, some) in
-    let next : n - 32 + (n - (n - 32)) ≡ n = omega (arith, some) in
-    let count : 32 + (512 - n) ≡ 512 - (n - 32) = omega (arith, some, most) in
-    sym (take-append-drop (n - (n - 32)) (drop (n - 32) s))
-    ∙ ap (λ (l : List ℕ). l ++ drop (n - (n - 32)) (drop (n - 32) s)) block
-    ∙ ap (λ (l : List ℕ). replicate 32 0 ++ l) (drop-drop (n - (n - 32)) (n - 32) s ∙ ap (λ k. drop k s) next ∙ rest)
-    ∙ replicate-append-replicate 32 (512 - n) 0
+pub trim_step : (s : List ℕ) (n b : ℕ) → length s ≡ 512 → b ≤ n → n ≤ 512 → take (n - (n - b)) (drop (n - b) s) ≡ replicate (length (take (n - (n - b)) (drop (n - b) s))) 0 → drop n s ≡ replicate (512 - n) 0
+    → drop (n - b) s ≡ replicate (512 - (n - b)) 0
+trim_step s n b long some most block rest =
+    let back = length-drop (n - b) s in
+    let size : length (take (n - (n - b)) (drop (n - b) s)) ≡ b = length-take (n - (n - b)) (drop (n - b) s) ∙ omega (arith, some, most, long, back) in
+    let next : n - b + (n - (n - b)) ≡ n = omega (arith, some) in
+    let count : b + (512 - n) ≡ 512 - (n - b) = omega (arith, some, most) in
+    sym (take-append-drop (n - (n - b)) (drop (n - b) s))
+    ∙ ap (λ (l : List ℕ). l ++ drop (n - (n - b)) (drop (n - b) s)) (block ∙ ap (λ k. replicate k 0) size)
+    ∙ ap (λ (l : List ℕ). replicate b 0 ++ l) (drop-drop (n - (n - b)) (n - b) s ∙ ap (λ k. drop k s) next ∙ rest)
+    ∙ replicate-append-replicate b (512 - n) 0
     ∙ ap (λ k. replicate k 0) count
 
 pub trim_done : (s : List ℕ) (n : ℕ) → n ≤ 512 → length s ≡ 512 → drop n s ≡ replicate (512 - n) 0 → whole (take n s) ≡ s
@@ -55,3 +57,6 @@ torn fill sector n is =
     let size : length (take n fill) ≡ n = length-take n fill ∙ omega (arith, is) in
     ap (λ k. take n fill ++ drop k sector) (sym size)
     ∙ ap (λ (l : List ℕ). l ++ drop (length l) sector) (taken fill n is)
+
+pub zeros_taken : (n : ℕ) → n ≤ 512 → take {A = ℕ} n (replicate 512 0) ≡ replicate n 0
+zeros_taken n most = take-replicate n 512 0 most

@@ -24,19 +24,23 @@ pub fn is_zero(sector: &Sector) -> bool
 
 // Whether a block of bytes is all zeros.
 fn is_zero_block(block: &[u8]) -> bool
-    requires { length block.now ≡ 32 }
-    ensures { IsTrue result → block.now ≡ replicate 32 0 }
+    requires { length block.now ≤ 512 }
+    ensures { IsTrue result → block.now ≡ replicate (length block.now) 0 }
 {
-    block == [0; 32].as_slice()
+    block == &[0; 512][..block.len()]
 }
 
-// The bytes of a sector without the blocks of 32 zeros at its end.
+// The bytes of a sector without zeros at its end: its last half is looked at first, then half of what is left, down to 32 bytes.
 pub fn trimmed(sector: &Sector) -> &[u8]
     ensures { whole result.now ≡ sector.now }
 {
     let mut len = 512usize;
-    while len >= 32 && is_zero_block(&sector[len - 32..len]) {
-        len -= 32;
+    let mut block = 256usize;
+    while block >= 32 {
+        if is_zero_block(&sector[len - block..len]) {
+            len -= block;
+        }
+        block /= 2;
     }
     &sector[..len]
 }

@@ -175,7 +175,7 @@ fn work_cut_short(rt: HostRuntime) -> Result<(), Fail> {
     for end in 6..whole.len() {
         let mut bytes = Vec::new(rt.alloc());
         bytes.extend_from_slice(&whole[..end])?;
-        bytes[5] = (end - 6) as u8;
+        bytes[5] = u8::try_from(end - 6).or(Err("a byte"))?;
         assert!(rt; decode(&whole[..end]) == Err(WireFault::Malformed), "{end}");
         assert!(rt; decode(&bytes) == Err(WireFault::Malformed), "{end}");
     }

@@ -21,13 +21,7 @@ fn kind_of(body: &Body) -> u8
         Body::Accept(_) => 6,
         Body::Ready(_) => 7,
         Body::ReadyAck(_) => 8,
-        Body::Work { work, .. } => {
-            if work.priority == 0 {
-                9
-            } else {
-                11
-            }
-        }
+        Body::Work { work, .. } => { if work.priority == 0 { 9 } else { 11 } }
         Body::Done(_) => 10,
     }
 }

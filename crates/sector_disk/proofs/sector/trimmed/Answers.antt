@@ -1,15 +1,25 @@
-use Rattle.std.proofs.Common.{arith}
+use Rattle.std.proofs.Common.{◌≡◌, ℕ, ◌-◌, drop, replicate, sym, subst, arith}
 use Rattle.std.proofs.lemmas.List.{drop_all}
 use Rattle.sector_disk.proofs.Bytes.{trim_step, trim_done}
 use Rattle.sector_disk.proofs.sector.trimmed.Goals as goal
+use Rattle.sector_disk.proofs.sector.trimmed.Goals.{then-is_zero_block, else-is_zero_block}
 
-pub loop-len-init : goal.loop-len-init
-loop-len-init c = (omega arith, drop_all 512 c.args.sector.now (omega (arith, c.told-sector)))
+pub loop-block-init : goal.loop-block-init
+loop-block-init c = (omega arith, omega arith, drop_all 512 c.args.sector.now (omega (arith, c.told-sector)))
 
-pub loop-len-preserved : goal.loop-len-preserved
-loop-len-preserved c =
-    let h = c.loop-len.invariant in
-    (omega (arith, h.0), trim_step c.args.sector.now c.loop-len.len c.loop-len-test.true h.0 (c.is_zero_block.ensures c.if-is_zero_block.true) h.1)
+pub loop-block-preserved : goal.loop-block-preserved
+loop-block-preserved c =
+    let h = c.loop-block.invariant in
+    let room = h.1 in
+    elim c.if-is_zero_block.branch [
+      | then-is_zero_block w ↦ (
+        omega (arith, w.len-is, h.0),
+        omega (arith, w.len-is, room),
+        subst (λ (n : ℕ). drop n c.args.sector.now ≡ replicate (512 - n) 0) (sym w.len-is)
+            (trim_step c.args.sector.now c.loop-block.len c.loop-block.block c.told-sector (omega (arith, room)) h.0 (c.is_zero_block.ensures w.if-is_zero_block.true) h.2),
+      )
+      | else-is_zero_block w ↦ (omega (arith, w.len-is, h.0), omega (arith, w.len-is, room), subst (λ (n : ℕ). drop n c.args.sector.now ≡ replicate (512 - n) 0) (sym w.len-is) h.2)
+    ]
 
 pub returns : goal.returns
-returns c = trim_done c.args.sector.now c.loop-len.len c.loop-len.invariant.0 c.told-sector c.loop-len.invariant.1
+returns c = trim_done c.args.sector.now c.loop-block.len c.loop-block.invariant.0 c.told-sector c.loop-block.invariant.2

@@ -5,7 +5,8 @@ use Rattle.node_core.specs.declared.event.Event.TheVariants as on
 use Rattle.histories.specs.What.{AreAddressed}
 use Rattle.cluster_sim.specs.declared.outcome.Outcome.{Outcome}
 use Rattle.runs.specs.Acts.{At}
-use Rattle.cluster_sim.specs.Machine.{Machine, CameOf, Makes}
+use Rattle.durable_node.specs.Stepping.{CameOf}
+use Rattle.cluster_sim.specs.Machine.{Machine, Makes}
 use Rattle.cluster_sim.proofs.Doings.{delivered, undelivered}
 use Rattle.cluster_sim.proofs.Faulting.{faults_still, faults_received}
 use Rattle.cluster_sim.proofs.simulation.Simulation.deliver.Goals as goal

@@ -2,7 +2,8 @@ use Rattle.std.proofs.Common.{◌≡◌, ℕ, ◌<◌, ◌≤◌, length, nat_lt
 use Rattle.std.specs.Prelude.{slice_set, IfOk, OnErr}
 use Rattle.cluster_sim.specs.declared.outcome.Outcome.{Outcome}
 use Rattle.runs.specs.Acts.{At}
-use Rattle.cluster_sim.specs.Machine.{Machine, IsCluster, StandsFor, CameOf, Makes, FaultsAt}
+use Rattle.durable_node.specs.Stepping.{CameOf}
+use Rattle.cluster_sim.specs.Machine.{Machine, IsCluster, StandsFor, Makes, FaultsAt}
 use Rattle.runs.specs.Reporting.{node_or_first}
 use Rattle.cluster_sim.proofs.Members.{place_at, denied_at, still_cluster, takes_if, rests_if}
 use Rattle.cluster_sim.proofs.Doings.{brought_came}
