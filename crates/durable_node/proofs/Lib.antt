@@ -8,6 +8,7 @@ pub mod Nodes
 pub mod Crashes
 pub mod Opens
 pub mod AnyDisk
+pub mod Readings
 pub mod Placed
 pub mod Compactions
 pub mod Carries

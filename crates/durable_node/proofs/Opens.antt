@@ -1,6 +1,6 @@
 -- A node that comes up on a disk that was just formatted.
-use Rattle.std.proofs.Common.{◌≡◌, ◌≤◌, ℕ, true, false, Option, Some, None, Bool, not, ap, ◌∙◌, subst, refl}
-use Rattle.std.specs.Prelude.{is_some}
+use Rattle.std.proofs.Common.{◌≡◌, ◌≤◌, ℕ, true, false, Option, Some, None, Result, Ok, Err, Bool, not, sym, ap, ◌∙◌, subst, refl}
+use Rattle.std.specs.Prelude.{is_some, IsOk, IsErrOf}
 use Rattle.sector_disk.specs.Memory.{Memory, state_of}
 use Rattle.job_model.specs.Durable.{Durable, formatted}
 use Rattle.job_journal.specs.Journal.{IsSound}
@@ -16,7 +16,9 @@ use Rattle.histories.specs.After.{after}
 use Rattle.histories.specs.Possible.{IsForNode}
 use Rattle.durable_node.specs.Node.{Node, IsLeft, Stands}
 use Rattle.durable_node.specs.Stepping.{Does, Steps}
-use Rattle.durable_node.specs.Faults.{fault_of}
+use Rattle.durable_node.specs.declared.fault.NodeFault.{NodeFault}
+use Rattle.durable_node.specs.declared.fault.NodeFault.TheVariants as node
+use Rattle.durable_node.specs.Faults.{fault_of, told, told_as}
 use Rattle.durable_node.proofs.Mounts.{left_by}
 use Rattle.durable_node.proofs.Nodes.{is_some as same_some}
 
@@ -62,3 +64,10 @@ forgets new s stands = record { state = stands.state; doubt = stands.doubt; up =
 pub is_none : {A : Type 0} (o : Option A) (b : Bool) → is_some o ≡ not b → b ≡ true → o ≡ None
 is_none None b is so = refl
 is_none (Some x) b is so = absurd (let bad : is_some (Some x) ≡ false = is ∙ ap not so in cc)
+
+pub not_failed : (came : Came) → fault_of came.what ≡ None → IsErrOf (told (Ok came)) node.Device → ⊥
+not_failed came none e = (let bad : told_as came None ≡ Err node.Device = ap (λ (f : Option NodeFault). told_as came f) (sym none) ∙ e in cc)
+
+pub ok_not : {T E : Type 0} (r : Result T E) (e : E) → IsOk r → IsErrOf r e → ⊥
+ok_not (Ok x) e ok is = absurd cc
+ok_not (Err x) e ok is = absurd cc

@@ -330,7 +330,7 @@ module _ {Disk : Type 0} (id : ℕ) (kept : Bool) (core core' : Core) (mid end :
   pub rise_silent : (came : Came) → HasRisen id kept core core' mid end doubt doubt' came came.what → came.sent.items ≡ []
   rise_silent came is = silent_as came came.what is
 
-  found_mid : (what : What) (came : Came) → HasRisen id kept core core' mid end doubt doubt' came what → found_in (Some (durable_of mid).counter) (Some end) ≡ Some (durable_of mid)
+  pub found_mid : (what : What) (came : Came) → HasRisen id kept core core' mid end doubt doubt' came what → found_in (Some (durable_of mid).counter) (Some end) ≡ Some (durable_of mid)
   found_mid (Recovered k) came is = found_risen (durable_of mid) end is.1.kept
   found_mid (RaiseFailed k) came is = found_still (durable_of mid) end is.1.kept
   found_mid (RaiseRefused k) came is = found_still (durable_of mid) end (ap (λ (st : StoreState Disk). durable_of st) is.3)

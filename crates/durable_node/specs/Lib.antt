@@ -3,6 +3,7 @@ pub mod Carrying
 pub mod Node
 pub mod Stepping
 pub mod Remounting
+pub mod Reading
 pub mod Arming
 pub mod Refusing
 pub mod Compacting

@@ -4,6 +4,7 @@ ghost use Rattle.node_core.specs.State.{is_down};
 ghost use Rattle.durable_node.specs.Faults.{told};
 ghost use Rattle.durable_node.specs.Node.{disk_in, kept_in, found_in, IsNode, node_with};
 ghost use Rattle.durable_node.specs.Refusing.{Answers};
+ghost use Rattle.durable_node.specs.Reading.{ReadsDisk};
 ghost use Rattle.durable_node.specs.Remounting.{IsFoundBy, Remounted};
 ghost use Rattle.durable_node.specs.Stepping.{CountsOf, Steps, Stuck, most_by};
 
@@ -39,6 +40,7 @@ pub(crate) fn advance<D: SectorDisk + Drop>(
     ensures mounting { is_down core.old.state.phase ≡ true → event.now ≡ Event.Recover
         → Remounted (node_with id nodes core.old disk.old store.old doubt.old found.old) (node_with id nodes core.new disk.new store.new doubt.new found.new) (told result) (found_in found.new store.new) }
     ensures kept { is_down core.old.state.phase ≡ true → event.now ≡ Event.Recover → IfOk result (λ came. IsFoundBy doubt.old came.what (found_in found.new store.new)) }
+    ensures reads { is_down core.old.state.phase ≡ true → event.now ≡ Event.Recover → ReadsDisk D.state (disk_in disk.old store.old) (disk_in disk.new store.new) (told result) (found_in found.new store.new) }
     ensures few { IfOk result (λ came. length came.sent.items ≤ most_by nodes (kept_in (is_down core.old.state.phase) store.old)) }
 {
     *found = None;

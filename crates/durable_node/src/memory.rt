@@ -35,6 +35,7 @@ impl DurableNode<MemDisk> {
         ensures nodes { IfOk result (λ node. node.nodes ≡ nodes) }
         ensures opens { IfOk result (λ node. Stands state_of node (opening id)) }
         ensures sectors { IfOk result (λ node. (disk : Memory) → node.disk ≡ Some disk → (state_of disk).sectors ≡ 8 + 4 * slots) }
+        ensures failures { IfOk result (λ node. (disk : Memory) → node.disk ≡ Some disk → disk.failures ≡ 0) }
         ensures found { IfOk result (λ node. node.found ≡ None) }
     {
         let mut disk = MemDisk::new(alloc, 8 + 4 * slots)?;

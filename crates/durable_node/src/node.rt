@@ -8,6 +8,7 @@ ghost use Rattle.node_core.specs.State.{state_of, is_down};
 ghost use Rattle.node_store.specs.Store.{slots_for};
 ghost use Rattle.durable_node.specs.Compacting.{Compacts, StaysKept, IsMovedNode, IsFallenNode};
 ghost use Rattle.durable_node.specs.Faults.{told};
+ghost use Rattle.durable_node.specs.Reading.{ReadsDisk};
 ghost use Rattle.durable_node.specs.Refusing.{Answers, AnswersTo, compaction_refusal};
 ghost use Rattle.durable_node.specs.Remounting.{IsFoundBy, Remounted};
 ghost use Rattle.durable_node.specs.Stepping.{CountsOf, Steps, Stuck, most_by};
@@ -142,6 +143,7 @@ impl<D: SectorDisk + Drop> DurableNode<D> {
         // Over any disk, honest or not.
         ensures mounting { is_down self.old.state.phase ≡ true → event.now ≡ Event.Recover → Remounted self.old self.new (told result) self.new.found }
         ensures kept { is_down self.old.state.phase ≡ true → event.now ≡ Event.Recover → IfOk result (λ came. IsFoundBy self.old.doubt came.what self.new.found) }
+        ensures reads { is_down self.old.state.phase ≡ true → event.now ≡ Event.Recover → ReadsDisk D.state self.old.disk self.new.disk (told result) self.new.found }
         ensures few { IfOk result (λ came. length came.sent.items ≤ most_by self.old.nodes self.old.kept) }
     {
         advance(
@@ -168,6 +170,7 @@ impl<D: SectorDisk + Drop> DurableNode<D> {
         ensures counts { CountsOf D.state self.old.disk self.new.disk (told result) }
         ensures mounting { is_down self.old.state.phase ≡ true → Remounted self.old self.new (told result) self.new.found }
         ensures kept { is_down self.old.state.phase ≡ true → IfOk result (λ came. IsFoundBy self.old.doubt came.what self.new.found) }
+        ensures reads { is_down self.old.state.phase ≡ true → ReadsDisk D.state self.old.disk self.new.disk (told result) self.new.found }
         ensures few { IfOk result (λ came. length came.sent.items ≤ most_by self.old.nodes self.old.kept) }
     {
         self.step(&Event::Recover)

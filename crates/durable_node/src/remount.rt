@@ -12,6 +12,7 @@ ghost use Rattle.durable_node.specs.Faults.{told};
 ghost use Rattle.node_store.specs.Store.{durable_of, InStore, AllStandFor};
 ghost use Rattle.durable_node.specs.Carrying.{BeforeOrAfter};
 ghost use Rattle.durable_node.specs.Node.{disk_in, found_in, IsPlaced, IsNode, node_with};
+ghost use Rattle.durable_node.specs.Reading.{ReadsDisk};
 ghost use Rattle.durable_node.specs.Remounting.{HasRisen, IsFoundBy, IsKeptIn, Remounted, raise_by};
 ghost use Rattle.durable_node.specs.Stepping.{CountsOf, IsSilent, Steps, Stuck};
 
@@ -48,6 +49,7 @@ pub(crate) fn remount<D: SectorDisk + Drop>(
     ensures mounting { (was : Option ℕ)
         → Remounted (node_with id nodes core.old disk.old store.old doubt.old was) (node_with id nodes core.new disk.new store.new doubt.new found.new) (told result) (found_in found.new store.new) }
     ensures kept { IfOk result (λ came. IsFoundBy doubt.old came.what (found_in found.new store.new)) }
+    ensures reads { ReadsDisk D.state (disk_in disk.old store.old) (disk_in disk.new store.new) (told result) (found_in found.new store.new) }
     ensures quiet { IfOk result (λ came. came.sent.items ≡ []) }
 {
     let mut mounted = match NodeStore::mount(alloc, take_disk(disk, store)) {

@@ -90,6 +90,17 @@ fn cut(rt: &impl Abort, alloc: Global) -> Result<DurableNode<MemDisk>, Fail> {
 }
 
 // The raise isn't on the disk: its number was never offered, and is free.
+// No call of the disk was told to fail: all of them pass for ever.
+#[test]
+fn opened_on_a_disk_that_is_not_armed(rt: HostRuntime) -> Result<(), Fail> {
+    for slots in [4, 8, 4096] {
+        let disk = DurableNode::open(rt.alloc(), NodeId::numbered(0), 3, slots)?.into_disk();
+        assert_eq!(rt; disk.armed(), None);
+        assert_eq!(rt; disk.failures(), 0);
+    }
+    Ok(())
+}
+
 #[test]
 fn raise_cut_at_its_last_sync(rt: HostRuntime) -> Result<(), Fail> {
     let mut node = cut(&rt, rt.alloc())?;

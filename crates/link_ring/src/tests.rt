@@ -67,6 +67,23 @@ fn full_link_hands_the_message_back(rt: HostRuntime) -> Result<(), Fail> {
 }
 
 #[test]
+fn emptied_ring_takes_messages_again(rt: HostRuntime) -> Result<(), Fail> {
+    let (mut put_end, mut take_end) = link_of(rt.alloc(), 3)?;
+    for round in 0..1000 {
+        for id in 3 * round..3 * round + 3 {
+            assert!(rt; put(&mut put_end, id)?.is_none(), "message {id}");
+        }
+        assert!(rt; put(&mut put_end, 0)?.is_some());
+        for id in 3 * round..3 * round + 3 {
+            assert!(rt; take(&mut take_end)? == Some(done(id)), "message {id}");
+        }
+        assert!(rt; take(&mut take_end)?.is_none());
+    }
+    assert_eq!(rt; put_end.messages().len(), 3000);
+    Ok(())
+}
+
+#[test]
 fn gathered_with_messages_in_the_ring(rt: HostRuntime) -> Result<(), Fail> {
     let (mut put_end, mut take_end) = link_of(rt.alloc(), 3)?;
     for id in 1..4 {

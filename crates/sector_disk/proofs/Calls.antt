@@ -70,7 +70,7 @@ sync_touches sectors unsynced now old new spans more failures left after n ends 
 pub all_settled : (unsynced : List Bool) → ((at : ℕ) → IsFalse (get_or unsynced at false)) → unsynced ≡ replicate (length unsynced) false
 all_settled unsynced none = all_false unsynced (λ at is. false≢true (sym (none at) ∙ is))
 
-no_notes : (sectors : Image) (unsynced : List Bool) (notes : List Overwritten) (is_torn : Bool) → IsNoted sectors unsynced notes is_torn → ((at : ℕ) → IsFalse (get_or unsynced at false)) → notes ≡ []
+pub no_notes : (sectors : Image) (unsynced : List Bool) (notes : List Overwritten) (is_torn : Bool) → IsNoted sectors unsynced notes is_torn → ((at : ℕ) → IsFalse (get_or unsynced at false)) → notes ≡ []
 no_notes sectors unsynced [] is_torn noted none = refl
 no_notes sectors unsynced (note ∷ notes) is_torn noted none =
     absurd (false≢true (sym (none note.at) ∙ noted.no_other note.at (or_left (note.at == note.at) (has_touched notes note.at) (eqb_same note.at))))

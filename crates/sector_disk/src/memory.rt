@@ -1,5 +1,5 @@
 // A disk in memory that fails and crashes where it is told to.
-ghost use Rattle.std.specs.Prelude.{◌≡◌, ◌<◌, ◌≤◌, ◌⊎◌, ◌↔◌, ◌∷◌, [], ◌++◌, length, set, replicate, IsOk, IsTrue, IsFalse, IsErrOf, IfOk, OnErr, Vec, is_ok, false, true, Some, Option, ℕ};
+ghost use Rattle.std.specs.Prelude.{◌≡◌, ◌<◌, ◌≤◌, ◌⊎◌, ◌↔◌, ◌∷◌, [], ◌++◌, length, set, get_or, replicate, IsOk, IsTrue, IsFalse, IsErrOf, IfOk, OnErr, Vec, is_ok, false, true, Some, Option, ℕ};
 ghost use Rattle.sector_disk.specs.Disk.{Counts, Touches, AllSettled, IsImage, nothing, sector_at};
 ghost use Rattle.sector_disk.specs.Memory.{Memory, state_of, passes, spent, risen, blank, all_synced, is_unsynced};
 ghost use Rattle.sector_disk.specs.Crash.{IsCrashed, torn_at};
@@ -73,6 +73,13 @@ impl MemDisk {
         ensures { self.new ≡ record self.old { left = Some calls } }
     {
         self.left = Some(calls);
+    }
+
+    /// How many calls of `read`, `write` and `sync` still pass. None where it isn't armed.
+    pub fn armed(&self) -> Option<u64>
+        ensures { result ≡ self.now.left }
+    {
+        self.left
     }
 
     /// Stops the disk here and starts it again. The unsynced sectors, in rising order, take the
@@ -178,6 +185,8 @@ impl SectorDisk for MemDisk {
 
         // Where it is armed, no call passes but those that are left.
         ensures armed { IsOk result → IsTrue (passes self.old.left) }
+        // Where nothing is unsynced it takes no memory, and exactly the calls that are left pass.
+        ensures idle { ((at : ℕ) → IsFalse (is_unsynced self.old at)) → IsTrue (passes self.old.left) → IsOk result }
         ensures ok { IsOk result → self.new ≡ record self.old {
           synced = self.old.contents;
           unsynced = replicate (length self.old.unsynced) false;
@@ -263,6 +272,7 @@ fn end_time(
 ) -> Result<(), AllocError>
     requires { IsNoted sectors.now unsynced.old notes.old.since torn.old }
     ensures noted { IsNoted sectors.now unsynced.new notes.new.since torn.new }
+    ensures idle { ((at : ℕ) → IsFalse (get_or unsynced.old at false)) → IsOk result }
     ensures settled { IsOk result → unsynced.new ≡ replicate (length unsynced.old) false }
     ensures begun { IsOk result → notes.new.since ≡ [] }
     ensures ended { IsOk result → EndsTime sectors.now unsynced.old notes.old.since notes.old.times notes.new.times
@@ -289,6 +299,7 @@ fn note_torn(
     requires { IsNoted sectors.now unsynced.now notes.old.since torn.old }
     ensures noted { IsNoted sectors.now unsynced.now notes.new.since torn.new }
     ensures back { undone notes.new.since sectors.now ≡ undone notes.old.since sectors.now }
+    ensures idle { ((at : ℕ) → IsFalse (get_or unsynced.now at false)) → IsOk result }
     ensures untorn { IsOk result → IsFalse torn.new }
     ensures times { notes.new.times ≡ notes.old.times }
 {

@@ -1,5 +1,5 @@
 // What it takes to undo the writes of a time between two syncs.
-ghost use Rattle.std.specs.Prelude.{◌≡◌, ◌<◌, ◌⊎◌, ℕ, [], length, set, get_or, replicate, false, IsOk, IsTrue, OnErr};
+ghost use Rattle.std.specs.Prelude.{◌≡◌, ◌<◌, ◌⊎◌, ℕ, [], length, set, get_or, replicate, false, IsOk, IsTrue, IsFalse, OnErr};
 ghost use Rattle.sector_disk.specs.Undo.{AddsNote, undone, whole, has_touched};
 
 use crate::notes::Notes;
@@ -42,6 +42,7 @@ pub fn note_unsynced(
         → IsTrue (has_touched notes.old.since at) ⊎ IsTrue (get_or unsynced.now at false) }
     ensures kept { (at : ℕ) → IsTrue (has_touched notes.old.since at) → IsTrue (has_touched notes.new.since at) }
     ensures times { notes.new.times ≡ notes.old.times }
+    ensures idle { ((at : ℕ) → IsFalse (get_or unsynced.now at false)) → IsOk result }
     ensures all { IsOk result → (at : ℕ) → IsTrue (get_or unsynced.now at false) → IsTrue (has_touched notes.new.since at) }
 {
     for at in 0..unsynced.len() {

@@ -68,6 +68,36 @@ fn armed_calls_pass_and_later_ones_fail(rt: HostRuntime) -> Result<(), Fail> {
     Ok(())
 }
 
+// The greatest disk that a store uses: each of its sectors is written twice, with a sync after each round, and read.
+#[test]
+fn every_call_of_a_great_disk_passes(rt: HostRuntime) -> Result<(), Fail> {
+    let sectors = 16392;
+    let mut disk = MemDisk::new(rt.alloc(), sectors)?;
+    disk.arm(5 * sectors + 2);
+    for round in 1..3 {
+        for at in 0..sectors {
+            let byte = (at % 100) as u8 + round;
+            assert_eq!(rt; put(&mut disk, at, byte), Ok(()), "writing {at}");
+            check_sector(&rt, &mut disk, at, &[byte; 512]);
+        }
+        assert_eq!(rt; disk.sync(), Ok(()));
+    }
+    for at in 0..sectors {
+        check_sector(&rt, &mut disk, at, &[(at % 100) as u8 + 2; 512]);
+    }
+    assert_eq!(rt; disk.armed(), Some(0));
+    assert_eq!(rt; disk.failures(), 0);
+
+    // A sync that fails after a write that failed takes the last sector alone back.
+    assert_eq!(rt; put(&mut disk, sectors - 1, 0x11), DEVICE);
+    assert_eq!(rt; disk.sync(), DEVICE);
+    disk.crash(&[0x37; 512]);
+    assert_eq!(rt; disk.armed(), None);
+    check_sector(&rt, &mut disk, sectors - 1, &[0x37; 512]);
+    check_sector(&rt, &mut disk, sectors - 2, &[92; 512]);
+    Ok(())
+}
+
 #[test]
 fn failing_write_is_unsynced(rt: HostRuntime) -> Result<(), Fail> {
     let mut disk = MemDisk::new(rt.alloc(), 3)?;

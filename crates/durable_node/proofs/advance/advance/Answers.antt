@@ -78,6 +78,7 @@ returns-in_default g c =
           (still_same c.args.core.now c.ignore.new.core c.args.store.now c.args.doubt.now c.ignore.result e.kept);
       mounting = λ down is. absurd (c.in_default.not-Recover is);
       kept = λ down is. absurd (c.in_default.not-Recover is);
+      reads = λ down is. absurd (c.in_default.not-Recover is);
       answers = λ d area kept of_area. absurd (none_kept (is_down c.args.core.now.state.phase) c.args.store.now d (sym c.is_down.ensures ∙ c.if-is_down.true) kept);
       counts = counts_still state (disk_in c.args.disk.now c.args.store.now) (told c.ignore.result) (no_device why c.args.event.now c.ignore.result e.what e.stuck);
       few = few_ignored (most_by c.args.nodes (kept_in _ c.args.store.now)) why c.args.event.now c.ignore.result e.what;
@@ -91,3 +92,6 @@ returns-clause-kept g c = λ down is. absurd (clash (is_down c.args.core.now.sta
 
 pub returns-clause-mounting : goal.returns-clause-mounting
 returns-clause-mounting g c = λ down is. absurd (clash (is_down c.args.core.now.state.phase) down (sym c.is_down.ensures ∙ c.if-is_down.false))
+
+pub returns-clause-reads : goal.returns-clause-reads
+returns-clause-reads g c = λ down is. absurd (clash (is_down c.args.core.now.state.phase) down (sym c.is_down.ensures ∙ c.if-is_down.false))

@@ -1,16 +1,19 @@
-use Rattle.std.proofs.Common.{◌≡◌, ℕ, Option, Some, sym, ◌∙◌, ap, subst}
+use Rattle.std.proofs.Common.{◌≡◌, ℕ, Option, Some, None, refl, sym, ◌∙◌, ap, subst}
 use Rattle.node_core.specs.declared.event.Event.TheVariants.{Recover}
 use Rattle.node_store.specs.Store.{durable_of, slots_for}
 use Rattle.durable_node.specs.declared.fault.NodeFault.{NodeFault}
 use Rattle.durable_node.specs.Node.{node_with}
 use Rattle.durable_node.specs.Stepping.{Steps}
 use Rattle.durable_node.proofs.Nodes.{node_unmounted, node_mounted, same_on_fault}
-use Rattle.durable_node.proofs.Remounts.{found_kept, mount_fails, rise_silent, rise_told, rises, stuck}
-use Rattle.durable_node.specs.Node.{found_in}
+use Rattle.durable_node.proofs.Readings.{on_disk, read_at, unread_at}
+use Rattle.durable_node.proofs.Remounts.{found_kept, found_mid, mount_fails, rise_silent, rise_told, rises, stuck}
+use Rattle.durable_node.specs.Node.{disk_in, found_in}
+use Rattle.durable_node.specs.Reading.{IsRead, ReadsDisk}
+use Rattle.job_model.specs.Durable.{Durable}
 use Rattle.durable_node.specs.Remounting.{IsFoundBy, Remounted}
 use Rattle.durable_node.specs.declared.came.Came.{Came}
 use Rattle.durable_node.specs.Faults.{told}
-use Rattle.std.proofs.Common.{Ok, Result}
+use Rattle.std.proofs.Common.{Ok, Err, Result}
 use Rattle.durable_node.proofs.AnyDisk.{unmounted_at, remounted_at}
 use Rattle.durable_node.proofs.remount.remount.Goals as goal
 
@@ -81,3 +84,30 @@ returns-clause-kept g c =
 
 pub returns-clause-quiet : goal.returns-clause-quiet
 returns-clause-quiet g c = rise_silent c.args.id c.is_in-kept.result c.args.core.now c.rise-came.new.core c.in-Ok.mounted c.rise-came.new.store c.args.doubt.now c.rise-came.new.doubt c.rise-came.result c.rise-came.ensures.what
+
+pub returns-in-Err-clause-reads : goal.returns-in-Err-clause-reads
+returns-in-Err-clause-reads g c =
+    let state = g.D.SectorDisk.state in
+    let e = c.in-Err.ensures in
+    let back = c.in-Err.refused.disk in
+    let found = found_in c.args.found.now c.take_disk.new.store in
+    on_disk state (disk_in c.args.disk.now c.args.store.now) (Some back) c.take_disk.result back (told c.unmounted.result) found c.take_disk.ensures.taken refl
+    (unread_at state c.take_disk.result back c.in-Err.refused.fault (told c.unmounted.result) found (c.unmounted.ensures.told ∙ ap (λ (f : NodeFault). Err f) c.node_fault.ensures)
+    (ap (λ (f : Option ℕ). found_in f c.take_disk.new.store) c.requires.found) e.too_small e.untouched e.refusal e.run_refused)
+
+pub returns-clause-reads : goal.returns-clause-reads
+returns-clause-reads g c =
+    let state = g.D.SectorDisk.state in
+    let e = c.rise-came.ensures in
+    let mid = c.in-Ok.mounted in
+    let end = c.rise-came.new.store in
+    let answer = told (Ok c.rise-came.result) in
+    let old = node_with c.args.id c.args.nodes c.args.core.now c.args.disk.now c.args.store.now c.args.doubt.now None in
+    let new = node_with c.args.id c.args.nodes c.rise-came.new.core c.take_disk.new.disk (Some end) c.rise-came.new.doubt (Some (durable_of mid).counter) in
+    let risen = rise_told c.args.id c.is_in-kept.result c.args.core.now c.rise-came.new.core mid end c.args.doubt.now c.rise-came.new.doubt c.rise-came.result e.what in
+    let same = found_mid c.args.id c.is_in-kept.result c.args.core.now c.rise-came.new.core mid end c.args.doubt.now c.rise-came.new.doubt c.rise-came.result.what c.rise-came.result e.what in
+    let remounted = subst (λ (f : Option Durable). Remounted old new answer f) same (remounted_at c.args.id c.args.nodes c.args.core.now c.rise-came.new.core c.args.disk.now c.take_disk.new.disk c.args.store.now mid end c.args.doubt.now c.rise-came.new.doubt None answer risen.0 risen.1 risen.2) in
+    let read = subst (λ (f : Option Durable). IsRead state c.take_disk.result end.disk answer f) (sym same) (read_at state c.take_disk.result end.disk old new (durable_of mid) answer remounted c.in-Ok.ensures.enough c.in-Ok.ensures.reads) in
+    subst (λ (f : ℕ). ReadsDisk state (disk_in c.args.disk.now c.args.store.now) (disk_in c.take_disk.new.disk (Some end)) answer (found_in (Some f) (Some end))) (sym c.counter.ensures)
+    (on_disk state (disk_in c.args.disk.now c.args.store.now) (disk_in c.take_disk.new.disk (Some end)) c.take_disk.result end.disk answer (found_in (Some (durable_of mid).counter) (Some end)) c.take_disk.ensures.taken
+    (ap (λ (d : Option _). disk_in d (Some end)) c.take_disk.ensures.disk) read)

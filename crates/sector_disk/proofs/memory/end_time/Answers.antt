@@ -1,7 +1,8 @@
-use Rattle.std.proofs.Common.{◌≡◌, ◌∙◌, ◌==◌, ap, sym, ℕ, List, [], ◌∷◌, ◌++◌, length, IsFalse, get_or, false, inl, inr, refl}
+use Rattle.std.proofs.Common.{◌≡◌, ◌∙◌, ◌==◌, ap, sym, ℕ, List, [], true, ◌∷◌, ◌++◌, length, IsFalse, get_or, false, inl, inr, refl}
+use Rattle.std.proofs.lemmas.Bool.{false≢true}
 use Rattle.sector_disk.specs.Noted.{Noted}
 use Rattle.sector_disk.specs.declared.overwritten.Overwritten.{Overwritten}
-use Rattle.sector_disk.proofs.Calls.{no_items, none_flagged, all_settled}
+use Rattle.sector_disk.proofs.Calls.{no_items, no_notes, none_flagged, all_settled}
 use Rattle.sector_disk.proofs.Undoing.{ends_time}
 use Rattle.sector_disk.proofs.memory.end_time.Goals as goal
 
@@ -25,3 +26,10 @@ returns-then-is_empty-clause-ended c = λ ok. inr (record { none = none c; same 
 
 pub returns-then-is_empty-clause-settled : goal.returns-then-is_empty-clause-settled
 returns-then-is_empty-clause-settled c = λ ok. all_settled c.args.unsynced.now (none c)
+
+-- where nothing is unsynced there are no notes
+pub returns-clause-idle : goal.returns-clause-idle
+returns-clause-idle c = λ quiet.
+    let was = c.note_torn.new in
+    let empty : length was.notes.since == 0 ≡ true = ap (λ (l : List Overwritten). length l == 0) (no_notes c.args.sectors.now c.args.unsynced.now was.notes.since was.torn c.note_torn.ensures.noted quiet) in
+    absurd (false≢true (sym c.if-is_empty.false ∙ c.is_empty.ensures ∙ ap (λ (l : List Overwritten). length l == 0) c.since.ensures ∙ empty))

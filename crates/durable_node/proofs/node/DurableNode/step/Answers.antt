@@ -2,6 +2,7 @@ use Rattle.std.proofs.Common.{◌≡◌, true, subst}
 use Rattle.node_core.specs.declared.event.Event.TheVariants.{Recover}
 use Rattle.node_core.specs.State.{is_down}
 use Rattle.durable_node.specs.Node.{Node, node_with}
+use Rattle.durable_node.specs.Reading.{ReadsDisk}
 use Rattle.durable_node.specs.Refusing.{Answers}
 use Rattle.durable_node.specs.Remounting.{IsFoundBy, Remounted}
 use Rattle.durable_node.specs.Stepping.{Steps, Stuck}
@@ -35,3 +36,9 @@ returns-clause-kept g c =
 
 pub returns-clause-answers : goal.returns-clause-answers
 returns-clause-answers g c = subst (λ (old : Node _). Answers old c.args.event.now (told c.advance.result)) c.self.view_is c.advance.ensures.answers
+
+pub returns-clause-reads : goal.returns-clause-reads
+returns-clause-reads g c =
+    let n = c.advance.new in
+    let new = node_with c.self.inside.id c.self.inside.nodes n.core n.disk n.store n.doubt n.found in
+    subst (λ (old : Node _). is_down old.state.phase ≡ true → c.args.event.now ≡ Recover → ReadsDisk g.D.SectorDisk.state old.disk new.disk (told c.advance.result) new.found) c.self.view_is c.advance.ensures.reads

@@ -1,9 +1,14 @@
-use Rattle.std.proofs.Common.{◌≡◌, ◌⊎◌, ⊎_elim, ◌∙◌, ap, subst, not, IsOk, length, replicate, false, rules}
+use Rattle.std.proofs.Common.{◌≡◌, ◌⊎◌, ⊎_elim, ◌∙◌, ℕ, Bool, List, ap, sym, subst, refl, not, Result, Ok, Err, IsOk, IsFalse, length, get_or, replicate, true, false, rules}
+use Rattle.std.specs.Prelude.{OnErr, is_ok}
+use Rattle.std.proofs.lemmas.Bool.{false≢true}
 use Rattle.std.specs.Vec.{with_items}
 use Rattle.std.proofs.lemmas.List.{with_items_is}
 use Rattle.sector_disk.specs.Disk.{Touches, nothing}
-use Rattle.sector_disk.specs.Memory.{Memory, state_of}
-use Rattle.sector_disk.specs.Undo.{EndsTime, EndsNothing}
+use Rattle.sector_disk.specs.Memory.{Memory, state_of, is_unsynced}
+use Rattle.sector_disk.specs.Undo.{EndsTime, EndsNothing, undone, spans_of}
+use Rattle.sector_disk.specs.declared.overwritten.Overwritten.{Overwritten}
+use Rattle.sector_disk.specs.Disk.{Image}
+use Rattle.sector_disk.specs.Moments.{stays}
 use Rattle.sector_disk.proofs.Calls.{seen, sync_touches, idle_touches}
 use Rattle.sector_disk.proofs.memory.MemDiskSectorDisk.sync.Goals as goal
 
@@ -34,3 +39,30 @@ returns-clause-touches c = λ honest.
     (λ nothing_ended. idle_touches i.sectors i.unsynced.items flags.items i.notes.since new.notes.since i.notes.times new.notes.times i.failures i.left c.spend-passes.new.left
     i.torn c.self.invariant nothing_ended begun (settled ∙ ap (λ u. replicate (length u) false) c.deref_mut.ensures.value))
     (ends c))
+
+of_err : {T E P : Type 0} (r : Result T E) → is_ok r ≡ false → OnErr r P → P
+of_err (Ok x) not_ok p = absurd cc
+of_err (Err e) not_ok p = p
+
+pub returns-then-is_err-clause-touches : goal.returns-then-is_err-clause-touches
+returns-then-is_err-clause-touches c = λ honest.
+    let failed = c.is_err.ensures.negation ∙ ap not c.if-is_err.true in
+    let i = c.self.inside in
+    let new = c.end_time.new in
+    let e = c.end_time.ensures in
+    let flags = with_items i.unsynced new.unsynced in
+    let same = of_err c.end_time.result failed e.unsynced ∙ c.deref_mut.ensures.value in
+    let size : length new.unsynced ≡ i.unsynced.len = search rules in
+    let times = of_err c.end_time.result failed e.spans in
+    let back = of_err c.end_time.result failed e.back in
+    subst (λ (m : Memory). Touches nothing (state_of m) (state_of (seen i.sectors flags.items new.notes.since new.notes.times c.failed-then-is_err.new.failures c.spend-passes.new.left))) c.self.view_is
+    (stays nothing (seen i.sectors i.unsynced.items i.notes.since i.notes.times i.failures i.left) (seen i.sectors flags.items new.notes.since new.notes.times c.failed-then-is_err.new.failures c.spend-passes.new.left)
+    refl (with_items_is i.unsynced new.unsynced size ∙ same)
+    (ap (λ (t : List (List Overwritten)). spans_of t (undone new.notes.since i.sectors)) times ∙ ap (λ (s : Image). spans_of i.notes.times s) back))
+
+pub returns-then-is_err-clause-idle : goal.returns-then-is_err-clause-idle
+returns-then-is_err-clause-idle c = λ quiet passes.
+    let failed = c.is_err.ensures.negation ∙ ap not c.if-is_err.true in
+    let inside = subst (λ (m : Memory). (at : ℕ) → IsFalse (is_unsynced m at)) (sym c.self.view_is) quiet in
+    let ok = c.end_time.ensures.idle (subst (λ (u : List Bool). (at : ℕ) → IsFalse (get_or u at false)) (sym c.deref_mut.ensures.value) inside) in
+    absurd (false≢true (sym failed ∙ ok))
