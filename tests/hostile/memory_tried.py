@@ -27,10 +27,11 @@ class Refusing:
                 yield at, status, out, trouble, whole
 
     def is_over(self, status, out, trouble, note):
-        """Whether the run ended as none may end."""
-        if trouble:
+        """Whether the run ended as none may end, or before its command began: with `no memory` alone."""
+        is_told = (status, out) == (1, b"no memory\n")
+        if trouble or is_told:
             self.tried.tell(trouble, note)
-        return trouble != ""
+        return trouble != "" or is_told
 
 
 def try_batches(refusing, words, fed, want, note):
