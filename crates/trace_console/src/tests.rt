@@ -67,7 +67,7 @@ const WHOLE: [(&str, &str); 20] = [
 ];
 
 // Entries of the one node of a cluster, and what is printed for each.
-const ENTRIES: [(&str, &str); 36] = [
+const ENTRIES: [(&str, &str); 37] = [
     (r#"{"do":"none","sent":[]}"#, "Run 0\n"),
     (r#"{"do":"none","sent":["010100010000"]}"#, "NotARun 0 0\n"),
     (
@@ -181,7 +181,7 @@ const ENTRIES: [(&str, &str); 36] = [
 ];
 
 // Entries of which each is a bad one: a field is missing, of another type, or out of its range.
-const BAD: [&str; 42] = [
+const BAD: [&str; 47] = [
     r#"1"#,
     r#"null"#,
     r#"[]"#,
