@@ -1,0 +1,23 @@
+//! A node with the ends of its links, the plans of its workers and its history, and the lock round it.
+//!
+//! Three workers take turns at a node: one polls the links, one fires timers, one is the operator. Each turn adds one entry to
+//! the history, and the history is always that of the node: replayed from the opening it gives what the node and its disk stand
+//! for.
+#![tactic(auto)]
+
+mod entry;
+mod held;
+mod links;
+mod lock;
+mod order;
+mod perform;
+mod plans;
+mod turn;
+mod worker;
+
+pub use entry::{Entry, Run};
+pub use held::{Held, HeldFault, MOST_ENTRIES, Parts};
+pub use lock::{Gate, NodeLock, TurnFault};
+pub use order::{Fill, Order, Timer};
+pub use plans::Plans;
+pub use worker::{Turns, Worker};
