@@ -6,7 +6,7 @@ use Rattle.link_ring.specs.Sides.{Side}
 use Rattle.durable_node.specs.Node.{Node}
 use Rattle.durable_node.specs.Stepping.{most_by}
 use Rattle.histories.specs.History.{sent_in}
-use Rattle.node_lock.specs.declared.entry.Run.{Run}
+use Rattle.node_lock.specs.declared.run.Run.{Run}
 use Rattle.node_lock.specs.declared.worker.Turns.{Turns}
 use Rattle.node_lock.specs.declared.worker.Worker.{Worker}
 use Rattle.node_lock.specs.Doing.{TurnDid}
@@ -15,7 +15,7 @@ use Rattle.node_lock.specs.Sending.{PutsSome, addressed_to, HasRoomFor, SameSide
 use Rattle.node_lock.specs.History.{Turn, IsReplay, FollowsPlans, PlanStep, entries_of, polled, from_link, listed}
 
 -- the node and its disk, the ends of its links, the plans and the turns that were taken of them, and what came of these; a
--- message that was taken from a link and not yet handed to the node; and for how many more entries there is room
+-- message that was taken from a link and not yet handed to the node; and for how many more turns and messages there is room
 pub record HeldView : Type 0 where
   pub node : Node Memory
   pub run : Run
@@ -26,6 +26,7 @@ pub record HeldView : Type 0 where
   pub history : List Turn
   pub waiting : Option Envelope
   pub room : ℕ
+  pub sends : ℕ
 
 -- the other nodes' numbers, in rising order
 abbrev pub IsOther : ℕ → ℕ → ℕ → Type 0
@@ -99,5 +100,6 @@ pub record Unserved (old new : HeldView) : Type 0 where
 -- the room that one turn takes outside the node
 pub record HasRoom (h : HeldView) : Type 0 where
   pub history : 0 < h.room
+  pub sends : most_by h.node.nodes h.node.kept ≤ h.sends
   pub puts : HasRoomFor (most_by h.node.nodes h.node.kept) h.puts
   pub takes : HasRoomFor 1 h.takes

@@ -4,4 +4,6 @@ pub mod Sending
 pub mod Asking
 pub mod Doing
 pub mod History
+pub mod Kept
+pub mod Seen
 pub mod HeldView

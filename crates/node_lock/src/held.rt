@@ -4,14 +4,15 @@ ghost use Rattle.group_task.specs.declared.node.TheConstants.{NODES};
 ghost use Rattle.durable_node.specs.Stepping.{most_by};
 ghost use Rattle.node_lock.specs.HeldView.{HeldView, Kept, IsOther, IsPolled, Takes, SameRun, Unchanged, Unserved, HasRoom};
 ghost use Rattle.node_lock.specs.History.{Turn};
-ghost use Rattle.node_lock.specs.Planned.{plan_len, turns_of};
+ghost use Rattle.node_lock.specs.Planned.{no_turns, plan_len, turns_of};
 ghost use Rattle.node_lock.specs.declared.held.TheConstants.{MOST_ENTRIES};
 ghost use Rattle.node_lock.specs.declared.held.HeldFault.TheVariants.{HistoryFull, NoMemory};
 ghost use Rattle.node_lock.specs.declared.worker.Worker.TheVariants.{Intake, Clock, Operator};
 
-use crate::entry::{Entry, Run};
+use crate::history::History;
 use crate::links::{reserve_puts, reserve_takes, send_all};
 use crate::plans::Plans;
+use crate::run::Run;
 use crate::turn::{fetch, fire, operate, receive};
 use crate::worker::{Turns, Worker};
 use durable_node::DurableNode;
@@ -41,20 +42,19 @@ pub struct Held {
     takes: Vec<TakeEnd>,
     plans: Plans,
     turns: Turns,
-    history: Vec<Entry>,
+    history: History,
     waiting: Option<Message>,
     alloc: Global,
 }
 
 impl Model for Held {
-    ghost use Rattle.std.specs.Prelude.{◌-◌, vec_len, vec_capacity};
     ghost use Rattle.node_lock.specs.HeldView.{HeldView, Kept};
 
     ghost Value = { HeldView };
 
-    ghost view = { λ h. record { node = h.node; run = h.run; puts = h.puts.items; takes = h.takes.items; plans = h.plans; turns = h.turns; history = h.history.items; waiting = h.waiting; room = vec_capacity h.history - vec_len h.history } };
+    ghost view = { λ h. record { node = h.node; run = h.run; puts = h.puts.items; takes = h.takes.items; plans = h.plans; turns = h.turns; history = h.history.turns; waiting = h.waiting; room = h.history.room; sends = h.history.sends } };
 
-    ghost invariant = { λ h. Kept (record { node = h.node; run = h.run; puts = h.puts.items; takes = h.takes.items; plans = h.plans; turns = h.turns; history = h.history.items; waiting = h.waiting; room = vec_capacity h.history - vec_len h.history }) };
+    ghost invariant = { λ h. Kept (record { node = h.node; run = h.run; puts = h.puts.items; takes = h.takes.items; plans = h.plans; turns = h.turns; history = h.history.turns; waiting = h.waiting; room = h.history.room; sends = h.history.sends }) };
 }
 
 /// What is left of a node when its workers have ended.
@@ -62,7 +62,7 @@ impl Model for Held {
 pub struct Parts {
     pub run: Run,
     pub plans: Plans,
-    pub history: Vec<Entry>,
+    pub history: History,
     pub puts: Vec<PutEnd>,
     pub takes: Vec<TakeEnd>,
     pub waiting: Option<Message>,
@@ -86,7 +86,7 @@ impl Held {
         requires takes { vec_len takes + 1 ≡ run.nodes }
         requires take_ends { (k : ℕ) (d : _) → k < vec_len takes → ((slice_index_or takes.items k d).receiver ≡ run.node) × ((slice_index_or takes.items k d).messages ≡ []) × IsOther run.node k (slice_index_or takes.items k d).sender }
         requires ends { (k : ℕ) (d : _) → k < vec_len puts → ((slice_index_or puts.items k d).sender ≡ run.node) × ((slice_index_or puts.items k d).capacity ≡ run.capacity) × ((slice_index_or puts.items k d).messages ≡ []) × IsOther run.node k (slice_index_or puts.items k d).receiver }
-        ensures { IfOk result (λ h. (h.run ≡ run) × (h.plans ≡ plans) × (h.history ≡ []) × (h.waiting ≡ None)) }
+        ensures { IfOk result (λ h. (h.run ≡ run) × (h.plans ≡ plans) × (h.turns ≡ no_turns) × (h.history ≡ []) × (h.waiting ≡ None)) }
     {
         let node = DurableNode::open(alloc, run.node, run.nodes, run.slots)?;
         Ok(Held {
@@ -100,7 +100,7 @@ impl Held {
                 clock: 0,
                 operator: 0,
             },
-            history: Vec::new(alloc),
+            history: History::new(alloc),
             waiting: None,
             alloc,
         })
@@ -138,7 +138,7 @@ impl Held {
         ensures room { OnOk result (HasRoom self.new) }
     {
         let most = most_messages(&self.node, usize::from(self.run.nodes));
-        self.history.reserve(1)?;
+        self.history.reserve(most)?;
         reserve_puts(&mut self.puts, most)?;
         reserve_takes(&mut self.takes, 1)
     }
@@ -157,9 +157,8 @@ impl Held {
         let copy = *&found;
         match receive(self.alloc, &mut self.node, found) {
             Ok((what, sent)) => {
-                send_all(&mut self.puts, sent.as_slice());
-                self.history
-                    .push_reserved(Entry::new(Worker::Intake, index as u64, what, sent));
+                send_all(&mut self.puts, &sent);
+                self.history.push(Worker::Intake, index as u64, what, &sent);
                 self.turns.intake += 1;
                 self.waiting = None;
                 Ok(true)
@@ -181,9 +180,8 @@ impl Held {
         let index = self.turns.clock;
         let timer = self.plans.clock()[index];
         let (what, sent) = fire(&mut self.node, timer)?;
-        send_all(&mut self.puts, sent.as_slice());
-        self.history
-            .push_reserved(Entry::new(Worker::Clock, index as u64, what, sent));
+        send_all(&mut self.puts, &sent);
+        self.history.push(Worker::Clock, index as u64, what, &sent);
         self.turns.clock += 1;
         Ok(true)
     }
@@ -197,9 +195,9 @@ impl Held {
     {
         let index = self.turns.operator;
         let (what, sent) = operate(self.alloc, &mut self.node, &self.plans.operator()[index])?;
-        send_all(&mut self.puts, sent.as_slice());
+        send_all(&mut self.puts, &sent);
         self.history
-            .push_reserved(Entry::new(Worker::Operator, index as u64, what, sent));
+            .push(Worker::Operator, index as u64, what, &sent);
         self.turns.operator += 1;
         Ok(true)
     }
@@ -230,13 +228,13 @@ impl Held {
     pub fn run(&self) -> Run
         ensures { result ≡ self.now.run }
     {
-        *&self.run
+        self.run
     }
 
     /// What is left of the node.
     pub fn into_parts(self) -> Parts
         ensures kept { Kept self }
-        ensures parts { (result.run ≡ self.run) × (result.plans ≡ self.plans) × (result.history.items ≡ self.history) × (result.puts.items ≡ self.puts) × (result.takes.items ≡ self.takes) × (result.waiting ≡ self.waiting) }
+        ensures parts { (result.run ≡ self.run) × (result.plans ≡ self.plans) × (result.history.turns ≡ self.history) × (result.puts.items ≡ self.puts) × (result.takes.items ≡ self.takes) × (result.waiting ≡ self.waiting) }
     {
         let Held {
             node: _,

@@ -5,19 +5,25 @@
 //! for.
 #![tactic(auto)]
 
-mod entry;
 mod held;
+mod history;
+mod line;
 mod links;
 mod lock;
 mod order;
 mod perform;
 mod plans;
+mod run;
 mod turn;
 mod worker;
 
-pub use entry::{Entry, Run};
 pub use held::{Held, HeldFault, MOST_ENTRIES, Parts};
+pub use history::{Entry, History, Sent};
 pub use lock::{Gate, NodeLock, TurnFault};
 pub use order::{Fill, Order, Timer};
 pub use plans::Plans;
+pub use run::Run;
 pub use worker::{Turns, Worker};
+
+#[cfg(test)]
+mod tests;

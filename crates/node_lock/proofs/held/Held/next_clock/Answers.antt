@@ -20,9 +20,9 @@ invariant_of-self-2 c =
     let timer = get_or c.clock.result.now h.turns.clock Check in
     let got = slice_get-get_or h.plans.clock h.turns.clock Check more ∙ ap (λ l. Some (get_or l h.turns.clock Check)) (sym c.clock.ensures) in
     let did = c.in_ok-what.ensures.did in
+    let added = c.push.ensures ∙ ap (λ (l : List Envelope). h.history.turns ++ (record { worker = Clock; index = h.turns.clock; entry = record { what = c.in_ok-what.what; sent = l } }) ∷ []) c.deref-2.ensures.value in
     let plan : PlanStep h.plans h.turns e (with_turn h.turns Clock) = record { asked = Hand (event_for timer); asks = (timer, got, refl); gives = gives_in _ (Hand (event_for timer)) e _ c.self.invariant did; index = refl; turns = refl } in
-    let on = subst (λ (l : List Envelope). SentOn l h.puts.items c.send_all.new.puts.items) c.as_slice.ensures.value c.send_all.ensures in
-    let added = c.push_reserved.ensures.items ∙ ap (λ (t : Turn). h.history.items ++ t ∷ []) c.new.ensures in
+    let on = subst (λ (l : List Envelope). SentOn l h.puts.items c.send_all.new.puts.items) c.deref.ensures.value c.send_all.ensures in
     keeps_past _ _ (Hand (event_for timer)) e c.self.invariant refl refl added c.in_ok-what.ensures.id c.in_ok-what.ensures.nodes plan did on refl refl refl (none_of_tick timer e.entry.what plan.gives)
 
 pub returns-clause-taken : goal.returns-clause-taken
@@ -33,6 +33,6 @@ returns-clause-taken c =
     let timer = get_or c.clock.result.now h.turns.clock Check in
     let got = slice_get-get_or h.plans.clock h.turns.clock Check more ∙ ap (λ l. Some (get_or l h.turns.clock Check)) (sym c.clock.ensures) in
     let did = c.in_ok-what.ensures.did in
+    let added = c.push.ensures ∙ ap (λ (l : List Envelope). h.history.turns ++ (record { worker = Clock; index = h.turns.clock; entry = record { what = c.in_ok-what.what; sent = l } }) ∷ []) c.deref-2.ensures.value in
     let plan : PlanStep h.plans h.turns e (with_turn h.turns Clock) = record { asked = Hand (event_for timer); asks = (timer, got, refl); gives = gives_in _ (Hand (event_for timer)) e _ c.self.invariant did; index = refl; turns = refl } in
-    let added = c.push_reserved.ensures.items ∙ ap (λ (t : Turn). h.history.items ++ t ∷ []) c.new.ensures in
     rw (← c.self.view_is) (refl, (e, record { history = added; worker = refl; plan = plan; did = did }))

@@ -19,9 +19,9 @@ invariant_of-self-2 c =
     let order = c.index-operator-index.result in
     let got = slice_get-get_or h.plans.operator h.turns.operator order more ∙ ap (λ o. Some o) (ap (λ l. get_or l h.turns.operator order) (sym c.operator.ensures) ∙ sym c.index-operator-index.is) in
     let did = c.in_ok-what.ensures.did in
+    let added = c.push.ensures ∙ ap (λ (l : List Envelope). h.history.turns ++ (record { worker = Operator; index = h.turns.operator; entry = record { what = c.in_ok-what.what; sent = l } }) ∷ []) c.deref-2.ensures.value in
     let plan : PlanStep h.plans h.turns e (with_turn h.turns Operator) = record { asked = asked_in order; asks = (order, got, refl); gives = gives_in _ (asked_in order) e _ c.self.invariant did; index = refl; turns = refl } in
-    let on = subst (λ (l : List Envelope). SentOn l h.puts.items c.send_all.new.puts.items) c.as_slice.ensures.value c.send_all.ensures in
-    let added = c.push_reserved.ensures.items ∙ ap (λ (t : Turn). h.history.items ++ t ∷ []) c.new.ensures in
+    let on = subst (λ (l : List Envelope). SentOn l h.puts.items c.send_all.new.puts.items) c.deref.ensures.value c.send_all.ensures in
     keeps_past _ _ (asked_in order) e c.self.invariant refl refl added c.in_ok-what.ensures.id c.in_ok-what.ensures.nodes plan did on refl refl refl (none_of_order order e.entry.what plan.gives)
 
 pub returns-clause-taken : goal.returns-clause-taken
@@ -32,6 +32,6 @@ returns-clause-taken c =
     let order = c.index-operator-index.result in
     let got = slice_get-get_or h.plans.operator h.turns.operator order more ∙ ap (λ o. Some o) (ap (λ l. get_or l h.turns.operator order) (sym c.operator.ensures) ∙ sym c.index-operator-index.is) in
     let did = c.in_ok-what.ensures.did in
+    let added = c.push.ensures ∙ ap (λ (l : List Envelope). h.history.turns ++ (record { worker = Operator; index = h.turns.operator; entry = record { what = c.in_ok-what.what; sent = l } }) ∷ []) c.deref-2.ensures.value in
     let plan : PlanStep h.plans h.turns e (with_turn h.turns Operator) = record { asked = asked_in order; asks = (order, got, refl); gives = gives_in _ (asked_in order) e _ c.self.invariant did; index = refl; turns = refl } in
-    let added = c.push_reserved.ensures.items ∙ ap (λ (t : Turn). h.history.items ++ t ∷ []) c.new.ensures in
     rw (← c.self.view_is) (refl, (e, record { history = added; worker = refl; plan = plan; did = did }))
