@@ -1,5 +1,5 @@
 -- How the turns of a history are kept: the messages that they sent stand in one list.
-use Rattle.std.specs.Prelude.{◌≡◌, ℕ, ◌-◌, ◌≤◌, List, take, drop}
+use Rattle.std.specs.Prelude.{ℕ, ◌-◌, ◌≤◌, List, take, drop}
 use Rattle.wire_msg.specs.Envelope.{Envelope}
 use Rattle.histories.specs.declared.what.What.{What}
 use Rattle.node_lock.specs.declared.worker.Worker.{Worker}

@@ -26,7 +26,9 @@ use wire_msg::Message;
 /// Why a turn was not taken.
 #[derive(Clone, Copy, PartialEq, Eq, Debug)]
 pub enum HeldFault {
+    /// The history has [`MOST_ENTRIES`] turns.
     HistoryFull,
+    /// There is no memory. A message that was already taken from a link waits, and is what the repeated poll gives.
     NoMemory,
 }
 

@@ -16,8 +16,11 @@ pub trait Gate: Sync {
 /// Why a worker stopped.
 #[derive(Clone, Copy, PartialEq, Eq, Debug)]
 pub enum TurnFault {
+    /// The history has as many turns as it can.
     HistoryFull,
+    /// There is no memory. The turn may be taken once more.
     NoMemory,
+    /// The gate doesn't let the worker pass: nothing was changed.
     GateShut,
 }
 

@@ -1,6 +1,6 @@
 //! Turns at nodes, in one thread.
 
-ghost use Rattle.std.specs.Prelude.{◌≡◌, ◌<◌, ◌≤◌, [], ◌∷◌, IfOk};
+ghost use Rattle.std.specs.Prelude.{◌≡◌, ◌<◌, ◌-◌, [], ◌∷◌, IfOk};
 ghost use Rattle.link_ring.specs.Sides.{unused};
 
 use super::*;
@@ -83,17 +83,37 @@ fn work() -> Result<Work, Fail> {
     })
 }
 
+/// Jobs are submitted, the disk fails at once, the node crashes and recovers.
+fn failing(alloc: Global, work: &Work) -> Result<Vec<Order>, AllocError> {
+    let mut orders = Vec::new(alloc);
+    orders.push(Order::Submit(*work))?;
+    orders.push(Order::Arm(0))?;
+    orders.push(Order::Submit(*work))?;
+    orders.push(Order::Submit(*work))?;
+    orders.push(Order::Recover)?;
+    orders.push(Order::Crash(Fill::new(Vec::new(alloc))))?;
+    orders.push(Order::Recover)?;
+    Ok(orders)
+}
+
+/// What comes of these orders.
+fn failed(place: usize, work: &Work) -> What {
+    match place {
+        0 => What::Did(Event::Submit(*work)),
+        1 => What::Rests(Rest::Nothing),
+        2 => What::Faulted(Event::Submit(*work)),
+        3 => What::Refused(Event::Submit(*work), Refusal::Core(CoreFault::Down)),
+        4 => What::MountFailed,
+        5 => What::Crashed,
+        // the device failed at its first call, so the job isn't on the disk
+        _ => What::Recovered(false),
+    }
+}
+
 #[test]
 fn operator_of_a_failing_disk(rt: HostRuntime) -> Result<(), Fail> {
     let work = work()?;
-    let mut orders = Vec::new(rt.alloc());
-    orders.push(Order::Submit(work))?;
-    orders.push(Order::Arm(0))?;
-    orders.push(Order::Submit(work))?;
-    orders.push(Order::Submit(work))?;
-    orders.push(Order::Recover)?;
-    orders.push(Order::Crash(Fill::new(Vec::new(rt.alloc()))))?;
-    orders.push(Order::Recover)?;
+    let orders = failing(rt.alloc(), &work)?;
     let mut held = alone(rt.alloc(), Vec::new(rt.alloc()), orders)?;
     take(&rt, &mut held, Worker::Operator, 7);
     assert!(rt; held.next(Worker::Operator) == Ok(false));
@@ -101,20 +121,9 @@ fn operator_of_a_failing_disk(rt: HostRuntime) -> Result<(), Fail> {
     assert!(rt; held.next(Worker::Intake) == Ok(false));
     let history = held.into_parts().history;
     assert_eq!(rt; history.len(), 7);
-    for (place, what) in [
-        What::Did(Event::Submit(work)),
-        What::Rests(Rest::Nothing),
-        What::Faulted(Event::Submit(work)),
-        What::Refused(Event::Submit(work), Refusal::Core(CoreFault::Down)),
-        What::MountFailed,
-        What::Crashed,
-        // the device failed at its first call, so the job isn't on the disk
-        What::Recovered(false),
-    ]
-    .iter()
-    .enumerate()
-    {
-        assert!(rt; came(&history, place, Worker::Operator, place as u64) == Some(*what), "turn {place}");
+    for place in 0..7 {
+        let told = came(&history, place, Worker::Operator, place as u64);
+        assert!(rt; told == Some(failed(place, &work)), "turn {place}");
     }
     Ok(())
 }
@@ -140,13 +149,17 @@ fn question_and_answer(rt: HostRuntime) -> Result<(), Fail> {
         .entry(1)
         .and_then(|entry| entry.sent.get(0))
         .ok_or("a question")?;
-    assert!(rt; came(&other.history, 0, Worker::Intake, 0) == Some(What::Did(Event::Deliver(question))));
+    assert!(rt;
+        came(&other.history, 0, Worker::Intake, 0) == Some(What::Did(Event::Deliver(question)))
+    );
     let answer = other
         .history
         .entry(0)
         .and_then(|entry| entry.sent.get(0))
         .ok_or("an answer")?;
-    assert!(rt; came(&asker.history, 2, Worker::Intake, 1) == Some(What::Did(Event::Deliver(answer))));
+    assert!(rt;
+        came(&asker.history, 2, Worker::Intake, 1) == Some(What::Did(Event::Deliver(answer)))
+    );
     assert!(rt; asker.waiting.is_none());
     Ok(())
 }
