@@ -52,7 +52,12 @@ pub fn push_bytes_text(text: &mut Vec<u8>, bytes: &[u8]) -> Result<(), AllocErro
 }
 
 /// Adds the words of a job: its queue, its payload, and its priority, which is left out where it is 0.
-pub fn push_work(text: &mut Vec<u8>, queue: u8, payload: &[u8], priority: u8) -> Result<(), AllocError>
+pub fn push_work(
+    text: &mut Vec<u8>,
+    queue: u8,
+    payload: &[u8],
+    priority: u8,
+) -> Result<(), AllocError>
     ensures { OnOk result (text.new.items ≡ text.old.items ++ work_text queue payload.now priority) }
 {
     push_number(text, u64::from(queue))?;

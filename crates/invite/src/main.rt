@@ -105,7 +105,9 @@ fn words(rt: &HostRuntime) -> io::Result<Option<Vec<String>>> {
     match std::env::args(rt) {
         Ok(words) => Ok(Some(words.collect(rt.alloc())?)),
         Err(error) if error.kind() == ErrorKind::InvalidData => {
-            rt.println("error: a word of the command line isn't UTF-8\n\nFor more information, try '--help'.")?;
+            rt.println(
+                "error: a word of the command line isn't UTF-8\n\nFor more information, try '--help'.",
+            )?;
             Ok(None)
         }
         Err(error) => Err(error),

@@ -157,5 +157,10 @@ fn push_order(text: &mut Vec<u8>, group: GroupNo, id: u64, work: &Work) -> Resul
 fn push_parts(text: &mut Vec<u8>, work: &Work) -> Result<(), AllocError>
     ensures { OnOk result (text.new.items ≡ text.old.items ++ work_text work.now.queue work.now.payload work.now.priority) }
 {
-    push_work(text, work.queue.number(), work.payload.as_slice(), work.priority)
+    push_work(
+        text,
+        work.queue.number(),
+        work.payload.as_slice(),
+        work.priority,
+    )
 }

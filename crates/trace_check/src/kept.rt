@@ -133,7 +133,11 @@ fn event_said(messages: &MessageList, payloads: &[u8], event: KeptEvent) -> Even
         KeptEvent::Submit(queue, priority, start, len) => {
             let bytes = &payloads[start..start + usize::from(len)];
             let payload = Payload::new(bytes).unwrap();
-            Event::Submit(Work { queue, priority, payload })
+            Event::Submit(Work {
+                queue,
+                priority,
+                payload,
+            })
         }
         KeptEvent::Finish(origin, id) => Event::Finish(origin, id),
         KeptEvent::Recover => Event::Recover,

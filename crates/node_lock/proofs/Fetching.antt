@@ -1,0 +1,67 @@
+-- What a poll takes.
+use Rattle.std.proofs.Common.{◌≡◌, ℕ, ◌+◌, ◌<◌, ◌==◌, cond, Option, Some, None, IfSome, IfNone, List, [], ◌∷◌, ◌++◌, length, slice_index, slice_index_or, refl, ap, sym, ◌∙◌, inl, inr, arith}
+use Rattle.std.proofs.lemmas.List.{append-nil}
+use Rattle.std.proofs.lemmas.Bool.Decides.{nat_tests}
+use Rattle.wire_msg.specs.Envelope.{Envelope}
+use Rattle.histories.specs.What.{brought, event_of}
+use Rattle.link_ring.specs.Sides.{Side}
+use Rattle.node_lock.specs.Asking.{asked_by}
+use Rattle.node_lock.specs.Doing.{Gives}
+use Rattle.node_lock.specs.Sending.{SameLink, SameSides, Brings}
+use Rattle.node_lock.specs.History.{Turn, polled, from_link, listed}
+use Rattle.node_lock.specs.HeldView.{HeldView, Kept, IsTakeLink, IsOther}
+use Rattle.node_lock.proofs.Keeping.{polled-snoc, from_nothing}
+use Rattle.node_lock.proofs.Telling.{brought_found}
+
+-- places and nodes go with each other
+pub same_other : (own k j place from : ℕ) → IsOther own k j → IsOther own place from → (k == place) ≡ (from == j)
+same_other own k j place from a b = grind (arith, nat_tests, a.0, a.1, b.0, b.1)
+
+-- what the list of a link has once this was found
+pub record IsFetched (h : HeldView) (f : Option Envelope) (old new : Side) : Type 0 where
+  pub same : SameLink old new
+  pub messages : new.messages ≡ polled h.plans.intake old.sender h.history ++ from_link h.plans.intake old.sender h.turns.intake (listed f)
+
+from_same : (h : HeldView) (f : Option Envelope) (old new : Side) → IsTakeLink h old → h.waiting ≡ f → SameLink old new → new.messages ≡ old.messages → IsFetched h f old new
+from_same h f old new k w same messages = record {
+  same = same;
+  messages = messages ∙ (k.messages ∙ ap (λ o. polled h.plans.intake old.sender h.history ++ from_link h.plans.intake old.sender h.turns.intake (listed o)) w);
+}
+
+from_took : (h : HeldView) (m : Envelope) (i place from : ℕ) (old new : Side) → IsTakeLink h old → h.waiting ≡ None → IsOther h.run.node i old.sender → IsOther h.run.node place from → from ≡ slice_index h.plans.intake h.turns.intake → SameLink old new → new.messages ≡ old.messages ++ cond (i == place) (m ∷ []) []
+    → IsFetched h (Some m) old new
+from_took h m i place from old new k w a b is same messages =
+    let before : old.messages ≡ polled h.plans.intake old.sender h.history = k.messages ∙ (ap (λ o. polled h.plans.intake old.sender h.history ++ from_link h.plans.intake old.sender h.turns.intake (listed o)) w
+    ∙ (ap (λ l. polled h.plans.intake old.sender h.history ++ l) (from_nothing h.plans.intake old.sender h.turns.intake [] refl) ∙ append-nil (polled h.plans.intake old.sender h.history))) in
+    let test : (i == place) ≡ (slice_index h.plans.intake h.turns.intake == old.sender) = same_other h.run.node i old.sender place from a b ∙ ap (λ j. j == old.sender) is in
+    record {
+      same = same;
+      messages = messages ∙ (ap (λ l. l ++ cond (i == place) (m ∷ []) []) before ∙ ap (λ b. polled h.plans.intake old.sender h.history ++ cond b (m ∷ []) []) test);
+    }
+
+pub fetched : (h : HeldView) (new : List Side) (place from : ℕ) (f : Option Envelope) → Kept h → IsOther h.run.node place from → from ≡ slice_index h.plans.intake h.turns.intake → IfNone f ((h.waiting ≡ None) × SameSides h.takes new) → IfSome f (λ m. Brings place m h.waiting h.takes new)
+    → (length new ≡ length h.takes) × ((i : ℕ) (d : Side) → i < length h.takes → IsFetched h f (slice_index_or h.takes i d) (slice_index_or new i d))
+fetched h new place from None k b is none some =
+    (none.1.len, λ i d lt. from_same h None (slice_index_or h.takes i d) (slice_index_or new i d) (k.takes i d lt).0 none.0 (none.1.each i d lt).0 (none.1.each i d lt).1)
+fetched h new place from (Some m) k b is none some =
+    elim some [
+      | inl s ↦ (s.1.len, λ i d lt. from_same h (Some m) (slice_index_or h.takes i d) (slice_index_or new i d) (k.takes i d lt).0 s.0 (s.1.each i d lt).0 (s.1.each i d lt).1)
+      | inr s ↦ (s.1.len, λ i d lt. from_took h m i place from (slice_index_or h.takes i d) (slice_index_or new i d) (k.takes i d lt).0 s.0 (k.takes i d lt).1 b is (s.1.each i d lt).0 (s.1.each i d lt).1)
+    ]
+
+-- once the turn stands, nothing waits
+pub entered : (h n : HeldView) (e : Turn) (f : Option Envelope) (old new : Side) → IsTakeLink h old → IsFetched h f old new → n.run ≡ h.run → n.plans ≡ h.plans → n.history ≡ h.history ++ e ∷ [] → n.waiting ≡ None → e.index ≡ h.turns.intake → Gives (asked_by f) e.entry.what
+    → IsTakeLink n new × (new.sender ≡ old.sender)
+entered h n e f old new k g run plans history waiting index gives =
+    let plan = h.plans.intake in
+    let more : polled plan old.sender (h.history ++ e ∷ []) ≡ polled plan old.sender h.history ++ from_link plan old.sender h.turns.intake (listed f) = polled-snoc plan old.sender h.history e ∙ ap (λ l. polled plan old.sender h.history ++ l) (ap (λ i. from_link plan old.sender i (brought (event_of e.entry.what))) index ∙ ap (λ ms. from_link plan old.sender h.turns.intake ms) (brought_found f e.entry.what gives)) in (
+      record {
+        receiver = g.same.receiver ∙ (k.receiver ∙ ap (λ r. r.node) (sym run));
+        messages = rw (plans, history, waiting, g.same.sender) (g.messages ∙ (sym more ∙ sym (ap (λ l. polled plan old.sender (h.history ++ e ∷ []) ++ l) (from_nothing plan old.sender n.turns.intake [] refl) ∙ append-nil (polled plan old.sender (h.history ++ e ∷ [])))));
+      },
+      g.same.sender,
+    )
+
+-- the place of another node's link is among the links
+pub place_in : (own nodes place from links : ℕ) → IsOther own place from → from < nodes → own < nodes → links + 1 ≡ nodes → place < links
+place_in own nodes place from links o f m e = grind (arith, o.0, o.1)

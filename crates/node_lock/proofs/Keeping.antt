@@ -1,0 +1,206 @@
+-- A turn keeps what is always true.
+use Rattle.std.proofs.Common.{◌≡◌, ℕ, ◌<◌, ◌==◌, Option, Some, None, IsSome, IfOk, IfErr, Result, Ok, Err, Bool, true, false, cond, List, [], ◌∷◌, ◌++◌, length, slice_index, slice_index_or, refl, ap, sym, ◌∙◌, subst, inl, inr, arith, append_assoc}
+use Rattle.std.proofs.lemmas.List.{append-nil, map-append}
+use Rattle.wire_msg.specs.Envelope.{Envelope}
+use Rattle.sector_disk.specs.Memory.{Memory, state_of}
+use Rattle.link_ring.specs.Sides.{Side}
+use Rattle.durable_node.specs.Node.{Node, Stands}
+use Rattle.histories.specs.NodeState.{NodeState, opening}
+use Rattle.histories.specs.What.{Entry as NodeEntry, brought, event_of}
+use Rattle.histories.specs.After.{after, sent_at}
+use Rattle.histories.specs.History.{replay, sent_in}
+use Rattle.histories.specs.Possible.{IsPossible}
+use Rattle.histories.proofs.Growing.{history_goes_on}
+use Rattle.node_lock.specs.declared.run.Run.{Run}
+use Rattle.node_lock.specs.declared.worker.Turns.{Turns}
+use Rattle.node_lock.specs.declared.worker.Worker.{Worker}
+use Rattle.node_lock.specs.Asking.{Asked, IsAsked}
+use Rattle.node_lock.specs.Doing.{Gives, StandsForSome, TurnDid}
+use Rattle.node_lock.specs.Path.{Path}
+use Rattle.node_lock.specs.Planned.{Planned, no_turns, turns_of, with_turn}
+use Rattle.node_lock.specs.Sending.{PutsSome, addressed_to, SameLink, SameSides, TookAt, SentTo, SentOn}
+use Rattle.node_lock.specs.History.{Turn, IsReplay, PlanStep, entries_of, polled, from_link, listed}
+use Rattle.node_lock.specs.declared.held.HeldFault.{HeldFault}
+use Rattle.node_lock.specs.declared.held.HeldFault.TheVariants.{NoMemory}
+use Rattle.node_lock.specs.HeldView.{HeldView, Kept, IsPutLink, IsTakeLink, IsOther, Takes, Unchanged, Unserved, WaitsSince}
+use Rattle.node_lock.proofs.Carried.{puts_append, addressed-append}
+use Rattle.node_lock.proofs.Telling.{Comes, turn_comes}
+
+-- one step more
+pub path_snoc : {S E : Type 0} (step : S → E → S → Type 0) (s : S) (es : List E) (e : E) (t u : S) → Path step s es t → step t e u → Path step s (es ++ e ∷ []) u
+path_snoc {S} step s [] e t u p q = (u, subst (λ (x : S). step x e u) (sym p) q, refl)
+path_snoc step s (x ∷ es) e t u p q = (p.0, p.1, path_snoc step p.0 es e t u p.2 q)
+
+entries-snoc : (ts : List Turn) (t : Turn) → entries_of (ts ++ t ∷ []) ≡ entries_of ts ++ t.entry ∷ []
+entries-snoc ts t = map-append (λ (x : Turn). x.entry) ts (t ∷ [])
+
+sent-snoc : (es : List NodeEntry) (e : NodeEntry) → sent_in (es ++ e ∷ []) ≡ sent_in es ++ e.sent
+sent-snoc [] e = append-nil e.sent
+sent-snoc (x ∷ es) e = ap (λ l. x.sent ++ l) (sent-snoc es e) ∙ sym (append_assoc x.sent (sent_in es) e.sent)
+
+all_sent-snoc : (ts : List Turn) (t : Turn) → sent_in (entries_of (ts ++ t ∷ [])) ≡ sent_in (entries_of ts) ++ t.entry.sent
+all_sent-snoc ts t = ap sent_in (entries-snoc ts t) ∙ sent-snoc (entries_of ts) t.entry
+
+pub polled-snoc : (plan : List ℕ) (j : ℕ) (ts : List Turn) (t : Turn) → polled plan j (ts ++ t ∷ []) ≡ polled plan j ts ++ from_link plan j t.index (brought (event_of t.entry.what))
+polled-snoc plan j [] t = append-nil (from_link plan j t.index (brought (event_of t.entry.what)))
+polled-snoc plan j (x ∷ ts) t =
+    ap (λ l. from_link plan j x.index (brought (event_of x.entry.what)) ++ l) (polled-snoc plan j ts t) ∙ sym (append_assoc (from_link plan j x.index (brought (event_of x.entry.what))) (polled plan j ts) (from_link plan j t.index (brought (event_of t.entry.what))))
+
+-- a link to another node, after one turn more
+put_link_more : (run : Run) (ts : List Turn) (t : Turn) (p q : Side) → IsPutLink run ts p → SentTo t.entry.sent p q → IsPutLink run (ts ++ t ∷ []) q
+put_link_more run ts t p q h s =
+    let all : addressed_to p.receiver (sent_in (entries_of (ts ++ t ∷ []))) ≡ addressed_to p.receiver (sent_in (entries_of ts)) ++ addressed_to p.receiver t.entry.sent = ap (addressed_to p.receiver) (all_sent-snoc ts t) ∙ addressed-append p.receiver (sent_in (entries_of ts)) t.entry.sent in
+    let put : PutsSome p.capacity [] (addressed_to p.receiver (sent_in (entries_of (ts ++ t ∷ [])))) q.messages = subst (λ (l : List Envelope). PutsSome p.capacity [] l q.messages) (sym all) (puts_append p.capacity [] (addressed_to p.receiver (sent_in (entries_of ts))) p.messages (addressed_to p.receiver t.entry.sent) q.messages h.messages s.messages) in
+    let put' : PutsSome p.capacity [] (addressed_to q.receiver (sent_in (entries_of (ts ++ t ∷ [])))) q.messages = subst (λ (n : ℕ). PutsSome p.capacity [] (addressed_to n (sent_in (entries_of (ts ++ t ∷ [])))) q.messages) (sym s.same.receiver) put in
+    record {
+      sender = s.same.sender ∙ h.sender;
+      capacity = s.same.capacity ∙ h.capacity;
+      messages = subst (λ (n : ℕ). PutsSome n [] (addressed_to q.receiver (sent_in (entries_of (ts ++ t ∷ [])))) q.messages) (sym s.same.capacity) put';
+    }
+
+-- ---- the state, after one turn more
+
+-- the node stands for what its history replays to
+pub stands_in : (h : HeldView) → Kept h → StandsForSome h.node
+stands_in h k = (replay h.run.node h.run.nodes (opening h.run.node) (entries_of h.history), k.replay.stands)
+
+comes_in : (h : HeldView) (asked : Asked) (t : Turn) (new : Node Memory) → Kept h → TurnDid h.node asked t.entry.what t.entry.sent new → Comes h.node (replay h.run.node h.run.nodes (opening h.run.node) (entries_of h.history)) asked t.entry.what t.entry.sent new
+comes_in h asked t new k did = turn_comes h.node new asked t.entry.what t.entry.sent did (replay h.run.node h.run.nodes (opening h.run.node) (entries_of h.history)) k.replay.stands
+
+replay_at : (id nodes : ℕ) (ts : List Turn) (t : Turn) (asked : Asked) (old new : Node Memory) → old.id ≡ id → old.nodes ≡ nodes → IsReplay id nodes (entries_of ts) old
+    → Comes old (replay id nodes (opening id) (entries_of ts)) asked t.entry.what t.entry.sent new → IsReplay id nodes (entries_of (ts ++ t ∷ [])) new
+replay_at id nodes ts t asked old new same_id same_nodes r here =
+    let s = replay id nodes (opening id) (entries_of ts) in
+    let what = t.entry.what in
+    let may : IsPossible id nodes s what = subst (λ (n : ℕ). IsPossible id n s what) same_nodes (subst (λ (n : ℕ). IsPossible n old.nodes s what) same_id here.possible) in
+    let on = history_goes_on id nodes (opening id) (entries_of ts) t.entry r.follows may (here.is_sent ∙ (λ i. sent_at (same_id i) (same_nodes i) s what)) in
+    rw (entries-snoc ts t) (record {
+      follows = on.0;
+      stands = subst (λ (x : NodeState). Stands state_of new x) ((λ i. after (same_id i) (same_nodes i) s what) ∙ sym on.1) here.stands;
+    })
+
+replay_more : (h : HeldView) (asked : Asked) (t : Turn) (new : Node Memory) → Kept h → TurnDid h.node asked t.entry.what t.entry.sent new → IsReplay h.run.node h.run.nodes (entries_of (h.history ++ t ∷ [])) new
+replay_more h asked t new k did = replay_at h.run.node h.run.nodes h.history t asked h.node new k.id k.nodes k.replay (comes_in h asked t new k did)
+
+-- what is written down may come of what was asked
+pub gives_in : (h : HeldView) (asked : Asked) (t : Turn) (new : Node Memory) → Kept h → TurnDid h.node asked t.entry.what t.entry.sent new → Gives asked t.entry.what
+gives_in h asked t new k did = (comes_in h asked t new k did).gives
+
+-- one turn more, and all that goes with it
+pub keeps : (h n : HeldView) (asked : Asked) (e : Turn) → Kept h → n.run ≡ h.run → n.plans ≡ h.plans → n.history ≡ h.history ++ e ∷ [] → n.node.id ≡ h.node.id → n.node.nodes ≡ h.node.nodes → PlanStep h.plans h.turns e n.turns
+    → TurnDid h.node asked e.entry.what e.entry.sent n.node → SentOn e.entry.sent h.puts n.puts
+    → length n.takes ≡ length h.takes → ((k : ℕ) (d : Side) → k < length h.takes → IsTakeLink n (slice_index_or n.takes k d) × ((slice_index_or n.takes k d).sender ≡ (slice_index_or h.takes k d).sender)) → (IsSome n.waiting → n.turns.intake < length n.plans.intake)
+    → Kept n
+keeps h n asked e k run plans history id nodes plan did sent len takes waiting = record {
+  id = id ∙ (k.id ∙ ap (λ r. r.node) (sym run));
+  nodes = nodes ∙ (k.nodes ∙ ap (λ r. r.nodes) (sym run));
+  member = rw run k.member;
+  replay = rw (run, history) (replay_more h asked e n.node k did);
+  turns = rw (plans, history) (path_snoc (PlanStep h.plans) no_turns h.history e h.turns n.turns k.turns plan);
+  links = rw run (omega (arith, sent.len, k.links));
+  puts = λ i d lt.
+      let lt' : i < length h.puts = omega (arith, sent.len) in
+      let old = k.puts i d lt' in
+      let s = sent.each i d lt' in
+      rw (run, history) (put_link_more h.run h.history e (slice_index_or h.puts i d) (slice_index_or n.puts i d) old.0 s, subst (IsOther h.run.node i) (sym s.same.receiver) old.1);
+  take_links = rw run (omega (arith, len, k.take_links));
+  takes = λ i d lt.
+      let lt' : i < length h.takes = omega (arith, len) in
+      let t = takes i d lt' in
+      let other : IsOther n.run.node i (slice_index_or h.takes i d).sender = rw run ((k.takes i d lt').1) in
+      (t.0, subst (IsOther n.run.node i) (sym t.1) other);
+  intake = rw (run, plans) k.intake;
+  waiting = waiting;
+}
+
+pub from_nothing : (plan : List ℕ) (j i : ℕ) (ms : List Envelope) → ms ≡ [] → from_link plan j i ms ≡ []
+from_nothing plan j i ms none = none_by (slice_index plan i == j) ∙ refl
+  where
+    none_by : (b : Bool) → cond b ms [] ≡ []
+    none_by true = none
+    none_by false = refl
+
+-- a turn that polled nothing leaves what was taken as it was
+take_link_past : (h n : HeldView) (e : Turn) (t : Side) → IsTakeLink h t → n.run ≡ h.run → n.plans ≡ h.plans → n.history ≡ h.history ++ e ∷ [] → n.turns.intake ≡ h.turns.intake → n.waiting ≡ h.waiting → brought (event_of e.entry.what) ≡ []
+    → IsTakeLink n t
+take_link_past h n e t k run plans history turns waiting none =
+    let plan = h.plans.intake in
+    let none' = from_nothing plan t.sender e.index (brought (event_of e.entry.what)) none in
+    let same : polled plan t.sender (h.history ++ e ∷ []) ≡ polled plan t.sender h.history = polled-snoc plan t.sender h.history e ∙ (ap (λ l. polled plan t.sender h.history ++ l) none' ∙ append-nil (polled plan t.sender h.history)) in
+    record {
+      receiver = k.receiver ∙ ap (λ r. r.node) (sym run);
+      messages = rw (plans, history, turns, waiting) (k.messages ∙ ap (λ l. l ++ from_link plan t.sender h.turns.intake (listed h.waiting)) (sym same));
+    }
+
+-- one entry more of a worker that doesn't poll
+pub keeps_past : (h n : HeldView) (asked : Asked) (e : Turn) → Kept h → n.run ≡ h.run → n.plans ≡ h.plans → n.history ≡ h.history ++ e ∷ [] → n.node.id ≡ h.node.id → n.node.nodes ≡ h.node.nodes → PlanStep h.plans h.turns e n.turns
+    → TurnDid h.node asked e.entry.what e.entry.sent n.node → SentOn e.entry.sent h.puts n.puts
+    → n.takes ≡ h.takes → n.turns.intake ≡ h.turns.intake → n.waiting ≡ h.waiting → brought (event_of e.entry.what) ≡ []
+    → Kept n
+keeps_past h n asked e k run plans history id nodes plan did sent takes turns waiting none =
+    let all : (i : ℕ) (d : Side) → i < length h.takes → IsTakeLink n (slice_index_or n.takes i d) × ((slice_index_or n.takes i d).sender ≡ (slice_index_or h.takes i d).sender) = λ i d lt.
+    subst (λ (l : List Side). IsTakeLink n (slice_index_or l i d) × ((slice_index_or l i d).sender ≡ (slice_index_or h.takes i d).sender)) (sym takes) (take_link_past h n e (slice_index_or h.takes i d) (k.takes i d lt).0 run plans history turns waiting none, refl) in
+    let still : IsSome n.waiting → n.turns.intake < length n.plans.intake = rw (waiting, turns, plans) k.waiting in
+    keeps h n asked e k run plans history id nodes plan did sent (ap length takes) all still
+
+-- room alone was made before the turn
+takes_since : (old mid new : HeldView) (w w' : Worker) (e : Turn) → Unchanged old mid → w' ≡ w → Takes mid w e new → Takes old w' e new
+takes_since old mid new w w' e u is t = record {
+  history = t.history ∙ ap (λ l. l ++ e ∷ []) u.history;
+  worker = t.worker ∙ sym is;
+  plan = record {
+    asked = t.plan.asked;
+    asks = subst (λ (p : Planned). IsAsked p e.worker e.index t.plan.asked) u.same.plans t.plan.asks;
+    gives = t.plan.gives;
+    index = t.plan.index ∙ ap (λ (c : Turns). turns_of c e.worker) u.turns;
+    turns = t.plan.turns ∙ ap (λ (c : Turns). with_turn c e.worker) u.turns;
+  };
+  did = subst (λ (n : Node Memory). TurnDid n t.plan.asked e.entry.what e.entry.sent new.node) u.node t.did;
+}
+
+pub taken_since : {F : Type 0} (old mid new : HeldView) (w w' : Worker) (r : Result Bool F) → Unchanged old mid → w' ≡ w → IfOk r (λ b. (b ≡ true) × ((e : Turn) × Takes mid w e new)) → r ≡ Ok true
+    → (e : Turn) × Takes old w' e new
+taken_since old mid new w w' (Ok b) u is h ok = (h.1.0, takes_since old mid new w w' h.1.0 u is h.1.1)
+taken_since old mid new w w' (Err f) u is h ok = absurd cc
+
+-- ---- want of memory
+
+same_link : (a b c : Side) → SameLink a b → SameLink b c → SameLink a c
+same_link a b c p q = record { sender = q.sender ∙ p.sender; receiver = q.receiver ∙ p.receiver; capacity = q.capacity ∙ p.capacity }
+
+same_sides : (a b c : List Side) → SameSides a b → SameSides b c → SameSides a c
+same_sides a b c p q = record {
+  len = q.len ∙ p.len;
+  each = λ k d lt.
+      let one = p.each k d lt in
+      let two = q.each k d (let len = p.len in omega (arith, lt, len)) in
+      (same_link (slice_index_or a k d) (slice_index_or b k d) (slice_index_or c k d) one.0 two.0, two.1 ∙ one.1);
+}
+
+took_since : (place : ℕ) (m : Envelope) (a b c : List Side) → SameSides a b → TookAt place m b c → TookAt place m a c
+took_since place m a b c p q = record {
+  len = q.len ∙ p.len;
+  each = λ k d lt.
+      let one = p.each k d lt in
+      let two = q.each k d (let len = p.len in omega (arith, lt, len)) in
+      (same_link (slice_index_or a k d) (slice_index_or b k d) (slice_index_or c k d) one.0 two.0, two.1 ∙ ap (λ (ms : List Envelope). ms ++ cond (k == place) (m ∷ []) []) one.1);
+}
+
+waits_since : (a b c : List Side) (before now : Option Envelope) → SameSides a b → WaitsSince b c before now → WaitsSince a c before now
+waits_since a b c before None p w = (w.0, same_sides a b c p w.1)
+waits_since a b c before (Some m) p w =
+    (w.0, elim w.1 [ inl x ↦ inl (x.0, same_sides a b c p x.1) | inr y ↦ inr (y.0, took_since w.0 m a b c p y.1) ])
+
+unserved_since : (old mid new : HeldView) → Unchanged old mid → Unserved mid new → Unserved old new
+unserved_since old mid new u s = record {
+  same = record { run = s.same.run ∙ u.same.run; plans = s.same.plans ∙ u.same.plans };
+  node = s.node ∙ ap (λ (n : Node Memory). record n { found = new.node.found }) u.node;
+  turns = s.turns ∙ u.turns;
+  history = s.history ∙ u.history;
+  puts = same_sides old.puts mid.puts new.puts u.puts s.puts;
+  takes = waits_since old.takes mid.takes new.takes old.waiting new.waiting u.takes (subst (λ (o : Option Envelope). WaitsSince mid.takes new.takes o new.waiting) u.waiting s.takes);
+}
+
+pub memory_since : (old mid new : HeldView) (r : Result Bool HeldFault) → Unchanged old mid → IfErr r (λ f. (f ≡ NoMemory) × Unserved mid new) → r ≡ Err NoMemory → Unserved old new
+memory_since old mid new (Ok b) u h is = absurd cc
+memory_since old mid new (Err f) u h is = unserved_since old mid new u h.1

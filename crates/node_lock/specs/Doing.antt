@@ -1,0 +1,54 @@
+-- What a turn does at its node, and what is written down of it.
+use Rattle.std.specs.Prelude.{ℕ, ◌≡◌, List, [], Some, None, IsSome}
+use Rattle.wire_msg.specs.Envelope.{Envelope}
+use Rattle.sector_disk.specs.Memory.{Memory, state_of, all_synced}
+use Rattle.sector_disk.specs.Crash.{IsCrashed}
+use Rattle.node_core.specs.declared.event.Event.{Event}
+use Rattle.node_core.specs.Start.{down}
+use Rattle.histories.specs.declared.what.What.{What}
+use Rattle.histories.specs.declared.what.What.TheVariants as what
+use Rattle.histories.specs.declared.what.Rest.TheVariants.{Nothing}
+use Rattle.histories.specs.NodeState.{NodeState}
+use Rattle.histories.specs.After.{after}
+use Rattle.durable_node.specs.declared.came.Came.{Came}
+use Rattle.durable_node.specs.Arming.{armed_disk}
+use Rattle.durable_node.specs.Node.{Node, Stands}
+use Rattle.durable_node.specs.Stepping.{CameOf, Steps}
+use Rattle.node_lock.specs.Asking.{Asked, Hand, Rest, Arm, Crash}
+
+-- there is a state that the node and its disk stand for
+abbrev pub StandsForSome : Node Memory → Type 0
+StandsForSome node = (s : NodeState) × Stands state_of node s
+
+-- the node took a step at the event, and just what it told is written down
+pub record Did (old : Node Memory) (event : Event) (w : What) (sent : List Envelope) (new : Node Memory) : Type 0 where
+  pub has : IsSome old.disk
+  pub came : Came
+  pub steps : Steps state_of old new event came
+  pub written : w ≡ came.what
+  pub is_sent : sent ≡ came.sent.items
+
+-- the node's disk was armed
+pub record WasArmed (calls : ℕ) (old new : Node Memory) : Type 0 where
+  pub armed : new ≡ record old { disk = armed_disk calls old.disk; found = None }
+  pub stands : (s : NodeState) → Stands state_of old s → Stands state_of new s
+
+-- the node was stopped here, and its disk has these bytes in the sectors that weren't synced
+pub record WasCrashed (fill : List ℕ) (old new : Node Memory) : Type 0 where
+  pub down : new ≡ record old { state = down old.id; disk = new.disk; kept = None; area = None; found = None }
+  pub disk : (was now : Memory) → old.disk ≡ Some was → new.disk ≡ Some now → IsCrashed was fill now.contents × (now ≡ all_synced now.contents was.failures)
+  pub stands : (s : NodeState) → Stands state_of old s → Stands state_of new (after old.id old.nodes s what.Crashed)
+
+-- the node did what was asked, this is what came of it, and these messages were sent
+abbrev pub TurnDid : Node Memory → Asked → What → List Envelope → Node Memory → Type 0
+TurnDid old (Hand event) w sent new = Did old event w sent new
+TurnDid old Rest w sent new = (new ≡ old) × (w ≡ what.Rests Nothing) × (sent ≡ [])
+TurnDid old (Arm calls) w sent new = WasArmed calls old new × (w ≡ what.Rests Nothing) × (sent ≡ [])
+TurnDid old (Crash fill) w sent new = WasCrashed fill old new × (w ≡ what.Crashed) × (sent ≡ [])
+
+-- what may be written down of what was asked
+abbrev pub Gives : Asked → What → Type 0
+Gives (Hand event) w = CameOf event w
+Gives Rest w = w ≡ what.Rests Nothing
+Gives (Arm calls) w = w ≡ what.Rests Nothing
+Gives (Crash fill) w = w ≡ what.Crashed

@@ -1,0 +1,105 @@
+-- What a contract sees of what a lock holds, and what is always true of it.
+use Rattle.std.specs.Prelude.{◌≡◌, ◌≢◌, ℕ, ◌+◌, ◌<◌, ◌≤◌, Option, Some, None, List, [], ◌∷◌, ◌++◌, length, slice_index_or, IsSome}
+use Rattle.wire_msg.specs.Envelope.{Envelope}
+use Rattle.sector_disk.specs.Memory.{Memory}
+use Rattle.link_ring.specs.Sides.{Side}
+use Rattle.durable_node.specs.Node.{Node}
+use Rattle.durable_node.specs.Stepping.{most_by}
+use Rattle.histories.specs.History.{sent_in}
+use Rattle.node_lock.specs.declared.run.Run.{Run}
+use Rattle.node_lock.specs.declared.worker.Turns.{Turns}
+use Rattle.node_lock.specs.declared.worker.Worker.{Worker}
+use Rattle.node_lock.specs.Doing.{TurnDid}
+use Rattle.node_lock.specs.Planned.{Planned}
+use Rattle.node_lock.specs.Sending.{PutsSome, addressed_to, HasRoomFor, SameSides, Brings}
+use Rattle.node_lock.specs.History.{Turn, IsReplay, FollowsPlans, PlanStep, entries_of, polled, from_link, listed}
+
+-- the node and its disk, the ends of its links, the plans and the turns that were taken of them, and what came of these; a
+-- message that was taken from a link and not yet handed to the node; and for how many more turns and messages there is room
+pub record HeldView : Type 0 where
+  pub node : Node Memory
+  pub run : Run
+  pub puts : List Side
+  pub takes : List Side
+  pub plans : Planned
+  pub turns : Turns
+  pub history : List Turn
+  pub waiting : Option Envelope
+  pub room : ℕ
+  pub sends : ℕ
+
+-- the other nodes' numbers, in rising order
+abbrev pub IsOther : ℕ → ℕ → ℕ → Type 0
+IsOther id k j = (k < id → j ≡ k) × (id ≤ k → j ≡ k + 1)
+
+-- what was put on a link is, in order, some of what the history sent to its receiver, and the first `capacity` of it
+pub record IsPutLink (run : Run) (history : List Turn) (p : Side) : Type 0 where
+  pub sender : p.sender ≡ run.node
+  pub capacity : p.capacity ≡ run.capacity
+  pub messages : PutsSome p.capacity [] (addressed_to p.receiver (sent_in (entries_of history))) p.messages
+
+-- what was taken from a link is what the history took from it, and what waits
+pub record IsTakeLink (h : HeldView) (t : Side) : Type 0 where
+  pub receiver : t.receiver ≡ h.run.node
+  pub messages : t.messages ≡ polled h.plans.intake t.sender h.history ++ from_link h.plans.intake t.sender h.turns.intake (listed h.waiting)
+
+-- an intake polls another node of the cluster
+abbrev pub IsPolled : Run → ℕ → Type 0
+IsPolled run j = (run.node ≢ j) × (j < run.nodes)
+
+-- what is true whenever the lock is free
+pub record Kept (h : HeldView) : Type 0 where
+  pub id : h.node.id ≡ h.run.node
+  pub nodes : h.node.nodes ≡ h.run.nodes
+  pub member : h.run.node < h.run.nodes
+  pub replay : IsReplay h.run.node h.run.nodes (entries_of h.history) h.node
+  pub turns : FollowsPlans h.plans h.history h.turns
+  pub links : length h.puts + 1 ≡ h.run.nodes
+  pub puts : (k : ℕ) (d : Side) → k < length h.puts → IsPutLink h.run h.history (slice_index_or h.puts k d) × IsOther h.run.node k (slice_index_or h.puts k d).receiver
+  pub take_links : length h.takes + 1 ≡ h.run.nodes
+  pub takes : (k : ℕ) (d : Side) → k < length h.takes → IsTakeLink h (slice_index_or h.takes k d) × IsOther h.run.node k (slice_index_or h.takes k d).sender
+  pub intake : (i d : ℕ) → i < length h.plans.intake → IsPolled h.run (slice_index_or h.plans.intake i d)
+  pub waiting : IsSome h.waiting → h.turns.intake < length h.plans.intake
+
+-- the worker's next entry was added, and it is just what came of its turn
+pub record Takes (old : HeldView) (by : Worker) (t : Turn) (new : HeldView) : Type 0 where
+  pub history : new.history ≡ old.history ++ t ∷ []
+  pub worker : t.worker ≡ by
+  pub plan : PlanStep old.plans old.turns t new.turns
+  pub did : TurnDid old.node plan.asked t.entry.what t.entry.sent new.node
+
+-- run and plans stay
+pub record SameRun (old new : HeldView) : Type 0 where
+  pub run : new.run ≡ old.run
+  pub plans : new.plans ≡ old.plans
+
+-- nothing changed but room
+pub record Unchanged (old new : HeldView) : Type 0 where
+  pub same : SameRun old new
+  pub node : new.node ≡ old.node
+  pub turns : new.turns ≡ old.turns
+  pub history : new.history ≡ old.history
+  pub waiting : new.waiting ≡ old.waiting
+  pub puts : SameSides old.puts new.puts
+  pub takes : SameSides old.takes new.takes
+
+-- a message that was taken waits, or waits still; or none was taken
+abbrev pub WaitsSince : List Side → List Side → Option Envelope → Option Envelope → Type 0
+WaitsSince old new before None = (before ≡ None) × SameSides old new
+WaitsSince old new before (Some m) = (place : ℕ) × Brings place m before old new
+
+-- want of memory: nothing changed but room, a message that was taken waits, and no mounting is told
+pub record Unserved (old new : HeldView) : Type 0 where
+  pub same : SameRun old new
+  pub node : new.node ≡ record old.node { found = new.node.found }
+  pub turns : new.turns ≡ old.turns
+  pub history : new.history ≡ old.history
+  pub puts : SameSides old.puts new.puts
+  pub takes : WaitsSince old.takes new.takes old.waiting new.waiting
+
+-- the room that one turn takes outside the node
+pub record HasRoom (h : HeldView) : Type 0 where
+  pub history : 0 < h.room
+  pub sends : most_by h.node.nodes h.node.kept ≤ h.sends
+  pub puts : HasRoomFor (most_by h.node.nodes h.node.kept) h.puts
+  pub takes : HasRoomFor 1 h.takes

@@ -1,0 +1,9 @@
+pub mod Path
+pub mod Planned
+pub mod Sending
+pub mod Asking
+pub mod Doing
+pub mod History
+pub mod Kept
+pub mod Seen
+pub mod HeldView

@@ -1,0 +1,50 @@
+-- What goes onto the links.
+use Rattle.std.specs.Prelude.{◌≡◌, ℕ, ◌<◌, ◌≤◌, ◌==◌, ◌⊎◌, List, [], ◌∷◌, ◌++◌, length, slice_index_or, if◌then◌else◌, Option, Some, None}
+use Rattle.std.specs.List.{filter}
+use Rattle.wire_msg.specs.Envelope.{Envelope}
+use Rattle.link_ring.specs.Sides.{Side}
+
+-- the messages to one node, in order
+abbrev pub addressed_to : ℕ → List Envelope → List Envelope
+addressed_to j ms = filter (λ (m : Envelope). m.receiver == j) ms
+
+-- to what was put, each of the messages was added in order, or lost where `capacity` messages had been put
+abbrev pub PutsSome : ℕ → List Envelope → List Envelope → List Envelope → Type 0
+PutsSome capacity xs [] ys = ys ≡ xs
+PutsSome capacity xs (m ∷ ms) ys =
+    PutsSome capacity (xs ++ m ∷ []) ms ys ⊎ ((capacity ≤ length xs) × PutsSome capacity xs ms ys)
+
+-- both are sides of one link
+pub record SameLink (old new : Side) : Type 0 where
+  pub sender : new.sender ≡ old.sender
+  pub receiver : new.receiver ≡ old.receiver
+  pub capacity : new.capacity ≡ old.capacity
+
+-- the messages to the end's receiver went onto this link
+pub record SentTo (sent : List Envelope) (old new : Side) : Type 0 where
+  pub same : SameLink old new
+  pub messages : PutsSome old.capacity old.messages (addressed_to old.receiver sent) new.messages
+
+-- each message went onto the link to its receiver
+pub record SentOn (sent : List Envelope) (old new : List Side) : Type 0 where
+  pub len : length new ≡ length old
+  pub each : (k : ℕ) (d : Side) → k < length old → SentTo sent (slice_index_or old k d) (slice_index_or new k d)
+
+-- there is room for n more messages on each link
+abbrev pub HasRoomFor : ℕ → List Side → Type 0
+HasRoomFor n sides = (k : ℕ) (d : Side) → k < length sides → n ≤ (slice_index_or sides k d).room
+
+-- the links as before, but for their room
+pub record SameSides (old new : List Side) : Type 0 where
+  pub len : length new ≡ length old
+  pub each : (k : ℕ) (d : Side) → k < length old → SameLink (slice_index_or old k d) (slice_index_or new k d) × ((slice_index_or new k d).messages ≡ (slice_index_or old k d).messages)
+
+-- the message was taken from the link at this place, and nothing else changed
+pub record TookAt (place : ℕ) (m : Envelope) (old new : List Side) : Type 0 where
+  pub len : length new ≡ length old
+  pub each : (k : ℕ) (d : Side) → k < length old → SameLink (slice_index_or old k d) (slice_index_or new k d) × ((slice_index_or new k d).messages ≡ (slice_index_or old k d).messages ++ (if k == place then m ∷ [] else []))
+
+-- the message waited, or was taken from the link at this place
+abbrev pub Brings : ℕ → Envelope → Option Envelope → List Side → List Side → Type 0
+Brings place m waiting old new =
+    ((waiting ≡ Some m) × SameSides old new) ⊎ ((waiting ≡ None) × TookAt place m old new)

@@ -1,0 +1,286 @@
+// What one lock holds.
+ghost use Rattle.std.specs.Prelude.{◌≡◌, ◌≢◌, ◌<◌, ◌≤◌, ◌+◌, ◌↔◌, [], length, IfOk, OnOk, OnErr, IfErr, vec_len, vec_capacity, slice_index_or, ℕ, Ok, Err, true, false, Some, None, IsTrue};
+ghost use Rattle.group_task.specs.declared.node.TheConstants.{NODES};
+ghost use Rattle.durable_node.specs.Stepping.{most_by};
+ghost use Rattle.node_lock.specs.HeldView.{HeldView, Kept, IsOther, IsPolled, Takes, SameRun, Unchanged, Unserved, HasRoom};
+ghost use Rattle.node_lock.specs.History.{Turn};
+ghost use Rattle.node_lock.specs.Planned.{no_turns, plan_len, turns_of};
+ghost use Rattle.node_lock.specs.declared.held.TheConstants.{MOST_ENTRIES};
+ghost use Rattle.node_lock.specs.declared.held.HeldFault.TheVariants.{HistoryFull, NoMemory};
+ghost use Rattle.node_lock.specs.declared.worker.Worker.TheVariants.{Intake, Clock, Operator};
+
+use crate::history::History;
+use crate::links::{reserve_puts, reserve_takes, send_all};
+use crate::plans::Plans;
+use crate::run::Run;
+use crate::turn::{fetch, fire, operate, receive};
+use crate::worker::{Turns, Worker};
+use durable_node::DurableNode;
+use group_task::NodeId;
+use link_ring::{PutEnd, TakeEnd};
+use sector_disk::MemDisk;
+use std::alloc::{AllocError, Global};
+use std::marker::Model;
+use wire_msg::Message;
+
+/// Why a turn was not taken.
+#[derive(Clone, Copy, PartialEq, Eq, Debug)]
+pub enum HeldFault {
+    /// The history has [`MOST_ENTRIES`] turns.
+    HistoryFull,
+    /// There is no memory. A message that was already taken from a link waits, and is what the repeated poll gives.
+    NoMemory,
+}
+
+/// The most entries of a history.
+pub const MOST_ENTRIES: usize = 65_536;
+
+/// A node with its links, its plans and its history.
+#[derive(Drop)]
+pub struct Held {
+    node: DurableNode<MemDisk>,
+    run: Run,
+    puts: Vec<PutEnd>,
+    takes: Vec<TakeEnd>,
+    plans: Plans,
+    turns: Turns,
+    history: History,
+    waiting: Option<Message>,
+    alloc: Global,
+}
+
+impl Model for Held {
+    ghost use Rattle.node_lock.specs.HeldView.{HeldView, Kept};
+
+    ghost Value = { HeldView };
+
+    ghost view = { λ h. record { node = h.node; run = h.run; puts = h.puts.items; takes = h.takes.items; plans = h.plans; turns = h.turns; history = h.history.turns; waiting = h.waiting; room = h.history.room; sends = h.history.sends } };
+
+    ghost invariant = { λ h. Kept (record { node = h.node; run = h.run; puts = h.puts.items; takes = h.takes.items; plans = h.plans; turns = h.turns; history = h.history.turns; waiting = h.waiting; room = h.history.room; sends = h.history.sends }) };
+}
+
+/// What is left of a node when its workers have ended.
+#[derive(Drop)]
+pub struct Parts {
+    pub run: Run,
+    pub plans: Plans,
+    pub history: History,
+    pub puts: Vec<PutEnd>,
+    pub takes: Vec<TakeEnd>,
+    pub waiting: Option<Message>,
+}
+
+impl Held {
+    /// A node that has just opened.
+    pub fn new(
+        alloc: Global,
+        run: Run,
+        puts: Vec<PutEnd>,
+        takes: Vec<TakeEnd>,
+        plans: Plans,
+    ) -> Result<Held, AllocError>
+        requires member { run.node < run.nodes }
+        requires most { run.nodes ≤ NODES }
+        requires least_slots { 4 ≤ run.slots }
+        requires most_slots { run.slots ≤ 4096 }
+        requires links { vec_len puts + 1 ≡ run.nodes }
+        requires intake { (i d : ℕ) → i < length plans.intake → IsPolled run (slice_index_or plans.intake i d) }
+        requires takes { vec_len takes + 1 ≡ run.nodes }
+        requires take_ends { (k : ℕ) (d : _) → k < vec_len takes → ((slice_index_or takes.items k d).receiver ≡ run.node) × ((slice_index_or takes.items k d).messages ≡ []) × IsOther run.node k (slice_index_or takes.items k d).sender }
+        requires ends { (k : ℕ) (d : _) → k < vec_len puts → ((slice_index_or puts.items k d).sender ≡ run.node) × ((slice_index_or puts.items k d).capacity ≡ run.capacity) × ((slice_index_or puts.items k d).messages ≡ []) × IsOther run.node k (slice_index_or puts.items k d).receiver }
+        ensures { IfOk result (λ h. (h.run ≡ run) × (h.plans ≡ plans) × (h.turns ≡ no_turns) × (h.history ≡ []) × (h.waiting ≡ None)) }
+    {
+        let node = DurableNode::open(alloc, run.node, run.nodes, run.slots)?;
+        Ok(Held {
+            node,
+            run,
+            puts,
+            takes,
+            plans,
+            turns: Turns {
+                intake: 0,
+                clock: 0,
+                operator: 0,
+            },
+            history: History::new(alloc),
+            waiting: None,
+            alloc,
+        })
+    }
+
+    /// Takes the worker's next turn. False where its plan is used up.
+    pub fn next(&mut self, worker: Worker) -> Result<bool, HeldFault>
+        ensures plans { SameRun self.old self.new }
+        ensures used_up { result ≡ Ok false ↔ (plan_len self.old.plans worker ≤ turns_of self.old.turns worker) }
+        ensures unchanged { result ≡ Ok false → self.new ≡ self.old }
+        ensures taken { result ≡ Ok true → (t : Turn) × Takes self.old worker t self.new }
+        ensures full { result ≡ Err HistoryFull → (MOST_ENTRIES ≤ length self.old.history) × (self.new ≡ self.old) }
+        ensures room { MOST_ENTRIES ≤ length self.old.history → turns_of self.old.turns worker < plan_len self.old.plans worker → result ≡ Err HistoryFull }
+        ensures memory { result ≡ Err NoMemory → Unserved self.old self.new }
+    {
+        if self.is_used_up(worker) {
+            return Ok(false);
+        }
+        if self.history.len() >= MOST_ENTRIES {
+            return Err(HeldFault::HistoryFull);
+        }
+        if self.make_room().is_err() {
+            return Err(HeldFault::NoMemory);
+        }
+        match worker {
+            Worker::Intake => self.next_intake(),
+            Worker::Clock => self.next_clock(),
+            Worker::Operator => self.next_operator(),
+        }
+    }
+
+    // Makes all the room that one turn takes outside the node.
+    fn make_room(&mut self) -> Result<(), AllocError>
+        ensures same { Unchanged self.old self.new }
+        ensures room { OnOk result (HasRoom self.new) }
+    {
+        let most = most_messages(&self.node, usize::from(self.run.nodes));
+        self.history.reserve(most)?;
+        reserve_puts(&mut self.puts, most)?;
+        reserve_takes(&mut self.takes, 1)
+    }
+
+    fn next_intake(&mut self) -> Result<bool, HeldFault>
+        requires more { self.old.turns.intake < length self.old.plans.intake }
+        requires room { HasRoom self.old }
+        ensures plans { SameRun self.old self.new }
+        ensures taken { IfOk result (λ b. (b ≡ true) × ((t : Turn) × Takes self.old Intake t self.new)) }
+        ensures memory { IfErr result (λ f. (f ≡ NoMemory) × Unserved self.old self.new) }
+    {
+        let index = self.turns.intake;
+        let from = self.plans.intake()[index];
+        let place = place_of(self.run.node, from);
+        let found = fetch(&mut self.takes, *&self.waiting, place);
+        let copy = *&found;
+        match receive(self.alloc, &mut self.node, found) {
+            Ok((what, sent)) => {
+                send_all(&mut self.puts, &sent);
+                self.history.push(Worker::Intake, index as u64, what, &sent);
+                self.turns.intake += 1;
+                self.waiting = None;
+                Ok(true)
+            }
+            Err(fault) => {
+                self.waiting = copy;
+                Err(fault)
+            }
+        }
+    }
+
+    fn next_clock(&mut self) -> Result<bool, HeldFault>
+        requires more { self.old.turns.clock < length self.old.plans.clock }
+        requires room { HasRoom self.old }
+        ensures plans { SameRun self.old self.new }
+        ensures taken { IfOk result (λ b. (b ≡ true) × ((t : Turn) × Takes self.old Clock t self.new)) }
+        ensures memory { IfErr result (λ f. (f ≡ NoMemory) × Unserved self.old self.new) }
+    {
+        let index = self.turns.clock;
+        let timer = self.plans.clock()[index];
+        let (what, sent) = fire(&mut self.node, timer)?;
+        send_all(&mut self.puts, &sent);
+        self.history.push(Worker::Clock, index as u64, what, &sent);
+        self.turns.clock += 1;
+        Ok(true)
+    }
+
+    fn next_operator(&mut self) -> Result<bool, HeldFault>
+        requires more { self.old.turns.operator < length self.old.plans.operator }
+        requires room { HasRoom self.old }
+        ensures plans { SameRun self.old self.new }
+        ensures taken { IfOk result (λ b. (b ≡ true) × ((t : Turn) × Takes self.old Operator t self.new)) }
+        ensures memory { IfErr result (λ f. (f ≡ NoMemory) × Unserved self.old self.new) }
+    {
+        let index = self.turns.operator;
+        let (what, sent) = operate(self.alloc, &mut self.node, &self.plans.operator()[index])?;
+        send_all(&mut self.puts, &sent);
+        self.history
+            .push(Worker::Operator, index as u64, what, &sent);
+        self.turns.operator += 1;
+        Ok(true)
+    }
+
+    /// Whether the worker has taken all turns of its plan.
+    pub fn is_used_up(&self, worker: Worker) -> bool
+        ensures { IsTrue result ↔ (plan_len self.now.plans worker ≤ turns_of self.now.turns worker) }
+    {
+        match worker {
+            Worker::Intake => self.plans.intake().len() <= self.turns.intake,
+            Worker::Clock => self.plans.clock().len() <= self.turns.clock,
+            Worker::Operator => self.plans.operator().len() <= self.turns.operator,
+        }
+    }
+
+    /// How many turns the worker has taken.
+    pub fn turns(&self, worker: Worker) -> usize
+        ensures { result ≡ turns_of self.now.turns worker }
+    {
+        match worker {
+            Worker::Intake => self.turns.intake,
+            Worker::Clock => self.turns.clock,
+            Worker::Operator => self.turns.operator,
+        }
+    }
+
+    /// Which node of which run.
+    pub fn run(&self) -> Run
+        ensures { result ≡ self.now.run }
+    {
+        self.run
+    }
+
+    /// What is left of the node.
+    pub fn into_parts(self) -> Parts
+        ensures kept { Kept self }
+        ensures parts { (result.run ≡ self.run) × (result.plans ≡ self.plans) × (result.history.turns ≡ self.history) × (result.puts.items ≡ self.puts) × (result.takes.items ≡ self.takes) × (result.waiting ≡ self.waiting) }
+    {
+        let Held {
+            node: _,
+            run,
+            puts,
+            takes,
+            plans,
+            turns: _,
+            history,
+            waiting,
+            alloc: _,
+        } = self;
+        Parts {
+            run,
+            plans,
+            history,
+            puts,
+            takes,
+            waiting,
+        }
+    }
+}
+
+/// How many messages one turn sends at most.
+fn most_messages(node: &DurableNode<MemDisk>, nodes: usize) -> usize
+    requires { node.now.nodes ≡ nodes }
+    ensures { result ≡ most_by node.now.nodes node.now.kept }
+{
+    match node.durable() {
+        Some((_, table)) => nodes.saturating_sub(1).max(table.pending().len()),
+        None => 0,
+    }
+}
+
+// The place of the link from a node among a node's links.
+fn place_of(own: NodeId, from: NodeId) -> usize
+    requires { own ≢ from }
+    ensures { IsOther own result from }
+{
+    let own = own.number();
+    let from = from.number();
+    if from < own {
+        from as usize
+    } else {
+        from as usize - 1
+    }
+}

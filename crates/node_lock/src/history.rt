@@ -1,0 +1,164 @@
+//! The history of a node: what came of the turns of its workers.
+
+ghost use Rattle.std.specs.Prelude.{◌≡◌, ◌≤◌, ◌<◌, ◌+◌, ◌↔◌, [], ◌∷◌, ◌++◌, length, slice_get, None, Some, IfSome, IsNone, IsTrue, OnOk};
+ghost use Rattle.node_lock.specs.Seen.{turn_seen};
+
+use crate::line::Line;
+use crate::worker::Worker;
+use histories::What;
+use message_list::MessageList;
+use std::alloc::{AllocError, Global};
+use std::marker::Model;
+use wire_msg::Message;
+
+/// The turns that were taken at a node, in their order. A poll that found nothing, an event that was refused and an order that
+/// arms the disk are turns too.
+///
+/// A turn takes about 520 bytes, and 16 for most messages that it sent: 65,536 turns at a node that sends to 63 others at each of
+/// them take about 100 megabytes.
+#[derive(Drop)]
+pub struct History {
+    lines: Vec<Line>,
+    messages: MessageList,
+}
+
+impl Model for History {
+    ghost use Rattle.std.specs.Prelude.{◌-◌, All, length, map, vec_len, vec_capacity};
+    ghost use Rattle.node_lock.specs.Kept.{LineStands, Log, turn_in};
+
+    ghost Value = { Log };
+
+    ghost view = { λ a. record { turns = map (turn_in a.messages.messages) a.lines.items; room = vec_capacity a.lines - vec_len a.lines; sends = a.messages.room } };
+
+    ghost invariant = { λ a. All (LineStands (length a.messages.messages)) a.lines.items };
+}
+
+impl History {
+    /// A history of no turns. It takes no memory.
+    pub(crate) fn new(alloc: Global) -> History
+        ensures { result.turns ≡ [] }
+    {
+        History {
+            lines: Vec::new(alloc),
+            messages: MessageList::new(alloc),
+        }
+    }
+
+    /// How many turns there are.
+    pub fn len(&self) -> usize
+        ensures { result ≡ length self.now.turns }
+    {
+        self.lines.len()
+    }
+
+    /// Makes room for one turn more, which sends at most so many messages.
+    pub(crate) fn reserve(&mut self, messages: usize) -> Result<(), AllocError>
+        ensures turns { self.new.turns ≡ self.old.turns }
+        ensures room { OnOk result (0 < self.new.room) }
+        ensures sends { OnOk result (messages ≤ self.new.sends) }
+    {
+        self.lines.reserve(1)?;
+        self.messages.reserve(messages)
+    }
+
+    /// Adds a turn, in the room that is there.
+    pub(crate) fn push(&mut self, worker: Worker, index: u64, what: What, sent: &[Message])
+        requires room { 0 < self.old.room }
+        requires sends { length sent.now ≤ self.old.sends }
+        ensures { self.new.turns ≡ self.old.turns ++ (record { worker = worker; index = index; entry = record { what = what; sent = sent.now } }) ∷ [] }
+    {
+        let start = self.messages.len();
+        keep_messages(&mut self.messages, sent);
+        let end = self.messages.len();
+        self.lines
+            .push_reserved(Line::new(worker, index, what, start, end));
+    }
+
+    /// The turn at this place.
+    pub fn entry(&self, place: usize) -> Option<Entry<'_>>
+        ensures some { IfSome result (λ entry. slice_get self.now.turns place ≡ Some (turn_seen entry)) }
+        ensures none { IsNone result → slice_get self.now.turns place ≡ None }
+    {
+        let line = self.lines.get(place)?;
+        Some(Entry {
+            worker: line.worker(),
+            index: line.index(),
+            what: line.what(),
+            sent: Sent {
+                messages: &self.messages,
+                start: line.start(),
+                end: line.end(),
+            },
+        })
+    }
+}
+
+/// Keeps messages, in the room that is there.
+fn keep_messages(messages: &mut MessageList, sent: &[Message])
+    requires { length sent.now ≤ messages.old.room }
+    ensures { messages.new.messages ≡ messages.old.messages ++ sent.now }
+{
+    for message in sent {
+        messages.push(message);
+    }
+}
+
+/// One turn of a worker, lent.
+#[derive(Drop)]
+pub struct Entry<'a> {
+    pub worker: Worker,
+    /// Its number in the worker's plan, counted from 0.
+    pub index: u64,
+    /// What came of it: the entry of the node's history.
+    pub what: What,
+    /// The messages that the node sent, those that a full link lost among them.
+    pub sent: Sent<'a>,
+}
+
+/// The messages that a turn sent, in their order, lent.
+#[derive(Drop)]
+pub struct Sent<'a> {
+    messages: &'a MessageList,
+    start: usize,
+    end: usize,
+}
+
+impl<'a> Model for Sent<'a> {
+    ghost use Rattle.std.specs.Prelude.{◌≤◌, List, length};
+    ghost use Rattle.node_lock.specs.Kept.{part};
+    ghost use Rattle.wire_msg.specs.Envelope.{Envelope};
+
+    ghost Value = { List Envelope };
+
+    ghost view = { λ a. part a.start a.end a.messages.now.messages };
+
+    ghost invariant = { λ a. (a.start ≤ a.end) × (a.end ≤ length a.messages.now.messages) };
+}
+
+impl<'a> Sent<'a> {
+    /// How many messages there are.
+    #[tactic(auto, using(crate::proofs::Lines::part_length))]
+    pub fn len(&self) -> usize
+        ensures { result ≡ length self.now }
+    {
+        self.end - self.start
+    }
+
+    /// Whether there is none.
+    pub fn is_empty(&self) -> bool
+        ensures { IsTrue result ↔ (self.now ≡ []) }
+    {
+        self.len() == 0
+    }
+
+    /// The message at this place.
+    pub fn get(&self, place: usize) -> Option<Message>
+        ensures { result ≡ slice_get self.now place }
+    {
+        if place < self.end - self.start {
+            self.messages.get(self.start + place)
+        } else {
+            None
+        }
+    }
+}

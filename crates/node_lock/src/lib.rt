@@ -1,0 +1,29 @@
+//! A node with the ends of its links, the plans of its workers and its history, and the lock round it.
+//!
+//! Three workers take turns at a node: one polls the links, one fires timers, one is the operator. Each turn adds one entry to
+//! the history, and the history is always that of the node: replayed from the opening it gives what the node and its disk stand
+//! for.
+#![tactic(auto)]
+
+mod held;
+mod history;
+mod line;
+mod links;
+mod lock;
+mod order;
+mod perform;
+mod plans;
+mod run;
+mod turn;
+mod worker;
+
+pub use held::{Held, HeldFault, MOST_ENTRIES, Parts};
+pub use history::{Entry, History, Sent};
+pub use lock::{Gate, NodeLock, TurnFault};
+pub use order::{Fill, Order, Timer};
+pub use plans::Plans;
+pub use run::Run;
+pub use worker::{Turns, Worker};
+
+#[cfg(test)]
+mod tests;

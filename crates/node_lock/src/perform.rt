@@ -1,0 +1,36 @@
+// One event at a node, and how it is written down.
+ghost use Rattle.std.specs.Prelude.{◌≡◌, ◌≤◌, IfOk, IfErr, length, None};
+ghost use Rattle.durable_node.specs.Stepping.{most_by};
+ghost use Rattle.node_lock.specs.declared.held.HeldFault.TheVariants.{NoMemory};
+ghost use Rattle.node_lock.specs.Doing.{Did, StandsForSome};
+
+use crate::held::HeldFault;
+use durable_node::{Came, DurableNode};
+use histories::What;
+use node_core::Event;
+use sector_disk::MemDisk;
+use wire_msg::Message;
+
+/// Does one event, and tells what came of it and what was sent.
+///
+/// An error is want of memory: the disk of a node that has a history can be mounted.
+pub(crate) fn perform(
+    node: &mut DurableNode<MemDisk>,
+    event: Event,
+) -> Result<(What, Vec<Message>), HeldFault>
+    requires stands { StandsForSome node.old }
+    ensures id { node.new.id ≡ node.old.id }
+    ensures nodes { node.new.nodes ≡ node.old.nodes }
+    ensures did { IfOk result (λ r. Did node.old event r.0 r.1.items node.new) }
+    ensures few { IfOk result (λ r. length r.1.items ≤ most_by node.old.nodes node.old.kept) }
+    ensures memory { IfErr result (λ fault. (fault ≡ NoMemory) × (node.new ≡ record node.old { found = None })) }
+{
+    node.has_disk();
+    match node.step(&event) {
+        Ok(came) => {
+            let Came { what, sent, .. } = came;
+            Ok((what, sent))
+        }
+        Err(_) => Err(HeldFault::NoMemory),
+    }
+}
