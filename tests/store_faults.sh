@@ -100,7 +100,7 @@ fail_at() {
         [ "${#lines[@]}" -eq "${#session[@]}" ] || problem='a line is left out'
     fi
     # An interrupted call is made again. A look at the length is none that a system interrupts.
-    [ "$fault" != 4 ] || [ "$name" = statx ] || [ "$k" -eq "${#session[@]}" ] || problem="line $k fails, interrupted"
+    [ "$fault" != 4 ] || [ "$name" = statx ] || [ "$name" = lseek ] || [ "$k" -eq "${#session[@]}" ] || problem="line $k fails, interrupted"
     [ "$status" -eq 0 ] || problem="status $status"
     kept "$k"
     tell "$problem" "error $fault at call $at, $name"

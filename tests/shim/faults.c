@@ -100,6 +100,13 @@ PLAIN(flock, (int fd, int how), (fd, how))
 PLAIN(ftruncate, (int fd, off_t length), (fd, length))
 PLAIN(statx, (int fd, const char *path, int flags, unsigned mask, struct statx *about), (fd, path, flags, mask, about))
 
+off_t lseek(int fd, off_t offset, int whence) {
+    off_t (*real)(int, off_t, int) = (off_t(*)(int, off_t, int))dlsym(RTLD_NEXT, "lseek");
+    if (watched(fd) && fails("lseek", 0))
+        return -1;
+    return real(fd, offset, whence);
+}
+
 // A call that answers how many bytes it moved, or -1 where it failed.
 #define MOVING(name, parameters, arguments, halved, is_write)                                                          \
     ssize_t name parameters {                                                                                          \
