@@ -94,7 +94,12 @@ pub(crate) fn push_held(text: &mut Vec<u8>, job: &InHand) -> Result<(), AllocErr
 fn push_parts(text: &mut Vec<u8>, work: &Work) -> Result<(), AllocError>
     ensures { OnOk result (text.new.items ≡ text.old.items ++ work_text work.now.queue work.now.payload work.now.priority) }
 {
-    push_work(text, work.queue.number(), work.payload.as_slice(), work.priority)
+    push_work(
+        text,
+        work.queue.number(),
+        work.payload.as_slice(),
+        work.priority,
+    )
 }
 
 fn push_up(
