@@ -3,7 +3,7 @@ use Rattle.std.proofs.Common.{◌≡◌, ℕ, List, [], ◌∷◌, ◌++◌, sym
 use Rattle.sector_disk.specs.Disk.{DiskState}
 use Rattle.line_words.specs.Lines.{lines_of}
 use Rattle.node_session.specs.Serving.{Progress, Serves, Fed}
-use Rattle.node_session.proofs.Servings.{serves_then}
+use Rattle.node_session.proofs.Servings.{serves_none, serves_then}
 use Rattle.node_session.proofs.Cutting.{lines_further}
 
 -- one line more
@@ -41,3 +41,12 @@ fed_so disks old before end here dest whole piece left rest lines was none all c
       cut = ap lines_of (sym all) ∙ (cut ∙ ap (λ (r : List ℕ). lines ++ r ∷ []) (sym last));
       serves = serves_rest disks before here lines dest rest (subst (λ p. Serves disks (record before { rest = dest }) p lines) (sym is) serves);
     })
+
+-- a piece that ends no line
+pub fed_more : {Disk : Type 0} (disks : Disk → DiskState) (old here : Progress Disk) (piece rest : List ℕ) → here ≡ old → rest ≡ here.rest ++ piece → lines_of rest ≡ rest ∷ []
+    → Fed disks old piece (record here { rest = rest })
+fed_more disks old here piece rest was is one = subst (λ p. Fed disks p piece (record here { rest = rest })) was (record {
+  lines = [];
+  cut = ap lines_of (sym is) ∙ one;
+  serves = serves_rest disks here here [] here.rest rest (serves_none disks here);
+})

@@ -10,6 +10,7 @@ mod seen;
 mod sending;
 mod session;
 mod showing;
+mod unread;
 mod words;
 
 pub use asked::{Asked, read_line};

@@ -1,6 +1,7 @@
 // What changes at a node in a call, as lines.
-ghost use Rattle.std.specs.Prelude.{◌≡◌, ◌++◌, OnOk, Some, map};
+ghost use Rattle.std.specs.Prelude.{◌≡◌, ◌++◌, OnOk, Some, map, IsTrue, true};
 ghost use Rattle.node_core.specs.State.{State, state_of};
+ghost use Rattle.node_core.specs.Words.{holds};
 ghost use Rattle.node_session.specs.Changes.{changes, drop_told, drops, gone_by, gone_line, gone_told, group_line, group_told, held_by, is_finish, pair_in, take_told, takes};
 
 use crate::ended::Ended;
@@ -113,21 +114,54 @@ fn push_pairs(pairs: &mut Vec<(NodeId, u64)>, jobs: &[InHand]) -> Result<(), All
 fn push_takes(text: &mut Vec<u8>, old: &[(NodeId, u64)], jobs: &[InHand]) -> Result<(), AllocError>
     ensures { OnOk result (text.new.items ≡ text.old.items ++ takes old.now jobs.now) }
 {
+    let mut next = 0;
     for job in jobs {
-        push_take(text, old, job)?;
+        next = push_take(text, old, next, job)?;
     }
     Ok(())
 }
 
-fn push_take(text: &mut Vec<u8>, old: &[(NodeId, u64)], job: &InHand) -> Result<(), AllocError>
+/// `next` is the place at which the job is looked for first; gives the place for the next job.
+fn push_take(
+    text: &mut Vec<u8>,
+    old: &[(NodeId, u64)],
+    next: usize,
+    job: &InHand,
+) -> Result<usize, AllocError>
     ensures { OnOk result (text.new.items ≡ text.old.items ++ take_told old.now job.now) }
 {
+    if stands_at(old, next, job.origin, job.id) {
+        return Ok(next.saturating_add(1));
+    }
     if holds_pair(old, job.origin, job.id) {
-        return Ok(());
+        return Ok(place_behind(old, job.origin, job.id));
     }
     push_text(text, "take ")?;
     push_held(text, job)?;
-    push_text(text, "\n")
+    push_text(text, "\n")?;
+    Ok(next)
+}
+
+fn stands_at(pairs: &[(NodeId, u64)], at: usize, origin: NodeId, id: u64) -> bool
+    ensures { IsTrue result → pair_in pairs.now origin id ≡ true }
+{
+    if at >= pairs.len() {
+        return false;
+    }
+    let pair = pairs[at];
+    pair.0.is(origin) && pair.1 == id
+}
+
+/// The place behind a pair. No clause needs it: at a wrong place the pair isn't found, and is searched.
+fn place_behind(pairs: &[(NodeId, u64)], origin: NodeId, id: u64) -> usize {
+    let mut place: usize = 0;
+    for pair in pairs {
+        place = place.saturating_add(1);
+        if pair.0.is(origin) && pair.1 == id {
+            return place;
+        }
+    }
+    place
 }
 
 fn holds_pair(pairs: &[(NodeId, u64)], origin: NodeId, id: u64) -> bool
@@ -140,23 +174,56 @@ fn holds_pair(pairs: &[(NodeId, u64)], origin: NodeId, id: u64) -> bool
 fn push_drops(text: &mut Vec<u8>, hand: &Hand, old: &[(NodeId, u64)]) -> Result<(), AllocError>
     ensures { OnOk result (text.new.items ≡ text.old.items ++ drops hand.now.jobs old.now) }
 {
+    let mut next = 0;
     for pair in old {
-        push_drop(text, hand, *pair)?;
+        next = push_drop(text, hand, next, *pair)?;
     }
     Ok(())
 }
 
-fn push_drop(text: &mut Vec<u8>, hand: &Hand, pair: (NodeId, u64)) -> Result<(), AllocError>
+/// `next` is the place at which the job is looked for first; gives the place for the next job.
+fn push_drop(
+    text: &mut Vec<u8>,
+    hand: &Hand,
+    next: usize,
+    pair: (NodeId, u64),
+) -> Result<usize, AllocError>
     ensures { OnOk result (text.new.items ≡ text.old.items ++ drop_told hand.now.jobs pair) }
 {
+    if stands_in_hand(hand.jobs(), next, pair.0, pair.1) {
+        return Ok(next.saturating_add(1));
+    }
     if hand.contains(pair.0, pair.1) {
-        return Ok(());
+        return Ok(place_behind_in_hand(hand.jobs(), pair.0, pair.1));
     }
     push_text(text, "drop ")?;
     push_number(text, u64::from(pair.0.number()))?;
     push_text(text, " ")?;
     push_number(text, pair.1)?;
-    push_text(text, "\n")
+    push_text(text, "\n")?;
+    Ok(next)
+}
+
+fn stands_in_hand(jobs: &[InHand], at: usize, origin: NodeId, id: u64) -> bool
+    ensures { IsTrue result → holds jobs.now origin id ≡ true }
+{
+    if at >= jobs.len() {
+        return false;
+    }
+    let job = &jobs[at];
+    job.origin.is(origin) && job.id == id
+}
+
+/// The place behind a job, as `place_behind` gives it.
+fn place_behind_in_hand(jobs: &[InHand], origin: NodeId, id: u64) -> usize {
+    let mut place: usize = 0;
+    for job in jobs {
+        place = place.saturating_add(1);
+        if job.origin.is(origin) && job.id == id {
+            return place;
+        }
+    }
+    place
 }
 
 /// Whether the event tells that the work on a job is finished.

@@ -20,6 +20,7 @@ use crate::ended::Ended;
 use crate::seen::{Seen, is_finish, push_gone};
 use crate::sending::push_messages;
 use crate::showing::{push_all_jobs, push_state};
+use crate::unread::Unread;
 use durable_node::{Came, DurableNode, NodeFault};
 use group_task::NodeId;
 use line_words::cut_line;
@@ -28,7 +29,6 @@ use pace::{Pace, Setting, Sight};
 use sector_disk::SectorDisk;
 use std::alloc::{AllocError, Global};
 use std::marker::Model;
-use std::mem;
 
 /// At most so many timers fire in one tick; what is due beyond that fires in the next.
 const MOST_FIRED: u32 = 16;
@@ -43,8 +43,7 @@ pub struct Session<D: SectorDisk> {
     stopped: bool,
     count: u64,
     text: Vec<u8>,
-    // the beginning of the line that isn't whole
-    unread: Vec<u8>,
+    unread: Unread,
     // room for the spelling of a message, and for what the node was before a call
     bytes: Vec<u8>,
     seen: Seen,
@@ -55,7 +54,7 @@ impl<D: SectorDisk> Model for Session<D> {
 
     ghost Value = { Progress D };
 
-    ghost view = { λ a. record { node = a.node; stopped = a.stopped; count = a.count; text = a.text.items; rest = a.unread.items } };
+    ghost view = { λ a. record { node = a.node; stopped = a.stopped; count = a.count; text = a.text.items; rest = a.unread } };
 }
 
 impl<D: SectorDisk> Session<D> {
@@ -81,7 +80,7 @@ impl<D: SectorDisk> Session<D> {
             stopped: false,
             count: 0,
             text: Vec::new(alloc),
-            unread: Vec::new(alloc),
+            unread: Unread::new(alloc),
             bytes: Vec::new(alloc),
             seen: Seen::new(alloc),
         }
@@ -115,10 +114,13 @@ impl<D: SectorDisk + Drop> Session<D> {
     pub fn feed(&mut self, piece: &[u8]) -> Result<(), AllocError>
         ensures { OnOk result (Fed D.state self.old piece.now self.new) }
     {
-        self.unread.extend_from_slice(piece)?;
-        let whole = mem::replace(&mut self.unread, Vec::new(self.alloc));
+        let Some(_) = cut_line(piece) else {
+            return self.unread.push(piece);
+        };
+        let mut whole = self.unread.take(self.alloc);
+        whole.extend_from_slice(piece)?;
         let left = self.answer_lines(&whole)?;
-        self.unread.extend_from_slice(left)?;
+        self.unread.push(left)?;
         Ok(())
     }
 
@@ -126,6 +128,7 @@ impl<D: SectorDisk + Drop> Session<D> {
     fn answer_lines<'a>(&mut self, whole: &'a [u8]) -> Result<&'a [u8], AllocError>
         ensures rest { self.new.rest ≡ self.old.rest }
         ensures lines { IfOk result (λ left. (lines : List (List ℕ)) × (lines_of whole.now ≡ lines ++ left.now ∷ []) × Serves D.state self.old self.new lines) }
+        ensures last { IfOk result (λ left. lines_of left.now ≡ left.now ∷ []) }
     {
         let mut left = whole;
         while let Some((line, behind)) = cut_line(left) {
