@@ -15,7 +15,7 @@ use wire_msg::Message;
 /// arms the disk are turns too.
 ///
 /// A turn takes about 520 bytes, and 16 for most messages that it sent: 65,536 turns at a node that sends to 63 others at each of
-/// them take about 100 megabytes.
+/// them would take about 100 megabytes, reckoned by these sizes and not measured.
 #[derive(Drop)]
 pub struct History {
     lines: Vec<Line>,
