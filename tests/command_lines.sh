@@ -64,24 +64,44 @@ helps() {
     tell "$problem" "$1" --help
 }
 
-# prints STATUS INPUT TEXT WORDS..: the program reads all of its input, prints the text and ends so
+# says REASON: what the next run has to say on standard error, in one line
+reason=''
+says() {
+    reason="invite: $1"
+}
+
+# prints STATUS INPUT TEXT WORDS..: the program reads all of its input, prints the text and ends so; on standard error stands the
+# reason that was told before, or nothing
 prints() {
     local want=$1 input=$2 text=$3 problem=''
     shift 3
     start "$input" "$room/out" "$@"
     [ "$status" -eq "$want" ] || problem="status $status in place of $want"
-    [ ! -s "$room/err" ] || problem='it writes to standard error'
+    [ "$(cat "$room/err")" = "$reason" ] || problem="standard error is '$(cat "$room/err")' in place of '$reason'"
+    reason=''
     [ ! -s "$room/left" ] || problem='it left input unread'
     printf '%b' "$text" | cmp -s - "$room/out" || problem="it prints something else than $text"
     tell "$problem" "$@"
 }
 
-# full INPUT WORDS..: where standard output is full, the program ends with status 1
+# full INPUT WORDS..: where standard output is full, the program ends with status 1, and says so
 full() {
     local problem=''
     start "$1" /dev/full "${@:2}"
     [ "$status" -eq 1 ] || problem="status $status in place of 1, over a full output"
+    grep -qx "invite: can't write: No space left on device.*" "$room/err" || problem="it says '$(cat "$room/err")' of a full output"
     tell "$problem" "${@:2}"
+}
+
+# folder WORDS..: where standard input can't be read, the program ends with status 1, prints nothing, and says so
+folder() {
+    local problem=''
+    "$program" "$@" < / >"$room/out" 2>"$room/err"
+    status=$?
+    [ "$status" -eq 1 ] || problem="status $status in place of 1, over a folder as input"
+    [ ! -s "$room/out" ] || problem='it prints something'
+    grep -qx "invite: can't read: Is a directory.*" "$room/err" || problem="it says '$(cat "$room/err")' of a folder as input"
+    tell "$problem" "$@"
 }
 
 refused
@@ -103,11 +123,15 @@ refused answer 0x0 3
 refused answer --help
 refused show 1
 refused sim 1
+refused sim --name
+refused sim --names=1
+refused show --names
 refused store
 refused store a b
 refused trace 1
+refused record 1
 refused --version
-for command in answer show sim store format node trace; do
+for command in answer show sim store format node trace record; do
     problem=''
     start '' "$room/out" --help
     grep -q "^  $command " "$room/out" || problem="the help doesn't name $command"
@@ -118,18 +142,51 @@ done
 prints 0 '010102000000\n' '01020002000101\n' answer 0 3
 prints 0 '010102000000\n' '01020002000101\n' answer 0 128
 prints 0 '020102400000\n' '02024002000101\n' answer 64 128
+says "a message can't be read"
 prints 1 '020102000000\n' 'malformed\n' answer 0 128
+says "a message can't be read"
 prints 1 '01010200000100\n' 'malformed\n' answer 0 3
+says 'a message is for another node, or names one outside of the cluster'
+prints 1 '010103000000\n' 'refused Stranger\n' answer 0 3
+says 'line 3: neither pairs of hex digits nor a dash'
 prints 1 '\n\nzz\n' 'bad line 3\n' answer 0 3
 prints 0 '010102000000\n' '2>0 AreYouCoordinator\n' show
+says 'line 1: neither pairs of hex digits nor a dash'
 prints 1 'zz\n' 'bad line 1\n' show
+says "a message can't be read"
+prints 1 '010102000000\n01020002000102\n' '2>0 AreYouCoordinator\nmalformed\n' show
 
 opening='node 0 Normal coord 0 group 0:1 up - members 0 count 1 pending - hand -\n'
 prints 0 'cluster 1 4\n' "$opening" sim
 prints 0 'cluster 1 4\ndeliver 0\n' "0 refused NoSuch\n$opening" sim
+says 'line 1: not of the form cluster NODES SLOTS, or not the first line'
 prints 1 'cluster 0 4\n' 'bad line 1\n' sim
+says 'line 3: no such act: chek'
 prints 1 'cluster 1 4\n\nchek 0\n' 'bad line 3\n' sim
+says 'line 2: no such act: \x1b[31m'
+prints 1 'cluster 1 4\n\033[31m 0\n' 'bad line 2\n' sim
+says 'line 2: not of the form cut A B'
+prints 1 'cluster 1 4\ncut 0\n' 'bad line 2\n' sim
+says 'line 1: there is no line cluster NODES SLOTS'
 prints 1 '' 'bad line 1\n' sim
+says 'line 1: an act in front of the line cluster NODES SLOTS, or behind 65536 acts'
+prints 1 'check 0\n' 'bad line 1\n' sim
+
+# The same run, told by default, with messages by name, and with the nodes in front of each act.
+two='node 0 Normal coord 0 group 0:1 up - members 0 count 1 pending - hand -\nnode 1 Normal coord 1 group 1:1 up - members 1 count 1 pending - hand -\n'
+asked='cluster 2 4\ncheck 1\ndeliver 0\n'
+prints 0 "$asked" "0 ok 0:010101000000\n1 ok 1:01020001000101\n$two" sim
+prints 0 "$asked" "0 ok\n    0: 1>0 AreYouCoordinator\n1 ok\n    1: 0>1 Coordinator yes\n$two" sim --names
+prints 0 "$asked" "${two}0 ok 0:010101000000\n${two}1 ok 1:01020001000101\n$two" sim --nodes
+prints 0 "$asked" "${two}0 ok\n    0: 1>0 AreYouCoordinator\n${two}1 ok\n    1: 0>1 Coordinator yes\n$two" sim --nodes --names
+
+# What arm and crash do to a disk: so many calls pass, then the device fails; a crash ends the arming, and recovering makes four calls
+# of a mounting and four of a raise, or six where both slots of the counter are sealed.
+up='node 0 Normal coord 0 group 0:2 up - members 0 count 2 pending - hand -\n'
+prints 0 'cluster 1 4\narm 0 0\nsubmit 0 0 61\nsubmit 0 0 61\ncrash 0\nrecover 0\n' "0 ok\n1 fault Device\n2 refused Down\n3 ok\n4 ok\n$up" sim
+prints 0 'cluster 1 4\narm 0 3\nsubmit 0 0 61\n' '0 ok\n1 fault Device\nnode 0 Down\n' sim
+prints 0 'cluster 1 4\narm 0 4\nsubmit 0 0 61\nsubmit 0 0 61\n' '0 ok\n1 ok id 0\n2 fault Device\nnode 0 Down\n' sim
+prints 0 'cluster 1 4\narm 0 0\narm 0 1000000\nsubmit 0 0 61\n' '0 ok\n1 ok\n2 ok id 0\nnode 0 Normal coord 0 group 0:1 up - members 0 count 1 pending 0 hand 0:0\n' sim
 
 # The greatest cluster.
 every=''
@@ -143,7 +200,10 @@ file=$room/store
 prints 0 'raise\nformat 4\nmount\nraise\nput 1 6869\n' 'refused Broken\nok\nok\nok 1\nok 0\n' store "$file"
 prints 0 'mount\nlist\ndone 0\ndone 0\nlist\n' 'ok\ncount 1 next 1\njob 0 1 6869\nok\nrefused NoSuchJob\ncount 1 next 1\n' store "$file"
 prints 0 'mount\n' 'refused Device\n' store "$room/none"
+says 'line 2: no such request: mout'
 prints 1 'mount\nmout\n' 'bad line 2\n' store "$file"
+says 'line 1: not of the form put QUEUE HEX [P]'
+prints 1 'put 16 61\n' 'bad line 1\n' store "$file"
 
 # Another process has the file locked, and it stays as it was.
 exec {lock}<>"$file"
@@ -167,12 +227,21 @@ prints 0 '{"nodes":2,"histories":[[{"do":"check","sent":["010100010000"]}],[{"do
 prints 1 '{"nodes":2,"histories":[[],[{"do":"deliver","msg":"010100010000","sent":["01020100000101"]}]]}\n' 'NotARun 1 0\n' trace
 prints 1 '{"nodes":1,"histories":[[{"do":"none","sent":[]},{"do":"none"}]]}\n' 'bad trace 0 1\n' trace
 prints 1 '' 'bad trace\n' trace
+prints 0 'cluster 2 8\ncheck 0\ndeliver 0\n' '{"histories":[[{"do":"check","sent":["010100010000"]}],[{"do":"deliver","msg":"010100010000","sent":["01020100000101"]}]],"nodes":2}\n' record
+prints 1 'cluster 2 8\nchek 0\n' 'bad line 2\n' record
 
 full '010102000000\n' answer 0 3
 full '010102000000\n' show
 full 'cluster 1 4\n' sim
 full '' trace
+full 'cluster 1 4\n' record
 full 'mount\n' store "$file"
+
+folder answer 0 3
+folder show
+folder sim
+folder trace
+folder store "$file"
 
 echo "$passed passed, $failed failed"
 [ "$failed" -eq 0 ]

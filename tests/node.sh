@@ -1,7 +1,7 @@
 #!/usr/bin/env bash
 # The commands format and node: each line of the grammar, the statuses, a kill -9 and a restart, another node's file, a locked file, and,
 # where there is strace, that an answer is written only after the file was synced; where there is python3, ten seconds of the example
-# three_processes.
+# three_processes, whose trace is judged, and some of the others.
 # Called with the program, as in: tests/node.sh crates/invite/out/invite. Its last line counts the checks.
 set -u
 program=$1
@@ -75,10 +75,10 @@ ends 5 'a file that was cut' node "$room/short" 0 3
 
 ask() { answers 0 "$1" "$2" "$3" node "$file" 0 3; }
 
-alone='group Normal 0 0:1 0\nok 1\n'
+alone='group Normal 0 0:1 0\nkeeps 1 0 0\nok 1\n'
 ask 'a node begins down' 'state\njobs\ncheck\n' 'state Down\nok 1\nok 2\nok 3\n'
 ask 'recover' 'recover\nstate\n' "${alone}state Normal coord 0 group 0:1 members 0 found - unready - checking no probing no count 1 pending 0 hand 0\nok 2\n"
-ask 'a second life' 'recover\n' 'group Normal 0 0:2 0\nok 1\n'
+ask 'a second life' 'recover\n' 'group Normal 0 0:2 0\nkeeps 2 0 0\nok 1\n'
 fresh
 ask 'check' 'recover\ncheck\n' "${alone}send 1 010100010000\nsend 2 010100020000\nok 2\n"
 fresh
@@ -88,19 +88,19 @@ ask 'a job' 'recover\nsubmit 3 6869\njobs\ndispatch\njobs\nfinish 0 0\njobs\n' \
     "${alone}take 0 0 3 6869\nok 2 id 0\npending 0 3 6869\nhand 0 0 3 6869\nok 3\nok 4\npending 0 3 6869\nhand 0 0 3 6869\nok 5\ngone 0\nok 6\nok 7\n"
 fresh
 ask 'refusals' 'submit 0 -\nrecover\nfinish 0 7\nsubmit 16 -\nsubmit 0 f\n' \
-    'refused 1 Down\ngroup Normal 0 0:1 0\nok 2\nrefused 3 UnknownJob\nbad 4\nbad 5\n'
+    'refused 1 Down\ngroup Normal 0 0:1 0\nkeeps 1 0 0\nok 2\nrefused 3 UnknownJob\nbad 4\nbad 5\n'
 fresh
 ask 'lines that cannot be read' 'x\n\n\nrecover \ndeliver\ndeliver 00\ntick x\nlost 128\nstate 1\nrecover\n' \
-    'bad 1\nbad 2\nbad 3\nbad 4\nbad 5\nbad 6\nbad 7\ngroup Normal 0 0:1 0\nok 8\n'
+    'bad 1\nbad 2\nbad 3\nbad 4\nbad 5\nbad 6\nbad 7\ngroup Normal 0 0:1 0\nkeeps 1 0 0\nok 8\n'
 ask 'a last line that is not whole' 'recover' ''
-ask 'compact' 'compact\nrecover\ncompact\n' 'refused 1 Down\ngroup Normal 0 0:2 0\nok 2\nok 3\n'
+ask 'compact' 'compact\nrecover\ncompact\n' 'refused 1 Down\ngroup Normal 0 0:2 0\nkeeps 2 0 0\nok 2\nok 3\n'
 fresh
 ask 'a tick while down' 'tick 0\ntick 9000\n' 'ok 1\nok 2\n'
 ask 'a job that a new group drops' 'recover\nsubmit 0 -\ndispatch\nrecover\n' \
-    "${alone}take 0 0 0 -\nok 2 id 0\nok 3\ngroup Normal 0 0:2 0\ndrop 0 0\nok 4\n"
-ask 'a job outlives its node' 'recover\njobs\n' 'group Normal 0 0:3 0\nok 1\npending 0 0 -\nok 2\n'
+    "${alone}take 0 0 0 -\nok 2 id 0\nok 3\ngroup Normal 0 0:2 0\ndrop 0 0\nkeeps 2 1 1\nok 4\n"
+ask 'a job outlives its node' 'recover\njobs\n' 'group Normal 0 0:3 0\nkeeps 3 1 1\nok 1\npending 0 0 -\nok 2\n'
 fresh 1000
-ask 'a first count' 'recover\n' 'group Normal 0 0:1001 0\nok 1\n'
+ask 'a first count' 'recover\n' 'group Normal 0 0:1001 0\nkeeps 1001 0 0\nok 1\n'
 
 # A tick fires the check at the latest after 20 and 10 round trips of 20 ms, and then nothing more at that time.
 fresh
@@ -124,7 +124,7 @@ ends 4 'a locked file' node "$file" 0 3
 kill -9 "$child"
 wait "$child" 2>/dev/null
 exec 3>&-
-ask 'after kill -9' 'recover\njobs\n' 'group Normal 0 0:2 0\nok 1\npending 0 1 ff\nok 2\n'
+ask 'after kill -9' 'recover\njobs\n' 'group Normal 0 0:2 0\nkeeps 2 1 1\nok 1\npending 0 1 ff\nok 2\n'
 
 # A full output.
 printf 'recover\n' | "$program" node "$file" 0 3 >/dev/full 2>"$room/err"
@@ -137,7 +137,7 @@ tell "$problem" 'a full output'
 if command -v strace >/dev/null && strace -o "$room/probe" true 2>/dev/null; then
     fresh
     { printf 'recover\n'; sleep 0.5; printf 'submit 0 -\n'; sleep 0.5; } |
-        strace -f -o "$room/calls" -e trace=pwrite64,fdatasync,write "$program" node "$file" 0 3 >/dev/null 2>&1
+        strace -f -s 256 -o "$room/calls" -e trace=pwrite64,fdatasync,write "$program" node "$file" 0 3 >/dev/null 2>&1
     order=$(sed -nE 's/.*(pwrite64|fdatasync)\(.*/\1/p; s/.*write\(1, .*(ok [0-9]).*/\1/p' "$room/calls" | grep -B1 '^ok' | tr '\n' ' ')
     problem=''
     [ "$order" = 'fdatasync ok 1 -- fdatasync ok 2 ' ] || [ "$order" = 'fdatasync ok 1 fdatasync ok 2 ' ] || problem="the calls are $order"
@@ -167,12 +167,26 @@ if command -v python3 >/dev/null; then
     example 'three processes' 'groups [1-9].* answered [1-9].* gone [1-9]' python3 "$three" "$program" 5 1
     example 'three processes and their enemy' 'groups [1-9].* answered [1-9].* gone [1-9]' python3 "$three" "$program" 5 1 kill cut lose
 
+    # three machines, all of them this one: they become one group
+    base=$((20000 + RANDOM % 20000))
+    addresses="127.0.0.1:$base 127.0.0.1:$((base + 1)) 127.0.0.1:$((base + 2))"
+    for i in 0 1 2; do
+        "$program" format "$room/machine$i" 64 "$i" 3
+        # shellcheck disable=SC2086
+        timeout 6 python3 "$top/examples/three_machines/machine.py" "$program" "$room/machine$i" "$i" $addresses </dev/null >"$room/machine$i.out" 2>&1 &
+    done
+    wait
+    problem=''
+    [ "$(for i in 0 1 2; do grep '^group Normal' "$room/machine$i.out" | tail -n 1; done | sort -u | grep -c ' 0,1,2$')" -eq 1 ] || problem=$(tail -n 2 "$room"/machine?.out)
+    [ "$(for i in 0 1 2; do grep '^group Normal' "$room/machine$i.out" | tail -n 1; done | sort -u | wc -l)" -eq 1 ] || problem=$(tail -n 2 "$room"/machine?.out)
+    tell "$problem" 'three machines'
+
     rm -f "$file"
     "$program" format "$file" 64 0 1
     { printf 'recover\nsubmit 0 %s\n' "$(printf 'echo hello' | od -An -tx1 | tr -d ' \n')"; sleep 3; } |
         python3 "$top/examples/worker/worker.py" "$program" "$file" 0 1 >"$room/out" 2>"$room/err"
     problem=''
-    printf 'group Normal 0 0:1 0\nok 1\ntake 0 0 0 6563686f2068656c6c6f\nok 2 id 0\ngone 0\nok 3\n' | cmp -s - "$room/out" || problem=$(cat "$room/out")
+    printf 'group Normal 0 0:1 0\nkeeps 1 0 0\nok 1\ntake 0 0 0 6563686f2068656c6c6f\nok 2 id 0\ngone 0\nok 3\n' | cmp -s - "$room/out" || problem=$(cat "$room/out")
     [ "$(cat "$room/err")" = hello ] || problem='the command did not run'
     tell "$problem" 'a worker'
 

@@ -4,60 +4,90 @@
     three_processes.py PROGRAM SECONDS SEED [kill] [cut] [lose]
 
 It kills nodes (kill -9), cuts links and loses messages, submits jobs and finishes those that nodes take. Over the whole run it checks that
-a group number has one coordinator and one set of members, that no node gives a number twice, and that a job that was answered is taken.
+a group number has one coordinator and one set of members, and that no node gives a number twice. It ends by turning the nodes' logs into a
+trace, which the command `trace` has to judge a run.
 """
-import heapq, os, random, selectors, subprocess, sys, tempfile, time
+import heapq, json, os, random, selectors, shutil, subprocess, sys, tempfile, time
+from trace_of_logs import CLOSING, trace_of
 
-NODES, ROUND_TRIP, TRIES = 3, 0.02, 7
+NODES, ROUND_TRIP, SPEED = 3, 20, 2      # a round trip in milliseconds of the nodes' clock, which goes so much faster than the wall's
 program, seconds, seed, enemy = sys.argv[1], float(sys.argv[2]), int(sys.argv[3]), set(sys.argv[4:])
 chance = random.Random(seed)
 folder = tempfile.mkdtemp(prefix="three_processes-")
 begun = time.monotonic()
 look = selectors.DefaultSelector()
-nodes = [None] * NODES       # the processes
-unread = [b""] * NODES       # the beginning of a line that isn't whole
-leader = [None] * NODES      # the coordinator of each node that is Normal
+nodes, logs = [None] * NODES, [open(f"{folder}/{i}.log", "w") for i in range(NODES)]
+waiting = [[] for _ in range(NODES)]     # the requests that aren't asked yet
+asked = [None] * NODES                   # the one that isn't answered yet
+unread = [b""] * NODES                   # what was read of its answer
+leader = [None] * NODES                  # the coordinator of each node that is Normal
 links_cut = set()
-due = []                     # what is to happen: (time, place, what, ..)
+due = []                                 # what is to happen: (time, place, what, ..)
 places = iter(range(1 << 62))
 coordinator, members, last_count = {}, {}, [0] * NODES
 seen = dict(kills=0, groups=0, sent=0, lost=0, answered=0, taken=0, gone=0)
 
 
 def fail(why):
-    print("VIOLATION:", why, "in", folder)
+    print("VIOLATION:", why, "in", folder, flush=True)
     os._exit(1)
 
 
+def clock():
+    """Milliseconds of the nodes' clock."""
+    return (time.monotonic() - begun) * 1000 * SPEED
+
+
 def later(after, *what):
-    heapq.heappush(due, (time.monotonic() + after, next(places)) + what)
+    heapq.heappush(due, (clock() + after, next(places)) + what)
 
 
 def tell(i, line):
-    try:
-        nodes[i].stdin.write(line.encode() + b"\n")
-    except (BrokenPipeError, OSError):
-        pass                 # it was killed just now
+    """A request is asked once the one before it is answered."""
+    waiting[i].append(line)
+    ask(i)
+
+
+def ask(i):
+    if asked[i] is None and waiting[i]:
+        asked[i] = waiting[i].pop(0)
+        logs[i].write(f"> {asked[i]}\n")
+        nodes[i].stdin.write(asked[i].encode() + b"\n")
 
 
 def start(i):
-    if nodes[i]:
-        look.unregister(nodes[i].stdout)
     nodes[i] = subprocess.Popen([program, "node", f"{folder}/{i}", str(i), str(NODES)], stdin=subprocess.PIPE, stdout=subprocess.PIPE, bufsize=0)
     look.register(nodes[i].stdout, selectors.EVENT_READ, i)
-    unread[i], leader[i] = b"", None
+    waiting[i], asked[i], unread[i], leader[i] = [], None, b"", None
     tell(i, "recover")
 
 
+def kill(i):
+    """What it wrote whole before counts; an answer that has no closing line doesn't."""
+    nodes[i].kill()
+    nodes[i].wait()
+    look.unregister(nodes[i].stdout)
+    answered(i, nodes[i].stdout.read())
+    logs[i].write("killed\n")
+    seen["kills"] += 1
+
+
+def answered(i, piece):
+    unread[i] += piece
+    *lines, rest = unread[i].decode().split("\n")
+    if lines and lines[-1].split()[0] in CLOSING:
+        unread[i], asked[i] = rest.encode(), None
+        logs[i].write("".join(line + "\n" for line in lines))
+        for line in lines:
+            heard(i, line.split())
+
+
 def send(i, to, message):
-    """A link that sends a message again, a round trip later, until it came; a cut one gives it up."""
     seen["sent"] += 1
-    wait = chance.uniform(0.1, 0.5) * ROUND_TRIP
-    for _ in range(TRIES):
-        if not ("lose" in enemy and chance.random() < 0.05):
-            return later(wait, "deliver", i, to, message)
-        wait += ROUND_TRIP
+    if "lose" in enemy and chance.random() < 0.05:
         seen["lost"] += 1
+    else:
+        later(chance.uniform(0.1, 0.5) * ROUND_TRIP, "deliver", i, to, message)
 
 
 def group_is(i, phase, lead=None, number=None, ids=None):
@@ -89,7 +119,7 @@ def heard(i, words):
         group_is(i, *words[1:])
     elif words[0] == "take":
         seen["taken"] += 1
-        later(chance.uniform(0, 0.1), "finish", i, words[1], words[2])
+        later(chance.uniform(0, 5) * ROUND_TRIP, "finish", i, words[1], words[2])
     elif words[0] == "gone":
         seen["gone"] += 1
     elif words[0] == "ok" and len(words) > 2:
@@ -104,45 +134,57 @@ def happens(now, what, *of):
     elif what == "finish":
         tell(of[0], f"finish {of[1]} {of[2]}")
     elif what == "tick":
-        tell(of[0], f"tick {int((now - begun) * 1000)}")
+        if not waiting[of[0]]:
+            tell(of[0], f"tick {int(now)}")
         later(ROUND_TRIP / 2, "tick", of[0])
     elif what == "submit":
         leads = [i for i in range(NODES) if leader[i] == i]
         if leads:
             priority = chance.randrange(4)
             tell(chance.choice(leads), f"submit {chance.randrange(16)} {chance.getrandbits(32):08x}" + (f" {priority}" if priority else ""))
-        later(0.05, "submit")
+        later(2.5 * ROUND_TRIP, "submit")
     elif what == "kill":
         i = chance.randrange(NODES)
-        nodes[i].kill()
-        nodes[i].wait()
-        seen["kills"] += 1
+        kill(i)
         start(i)
-        later(chance.uniform(0.05, 0.9), "kill")
+        later(chance.uniform(50, 700) * SPEED, "kill")
     elif what == "cut":
         alone = chance.randrange(NODES)
         links_cut.clear()
         if chance.random() < 0.5:
             links_cut.update(frozenset((alone, i)) for i in range(NODES) if i != alone)
-        later(chance.uniform(0.3, 2), "cut")
+        later(chance.uniform(300, 2000) * SPEED, "cut")
+
+
+def judge():
+    """The trace of all logs is a run: the command `trace` says so."""
+    for log in logs:
+        log.close()
+    with open(f"{folder}/run.json", "w") as file:
+        json.dump(trace_of([f"{folder}/{i}.log" for i in range(NODES)]), file)
+    verdict = subprocess.run([program, "trace"], stdin=open(f"{folder}/run.json"), capture_output=True, text=True).stdout.split()
+    if verdict[:1] != ["Run"]:
+        fail(f"the trace run.json is judged {' '.join(verdict)}")
+    return len(verdict) - 1
 
 
 for i in range(NODES):
     subprocess.run([program, "format", f"{folder}/{i}", "64", str(i), str(NODES)], check=True)
     start(i)
     later(0, "tick", i)
-later(0.5, "submit")
+later(25 * ROUND_TRIP, "submit")
 for what in ("kill", "cut"):
     if what in enemy:
-        later(0.5, what)
-while (now := time.monotonic()) - begun < seconds:
+        later(500, what)
+while (now := clock()) < seconds * 1000 * SPEED:
     while due and due[0][0] <= now:
         happens(now, *heapq.heappop(due)[2:])
-    for key, _ in look.select(0.002):
-        i = key.data
-        *lines, unread[i] = (unread[i] + os.read(key.fileobj.fileno(), 65536)).split(b"\n")
-        for line in lines:
-            heard(i, line.decode().split())
-for node in nodes:
-    node.kill()
-print(f"no violation in {seconds:g} s: " + ", ".join(f"{name} {count}" for name, count in seen.items()))
+    for key, _ in look.select(0.0005):
+        answered(key.data, os.read(key.fileobj.fileno(), 65536))
+        ask(key.data)
+for i in range(NODES):
+    kill(i)
+seen["kills"] -= NODES
+entries = judge()
+print(f"no violation in {seconds:g} s, and a run of {entries} entries: " + ", ".join(f"{name} {count}" for name, count in seen.items()))
+shutil.rmtree(folder)

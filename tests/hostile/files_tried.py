@@ -217,7 +217,7 @@ def node_text(model, refused, own):
         word = refused or "Exhausted"
         return [f"refused 1 {word}", "ok 2", "refused 3 Down"], False
     model.apply("raise")
-    lines += [f"group Normal {own} {own}:{model.count} {own}", "ok 1"]
+    lines += [f"group Normal {own} {own}:{model.count} {own}", f"keeps {model.count} {model.next} {len(model.pending)}", "ok 1"]
     lines += [f"pending {job} {queue} {payload.hex() or '-'}" + (f" {priority}" if priority else "") for job, (queue, payload, priority) in sorted(model.pending.items())]
     lines.append("ok 2")
     answer = model.apply("put 0 61")
@@ -361,7 +361,7 @@ def try_half_made(tried, folder, library):
         status = tried.run(words, b"", shim.environment(library, told, END_AT=at))[0]
         shim.read_told(told)
         if status == 0:
-            tried.expect(["node", path, "0", "3"], b"recover\n", 0, b"group Normal 0 0:6 0\nok 1\n", "a whole file")
+            tried.expect(["node", path, "0", "3"], b"recover\n", 0, b"group Normal 0 0:6 0\nkeeps 6 0 0\nok 1\n", "a whole file")
             continue
         data = read(path)
         got, out, trouble = tried.run(["node", path, "0", "3"], b"recover\n")

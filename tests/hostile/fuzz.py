@@ -348,7 +348,10 @@ class Seen:
                 trouble = self.group(words)
                 if trouble:
                     return trouble
-            elif words[0] not in ("send", "take", "drop", "state", "pending", "hand"):
+            elif words[0] == "keeps":
+                if words[1:] != [str(self.count), str(self.next), str(len(self.pending))]:
+                    return f"{line} behind {self.count} groups and {self.next} jobs, of which {len(self.pending)} are pending"
+            elif words[0] not in ("send", "fired", "take", "drop", "state", "pending", "hand"):
                 return f"there is a line {line[:100]!r}"
         return "" if at == len(requests) else f"{at} requests are answered, of {len(requests)}"
 
@@ -365,7 +368,7 @@ class Seen:
         return ""
 
     def ends_well(self, status, out):
-        text = f"group Normal 0 0:{self.count + 1} 0\nok 1\n"
+        text = f"group Normal 0 0:{self.count + 1} 0\nkeeps {self.count + 1} {self.next} {len(self.pending)}\nok 1\n"
         for job, (queue, payload, *priority) in sorted(self.pending.items()):
             text += " ".join(["pending", str(job), queue, payload.lower(), *priority]) + "\n"
         return f"status {status}" if status != 0 else unlike(out, (text + "ok 2\n").encode())

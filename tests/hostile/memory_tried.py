@@ -180,8 +180,8 @@ def try_little_room(tried, folder):
     limited(["store", store], b"format 4\nmount\n" + b"list\n" * MEGABYTE, 20, 1, none)
     tried.run(["format", node, "4", "0", "3"], b"")
     # what was answered before is written, and the node ends
-    limited(["node", node, "0", "3"], b"recover\n" + b"a" * (12 * MEGABYTE), 12, 1, b"group Normal 0 0:1 0\nok 1\n")
-    tried.expect(["node", node, "0", "3"], b"recover\n", 0, b"group Normal 0 0:2 0\nok 1\n", "begun again")
+    limited(["node", node, "0", "3"], b"recover\n" + b"a" * (12 * MEGABYTE), 12, 1, b"group Normal 0 0:1 0\nkeeps 1 0 0\nok 1\n")
+    tried.expect(["node", node, "0", "3"], b"recover\n", 0, b"group Normal 0 0:2 0\nkeeps 2 0 0\nok 1\n", "begun again")
 
 
 def try_memory(tried):

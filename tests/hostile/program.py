@@ -1,5 +1,5 @@
 """Runs the program, and counts what was tried. Whatever it is fed, it ends by itself, with a status that the texts allow, without a signal
-and with nothing on standard error but the word that a node's command says there."""
+and where it ends badly with one line on standard error that says why. What is wrong with a trace is printed alone."""
 import os, re, subprocess, sys
 
 SECONDS = 20
@@ -43,7 +43,11 @@ class Tried:
             return f"status {status}"
         if not ERRORS.fullmatch(self.error):
             return f"standard error {self.error[:200]!r}"
-        return f"{words[0]} writes to standard error" if self.error and words[0] not in ("node", "format") else ""
+        if status == 0 and self.error:
+            return f"{words[0]} writes to standard error, and ends well"
+        if status == 1 and not self.error and words[0] != "trace":
+            return f"{words[0]} ends badly and doesn't say why on standard error"
+        return ""
 
     def talk(self, words, fed, env=None):
         """The same for a node that is fed line by line, each when the one before was answered."""

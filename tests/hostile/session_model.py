@@ -47,6 +47,8 @@ class Session:
         lines += [f"take {job(*key, *held[key])}" for key in sorted(held) if key not in hand]
         lines += [f"drop {key[0]} {key[1]}" for key in sorted(hand) if key not in held and words[0] != "finish"]
         lines += [f"gone {job}" for job in pending - set(node.pending)]
+        if words[0] == "recover":
+            lines.append(f"keeps {node.count} {node.next} {len(node.pending)}")
         return lines + [f"ok {self.requests}" + (f" id {node.next - 1}" if words[0] == "submit" else "")]
 
     def state(self):

@@ -26,10 +26,11 @@ use Rattle.runs.specs.Tagged.{step_marks}
 use Rattle.runs.specs.Reporting.{TriedAt, Report, commands_in, mountings_in, own_commands, node_named, moment_of, state_at, state_or_down}
 use Rattle.runs.specs.Growth.{grown, tried_so_far, IsLeft}
 use Rattle.cluster_sim.specs.Machine.{Machine, DeedOf, Performed, StandsFor, Shows, Tells, Acted, is_mounting}
-use Rattle.cluster_sim.specs.Recorded.{AreCounted, ToldReport, Tells as Told, GoesOn, pending_room, tried_as, tried_by, tried_at, mounted_at, mounted_now, given_in, listed, told_moment, told_report, with_deed}
+use Rattle.cluster_sim.specs.Recorded.{AreCounted, ToldReport, Tells as Told, GoesOn, pending_room, command_in, tried_as, tried_by, tried_at, mounted_at, mounted_now, given_in, listed, told_moment, told_report, with_deed}
 use Rattle.cluster_sim.specs.declared.outcome.Deed.{Deed}
-use Rattle.histories.specs.declared.what.Command.{Command as KeptCommand}
-use Rattle.histories.specs.What.{command_of}
+use Rattle.job_model.specs.Command.{Command}
+use Rattle.histories.specs.declared.attempt.Attempt.{Attempt}
+use Rattle.histories.specs.Fates.{attempt_of}
 use Rattle.histories.specs.Possible.{IsPossible}
 use Rattle.runs.specs.Run.{IsAllowed}
 use Rattle.runs.proofs.Shown.{taker_named}
@@ -38,7 +39,7 @@ use Rattle.runs.proofs.Hands.{step_gains}
 use Rattle.runs.proofs.Keeping.{AllStates, states_keep}
 use Rattle.runs.proofs.Rooms.{left_few}
 use Rattle.runs.proofs.Runs.{at_place, get_set_same, get_set_other}
-use Rattle.cluster_sim.proofs.Telling.{StepTold, quiet_told, takes_told}
+use Rattle.cluster_sim.proofs.Telling.{IsWhole, StepTold, quiet_told, takes_told}
 
 -- ---- the hand after a step
 
@@ -153,11 +154,11 @@ record Taken (w : World) (step : Step) (n : ℕ) (deed : Deed) (node : Node Memo
 
 -- it took the step, or nothing is told
 named_step : (w : World) (a : Act) (deed : Deed) (new : Machine) (n : ℕ) (node : Node Memory) (s : NodeState) → (p : Performed w a deed new) → n ≡ node_named (length w.states) w.net.sent a → slice_get new.nodes n ≡ Some node → slice_get w.states n ≡ Some s
-    → Taken w p.acted.step n deed node s ⊎ ((deed.command ≡ None) × (deed.mounted ≡ false) × ((nodes : ℕ) (counts : ℕ → ℕ) → (step_marks nodes w counts p.acted.step ≡ []) × (groups_at nodes w p.acted.step ≡ [])))
+    → Taken w p.acted.step n deed node s ⊎ ((deed.tried ≡ None) × (deed.mounted ≡ false) × ((nodes : ℕ) (counts : ℕ → ℕ) → (step_marks nodes w counts p.acted.step ≡ []) × (groups_at nodes w p.acted.step ≡ [])))
 named_step w a deed new n node s p named at was = by_step p.acted.step p.acted.next.of_act p.acted.next.allowed p.acted.shows p.tells
   where
     by_step : (step : Step) → IsStepOf (length w.states) w a step → IsAllowed (length w.states) w step → Shows w step new → Tells w step deed
-        → Taken w step n deed node s ⊎ ((deed.command ≡ None) × (deed.mounted ≡ false) × ((nodes : ℕ) (counts : ℕ → ℕ) → (step_marks nodes w counts step ≡ []) × (groups_at nodes w step ≡ [])))
+        → Taken w step n deed node s ⊎ ((deed.tried ≡ None) × (deed.mounted ≡ false) × ((nodes : ℕ) (counts : ℕ → ℕ) → (step_marks nodes w counts step ≡ []) × (groups_at nodes w step ≡ [])))
     by_step (Takes m number what) of may shows tells =
         let same : m ≡ n = sym (named ∙ taker_named (length w.states) w a m number what of) in
         let was_m : slice_get w.states m ≡ Some s = subst (λ (k : ℕ). slice_get w.states k ≡ Some s) (sym same) was in
@@ -200,12 +201,12 @@ jobs_fit old new report w r a deed n room tells p named fits node d at mounting 
 
 -- what the act adds is what is told of it
 pub step_is_told : (old new : Machine) (w : World) (a : Act) (deed : Deed) (n : ℕ) (counts : ℕ → ℕ) (node : Node Memory) → StandsFor old w → (p : Performed w a deed new) → n ≡ node_named (length old.nodes) old.net.sent a → slice_get new.nodes n ≡ Some node
-    → StepTold (length w.states) w counts p.acted.step n deed node.found
+    → StepTold (length w.states) w counts a p.acted.step n deed node.found
 step_is_told old new w a deed n counts node stands p named at =
     let m = moved old new w p.acted.step n node stands p.acted.stands at in
     ⊎_elim
-    (λ t. subst (λ (x : Step). StepTold (length w.states) w counts x n deed node.found) (sym t.is) (takes_told n (length w.states) t.number w counts t.what m.s deed node.found m.was t.tells t.found))
-    (λ none. quiet_told (length w.states) w counts p.acted.step n deed node.found (none.2 (length w.states) counts).0 (none.2 (length w.states) counts).1 none.0 none.1)
+    (λ t. subst (λ (x : Step). StepTold (length w.states) w counts a x n deed node.found) (sym t.is) (takes_told n (length w.states) t.number w counts a t.what m.s deed node.found m.was (subst (λ (x : Step). IsStepOf (length w.states) w a x) t.is p.acted.next.of_act) t.tells t.found))
+    (λ none. quiet_told (length w.states) w counts a p.acted.step n deed node.found (none.2 (length w.states) counts).0 (none.2 (length w.states) counts).1 none.0 none.1)
     (named_step w a deed new n node m.s p (named_in old w a n stands named) at m.was)
 
 -- the report with the act is what is told of the grown one
@@ -223,8 +224,8 @@ report_is old new report w r a deed n node before stands is_told p named at coun
     (λ i. record { act = a; node = named_w i; outcome = p.acted.is_told i; state = (shown ∙ ap (λ (k : ℕ). state_at (world_after nodes w step).states k) named_w) i }) in
     let moments : report.moments ++ record { act = a; node = n; outcome = deed.outcome; state = node.state } ∷ [] ≡ map told_moment (r.moments ++ moment_of nodes w a step ∷ []) =
     (λ i. (is_told i).moments ++ moment i ∷ []) ∙ sym (map-append told_moment r.moments (moment_of nodes w a step ∷ [])) in
-    let groups : report.groups ++ given_in (tried_at n (tried_by deed)) ≡ r.groups ++ groups_at nodes w step = (λ i. (is_told i).groups ++ sym t.given i) in
-    let commands : report.commands ++ listed (tried_at n (tried_by deed)) ≡ r.commands ++ commands_in (step_marks nodes w (tried_so_far r) step) = (λ i. (is_told i).commands ++ sym t.tried i) in
+    let groups : report.groups ++ given_in (tried_at n (tried_by a deed)) ≡ r.groups ++ groups_at nodes w step = (λ i. (is_told i).groups ++ sym t.given i) in
+    let commands : report.commands ++ listed (tried_at n (tried_by a deed)) ≡ r.commands ++ commands_in (step_marks nodes w (tried_so_far r) step) = (λ i. (is_told i).commands ++ sym t.tried i) in
     let so_many : before ≡ tried_so_far r n = counted ∙ ap (λ (x : ToldReport). length (own_commands n x.commands)) is_told in
     let mounted : report.mounted ++ listed (mounted_at n before (mounted_now deed.mounted node.found)) ≡ r.mounted ++ mountings_in (step_marks nodes w (tried_so_far r) step) =
     (λ i. (is_told i).mounted ++ (ap (λ (k : ℕ). listed (mounted_at n k (mounted_now deed.mounted node.found))) so_many ∙ sym t.mountings) i) in
@@ -296,20 +297,24 @@ counted_more nodes n before commands counts t counted at is = record { as_many =
 pub counted_same : (nodes : ℕ) (commands : List TriedAt) (counts : List ℕ) → AreCounted nodes commands counts → AreCounted nodes (commands ++ []) counts
 counted_same nodes commands counts counted = subst (λ (ts : List TriedAt). AreCounted nodes ts counts) (sym (append-nil commands)) counted
 
-by_command : (nodes n before : ℕ) (commands : List TriedAt) (counts : List ℕ) (c : Option KeptCommand) (acked : Option ℕ) → AreCounted nodes commands counts → slice_get counts n ≡ Some before → is_some_option c ≡ true
-    → AreCounted nodes (commands ++ listed (tried_at n (tried_as (option_map command_of c) acked))) (slice_set counts n (before + 1))
-by_command nodes n before commands counts None acked counted at some = absurd (let bad = some in cc)
-by_command nodes n before commands counts (Some c) acked counted at some = counted_more nodes n before commands counts _ counted at refl
+-- a command is told where one was tried
+told_some : (tried : Option Attempt) (command : Option Command) → tried ≡ option_map attempt_of command → is_some_option tried ≡ true → (c : Command) × (command ≡ Some c)
+told_some tried None which some = absurd (let bad : false ≡ true = ap (λ (t : Option Attempt). is_some_option t) (sym which) ∙ some in cc)
+told_some tried (Some c) which some = (c, refl)
 
-pub counted_some : (nodes n before : ℕ) (commands : List TriedAt) (counts : List ℕ) (deed : Deed) → AreCounted nodes commands counts → slice_get counts n ≡ Some before → is_some_option deed.command ≡ true
-    → AreCounted nodes (commands ++ listed (tried_at n (tried_by deed))) (slice_set counts n (before + 1))
-counted_some nodes n before commands counts deed counted at some = by_command nodes n before commands counts deed.command deed.acked counted at some
+pub counted_some : (nodes n before : ℕ) (commands : List TriedAt) (counts : List ℕ) (a : Act) (deed : Deed) → AreCounted nodes commands counts → slice_get counts n ≡ Some before → IsWhole a deed.tried
+    → is_some_option deed.tried ≡ true → AreCounted nodes (commands ++ listed (tried_at n (tried_by a deed))) (slice_set counts n (before + 1))
+counted_some nodes n before commands counts a deed counted at whole some =
+    let c = told_some deed.tried whole.command whole.which some in
+    subst (λ (o : Option Command). AreCounted nodes (commands ++ listed (tried_at n (tried_as o deed.acked))) (slice_set counts n (before + 1))) (sym (whole.is ∙ c.1))
+    (counted_more nodes n before commands counts _ counted at refl)
 
-by_none : (nodes n : ℕ) (commands : List TriedAt) (counts : List ℕ) (c : Option KeptCommand) (acked : Option ℕ) → AreCounted nodes commands counts → is_some_option c ≡ false
-    → AreCounted nodes (commands ++ listed (tried_at n (tried_as (option_map command_of c) acked))) counts
-by_none nodes n commands counts None acked counted none = counted_same nodes commands counts counted
-by_none nodes n commands counts (Some c) acked counted none = absurd (let bad = none in cc)
+told_none : (tried : Option Attempt) → is_some_option tried ≡ false → tried ≡ None
+told_none None none = refl
+told_none (Some t) none = absurd (let bad = none in cc)
 
-pub counted_none : (nodes n : ℕ) (commands : List TriedAt) (counts : List ℕ) (deed : Deed) → AreCounted nodes commands counts → is_some_option deed.command ≡ false
-    → AreCounted nodes (commands ++ listed (tried_at n (tried_by deed))) counts
-counted_none nodes n commands counts deed counted none = by_none nodes n commands counts deed.command deed.acked counted none
+pub counted_none : (nodes n : ℕ) (commands : List TriedAt) (counts : List ℕ) (a : Act) (deed : Deed) → AreCounted nodes commands counts → is_some_option deed.tried ≡ false
+    → AreCounted nodes (commands ++ listed (tried_at n (tried_by a deed))) counts
+counted_none nodes n commands counts a deed counted none =
+    subst (λ (t : Option Attempt). AreCounted nodes (commands ++ listed (tried_at n (tried_as (command_in a t) deed.acked))) counts) (sym (told_none deed.tried none))
+    (counted_same nodes commands counts counted)

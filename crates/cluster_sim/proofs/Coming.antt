@@ -1,5 +1,5 @@
 -- What came of a call of a node, as the cluster tells it.
-use Rattle.std.proofs.Common.{◌≡◌, ℕ, ◌+◌, ◌*◌, ◌≤◌, List, length, refl, sym, ◌∙◌, ap, subst, arith, Option, Some, None, Result, Ok, option_map}
+use Rattle.std.proofs.Common.{◌≡◌, ℕ, ◌+◌, ◌*◌, ◌≤◌, List, length, refl, sym, ◌∙◌, ap, subst, arith, Option, Some, None, Result, Ok}
 use Rattle.std.specs.Prelude.{IsSome}
 use Rattle.sector_disk.specs.Memory.{Memory, state_of}
 use Rattle.job_model.specs.Durable.{Durable}
@@ -8,7 +8,8 @@ use Rattle.sim_net.specs.Network.{Network, after_all_sent}
 use Rattle.node_core.specs.declared.event.Event.{Event}
 use Rattle.histories.specs.declared.what.Refusal.{Refusal as Reason}
 use Rattle.histories.specs.declared.what.Refusal.TheVariants as reason
-use Rattle.histories.specs.What.{command_of, reason_of}
+use Rattle.histories.specs.What.{reason_of}
+use Rattle.histories.specs.Fates.{what_of}
 use Rattle.node_store.specs.Store.{slots_for}
 use Rattle.durable_node.specs.declared.fault.NodeFault.{NodeFault}
 use Rattle.durable_node.specs.declared.fault.NodeFault.TheVariants as node
@@ -16,8 +17,8 @@ use Rattle.durable_node.specs.declared.came.Came.{Came}
 use Rattle.durable_node.specs.Faults.{fault_of, shown, told as answered, told_as}
 use Rattle.durable_node.specs.Node.{Node, Stands}
 use Rattle.histories.specs.NodeState.{NodeState}
-use Rattle.histories.specs.declared.what.What.{What}
-use Rattle.histories.specs.declared.what.What.TheVariants.{Did, Refused, Faulted, Rests, Crashed, Recovered, MountFailed, RaiseFailed, RaiseRefused}
+use Rattle.histories.specs.declared.fate.Fate.{Fate}
+use Rattle.histories.specs.declared.fate.Fate.TheVariants.{Done, Refused, Faulted, Recovered, MountFailed, RaiseFailed, RaiseRefused}
 use Rattle.histories.specs.Possible.{IsOfSlots}
 use Rattle.durable_node.specs.Stepping.{Does, IsUnmountable, Steps, Stuck, CountsOf}
 use Rattle.cluster_sim.specs.declared.outcome.Outcome.{Outcome}
@@ -36,13 +37,11 @@ refused_told reason.Exhausted first came = refl
 refused_told reason.Worn first came = refl
 
 -- what came of an event is told as what comes of it
-pub what_told : (slots self nodes first : ℕ) (s : NodeState) (event : Event) (came : Came) (found : Option Durable) (what : What) → Does slots self nodes s event came found what
-    → came_told (fault_of what) first came ≡ told (what_outcome self nodes first s what)
-what_told slots self nodes first s event came found (Did e) does = λ i. outcome.Done (does.answer i) first (length (does.sent i))
-what_told slots self nodes first s event came found (Refused e why) does = refused_told why first came
-what_told slots self nodes first s event came found (Faulted e) does = refl
-what_told slots self nodes first s event came found (Rests rest) does = absurd does.of
-what_told slots self nodes first s event came found Crashed does = absurd does.of
+pub what_told : (slots self nodes first : ℕ) (s : NodeState) (event : Event) (came : Came) (found : Option Durable) (fate : Fate) → Does slots self nodes s event came found (what_of event fate)
+    → came_told (fault_of fate) first came ≡ told (what_outcome self nodes first s (what_of event fate))
+what_told slots self nodes first s event came found Done does = λ i. outcome.Done (does.answer i) first (length (does.sent i))
+what_told slots self nodes first s event came found (Refused why) does = refused_told why first came
+what_told slots self nodes first s event came found Faulted does = refl
 what_told slots self nodes first s event came found (Recovered kept) does = λ i. outcome.Done (does.answer i) first (length (does.sent i))
 what_told slots self nodes first s event came found MountFailed does = refl
 what_told slots self nodes first s event came found (RaiseFailed kept) does = refl
@@ -65,24 +64,24 @@ same_by old new result has id nodes counts = record {
 }
 
 pub comes_by : (event : Event) (old new : Node Memory) (net net' : Network) (came : Came) (deed : Deed) → IsSome old.disk → Steps state_of old new event came
-    → deed.command ≡ came.command → deed.acked ≡ came.answer → deed.mounted ≡ is_mounting came.what → deed.outcome ≡ came_told (fault_of came.what) (length net.sent) came → net' ≡ after_all_sent net came.sent.items
+    → deed.tried ≡ came.tried → deed.acked ≡ came.answer → deed.mounted ≡ is_mounting (what_of event came.fate) → deed.outcome ≡ came_told (fault_of came.fate) (length net.sent) came → net' ≡ after_all_sent net came.sent.items
     → (slots : ℕ) (s : NodeState) → slots ≤ 4096 → IsOfSize slots old.disk → Stands state_of old s → Told slots old.id old.nodes (CameOf event) s deed new net net'
-comes_by event old new net net' came deed has steps command acked mounted is_told sent slots s most size stands =
+comes_by event old new net net' came deed has steps tried acked mounted is_told sent slots s most size stands =
     let was = some_of old.disk has in
     let step = steps was.0 s was.1 stands (λ _. refl) in
     let does = step.0 in
     record {
       comes = record {
-        what = came.what;
+        what = what_of event came.fate;
         is = does.of;
         possible = does.possible;
-        of_slots = subst (λ (n : ℕ). IsOfSlots n old.id old.nodes s came.what) (ap slots_for (size was.0 was.1) ∙ slots_of_size slots most) does.of_slots;
-        is_told = is_told ∙ what_told (slots_for (state_of was.0).sectors) old.id old.nodes (length net.sent) s event came new.found came.what does;
+        of_slots = subst (λ (n : ℕ). IsOfSlots n old.id old.nodes s (what_of event came.fate)) (ap slots_for (size was.0 was.1) ∙ slots_of_size slots most) does.of_slots;
+        is_told = is_told ∙ what_told (slots_for (state_of was.0).sectors) old.id old.nodes (length net.sent) s event came new.found came.fate does;
         sent = sent ∙ ap (λ (ms : List Envelope). after_all_sent net ms) does.sent;
         found = does.mounted;
         stands = step.1;
       };
-      tells = record { command = ap (option_map command_of) command ∙ does.command; acked = acked ∙ does.answer; mounted = mounted };
+      tells = record { tried = tried ∙ does.tried.which; acked = acked ∙ does.answer; mounted = mounted };
     }
 
 still_stands : (old new : Node Memory) (s : NodeState) → new ≡ record old { found = None } → Stands state_of old s → Stands state_of new s
@@ -129,5 +128,5 @@ counted_as old new came first (Some node.TooSmall) counts was now before after =
     let c = counts was now before after in
     record { sectors = c.sectors; honest = c.honest; later = c.later; unchanged = λ _. c.unchanged (λ bad. cc); cause = λ is. absurd (let bad = is in cc) }
 
-pub came_counted : (old new : Option Memory) (came : Came) (first : ℕ) (o : Outcome) → o ≡ came_told (fault_of came.what) first came → CountsOf state_of old new (answered (Ok came)) → IsCounted old new o
-came_counted old new came first o is counts = subst (λ (x : Outcome). IsCounted old new x) (sym is) (counted_as old new came first (fault_of came.what) counts)
+pub came_counted : (old new : Option Memory) (came : Came) (first : ℕ) (o : Outcome) → o ≡ came_told (fault_of came.fate) first came → CountsOf state_of old new (answered (Ok came)) → IsCounted old new o
+came_counted old new came first o is counts = subst (λ (x : Outcome). IsCounted old new x) (sym is) (counted_as old new came first (fault_of came.fate) counts)

@@ -26,7 +26,7 @@ use Rattle.durable_node.specs.Stepping.{CameOf}
 use Rattle.cluster_sim.specs.Machine.{Machine, StandsFor, CompactedAs, DeedOf, Made, Performed, Tells, bare_outcome, is_mounting, Makes, Acted}
 use Rattle.cluster_sim.specs.declared.outcome.Deed.{Deed}
 use Rattle.histories.specs.NodeState.{NodeState}
-use Rattle.histories.specs.What.{command_of}
+use Rattle.histories.specs.Fates.{attempt_of}
 use Rattle.durable_node.specs.Stepping.{answer_at, command_at}
 
 -- ---- what comes of an event
@@ -153,7 +153,7 @@ delivered w k m result new comes makes = performed_if (λ step. At (nat_lt m.rec
     (makes (comes, tt) (refl, tt))
 
 pub undelivered : (w : World) (k : ℕ) (fault : NetFault) (machine : Machine) → StandsFor machine w → delivery w.net k ≡ Err fault
-    → Performed w (act.Deliver k) (record { outcome = outcome.Refused (refusal.Net fault); command = None; acked = None; mounted = false }) machine
+    → Performed w (act.Deliver k) (record { outcome = outcome.Refused (refusal.Net fault); tried = None; acked = None; mounted = false }) machine
 undelivered w k fault machine stands is = record {
   acted = record {
     step = Denies (OfNet fault);
@@ -373,14 +373,14 @@ compacts_quietly w n o (RaiseRefused kept) is = absurd is
 -- ---- an act that brings no event tells nothing of a disk
 
 abbrev IsBare : Deed → Type 0
-IsBare d = (d.command ≡ None) × (d.acked ≡ None) × (d.mounted ≡ false)
+IsBare d = (d.tried ≡ None) × (d.acked ≡ None) × (d.mounted ≡ false)
 
 rest_bare : (id nodes : ℕ) (s : NodeState) (what : What) (d : Deed) → IsCompaction what → IsBare d → DeedOf id nodes s what d
 rest_bare id nodes s (Did e) d is plain = absurd is
 rest_bare id nodes s (Refused e why) d is plain = absurd is
 rest_bare id nodes s (Faulted e) d is plain = absurd is
-rest_bare id nodes s (Rests rest) d is plain = record { command = ap (option_map command_of) plain.0; acked = plain.1; mounted = plain.2 }
-rest_bare id nodes s Crashed d is plain = record { command = ap (option_map command_of) plain.0; acked = plain.1; mounted = plain.2 }
+rest_bare id nodes s (Rests rest) d is plain = record { tried = plain.0; acked = plain.1; mounted = plain.2 }
+rest_bare id nodes s Crashed d is plain = record { tried = plain.0; acked = plain.1; mounted = plain.2 }
 rest_bare id nodes s (Recovered kept) d is plain = absurd is
 rest_bare id nodes s MountFailed d is plain = absurd is
 rest_bare id nodes s (RaiseFailed kept) d is plain = absurd is
@@ -403,7 +403,7 @@ lost_tells k (Err why) w step d is plain = subst (λ (x : Step). Tells w x d) (s
 
 bare_of : (id nodes : ℕ) (s : NodeState) (none what : What) (d : Deed) → IsBare d → command_at id nodes s none ≡ None → answer_at id nodes s none ≡ None → is_mounting none ≡ false → what ≡ none → DeedOf id nodes s what d
 bare_of id nodes s none what d plain command acked mounted is =
-    none_bare id nodes s what none d is (record { command = ap (option_map command_of) plain.0 ∙ sym command; acked = plain.1 ∙ sym acked; mounted = plain.2 ∙ sym mounted })
+    none_bare id nodes s what none d is (record { tried = plain.0 ∙ ap (option_map attempt_of) (sym command); acked = plain.1 ∙ sym acked; mounted = plain.2 ∙ sym mounted })
 
 pub bare_tells : (w : World) (a : Act) (step : Step) (d : Deed) → event_at a ≡ None → ((k : ℕ) → a ≡ act.Deliver k → ⊥) → IsStepOf (length w.states) w a step → IsBare d → Tells w step d
 bare_tells w (act.Check n) step d none deliver is plain = absurd (let bad = none in cc)

@@ -173,6 +173,6 @@ denied_at w id number P machine stands beyond = denies (λ step. At (nat_lt id (
     (subst (λ (b : Bool). At b id number P (Denies Stranger)) (sym (is_stranger id (length w.states) (subst (λ (k : ℕ). k ≤ id) stands.count beyond))) refl)
 
 pub denied_deed : (w : World) (id number : ℕ) (P : What → Type 0) (machine : Machine) → StandsFor machine w → length machine.nodes ≤ id
-    → Made (λ step. At (nat_lt id (length w.states)) id number P step) w (record { outcome = outcome.Refused refusal.Stranger; command = None; acked = None; mounted = false }) machine
+    → Made (λ step. At (nat_lt id (length w.states)) id number P step) w (record { outcome = outcome.Refused refusal.Stranger; tried = None; acked = None; mounted = false }) machine
 unfolding denies denied_at
 denied_deed w id number P machine stands beyond = record { makes = denied_at w id number P machine stands beyond; tells = (refl, refl) }

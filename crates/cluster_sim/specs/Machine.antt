@@ -15,7 +15,7 @@ use Rattle.histories.specs.Possible.{IsPossible, IsOfSlots}
 use Rattle.schedule.specs.declared.act.Act.{Act}
 use Rattle.cluster_sim.specs.declared.outcome.Deed.{Deed}
 use Rattle.durable_node.specs.Stepping.{answer_at, command_at}
-use Rattle.histories.specs.What.{command_of}
+use Rattle.histories.specs.Fates.{attempt_of}
 use Rattle.cluster_sim.specs.declared.outcome.Outcome.{Outcome}
 use Rattle.cluster_sim.specs.declared.outcome.Outcome.TheVariants as outcome
 use Rattle.runs.specs.World.{World}
@@ -88,7 +88,7 @@ is_mounting (RaiseRefused kept) = true
 
 -- the node tells this of its disk
 pub record DeedOf (id nodes : ℕ) (s : NodeState) (what : What) (deed : Deed) : Type 0 where
-  pub command : option_map command_of deed.command ≡ command_at id nodes s what
+  pub tried : deed.tried ≡ option_map attempt_of (command_at id nodes s what)
   pub acked : deed.acked ≡ answer_at id nodes s what
   pub mounted : deed.mounted ≡ is_mounting what
 
@@ -155,7 +155,7 @@ pub record Acted (w : World) (act : Act) (outcome : Outcome) (new : Machine) : T
 -- what the node of a step tells of its disk: where no node takes it, nothing
 abbrev pub Tells : World → Step → Deed → Type 0
 Tells w (Takes n number what) deed = (s : NodeState) → slice_get w.states n ≡ Some s → DeedOf n (length w.states) s what deed
-Tells w step deed = (deed.command ≡ None) × (deed.mounted ≡ false)
+Tells w step deed = (deed.tried ≡ None) × (deed.mounted ≡ false)
 
 -- a step of this kind, and what its node tells
 pub record Made (Q : Step → Type 0) (w : World) (deed : Deed) (new : Machine) : Type 0 where

@@ -1,5 +1,5 @@
 -- A cluster with its report, as code keeps it.
-use Rattle.std.specs.Prelude.{ℕ, ◌≡◌, ◌<◌, Bool, true, false, List, [], ◌∷◌, ◌++◌, map, length, slice_get, Option, Some, None, option_map, vec_len, vec_capacity}
+use Rattle.std.specs.Prelude.{ℕ, ◌≡◌, ◌<◌, Bool, true, false, List, [], ◌∷◌, ◌++◌, map, length, slice_get, Option, Some, None, vec_len, vec_capacity}
 use Rattle.group_task.specs.Group.{Group}
 use Rattle.job_model.specs.Command.{Command, Raise, Put, Done as JobDone}
 use Rattle.job_model.specs.Durable.{Durable, formatted}
@@ -10,8 +10,12 @@ use Rattle.sector_disk.specs.Memory.{Memory}
 use Rattle.durable_node.specs.Node.{Node}
 use Rattle.histories.specs.Kept.{Tried}
 use Rattle.schedule.specs.declared.act.Act.{Act}
+use Rattle.schedule.specs.declared.act.Act.TheVariants as act
 use Rattle.cluster_sim.specs.declared.outcome.Deed.{Deed}
 use Rattle.histories.specs.What.{command_of}
+use Rattle.histories.specs.Fates.{command_with}
+use Rattle.histories.specs.declared.attempt.Attempt.{Attempt}
+use Rattle.job_model.specs.declared.work.Work.{Work}
 use Rattle.cluster_sim.specs.declared.outcome.Outcome.{Outcome}
 use Rattle.cluster_sim.specs.declared.report.Moment.{Moment as KeptMoment}
 use Rattle.cluster_sim.specs.declared.report.Marked.{Marked}
@@ -90,8 +94,17 @@ abbrev pub tried_as : Option Command → Option ℕ → Option Tried
 tried_as None acked = None
 tried_as (Some c) acked = Some (record { command = c; acked = acked })
 
-abbrev pub tried_by : Deed → Option Tried
-tried_by deed = tried_as (option_map command_of deed.command) deed.acked
+-- the work that an act submits
+abbrev pub work_in : Act → Option Work
+work_in (act.Submit n work) = Some work
+work_in a = None
+
+-- the whole command that was tried in an act
+abbrev pub command_in : Act → Option Attempt → Option Command
+command_in a tried = command_with (work_in a) tried
+
+abbrev pub tried_by : Act → Deed → Option Tried
+tried_by a deed = tried_as (command_in a deed.tried) deed.acked
 
 abbrev pub tried_at : ℕ → Option Tried → Option TriedAt
 tried_at n None = None
@@ -129,7 +142,7 @@ with_act m tried mounted r = record {
 -- with this act of node n, which is as it is now and had tried so many commands before
 abbrev pub with_deed : ℕ → ℕ → Act → Deed → Node Memory → ToldReport → ToldReport
 with_deed n before a deed node r =
-    with_act (record { act = a; node = n; outcome = deed.outcome; state = node.state }) (tried_at n (tried_by deed)) (mounted_at n before (mounted_now deed.mounted node.found)) r
+    with_act (record { act = a; node = n; outcome = deed.outcome; state = node.state }) (tried_at n (tried_by a deed)) (mounted_at n before (mounted_now deed.mounted node.found)) r
 
 -- a report with one more node that opened
 abbrev pub with_opening : ℕ → State → ToldReport → ToldReport

@@ -167,7 +167,7 @@ fn advance(
     let deed = simulation.perform(&act)?;
     let place = usize::from(id.number());
     let before = counts[place];
-    if deed.command.is_some() {
+    if deed.tried.is_some() {
         counts[place] = before + 1;
     }
     report.add(simulation.node(id), id, before, act, deed, room);

@@ -11,8 +11,6 @@ mod outcome;
 mod recording;
 mod report;
 mod simulation;
-#[cfg(test)]
-mod tests;
 
 pub use cluster::{Cluster, run};
 pub use outcome::{Outcome, Refusal};

@@ -6,6 +6,7 @@ ghost use Rattle.durable_node.specs.Arming.{armed_disk};
 ghost use Rattle.durable_node.specs.Node.{Stands};
 ghost use Rattle.histories.specs.NodeState.{NodeState};
 ghost use Rattle.durable_node.specs.Stepping.{CameOf, most_by};
+ghost use Rattle.histories.specs.Fates.{what_of};
 ghost use Rattle.histories.specs.declared.what.What.TheVariants.{Rests, Crashed};
 ghost use Rattle.histories.specs.declared.what.Rest.TheVariants.{Nothing};
 ghost use Rattle.cluster_sim.specs.Machine.{IsOfSize, IsSame, IsCounted, CameAt, Comes, CompactedAs, bare_outcome, is_mounting};
@@ -15,7 +16,7 @@ ghost use Rattle.durable_node.specs.Faults.{fault_of};
 
 use crate::outcome::{Deed, Outcome, Refusal};
 use durable_node::{Came, DurableNode, NodeFault};
-use histories::What;
+use histories::Fate;
 use node_core::Event;
 use schedule::Fill;
 use sector_disk::MemDisk;
@@ -30,12 +31,12 @@ pub(crate) fn handle(
     node: &mut DurableNode<MemDisk>,
     net: &mut Net,
     nodes: usize,
-    event: Event,
+    event: &Event,
 ) -> Result<Deed, AllocError>
     requires { node.old.nodes ≡ nodes }
     ensures same { IsSame node.old node.new }
     ensures came { (slots : ℕ) (s : NodeState) → slots ≤ 4096 → IsOfSize slots node.old.disk → Stands state_of node.old s
-        → IfOk result (λ deed. CameAt slots node.old.id node.old.nodes (CameOf event) s deed node.new net.old.network net.new.network) }
+        → IfOk result (λ deed. CameAt slots node.old.id node.old.nodes (CameOf event.now) s deed node.new net.old.network net.new.network) }
     ensures memory { OnErr result ((s : NodeState) → Stands state_of node.old s → Stands state_of node.new s) }
     ensures unsent { OnErr result (net.new.network ≡ net.old.network) }
     ensures counted { IfOk result (λ deed. IsCounted node.old.disk node.new.disk deed.outcome) }
@@ -46,32 +47,32 @@ pub(crate) fn handle(
         return Err(AllocError);
     }
     let first = net.sent().len() as u64;
-    let came = match node.step(&event) {
+    let came = match node.step(event) {
         Ok(came) => came,
         Err(_) => return Err(AllocError),
     };
     send_all(net, &came.sent);
     Ok(Deed {
         outcome: outcome_of(&came, first),
-        command: came.command,
+        tried: came.tried,
         acked: came.answer,
-        mounted: is_mounting(&came.what),
+        mounted: is_mounting(came.fate),
     })
 }
 
 /// Whether the disk was mounted.
-fn is_mounting(what: &What) -> bool
-    ensures { result ≡ is_mounting what.now }
+fn is_mounting(fate: Fate) -> bool
+    ensures { (event : Event) → result ≡ is_mounting (what_of event fate) }
 {
     matches!(
-        what,
-        What::Recovered(_) | What::RaiseFailed(_) | What::RaiseRefused(_)
+        fate,
+        Fate::Recovered(_) | Fate::RaiseFailed(_) | Fate::RaiseRefused(_)
     )
 }
 
 /// What is told of what came of an event, where the first message that it sends has this number.
 fn outcome_of(came: &Came, first: u64) -> Outcome
-    ensures { result ≡ came_told (fault_of came.now.what) first came.now }
+    ensures { result ≡ came_told (fault_of came.now.fate) first came.now }
 {
     match came.fault() {
         None => Outcome::Done {

@@ -1,6 +1,6 @@
 // What comes of an act.
 use durable_node::NodeFault;
-use histories::Command;
+use histories::Attempt;
 use sim_net::NetFault;
 
 /// What came of an act.
@@ -32,8 +32,8 @@ pub enum Refusal {
 #[derive(Clone, Copy)]
 pub(crate) struct Deed {
     pub outcome: Outcome,
-    /// The command that the node tried on its disk, if it tried one.
-    pub command: Option<Command>,
+    /// Which command the node tried on its disk, if it tried one.
+    pub tried: Option<Attempt>,
     /// The answer of that command. None where the device failed in it.
     pub acked: Option<u64>,
     /// Whether the node mounted its disk.

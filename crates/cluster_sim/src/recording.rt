@@ -1,12 +1,13 @@
 // How a report grows by one act. All memory is taken before the act is done.
-ghost use Rattle.std.specs.Prelude.{◌≡◌, ◌≤◌, ◌<◌, ◌+◌, ◌++◌, [], ℕ, true, length, replicate, slice_get, option_map, IfOk, IfSome, OnOk, Some, vec_len, vec_capacity};
+ghost use Rattle.std.specs.Prelude.{◌≡◌, ◌≤◌, ◌<◌, ◌+◌, ◌++◌, [], ℕ, true, length, replicate, slice_get, option_map, IfOk, IfSome, OnOk, Option, Some, vec_len, vec_capacity};
 ghost use Rattle.job_model.specs.Durable.{Durable};
+ghost use Rattle.histories.specs.Fates.{command_with};
 ghost use Rattle.histories.specs.What.{command_of};
 ghost use Rattle.node_core.specs.State.{is_down, state_of};
 ghost use Rattle.cluster_sim.specs.Machine.{StandsFor};
 ghost use Rattle.runs.specs.Reporting.{report_of};
 ghost use Rattle.runs.specs.World.{start};
-ghost use Rattle.cluster_sim.specs.Recorded.{report_in, tried_of, mounted_of, HasRoom, listed, with_deed, with_opening, given_in, mounted_at, pending_room, told_report, tried_as, tried_at};
+ghost use Rattle.cluster_sim.specs.Recorded.{report_in, tried_of, mounted_of, HasRoom, command_in, listed, with_deed, with_opening, given_in, mounted_at, pending_room, told_report, tried_as, tried_at, work_in};
 
 use crate::naming::hand_room;
 use crate::outcome::Deed;
@@ -14,8 +15,8 @@ use crate::report::{Marked, Moment, Mounted, Report};
 use crate::simulation::Simulation;
 use durable_node::DurableNode;
 use group_task::{GroupNo, NodeId};
-use histories::Command;
-use job_model::Job;
+use histories::{Attempt, Command};
+use job_model::{Job, Work};
 use node_core::{Phase, Vector};
 use schedule::Act;
 use sector_disk::MemDisk;
@@ -88,7 +89,7 @@ impl Report {
         requires hand { length node.now.state.hand ≤ room.vector.hand.room }
         requires empty { room.pending.items ≡ [] }
         requires jobs { (found : Durable) → deed.mounted ≡ true → node.now.found ≡ Some found → length found.pending ≤ vec_capacity room.pending }
-        requires count { (count : ℕ) → deed.command ≡ Some Command.Raise → deed.acked ≡ Some count → 1 ≤ count }
+        requires count { (count : ℕ) → deed.tried ≡ Some Attempt.Raise → deed.acked ≡ Some count → 1 ≤ count }
         ensures { report_in self.new ≡ with_deed id before act deed node.now (report_in self.old) }
     {
         let Room {
@@ -100,8 +101,9 @@ impl Report {
         } else {
             None
         };
-        let group = given_by(id, deed.command, deed.acked);
-        let tried = tried_by(id, deed.command, deed.acked);
+        let group = given_by(id, deed.tried, deed.acked);
+        let command: Option<Command> = command_in(&act, deed.tried);
+        let tried = tried_by(id, command, deed.acked);
         copy.set(node.vector());
         copy.fit();
         self.moments.push_reserved(Moment {
@@ -143,12 +145,12 @@ impl Report {
 }
 
 /// The group of a raise that was acknowledged.
-fn given_by(id: NodeId, command: Option<Command>, acked: Option<u64>) -> Option<GroupNo>
-    requires { (count : ℕ) → command ≡ Some Command.Raise → acked ≡ Some count → 1 ≤ count }
-    ensures { listed result ≡ given_in (tried_at id (tried_as (option_map command_of command) acked)) }
+fn given_by(id: NodeId, tried: Option<Attempt>, acked: Option<u64>) -> Option<GroupNo>
+    requires { (count : ℕ) → tried ≡ Some Attempt.Raise → acked ≡ Some count → 1 ≤ count }
+    ensures { (work : Option Work) → listed result ≡ given_in (tried_at id (tried_as (command_with work tried) acked)) }
 {
-    match (command, acked) {
-        (Some(Command::Raise), Some(count)) => Some(GroupNo::numbered(id, count)),
+    match (tried, acked) {
+        (Some(Attempt::Raise), Some(count)) => Some(GroupNo::numbered(id, count)),
         _ => None,
     }
 }
@@ -163,6 +165,23 @@ fn tried_by(id: NodeId, command: Option<Command>, acked: Option<u64>) -> Option<
         command,
         acked,
     })
+}
+
+/// The whole command that was tried in an act.
+fn command_in(act: &Act, tried: Option<Attempt>) -> Option<Command>
+    ensures { option_map command_of result ≡ command_in act.now tried }
+{
+    tried?.command(work_in(act))
+}
+
+/// The work that an act submits.
+fn work_in(act: &Act) -> Option<Work>
+    ensures { result ≡ work_in act.now }
+{
+    match act {
+        Act::Submit(_, job) => Some(*job.work()),
+        _ => None,
+    }
 }
 
 /// Adds what there is, in the room that is there.

@@ -87,14 +87,14 @@ impl Simulation {
         ensures disk { OnOk result (Operates act.now self.old self.new) }
     {
         if let Some(comes) = event_at(act) {
-            return self.take(comes.0, comes.1);
+            return self.take(comes.0, &comes.1);
         }
         if let Act::Deliver(number) = act {
             return self.deliver(*number);
         }
         Ok(Deed {
             outcome: self.apply(act),
-            command: None,
+            tried: None,
             acked: None,
             mounted: false,
         })
@@ -141,10 +141,10 @@ impl Simulation {
     }
 
     /// An event at a node, and what is sent of it.
-    fn take(&mut self, id: NodeId, event: Event) -> Result<Deed, AllocError>
+    fn take(&mut self, id: NodeId, event: &Event) -> Result<Deed, AllocError>
         ensures slots { self.new.slots ≡ self.old.slots }
-        ensures acted { (w : World) (number : ℕ) → StandsFor self.old w → IsBrought w number (brought (Some event)) → AreAddressed id (brought (Some event))
-            → IfOk result (λ deed. Made (λ step. At (nat_lt id (length w.states)) id number (CameOf event) step) w deed self.new) }
+        ensures acted { (w : World) (number : ℕ) → StandsFor self.old w → IsBrought w number (brought (Some event.now)) → AreAddressed id (brought (Some event.now))
+            → IfOk result (λ deed. Made (λ step. At (nat_lt id (length w.states)) id number (CameOf event.now) step) w deed self.new) }
         ensures memory { (w : World) → StandsFor self.old w → OnErr result (StandsFor self.new w) }
         ensures faults { IfOk result (λ deed. FaultsAt (node_or_first (length self.old.nodes) id) self.old self.new deed.outcome) }
     {
@@ -153,7 +153,7 @@ impl Simulation {
         if place >= count {
             return Ok(Deed {
                 outcome: Outcome::Refused(Refusal::Stranger),
-                command: None,
+                tried: None,
                 acked: None,
                 mounted: false,
             });
@@ -169,10 +169,10 @@ impl Simulation {
         ensures faults { IfOk result (λ deed. FaultsAt (receiver_or_first (length self.old.nodes) (slice_get self.old.net.sent number)) self.old self.new deed.outcome) }
     {
         match self.net.deliver(number) {
-            Ok(message) => self.take(message.receiver(), Event::Deliver(message)),
+            Ok(message) => self.take(message.receiver(), &Event::Deliver(message)),
             Err(fault) => Ok(Deed {
                 outcome: Outcome::Refused(Refusal::Net(fault)),
-                command: None,
+                tried: None,
                 acked: None,
                 mounted: false,
             }),

@@ -6,6 +6,7 @@ use Rattle.console_text.specs.declared.ends.Ending.TheVariants.{Done, Refused, N
 use Rattle.console_text.specs.declared.ends.Trouble.{Trouble}
 use Rattle.console_text.specs.declared.ends.Trouble.TheVariants as trouble
 use Rattle.console_text.specs.declared.ends.Printout.{Printout}
+use Rattle.console_text.specs.declared.ends.Told.{Told}
 
 -- a text, ended as a line
 abbrev pub line : List ℕ → List ℕ
@@ -49,6 +50,28 @@ abbrev pub PrintsIt : Result Printout Trouble → Option (List ℕ) → Option (
 PrintsIt (Ok printout) old new ending = PrintsText printout.text.items old new (ending_of printout.good) ending
 PrintsIt (Err trouble.NoMemory) old new ending = PrintsText (line (codes "no memory")) old new NoMemory ending
 PrintsIt (Err trouble.Unread) old new ending = (ending ≡ Unread) × Keeps old new
+
+-- what is told is printed
+abbrev pub TellsIt : Result Told Trouble → Option (List ℕ) → Option (List ℕ) → Ending → Type 0
+TellsIt (Ok told) old new ending = PrintsIt (Ok told.printout) old new ending
+TellsIt (Err trouble) old new ending = PrintsIt (Err trouble) old new ending
+
+-- what was wrong with the input is handed on
+abbrev pub HandsOn : Result Told Trouble → List ℕ → Type 0
+HandsOn (Ok told) why = why ≡ told.why.items
+HandsOn (Err trouble) why = why ≡ []
+
+-- this is what is wrong with the bytes that were read; where the reader tells its bytes, they are these
+abbrev pub IsFlawOf : (List ℕ → List ℕ) → Option (List ℕ) → List ℕ → Type 0
+IsFlawOf flaw input why = (bytes : List ℕ) × IfSome input (λ known. known ≡ bytes) × (why ≡ flaw bytes)
+
+-- What was wrong with the input, where the text for it was printed.
+abbrev pub IsWhy : (List ℕ → List ℕ) → Option (List ℕ) → Ending → List ℕ → Type 0
+IsWhy flaw input Done why = IsFlawOf flaw input why
+IsWhy flaw input Refused why = IsFlawOf flaw input why
+IsWhy flaw input NoMemory why = Unit {0}
+IsWhy flaw input Unread why = Unit {0}
+IsWhy flaw input Unwritten why = Unit {0}
 
 -- the outcome is this one
 abbrev pub IsFixed : (List ℕ → Outcome) → List ℕ → Outcome → Type 0

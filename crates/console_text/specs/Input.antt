@@ -1,6 +1,11 @@
 -- What was read of an input.
 use Rattle.std.specs.Prelude.{◌≡◌, ℕ, List, Option, IfSome}
 
+-- a reader, and how many reads may be made of it
+pub record Feed (Reader : Type 0) : Type 0 where
+  pub reader : Reader
+  pub left : ℕ
+
 -- the bytes are all that a reader had left, where the reader tells that
 abbrev pub HoldsAll : Option (List ℕ) → List ℕ → Type 0
 HoldsAll remaining bytes = IfSome remaining (λ known. known ≡ bytes)

@@ -1,3 +1,4 @@
 pub mod Ends
 pub mod Input
 pub mod Words
+pub mod Reasons

@@ -1,6 +1,6 @@
 ghost use Rattle.std.specs.Prelude.{◌≡◌};
 
-use std::alloc::AllocError;
+use std::alloc::{AllocError, Global};
 
 /// How a command ended.
 #[derive(Clone, Copy, Debug, PartialEq, Eq)]
@@ -31,6 +31,36 @@ pub enum Trouble {
 pub struct Printout {
     pub text: Vec<u8>,
     pub good: bool,
+}
+
+/// What a command prints for an input, and what is wrong with the input: a line without its line feed, empty where nothing is.
+#[derive(Debug, Drop)]
+pub struct Told {
+    pub printout: Printout,
+    pub why: Vec<u8>,
+}
+
+/// How a command ended. Where it was refused, `why` says what was wrong with the input.
+#[derive(Debug, Drop)]
+pub struct Ended {
+    pub ending: Ending,
+    pub why: Vec<u8>,
+}
+
+impl Printout {
+    ghost use Rattle.std.specs.Prelude.{◌≡◌, []};
+    ghost use Rattle.console_text.specs.Ends.{outcome_of};
+
+    /// What is printed where nothing is wrong with the input.
+    pub fn without_why(self, alloc: Global) -> Told
+        ensures outcome { outcome_of result.printout ≡ outcome_of self }
+        ensures why { result.why.items ≡ [] }
+    {
+        Told {
+            printout: self,
+            why: Vec::new(alloc),
+        }
+    }
 }
 
 impl From<AllocError> for Trouble {

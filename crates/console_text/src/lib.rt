@@ -1,14 +1,16 @@
-//! How a command of the program reads its whole input, prints its text in one go, and ends; and the words that texts are made of.
+//! How a command of the program reads its whole input, prints its text in one go, ends, and says why; and the words that texts are made of.
 #![tactic(auto)]
 
 mod ends;
 mod input;
 mod printing;
-mod reads;
+mod reasons;
+mod source;
 mod words;
 
-pub use ends::{Ending, Printout, Trouble};
-pub use input::{MAX_READS, read_input, read_within};
-pub use printing::{bad_line, print};
-pub use reads::Reads;
+pub use ends::{Ended, Ending, Printout, Told, Trouble};
+pub use input::read_source;
+pub use printing::{bad_line, print, tell};
+pub use reasons::{line_reason, push_unknown};
+pub use source::{MAX_READS, Sink, Source};
 pub use words::{push_bytes_text, push_hex, push_number, push_text, push_work};

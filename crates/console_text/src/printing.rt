@@ -1,7 +1,7 @@
 ghost use Rattle.std.specs.Prelude.{◌≡◌, ◌++◌, IfOk, codes, decimal};
-ghost use Rattle.console_text.specs.Ends.{PrintsIt, outcome_of, refused};
+ghost use Rattle.console_text.specs.Ends.{HandsOn, PrintsIt, TellsIt, outcome_of, refused};
 
-use crate::ends::{Ending, Printout, Trouble};
+use crate::ends::{Ended, Ending, Printout, Told, Trouble};
 use crate::words::{push_number, push_text};
 use std::alloc::{AllocError, Global};
 use std::io::Write;
@@ -20,6 +20,26 @@ pub fn print<W: Write>(output: &mut W, outcome: Result<Printout, Trouble>) -> En
         return Ending::Unwritten;
     }
     ending
+}
+
+/// Prints what a command came to, as `print` does, and hands on what was wrong with the input.
+pub fn tell<W: Write>(alloc: Global, output: &mut W, outcome: Result<Told, Trouble>) -> Ended
+    ensures prints { TellsIt outcome (W.contents output.old) (W.contents output.new) result.ending }
+    ensures why { HandsOn outcome result.why.items }
+{
+    match outcome {
+        Ok(told) => {
+            let Told { printout, why } = told;
+            Ended {
+                ending: print(output, Ok(printout)),
+                why,
+            }
+        }
+        Err(trouble) => Ended {
+            ending: print(output, Err(trouble)),
+            why: Vec::new(alloc),
+        },
+    }
 }
 
 /// What a command prints where the line of this number can't be read.

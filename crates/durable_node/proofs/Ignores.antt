@@ -1,5 +1,5 @@
 -- What a node that is down does with an event that doesn't make it mount its disk.
-use Rattle.std.proofs.Common.{◌≡◌, ◌≢◌, ◌≤◌, ℕ, false, arith, length, Option, Some, None, option_map, Result, Ok, Err, sym, ◌∙◌, ap, subst, refl}
+use Rattle.std.proofs.Common.{◌≡◌, ◌≢◌, ◌≤◌, ℕ, false, arith, length, Option, Some, None, Result, Ok, Err, sym, ◌∙◌, ap, subst, refl}
 use Rattle.std.specs.Prelude.{IfOk, IfErr, IsErrOf}
 use Rattle.sector_disk.specs.Disk.{DiskState}
 use Rattle.job_model.specs.Command.{Command}
@@ -19,15 +19,17 @@ use Rattle.durable_node.specs.declared.fault.NodeFault.{NodeFault}
 use Rattle.durable_node.specs.declared.fault.NodeFault.TheVariants as node
 use Rattle.durable_node.specs.declared.came.Came.{Came}
 use Rattle.histories.specs.NodeState.{NodeState, answer_if_wanted}
-use Rattle.histories.specs.declared.what.What.{What}
-use Rattle.histories.specs.declared.what.What.TheVariants.{Did, Refused, Faulted, Rests, Crashed, Recovered, MountFailed, RaiseFailed, RaiseRefused}
+use Rattle.histories.specs.declared.what.What.TheVariants.{Did}
+use Rattle.histories.specs.declared.fate.Fate.{Fate}
+use Rattle.histories.specs.declared.fate.Fate.TheVariants as fate
 use Rattle.histories.specs.declared.what.Refusal.TheVariants as refusal
-use Rattle.histories.specs.What.{command_of}
+use Rattle.histories.specs.Fates.{IsTriedAt, what_of}
 use Rattle.histories.specs.After.{after}
 use Rattle.histories.specs.Possible.{IsForNode}
 use Rattle.durable_node.specs.Node.{node_with, Stands}
 use Rattle.durable_node.specs.Stepping.{Does, IsIgnored, IsSilent, Steps}
 use Rattle.durable_node.specs.Faults.{fault_of, told, told_as}
+use Rattle.histories.proofs.Attempts.{tried_none}
 use Rattle.histories.proofs.Downs.{StaysDown, at_down}
 
 -- each event but Recover is one for the node
@@ -56,96 +58,91 @@ module _ {Disk : Type 0} (disks : Disk → DiskState) (id nodes : ℕ) (core cor
     disk = stands.disk;
   }
 
-  by_what : (slots : ℕ) (s : NodeState) → core.state ≡ down id → core'.state ≡ core.state → event ≢ Recover → Stands disks (node_with id nodes core disk store doubt was) s
-      → (came : Came) (what : What) → IsIgnored (refusal_of nodes id event core.state) event came what → came.command ≡ None
-      → Does slots id nodes s event came None what × Stands disks (node_with id nodes core' disk store doubt None) (after id nodes s what)
-  by_what slots s is same other stands came (Did e) done command =
+  abbrev Ends : ℕ → NodeState → Came → Fate → Type 0
+  Ends slots s came what =
+      Does slots id nodes s event came None (what_of event what) × Stands disks (node_with id nodes core' disk store doubt None) (after id nodes s (what_of event what))
+
+  by_fate : (slots : ℕ) (s : NodeState) → core.state ≡ down id → core'.state ≡ core.state → event ≢ Recover → Stands disks (node_with id nodes core disk store doubt was) s
+      → (came : Came) (end : Fate) → IsIgnored (refusal_of nodes id event core.state) came end → came.tried ≡ None → Ends slots s came end
+  by_fate slots s is same other stands came fate.Done done tried =
       let at : s.state ≡ down id = sym stands.state ∙ is in
-      let taken : refusal_of nodes id event s.state ≡ None = subst (λ (v : State). refusal_of nodes id event v ≡ None) stands.state done.1 in
+      let taken : refusal_of nodes id event s.state ≡ None = subst (λ (v : State). refusal_of nodes id event v ≡ None) stands.state done.0 in
       let stays : StaysDown id nodes s event = at_down id nodes s event at (for_other s.state event other) taken in
       let kept : s ≡ after id nodes s (Did event) = (λ i. record {
         state = (at ∙ sym stays.state) i;
         durable = ap (λ (w : Option Command). after_wanted s.durable w) (sym stays.wants) i;
         doubt = s.doubt;
-      }) in
-      subst (λ (v : Event). Does slots id nodes s event came None (Did v) × Stands disks (node_with id nodes core' disk store doubt None) (after id nodes s (Did v))) (sym done.0) (
+      }) in (
         record {
           of = refl;
           possible = (for_other s.state event other, record { by_core = taken; not_spent = λ spent. subst (λ (w : Option Command). IsSpent s.durable w) stays.wants spent });
           of_slots = subst (λ (w : Option Command). FitsSlots slots s.durable w Handled) (sym stays.wants) (λ full. full);
-          command = ap (option_map command_of) command ∙ sym stays.wants;
-          answer = done.2.1 ∙ ap (λ (w : Option Command). answer_if_wanted s.durable w) (sym stays.wants);
-          sent = done.2.0 ∙ sym stays.sent;
+          tried = subst (λ (w : Option Command). IsTriedAt event came.tried w) (sym stays.wants) (tried_none event came.tried tried);
+          answer = done.1.1 ∙ ap (λ (w : Option Command). answer_if_wanted s.durable w) (sym stays.wants);
+          sent = done.1.0 ∙ sym stays.sent;
           mounted = refl;
         },
         subst (λ (t : NodeState). Stands disks (node_with id nodes core' disk store doubt None) t) kept (still s is same stands),
       )
-  by_what slots s is same other stands came (Refused e (refusal.Core why)) done command =
-      subst (λ (v : Event). Does slots id nodes s event came None (Refused v (refusal.Core why)) × Stands disks (node_with id nodes core' disk store doubt None) s) (sym done.0) (
-        record {
-          of = refl;
-          possible = (for_other s.state event other, subst (λ (v : State). refusal_of nodes id event v ≡ Some why) stands.state done.1);
-          of_slots = tt;
-          command = ap (option_map command_of) command;
-          answer = done.2.1;
-          sent = done.2.0;
-          mounted = refl;
-        },
-        still s is same stands,
-      )
-  by_what slots s is same other stands came (Refused e refusal.Full) done command = absurd done
-  by_what slots s is same other stands came (Refused e refusal.Exhausted) done command = absurd done
-  by_what slots s is same other stands came (Refused e refusal.Worn) done command = absurd done
-  by_what slots s is same other stands came (Faulted e) done command = absurd done
-  by_what slots s is same other stands came (Rests rest) done command = absurd done
-  by_what slots s is same other stands came Crashed done command = absurd done
-  by_what slots s is same other stands came (Recovered kept) done command = absurd done
-  by_what slots s is same other stands came MountFailed done command = absurd done
-  by_what slots s is same other stands came (RaiseFailed kept) done command = absurd done
-  by_what slots s is same other stands came (RaiseRefused kept) done command = absurd done
+  by_fate slots s is same other stands came (fate.Refused (refusal.Core why)) done tried = (
+    record {
+      of = refl;
+      possible = (for_other s.state event other, subst (λ (v : State). refusal_of nodes id event v ≡ Some why) stands.state done.0);
+      of_slots = tt;
+      tried = tried_none event came.tried tried;
+      answer = done.1.1;
+      sent = done.1.0;
+      mounted = refl;
+    },
+    still s is same stands,
+  )
+  by_fate slots s is same other stands came (fate.Refused refusal.Full) done tried = absurd done
+  by_fate slots s is same other stands came (fate.Refused refusal.Exhausted) done tried = absurd done
+  by_fate slots s is same other stands came (fate.Refused refusal.Worn) done tried = absurd done
+  by_fate slots s is same other stands came fate.Faulted done tried = absurd done
+  by_fate slots s is same other stands came (fate.Recovered kept) done tried = absurd done
+  by_fate slots s is same other stands came fate.MountFailed done tried = absurd done
+  by_fate slots s is same other stands came (fate.RaiseFailed kept) done tried = absurd done
+  by_fate slots s is same other stands came (fate.RaiseRefused kept) done tried = absurd done
 
   pub ignores : core.state ≡ down id → core'.state ≡ core.state → event ≢ Recover → (result : Result Came NodeFault)
-      → IfOk result (λ came. IsIgnored (refusal_of nodes id event core.state) event came came.what) → IfOk result (λ came. came.command ≡ None)
+      → IfOk result (λ came. IsIgnored (refusal_of nodes id event core.state) came came.fate) → IfOk result (λ came. came.tried ≡ None)
       → IfOk result (Steps disks (node_with id nodes core disk store doubt was) (node_with id nodes core' disk store doubt None) event)
-  ignores is same other (Ok came) done command = λ at s on stands mounting. by_what (slots_for (disks at).sectors) s is same other stands came came.what done command
-  ignores is same other (Err fault) done command = tt
+  ignores is same other (Ok came) done tried = λ at s on stands mounting. by_fate (slots_for (disks at).sectors) s is same other stands came came.fate done tried
+  ignores is same other (Err fault) done tried = tt
 
 -- ---- what a caller is told of it
 
-not_of_device : (why : Option CoreFault) (event : Event) (came : Came) (what : What) → IsIgnored why event came what → IsErrOf (told_as came (fault_of what)) node.Device → ⊥
-not_of_device why event came (Did e) is device = cc
-not_of_device why event came (Refused e (refusal.Core f)) is device = cc
-not_of_device why event came (Refused e refusal.Full) is device = absurd is
-not_of_device why event came (Refused e refusal.Exhausted) is device = absurd is
-not_of_device why event came (Refused e refusal.Worn) is device = absurd is
-not_of_device why event came (Faulted e) is device = absurd is
-not_of_device why event came (Rests rest) is device = absurd is
-not_of_device why event came Crashed is device = absurd is
-not_of_device why event came (Recovered kept) is device = absurd is
-not_of_device why event came MountFailed is device = absurd is
-not_of_device why event came (RaiseFailed kept) is device = absurd is
-not_of_device why event came (RaiseRefused kept) is device = absurd is
+not_of_device : (why : Option CoreFault) (came : Came) (end : Fate) → IsIgnored why came end → IsErrOf (told_as came (fault_of end)) node.Device → ⊥
+not_of_device why came fate.Done is device = cc
+not_of_device why came (fate.Refused (refusal.Core f)) is device = cc
+not_of_device why came (fate.Refused refusal.Full) is device = absurd is
+not_of_device why came (fate.Refused refusal.Exhausted) is device = absurd is
+not_of_device why came (fate.Refused refusal.Worn) is device = absurd is
+not_of_device why came fate.Faulted is device = absurd is
+not_of_device why came (fate.Recovered kept) is device = absurd is
+not_of_device why came fate.MountFailed is device = absurd is
+not_of_device why came (fate.RaiseFailed kept) is device = absurd is
+not_of_device why came (fate.RaiseRefused kept) is device = absurd is
 
 -- no device was called
-pub no_device : (why : Option CoreFault) (event : Event) (result : Result Came NodeFault) → IfOk result (λ came. IsIgnored why event came came.what) → IfErr result (λ fault. fault ≡ node.Core NoMemory)
+pub no_device : (why : Option CoreFault) (result : Result Came NodeFault) → IfOk result (λ came. IsIgnored why came came.fate) → IfErr result (λ fault. fault ≡ node.Core NoMemory)
     → IsErrOf (told result) node.Device → ⊥
-no_device why event (Ok came) is stuck device = not_of_device why event came came.what is device
-no_device why event (Err fault) is stuck device = cc
+no_device why (Ok came) is stuck device = not_of_device why came came.fate is device
+no_device why (Err fault) is stuck device = cc
 
-silent_as : (why : Option CoreFault) (event : Event) (came : Came) (what : What) → IsIgnored why event came what → IsSilent came
-silent_as why event came (Did e) is = is.2
-silent_as why event came (Refused e (refusal.Core f)) is = is.2
-silent_as why event came (Refused e refusal.Full) is = absurd is
-silent_as why event came (Refused e refusal.Exhausted) is = absurd is
-silent_as why event came (Refused e refusal.Worn) is = absurd is
-silent_as why event came (Faulted e) is = absurd is
-silent_as why event came (Rests rest) is = absurd is
-silent_as why event came Crashed is = absurd is
-silent_as why event came (Recovered kept) is = absurd is
-silent_as why event came MountFailed is = absurd is
-silent_as why event came (RaiseFailed kept) is = absurd is
-silent_as why event came (RaiseRefused kept) is = absurd is
+silent_as : (why : Option CoreFault) (came : Came) (end : Fate) → IsIgnored why came end → IsSilent came
+silent_as why came fate.Done is = is.1
+silent_as why came (fate.Refused (refusal.Core f)) is = is.1
+silent_as why came (fate.Refused refusal.Full) is = absurd is
+silent_as why came (fate.Refused refusal.Exhausted) is = absurd is
+silent_as why came (fate.Refused refusal.Worn) is = absurd is
+silent_as why came fate.Faulted is = absurd is
+silent_as why came (fate.Recovered kept) is = absurd is
+silent_as why came fate.MountFailed is = absurd is
+silent_as why came (fate.RaiseFailed kept) is = absurd is
+silent_as why came (fate.RaiseRefused kept) is = absurd is
 
-pub few_ignored : (n : ℕ) (why : Option CoreFault) (event : Event) (result : Result Came NodeFault) → IfOk result (λ came. IsIgnored why event came came.what) → IfOk result (λ came. length came.sent.items ≤ n)
-few_ignored n why event (Ok came) is = (let none : length came.sent.items ≡ 0 = ap length (silent_as why event came came.what is).0 in omega (arith, none))
-few_ignored n why event (Err fault) is = tt
+pub few_ignored : (n : ℕ) (why : Option CoreFault) (result : Result Came NodeFault) → IfOk result (λ came. IsIgnored why came came.fate) → IfOk result (λ came. length came.sent.items ≤ n)
+few_ignored n why (Ok came) is = (let none : length came.sent.items ≡ 0 = ap length (silent_as why came came.fate is).0 in omega (arith, none))
+few_ignored n why (Err fault) is = tt

@@ -4,15 +4,15 @@ use Rattle.std.specs.Prelude.{is_some, IsOk, IsErrOf}
 use Rattle.sector_disk.specs.Memory.{Memory, state_of}
 use Rattle.job_model.specs.Durable.{Durable, formatted}
 use Rattle.job_journal.specs.Journal.{IsSound}
-use Rattle.node_core.specs.declared.event.Event.{Event}
 use Rattle.node_core.specs.declared.event.Event.TheVariants.{Recover}
 use Rattle.node_core.specs.Start.{down}
 use Rattle.node_store.specs.Store.{slots_for, AllStandFor}
 use Rattle.durable_node.specs.declared.came.Came.{Came}
 use Rattle.histories.specs.NodeState.{NodeState, opening}
-use Rattle.histories.specs.declared.what.What.{What}
-use Rattle.histories.specs.declared.what.What.TheVariants.{Did, Refused, Faulted, Rests, Crashed, Recovered, MountFailed, RaiseFailed, RaiseRefused}
+use Rattle.histories.specs.declared.fate.Fate.{Fate}
+use Rattle.histories.specs.declared.fate.Fate.TheVariants as fate
 use Rattle.histories.specs.After.{after}
+use Rattle.histories.specs.Fates.{what_of}
 use Rattle.histories.specs.Possible.{IsForNode}
 use Rattle.durable_node.specs.Node.{Node, IsLeft, Stands}
 use Rattle.durable_node.specs.Stepping.{Does, Steps}
@@ -38,24 +38,23 @@ fresh_stands id nodes disk enough all sound = record {
   disk = λ d e. subst (λ (m : Memory). IsLeft (state_of m) (fresh id)) (same_some disk d e) (left_by (state_of disk) (fresh id) enough (λ honest. all) sound);
 }
 
-by_what : (slots id nodes : ℕ) (new : Node Memory) (found : Option Durable) (came : Came) (what : What) → fault_of what ≡ None → Does slots id nodes (fresh id) Recover came found what → Stands state_of new (after id nodes (fresh id) what) → Stands state_of new (opening id)
-by_what slots id nodes new found came (Did e) ok does stands = absurd (let bad : IsForNode (down id) Recover = subst (λ (v : Event). IsForNode (down id) v) does.of does.possible.0 in cc)
-by_what slots id nodes new found came (Refused e fault) ok does stands = absurd cc
-by_what slots id nodes new found came (Faulted e) ok does stands = absurd cc
-by_what slots id nodes new found came (Rests rest) ok does stands = absurd does.of
-by_what slots id nodes new found came Crashed ok does stands = absurd does.of
-by_what slots id nodes new found came (Recovered true) ok does stands = absurd does.possible.1
-by_what slots id nodes new found came (Recovered false) ok does stands = stands
-by_what slots id nodes new found came MountFailed ok does stands = absurd cc
-by_what slots id nodes new found came (RaiseFailed kept) ok does stands = absurd cc
-by_what slots id nodes new found came (RaiseRefused kept) ok does stands = absurd cc
+by_fate : (slots id nodes : ℕ) (new : Node Memory) (found : Option Durable) (came : Came) (end : Fate) → fault_of end ≡ None → Does slots id nodes (fresh id) Recover came found (what_of Recover end)
+    → Stands state_of new (after id nodes (fresh id) (what_of Recover end)) → Stands state_of new (opening id)
+by_fate slots id nodes new found came fate.Done ok does stands = absurd (let bad : IsForNode (down id) Recover = does.possible.0 in cc)
+by_fate slots id nodes new found came (fate.Refused fault) ok does stands = absurd cc
+by_fate slots id nodes new found came fate.Faulted ok does stands = absurd cc
+by_fate slots id nodes new found came (fate.Recovered true) ok does stands = absurd does.possible.1
+by_fate slots id nodes new found came (fate.Recovered false) ok does stands = stands
+by_fate slots id nodes new found came fate.MountFailed ok does stands = absurd cc
+by_fate slots id nodes new found came (fate.RaiseFailed kept) ok does stands = absurd cc
+by_fate slots id nodes new found came (fate.RaiseRefused kept) ok does stands = absurd cc
 
-pub opens : (id nodes : ℕ) (disk : Memory) (new : Node Memory) (came : Came) → fault_of came.what ≡ None
+pub opens : (id nodes : ℕ) (disk : Memory) (new : Node Memory) (came : Came) → fault_of came.fate ≡ None
     → 24 ≤ (state_of disk).sectors → AllStandFor (slots_for (state_of disk).sectors) formatted (state_of disk) → IsSound (slots_for (state_of disk).sectors) (state_of disk)
     → Steps state_of (new_node id nodes disk) new Recover came → Stands state_of new (opening id)
 opens id nodes disk new came ok enough all sound steps =
     let did = steps disk (fresh id) refl (fresh_stands id nodes disk enough all sound) (λ _. refl) in
-    by_what (slots_for (state_of disk).sectors) id nodes new new.found came came.what ok did.0 did.1
+    by_fate (slots_for (state_of disk).sectors) id nodes new new.found came came.fate ok did.0 did.1
 
 -- what the last call mounted says nothing of what the node stands for
 pub forgets : (new : Node Memory) (s : NodeState) → Stands state_of new s → Stands state_of (record new { found = None }) s
@@ -65,7 +64,7 @@ pub is_none : {A : Type 0} (o : Option A) (b : Bool) → is_some o ≡ not b →
 is_none None b is so = refl
 is_none (Some x) b is so = absurd (let bad : is_some (Some x) ≡ false = is ∙ ap not so in cc)
 
-pub not_failed : (came : Came) → fault_of came.what ≡ None → IsErrOf (told (Ok came)) node.Device → ⊥
+pub not_failed : (came : Came) → fault_of came.fate ≡ None → IsErrOf (told (Ok came)) node.Device → ⊥
 not_failed came none e = (let bad : told_as came None ≡ Err node.Device = ap (λ (f : Option NodeFault). told_as came f) (sym none) ∙ e in cc)
 
 pub ok_not : {T E : Type 0} (r : Result T E) (e : E) → IsOk r → IsErrOf r e → ⊥

@@ -22,8 +22,12 @@ use Rattle.durable_node.specs.declared.fault.NodeFault.TheVariants as node
 use Rattle.durable_node.specs.declared.came.Came.{Came}
 use Rattle.histories.specs.NodeState.{NodeState, settled}
 use Rattle.histories.specs.declared.what.What.{What}
-use Rattle.histories.specs.declared.what.What.TheVariants.{Did, Refused, Faulted, Rests, Crashed, Recovered, MountFailed, RaiseFailed, RaiseRefused}
-use Rattle.histories.specs.What.{command_of}
+use Rattle.histories.specs.declared.what.What.TheVariants.{Recovered, RaiseFailed, RaiseRefused}
+use Rattle.histories.specs.declared.fate.Fate.{Fate}
+use Rattle.histories.specs.declared.fate.Fate.TheVariants as fate
+use Rattle.histories.specs.declared.attempt.Attempt.TheVariants as attempt
+use Rattle.histories.specs.Fates.{attempt_of, what_of}
+use Rattle.histories.proofs.Attempts.{tried_none, tried_raise}
 use Rattle.histories.specs.After.{after}
 use Rattle.histories.specs.Possible.{IsSettling}
 use Rattle.durable_node.specs.Faults.{fault_for, fault_of, told, told_as}
@@ -63,16 +67,16 @@ module _ {Disk : Type 0} (disks : Disk → DiskState) (id nodes : ℕ) (core : C
   -- the device failed in the mounting
   fails_as : disk_in disk store ≡ Some was → core.state ≡ down id → found ≡ None → (disks back).sectors ≡ (disks was).sectors → (disks back).honest ≡ (disks was).honest
       → (IsTrue (disks was).honest → Run nothing (disks was) (disks back))
-      → (came : Came) (what : What) → what ≡ MountFailed → IsSilent came → came.command ≡ None → (now : Disk) (s : NodeState) → Stands disks old_node s
-      → Does (slots_for (disks now).sectors) id nodes s Recover came (found_in found gone) what × Stands disks new_node (after id nodes s what)
-  fails_as placed is none sectors same run came what failed silent command now s stands =
+      → (came : Came) (end : Fate) → end ≡ fate.MountFailed → IsSilent came → came.tried ≡ None → (now : Disk) (s : NodeState) → Stands disks old_node s
+      → Does (slots_for (disks now).sectors) id nodes s Recover came (found_in found gone) (what_of Recover end) × Stands disks new_node (after id nodes s (what_of Recover end))
+  fails_as placed is none sectors same run came end failed silent tried now s stands =
       let left : IsLeft (disks was) s = stands.disk was placed in
-      subst (λ (w : What). Does (slots_for (disks now).sectors) id nodes s Recover came (found_in found gone) w × Stands disks new_node (after id nodes s w)) (sym failed) (
+      subst (λ (e : Fate). Does (slots_for (disks now).sectors) id nodes s Recover came (found_in found gone) (what_of Recover e) × Stands disks new_node (after id nodes s (what_of Recover e))) (sym failed) (
         record {
           of = refl;
           possible = down_phase id s.state (sym stands.state ∙ is);
           of_slots = tt;
-          command = ap (option_map command_of) command;
+          tried = tried_none Recover came.tried tried;
           answer = silent.1;
           sent = silent.0;
           mounted = nothing_found none;
@@ -87,11 +91,11 @@ module _ {Disk : Type 0} (disks : Disk → DiskState) (id nodes : ℕ) (core : C
 
   pub mount_fails : disk_in disk store ≡ Some was → core.state ≡ down id → found ≡ None → (disks back).sectors ≡ (disks was).sectors → (disks back).honest ≡ (disks was).honest
       → (IsTrue (disks was).honest → Run nothing (disks was) (disks back))
-      → (told : NodeFault) (result : Result Came NodeFault) → IfOk result (λ came. (came.what ≡ MountFailed) × (told ≡ node.Device)) → IfOk result IsSilent → IfOk result (λ came. came.command ≡ None)
+      → (told : NodeFault) (result : Result Came NodeFault) → IfOk result (λ came. (came.fate ≡ fate.MountFailed) × (told ≡ node.Device)) → IfOk result IsSilent → IfOk result (λ came. came.tried ≡ None)
       → IfOk result (Steps disks old_node new_node Recover)
-  mount_fails placed is none sectors same run told (Ok came) what silent command = λ now s at stands mounting.
-      fails_as placed is none sectors same run came came.what what.0 silent command now s stands
-  mount_fails placed is none sectors same run told (Err fault) what silent command = tt
+  mount_fails placed is none sectors same run told (Ok came) end silent tried = λ now s at stands mounting.
+      fails_as placed is none sectors same run came came.fate end.0 silent tried now s stands
+  mount_fails placed is none sectors same run told (Err fault) end silent tried = tt
 
   -- what is refused leaves all but the disk
   same_but : is_down core.state.phase ≡ true → found ≡ None → new_node ≡ record old_node { disk = Some back; found = None }
@@ -159,15 +163,15 @@ module _ {Disk : Type 0} (disks : Disk → DiskState) (id nodes slots : ℕ) (co
       × Stands disks (node_with id nodes core' None (Some end) doubt' (Some (durable_of mid).counter)) (after id nodes s what)
 
   recovered : (s : NodeState) → is_down s.state.phase ≡ true → (kept : Bool) → IsSettling kept s.doubt → durable_of mid ≡ settled kept s → slots ≡ slots_for (disks end.disk).sectors → 24 ≤ (disks end.disk).sectors
-      → (came : Came) → IsRisen id (durable_of mid) (durable_of end) core' doubt' came → option_map command_of came.command ≡ Some Raise
+      → (came : Came) → IsRisen id (durable_of mid) (durable_of end) core' doubt' came → came.tried ≡ Some attempt.Raise
       → (IsTrue (disks end.disk).honest → AllStandFor slots (durable_of end) (disks end.disk)) → IsSound slots (disks end.disk) → Ended s came (Recovered kept)
-  recovered s fallen kept settling is at enough came risen command all sound =
+  recovered s fallen kept settling is at enough came risen tried all sound =
       let kept_is : durable_of end ≡ after_command (settled kept s) Raise = risen.kept ∙ ap (λ (d : Durable). after_command d Raise) is in (
         record {
           of = refl;
           possible = (fallen, settling, subst (λ (d : Durable). d.counter + 1 < 2 ^ 64) is risen.fits);
           of_slots = tt;
-          command = command;
+          tried = tried_raise Recover came.tried tried;
           answer = risen.answer ∙ ap (λ (d : Durable). Some (d.counter + 1)) is;
           sent = risen.sent;
           mounted = found_risen (durable_of mid) end risen.kept ∙ ap (λ (d : Durable). Some d) is;
@@ -184,16 +188,16 @@ module _ {Disk : Type 0} (disks : Disk → DiskState) (id nodes slots : ℕ) (co
       )
 
   raise_failed : (s : NodeState) → core.state ≡ down id → core.state ≡ s.state → (kept : Bool) → IsSettling kept s.doubt → durable_of mid ≡ settled kept s → slots ≡ slots_for (disks end.disk).sectors → 24 ≤ (disks end.disk).sectors
-      → (disks end.disk).honest ≡ (disks mid.disk).honest → (came : Came) → IsRiseFailed (durable_of mid) (durable_of end) core core' doubt' → IsSilent came → option_map command_of came.command ≡ Some Raise
+      → (disks end.disk).honest ≡ (disks mid.disk).honest → (came : Came) → IsRiseFailed (durable_of mid) (durable_of end) core core' doubt' → IsSilent came → came.tried ≡ Some attempt.Raise
       → (IsTrue (disks mid.disk).honest → Run (InStore slots) (disks mid.disk) (disks end.disk))
       → (IsTrue (disks mid.disk).honest → Each (disks mid.disk) (disks end.disk) (BeforeOrAfter slots (durable_of mid) (Some Raise))) → IsSound slots (disks end.disk)
       → Ended s came (RaiseFailed kept)
-  raise_failed s fallen stood kept settling is at enough honest came failed silent command run each sound = (
+  raise_failed s fallen stood kept settling is at enough honest came failed silent tried run each sound = (
     record {
       of = refl;
       possible = (down_phase id s.state (sym stood ∙ fallen), settling, subst (λ (d : Durable). d.counter + 1 < 2 ^ 64) is failed.fits);
       of_slots = tt;
-      command = command;
+      tried = tried_raise Recover came.tried tried;
       answer = silent.1;
       sent = silent.0;
       mounted = found_still (durable_of mid) end failed.kept ∙ ap (λ (d : Durable). Some d) is;
@@ -211,14 +215,14 @@ module _ {Disk : Type 0} (disks : Disk → DiskState) (id nodes slots : ℕ) (co
   )
 
   raise_refused : (s : NodeState) → core.state ≡ down id → core.state ≡ s.state → doubt ≡ told_doubt s.durable s.doubt → (kept : Bool) → IsSettling kept s.doubt → durable_of mid ≡ settled kept s
-      → IsLeft (disks mid.disk) s → (came : Came) → IsRiseRefused (durable_of mid) node.Exhausted → core'.state ≡ core.state → end ≡ mid → doubt' ≡ doubt → IsSilent came → option_map command_of came.command ≡ None
+      → IsLeft (disks mid.disk) s → (came : Came) → IsRiseRefused (durable_of mid) node.Exhausted → core'.state ≡ core.state → end ≡ mid → doubt' ≡ doubt → IsSilent came → came.tried ≡ None
       → Ended s came (RaiseRefused kept)
-  raise_refused s fallen stood in_doubt kept settling is left came refused same_core same_store same_doubt silent command = (
+  raise_refused s fallen stood in_doubt kept settling is left came refused same_core same_store same_doubt silent tried = (
     record {
       of = refl;
       possible = (down_phase id s.state (sym stood ∙ fallen), settling, subst (λ (d : Durable). d.counter ≡ 2 ^ 64 - 1) is refused.spent);
       of_slots = tt;
-      command = command;
+      tried = tried_none Recover came.tried tried;
       answer = silent.1;
       sent = silent.0;
       mounted = found_still (durable_of mid) end (ap (λ (st : StoreState Disk). durable_of st) same_store) ∙ ap (λ (d : Durable). Some d) is;
@@ -231,28 +235,26 @@ module _ {Disk : Type 0} (disks : Disk → DiskState) (id nodes slots : ℕ) (co
     },
   )
 
-  by_what : (s : NodeState) → core.state ≡ down id → core.state ≡ s.state → doubt ≡ told_doubt s.durable s.doubt → (kept : Bool) → IsSettling kept s.doubt → durable_of mid ≡ settled kept s
+  by_fate : (s : NodeState) → core.state ≡ down id → core.state ≡ s.state → doubt ≡ told_doubt s.durable s.doubt → (kept : Bool) → IsSettling kept s.doubt → durable_of mid ≡ settled kept s
       → slots ≡ slots_for (disks end.disk).sectors → 24 ≤ (disks end.disk).sectors → (disks end.disk).honest ≡ (disks mid.disk).honest → IsTrue (disks mid.disk).honest → IsLeft (disks mid.disk) s
-      → (came : Came) (what : What) → HasRisen id kept core core' mid end doubt doubt' came what → option_map command_of came.command ≡ raise_by what
+      → (came : Came) (w : Fate) → HasRisen id kept core core' mid end doubt doubt' came w → came.tried ≡ option_map attempt_of (raise_by w)
       → (IsTrue (disks mid.disk).honest → Run (InStore slots) (disks mid.disk) (disks end.disk))
       → (IsTrue (disks mid.disk).honest → Each (disks mid.disk) (disks end.disk) (BeforeOrAfter slots (durable_of mid) (Some Raise)))
-      → (IsTrue (disks mid.disk).honest → IsOk (told_as came (fault_of what)) → AllStandFor slots (durable_of end) (disks end.disk)) → IsSound slots (disks end.disk)
-      → Ended s came what
-  by_what s fallen stood in_doubt kept settling is at enough honest was_so left came (Recovered k) risen command run each all sound =
+      → (IsTrue (disks mid.disk).honest → IsOk (told_as came (fault_of w)) → AllStandFor slots (durable_of end) (disks end.disk)) → IsSound slots (disks end.disk)
+      → Ended s came (what_of Recover w)
+  by_fate s fallen stood in_doubt kept settling is at enough honest was_so left came (fate.Recovered k) risen tried run each all sound =
       subst (λ (b : Bool). Ended s came (Recovered b)) (sym risen.0)
-      (recovered s (down_phase id s.state (sym stood ∙ fallen)) kept settling is at enough came risen.1 command (λ h. all was_so refl) sound)
-  by_what s fallen stood in_doubt kept settling is at enough honest was_so left came (RaiseFailed k) risen command run each all sound =
+      (recovered s (down_phase id s.state (sym stood ∙ fallen)) kept settling is at enough came risen.1 tried (λ h. all was_so refl) sound)
+  by_fate s fallen stood in_doubt kept settling is at enough honest was_so left came (fate.RaiseFailed k) risen tried run each all sound =
       subst (λ (b : Bool). Ended s came (RaiseFailed b)) (sym risen.0)
-      (raise_failed s fallen stood kept settling is at enough honest came risen.1 risen.2 command run each sound)
-  by_what s fallen stood in_doubt kept settling is at enough honest was_so left came (RaiseRefused k) risen command run each all sound =
+      (raise_failed s fallen stood kept settling is at enough honest came risen.1 risen.2 tried run each sound)
+  by_fate s fallen stood in_doubt kept settling is at enough honest was_so left came (fate.RaiseRefused k) risen tried run each all sound =
       subst (λ (b : Bool). Ended s came (RaiseRefused b)) (sym risen.0)
-      (raise_refused s fallen stood in_doubt kept settling is left came risen.1 risen.2 risen.3 risen.4 risen.5 command)
-  by_what s fallen stood in_doubt kept settling is at enough honest was_so left came (Did e) risen command run each all sound = absurd risen
-  by_what s fallen stood in_doubt kept settling is at enough honest was_so left came (Refused e why) risen command run each all sound = absurd risen
-  by_what s fallen stood in_doubt kept settling is at enough honest was_so left came (Faulted e) risen command run each all sound = absurd risen
-  by_what s fallen stood in_doubt kept settling is at enough honest was_so left came (Rests rest) risen command run each all sound = absurd risen
-  by_what s fallen stood in_doubt kept settling is at enough honest was_so left came Crashed risen command run each all sound = absurd risen
-  by_what s fallen stood in_doubt kept settling is at enough honest was_so left came MountFailed risen command run each all sound = absurd risen
+      (raise_refused s fallen stood in_doubt kept settling is left came risen.1 risen.2 risen.3 risen.4 risen.5 tried)
+  by_fate s fallen stood in_doubt kept settling is at enough honest was_so left came fate.Done risen tried run each all sound = absurd risen
+  by_fate s fallen stood in_doubt kept settling is at enough honest was_so left came (fate.Refused why) risen tried run each all sound = absurd risen
+  by_fate s fallen stood in_doubt kept settling is at enough honest was_so left came fate.Faulted risen tried run each all sound = absurd risen
+  by_fate s fallen stood in_doubt kept settling is at enough honest was_so left came fate.MountFailed risen tried run each all sound = absurd risen
 
   -- the disk is mounted, and the raise is tried
   pub rises : disk_in disk store ≡ Some was → core.state ≡ down id → slots ≡ slots_for (disks was).sectors
@@ -261,13 +263,13 @@ module _ {Disk : Type 0} (disks : Disk → DiskState) (id nodes slots : ℕ) (co
       → (IsTrue (disks was).honest → Run nothing (disks was) (disks mid.disk))
       → (IsTrue (disks was).honest → AllStandFor slots (durable_of mid) (disks mid.disk))
       → (kept : Bool) → IsKeptIn doubt (durable_of mid) kept
-      → (came : Came) → HasRisen id kept core core' mid end doubt doubt' came came.what → option_map command_of came.command ≡ raise_by came.what
+      → (came : Came) → HasRisen id kept core core' mid end doubt doubt' came came.fate → came.tried ≡ option_map attempt_of (raise_by came.fate)
       → (IsTrue (disks mid.disk).honest → Run (InStore slots) (disks mid.disk) (disks end.disk))
       → (IsTrue (disks mid.disk).honest → AllStandFor slots (durable_of mid) (disks mid.disk) → Each (disks mid.disk) (disks end.disk) (BeforeOrAfter slots (durable_of mid) (Some Raise)))
       → (IsTrue (disks mid.disk).honest → AllStandFor slots (durable_of mid) (disks mid.disk) → IsOk (told (Ok came)) → AllStandFor slots (durable_of end) (disks end.disk))
       → IsSound slots (disks end.disk)
       → Steps disks (node_with id nodes core disk store doubt before) (node_with id nodes core' None (Some end) doubt' (Some (durable_of mid).counter)) Recover came
-  rises placed fallen at sectors same sectors' same' quiet remains flag flagged came risen command run each all sound now s found stands mounting =
+  rises placed fallen at sectors same sectors' same' quiet remains flag flagged came risen tried run each all sound now s found stands mounting =
       let on : was ≡ now = some_is was now (sym placed ∙ found) in
       let honest : IsTrue (disks was).honest = subst (λ (d : Disk). IsTrue (disks d).honest) (sym on) (mounting (down_phase id core.state fallen, refl)) in
       let honest_mid : IsTrue (disks mid.disk).honest = subst (λ (b : Bool). IsTrue b) (sym same) honest in
@@ -277,10 +279,10 @@ module _ {Disk : Type 0} (disks : Disk → DiskState) (id nodes slots : ℕ) (co
       let so = settled_so s (durable_of mid) flag kept.0 (subst (λ (o : Option (Wanted × ℕ)). IsKeptIn o (durable_of mid) flag) stands.doubt flagged) kept.1 kept.2 in
       let left_mid = left_quiet (disks was) (disks mid.disk) s sectors same quiet left in
       let at_end : slots ≡ slots_for (disks end.disk).sectors = at ∙ ap (λ (n : ℕ). slots_for n) (sym (sectors' ∙ sectors)) in
-      subst (λ (n : ℕ). Does n id nodes s Recover came (found_in (Some (durable_of mid).counter) (Some end)) came.what
-      × Stands disks (node_with id nodes core' None (Some end) doubt' (Some (durable_of mid).counter)) (after id nodes s came.what))
+      subst (λ (n : ℕ). Does n id nodes s Recover came (found_in (Some (durable_of mid).counter) (Some end)) (what_of Recover came.fate)
+      × Stands disks (node_with id nodes core' None (Some end) doubt' (Some (durable_of mid).counter)) (after id nodes s (what_of Recover came.fate)))
       (at ∙ ap (λ (d : Disk). slots_for (disks d).sectors) on)
-      (by_what s fallen stands.state stands.doubt flag so.0 so.1 at_end (omega (arith, left_mid.sectors, sectors')) same' honest_mid left_mid came came.what risen command run
+      (by_fate s fallen stands.state stands.doubt flag so.0 so.1 at_end (omega (arith, left_mid.sectors, sectors')) same' honest_mid left_mid came came.fate risen tried run
       (λ h. each h (remains honest)) (λ h. all h (remains honest)) sound)
 
 -- ---- what a caller is told of the raise
@@ -291,57 +293,49 @@ module _ {Disk : Type 0} (id : ℕ) (kept : Bool) (core core' : Core) (mid end :
       × (IsErrOf result node.Device → IsRiseFailed (durable_of mid) (durable_of end) core core' doubt')
       × IfErr result (λ fault. fault ≢ node.Device → IsRiseRefused (durable_of mid) fault × (core'.state ≡ core.state) × (end ≡ mid) × (doubt' ≡ doubt))
 
-  told_by_what : (came : Came) (what : What) → HasRisen id kept core core' mid end doubt doubt' came what → Told (told_as came (fault_of what))
-  told_by_what came (Recovered k) is = (is.1, λ device. absurd cc, tt)
-  told_by_what came (RaiseFailed k) is = (tt, λ device. is.1, λ other. absurd (other refl))
-  told_by_what came (RaiseRefused k) is = (tt, λ device. absurd cc, λ other. (is.1, is.2, is.3, is.4))
-  told_by_what came (Did e) is = absurd is
-  told_by_what came (Refused e why) is = absurd is
-  told_by_what came (Faulted e) is = absurd is
-  told_by_what came (Rests rest) is = absurd is
-  told_by_what came Crashed is = absurd is
-  told_by_what came MountFailed is = absurd is
+  told_by_fate : (came : Came) (w : Fate) → HasRisen id kept core core' mid end doubt doubt' came w → Told (told_as came (fault_of w))
+  told_by_fate came (fate.Recovered k) is = (is.1, λ device. absurd cc, tt)
+  told_by_fate came (fate.RaiseFailed k) is = (tt, λ device. is.1, λ other. absurd (other refl))
+  told_by_fate came (fate.RaiseRefused k) is = (tt, λ device. absurd cc, λ other. (is.1, is.2, is.3, is.4))
+  told_by_fate came fate.Done is = absurd is
+  told_by_fate came (fate.Refused why) is = absurd is
+  told_by_fate came fate.Faulted is = absurd is
+  told_by_fate came fate.MountFailed is = absurd is
 
-  pub rise_told : (came : Came) → HasRisen id kept core core' mid end doubt doubt' came came.what → Told (told (Ok came))
-  rise_told came is = told_by_what came came.what is
+  pub rise_told : (came : Came) → HasRisen id kept core core' mid end doubt doubt' came came.fate → Told (told (Ok came))
+  rise_told came is = told_by_fate came came.fate is
 
-  found_as : (came : Came) (what : What) (d : Durable) → HasRisen id kept core core' mid end doubt doubt' came what → IsKeptIn doubt d kept → IsFoundBy doubt what (Some d)
-  found_as came (Recovered k) d is flagged = subst (λ (b : Bool). IsKeptIn doubt d b) (sym is.0) flagged
-  found_as came (RaiseFailed k) d is flagged = subst (λ (b : Bool). IsKeptIn doubt d b) (sym is.0) flagged
-  found_as came (RaiseRefused k) d is flagged = subst (λ (b : Bool). IsKeptIn doubt d b) (sym is.0) flagged
-  found_as came (Did e) d is flagged = absurd is
-  found_as came (Refused e why) d is flagged = absurd is
-  found_as came (Faulted e) d is flagged = absurd is
-  found_as came (Rests rest) d is flagged = absurd is
-  found_as came Crashed d is flagged = absurd is
-  found_as came MountFailed d is flagged = absurd is
+  found_as : (came : Came) (w : Fate) (d : Durable) → HasRisen id kept core core' mid end doubt doubt' came w → IsKeptIn doubt d kept → IsFoundBy doubt w (Some d)
+  found_as came (fate.Recovered k) d is flagged = subst (λ (b : Bool). IsKeptIn doubt d b) (sym is.0) flagged
+  found_as came (fate.RaiseFailed k) d is flagged = subst (λ (b : Bool). IsKeptIn doubt d b) (sym is.0) flagged
+  found_as came (fate.RaiseRefused k) d is flagged = subst (λ (b : Bool). IsKeptIn doubt d b) (sym is.0) flagged
+  found_as came fate.Done d is flagged = absurd is
+  found_as came (fate.Refused why) d is flagged = absurd is
+  found_as came fate.Faulted d is flagged = absurd is
+  found_as came fate.MountFailed d is flagged = absurd is
 
-  silent_as : (came : Came) (what : What) → HasRisen id kept core core' mid end doubt doubt' came what → came.sent.items ≡ []
-  silent_as came (Recovered k) is = is.1.sent
-  silent_as came (RaiseFailed k) is = is.2.0
-  silent_as came (RaiseRefused k) is = is.5.0
-  silent_as came (Did e) is = absurd is
-  silent_as came (Refused e why) is = absurd is
-  silent_as came (Faulted e) is = absurd is
-  silent_as came (Rests rest) is = absurd is
-  silent_as came Crashed is = absurd is
-  silent_as came MountFailed is = absurd is
+  silent_as : (came : Came) (w : Fate) → HasRisen id kept core core' mid end doubt doubt' came w → came.sent.items ≡ []
+  silent_as came (fate.Recovered k) is = is.1.sent
+  silent_as came (fate.RaiseFailed k) is = is.2.0
+  silent_as came (fate.RaiseRefused k) is = is.5.0
+  silent_as came fate.Done is = absurd is
+  silent_as came (fate.Refused why) is = absurd is
+  silent_as came fate.Faulted is = absurd is
+  silent_as came fate.MountFailed is = absurd is
 
-  pub rise_silent : (came : Came) → HasRisen id kept core core' mid end doubt doubt' came came.what → came.sent.items ≡ []
-  rise_silent came is = silent_as came came.what is
+  pub rise_silent : (came : Came) → HasRisen id kept core core' mid end doubt doubt' came came.fate → came.sent.items ≡ []
+  rise_silent came is = silent_as came came.fate is
 
-  pub found_mid : (what : What) (came : Came) → HasRisen id kept core core' mid end doubt doubt' came what → found_in (Some (durable_of mid).counter) (Some end) ≡ Some (durable_of mid)
-  found_mid (Recovered k) came is = found_risen (durable_of mid) end is.1.kept
-  found_mid (RaiseFailed k) came is = found_still (durable_of mid) end is.1.kept
-  found_mid (RaiseRefused k) came is = found_still (durable_of mid) end (ap (λ (st : StoreState Disk). durable_of st) is.3)
-  found_mid (Did e) came is = absurd is
-  found_mid (Refused e why) came is = absurd is
-  found_mid (Faulted e) came is = absurd is
-  found_mid (Rests rest) came is = absurd is
-  found_mid Crashed came is = absurd is
-  found_mid MountFailed came is = absurd is
+  pub found_mid : (w : Fate) (came : Came) → HasRisen id kept core core' mid end doubt doubt' came w → found_in (Some (durable_of mid).counter) (Some end) ≡ Some (durable_of mid)
+  found_mid (fate.Recovered k) came is = found_risen (durable_of mid) end is.1.kept
+  found_mid (fate.RaiseFailed k) came is = found_still (durable_of mid) end is.1.kept
+  found_mid (fate.RaiseRefused k) came is = found_still (durable_of mid) end (ap (λ (st : StoreState Disk). durable_of st) is.3)
+  found_mid fate.Done came is = absurd is
+  found_mid (fate.Refused why) came is = absurd is
+  found_mid fate.Faulted came is = absurd is
+  found_mid fate.MountFailed came is = absurd is
 
   -- what was found is told
-  pub found_kept : (came : Came) → HasRisen id kept core core' mid end doubt doubt' came came.what → IsKeptIn doubt (durable_of mid) kept
-      → IsFoundBy doubt came.what (found_in (Some (durable_of mid).counter) (Some end))
-  found_kept came is flagged = subst (λ (f : Option Durable). IsFoundBy doubt came.what f) (sym (found_mid came.what came is)) (found_as came came.what (durable_of mid) is flagged)
+  pub found_kept : (came : Came) → HasRisen id kept core core' mid end doubt doubt' came came.fate → IsKeptIn doubt (durable_of mid) kept
+      → IsFoundBy doubt came.fate (found_in (Some (durable_of mid).counter) (Some end))
+  found_kept came is flagged = subst (λ (f : Option Durable). IsFoundBy doubt came.fate f) (sym (found_mid came.fate came is)) (found_as came came.fate (durable_of mid) is flagged)

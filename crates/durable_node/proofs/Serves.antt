@@ -20,10 +20,14 @@ use Rattle.durable_node.specs.declared.fault.NodeFault.TheVariants as node
 use Rattle.durable_node.specs.declared.came.Came.{Came}
 use Rattle.histories.specs.NodeState.{NodeState}
 use Rattle.histories.specs.declared.what.What.{What}
-use Rattle.histories.specs.declared.what.What.TheVariants.{Did, Refused, Faulted, Rests, Crashed, Recovered, MountFailed, RaiseFailed, RaiseRefused}
+use Rattle.histories.specs.declared.what.What.TheVariants.{Did, Refused, Faulted}
+use Rattle.histories.specs.declared.fate.Fate.{Fate}
+use Rattle.histories.specs.declared.fate.Fate.TheVariants as fate
 use Rattle.histories.specs.declared.what.Refusal.{Refusal}
 use Rattle.histories.specs.declared.what.Refusal.TheVariants as refusal
-use Rattle.histories.specs.What.{command_of, reason_of}
+use Rattle.histories.specs.What.{reason_of}
+use Rattle.histories.specs.Fates.{attempt_of, what_of}
+use Rattle.histories.proofs.Attempts.{tried_none, tried_wanted}
 use Rattle.histories.specs.After.{after}
 use Rattle.histories.specs.Possible.{IsForNode}
 use Rattle.durable_node.specs.Carrying.{BeforeOrAfter}
@@ -83,14 +87,14 @@ module _ {Disk : Type 0} (disks : Disk → DiskState) (id nodes : ℕ) (core cor
   Ended came what = Does slots id nodes (up_at core store) event came None what × Stands disks (node_with id nodes core' None (Some store') doubt' None) (after id nodes (up_at core store) what)
 
   served_ok : is_down core.state.phase ≡ false → is_down core'.state.phase ≡ false → 24 ≤ (disks store'.disk).sectors → (disks store'.disk).sectors ≡ (disks store.disk).sectors
-      → doubt ≡ None → doubt' ≡ doubt → (came : Came) → IsDone slots nodes id core.state (durable_of store) event core'.state (durable_of store') came → option_map command_of came.command ≡ wants
+      → doubt ≡ None → doubt' ≡ doubt → (came : Came) → IsDone slots nodes id core.state (durable_of store) event core'.state (durable_of store') came → came.tried ≡ option_map attempt_of wants
       → (IsTrue (disks store'.disk).honest → AllStandFor slots (durable_of store') (disks store'.disk)) → IsSound slots (disks store'.disk) → Ended came (Did event)
-  served_ok up up' enough sectors none same came done command all sound = (
+  served_ok up up' enough sectors none same came done tried all sound = (
     record {
       of = refl;
       possible = (for_node core.state event up, done.handled.taken);
       of_slots = done.fits;
-      command = command;
+      tried = tried_wanted id (durable_of store).pending event core.state came.tried tried;
       answer = done.answer;
       sent = ap (λ (e : Effect). e.sent) (sym done.handled.effect);
       mounted = refl;
@@ -109,15 +113,15 @@ module _ {Disk : Type 0} (disks : Disk → DiskState) (id nodes : ℕ) (core cor
   )
 
   served_failed : is_down core.state.phase ≡ false → 24 ≤ (disks store'.disk).sectors → (disks store'.disk).sectors ≡ (disks store.disk).sectors → (disks store'.disk).honest ≡ (disks store.disk).honest
-      → core'.state ≡ down id → doubt' ≡ told_doubt (durable_of store) wants → (came : Came) → IsFailed slots nodes id core.state (durable_of store) event → IsSilent came → option_map command_of came.command ≡ wants
+      → core'.state ≡ down id → doubt' ≡ told_doubt (durable_of store) wants → (came : Came) → IsFailed slots nodes id core.state (durable_of store) event → IsSilent came → came.tried ≡ option_map attempt_of wants
       → (IsTrue (disks store.disk).honest → Run (InStore slots) (disks store.disk) (disks store'.disk))
       → (IsTrue (disks store.disk).honest → Each (disks store.disk) (disks store'.disk) (BeforeOrAfter slots (durable_of store) wants)) → IsSound slots (disks store'.disk) → Ended came (Faulted event)
-  served_failed up enough sectors honest fallen told came failed silent command run each sound = (
+  served_failed up enough sectors honest fallen told came failed silent tried run each sound = (
     record {
       of = refl;
       possible = ((for_node core.state event up, failed.taken), failed.wanted);
       of_slots = failed.fits;
-      command = command;
+      tried = tried_wanted id (durable_of store).pending event core.state came.tried tried;
       answer = silent.1;
       sent = silent.0;
       mounted = refl;
@@ -135,14 +139,14 @@ module _ {Disk : Type 0} (disks : Disk → DiskState) (id nodes : ℕ) (core cor
   )
 
   served_refused : is_down core.state.phase ≡ false → core'.state ≡ core.state → store' ≡ store → doubt ≡ None → doubt' ≡ doubt
-      → (came : Came) (why : Refusal) → IsTurnedAway slots nodes id core.state (durable_of store) event (reason_of why) → IsSilent came → option_map command_of came.command ≡ None → IsLeft (disks store.disk) (up_at core store)
+      → (came : Came) (why : Refusal) → IsTurnedAway slots nodes id core.state (durable_of store) event (reason_of why) → IsSilent came → came.tried ≡ None → IsLeft (disks store.disk) (up_at core store)
       → Ended came (Refused event why)
-  served_refused up same same_store none same_doubt came why turned silent command left = (
+  served_refused up same same_store none same_doubt came why turned silent tried left = (
     record {
       of = refl;
       possible = (for_node core.state event up, turned.refused);
       of_slots = turned.of_slots;
-      command = command;
+      tried = tried_none event came.tried tried;
       answer = silent.1;
       sent = silent.0;
       mounted = refl;
@@ -156,37 +160,34 @@ module _ {Disk : Type 0} (disks : Disk → DiskState) (id nodes : ℕ) (core cor
     },
   )
 
-  by_what : is_down core.state.phase ≡ false → 24 ≤ (disks store'.disk).sectors → (disks store'.disk).sectors ≡ (disks store.disk).sectors → (disks store'.disk).honest ≡ (disks store.disk).honest
-      → doubt ≡ None → (came : Came) (what : What) → IsServed slots nodes id core.state (durable_of store) event core'.state (durable_of store') came what → option_map command_of came.command ≡ command_by wants what
-      → (IsOk (told_as came (fault_of what)) → is_down core'.state.phase ≡ false)
-      → (IsOk (told_as came (fault_of what)) → IsFalse store'.broken × (doubt' ≡ doubt))
-      → (IsErrOf (told_as came (fault_of what)) node.Device → (core'.state ≡ down id) × (doubt' ≡ told_doubt (durable_of store) wants))
-      → IfErr (told_as came (fault_of what)) (λ fault. fault ≢ node.Device → (core'.state ≡ core.state) × (store' ≡ store) × (doubt' ≡ doubt))
+  by_fate : is_down core.state.phase ≡ false → 24 ≤ (disks store'.disk).sectors → (disks store'.disk).sectors ≡ (disks store.disk).sectors → (disks store'.disk).honest ≡ (disks store.disk).honest
+      → doubt ≡ None → (came : Came) (end : Fate) → IsServed slots nodes id core.state (durable_of store) event core'.state (durable_of store') came end → came.tried ≡ option_map attempt_of (command_by wants end)
+      → (IsOk (told_as came (fault_of end)) → is_down core'.state.phase ≡ false)
+      → (IsOk (told_as came (fault_of end)) → IsFalse store'.broken × (doubt' ≡ doubt))
+      → (IsErrOf (told_as came (fault_of end)) node.Device → (core'.state ≡ down id) × (doubt' ≡ told_doubt (durable_of store) wants))
+      → IfErr (told_as came (fault_of end)) (λ fault. fault ≢ node.Device → (core'.state ≡ core.state) × (store' ≡ store) × (doubt' ≡ doubt))
       → (IsTrue (disks store.disk).honest → Run (InStore slots) (disks store.disk) (disks store'.disk))
       → (IsTrue (disks store.disk).honest → Each (disks store.disk) (disks store'.disk) (BeforeOrAfter slots (durable_of store) wants))
-      → (IsTrue (disks store.disk).honest → IsOk (told_as came (fault_of what)) → AllStandFor slots (durable_of store') (disks store'.disk))
-      → IsSound slots (disks store'.disk) → IsLeft (disks store.disk) (up_at core store) → Ended came what
-  by_what up enough sectors honest none came (Did e) is command up' whole fallen unchanged run each all sound left =
-      subst (λ (v : Event). Ended came (Did v)) (sym is.0)
-      (served_ok up (up' refl) enough sectors none (whole refl).1 came is.1 command (λ h. all (subst (λ (b : Bool). IsTrue b) honest h) refl) sound)
-  by_what up enough sectors honest none came (Refused e why) is command up' whole fallen unchanged run each all sound left =
+      → (IsTrue (disks store.disk).honest → IsOk (told_as came (fault_of end)) → AllStandFor slots (durable_of store') (disks store'.disk))
+      → IsSound slots (disks store'.disk) → IsLeft (disks store.disk) (up_at core store) → Ended came (what_of event end)
+  by_fate up enough sectors honest none came fate.Done is tried up' whole fallen unchanged run each all sound left =
+      served_ok up (up' refl) enough sectors none (whole refl).1 came is tried (λ h. all (subst (λ (b : Bool). IsTrue b) honest h) refl) sound
+  by_fate up enough sectors honest none came (fate.Refused why) is tried up' whole fallen unchanged run each all sound left =
       let same = unchanged (not_device why) in
-      subst (λ (v : Event). Ended came (Refused v why)) (sym is.0) (served_refused up same.0 same.1 none same.2 came why is.1 is.2 command left)
-  by_what up enough sectors honest none came (Faulted e) is command up' whole fallen unchanged run each all sound left =
+      served_refused up same.0 same.1 none same.2 came why is.0 is.1 tried left
+  by_fate up enough sectors honest none came fate.Faulted is tried up' whole fallen unchanged run each all sound left =
       let down = fallen refl in
-      subst (λ (v : Event). Ended came (Faulted v)) (sym is.0) (served_failed up enough sectors honest down.0 down.1 came is.1 is.2 command run each sound)
-  by_what up enough sectors honest none came (Rests rest) is command up' whole fallen unchanged run each all sound left = absurd is
-  by_what up enough sectors honest none came Crashed is command up' whole fallen unchanged run each all sound left = absurd is
-  by_what up enough sectors honest none came (Recovered kept) is command up' whole fallen unchanged run each all sound left = absurd is
-  by_what up enough sectors honest none came MountFailed is command up' whole fallen unchanged run each all sound left = absurd is
-  by_what up enough sectors honest none came (RaiseFailed kept) is command up' whole fallen unchanged run each all sound left = absurd is
-  by_what up enough sectors honest none came (RaiseRefused kept) is command up' whole fallen unchanged run each all sound left = absurd is
+      served_failed up enough sectors honest down.0 down.1 came is.0 is.1 tried run each sound
+  by_fate up enough sectors honest none came (fate.Recovered kept) is tried up' whole fallen unchanged run each all sound left = absurd is
+  by_fate up enough sectors honest none came fate.MountFailed is tried up' whole fallen unchanged run each all sound left = absurd is
+  by_fate up enough sectors honest none came (fate.RaiseFailed kept) is tried up' whole fallen unchanged run each all sound left = absurd is
+  by_fate up enough sectors honest none came (fate.RaiseRefused kept) is tried up' whole fallen unchanged run each all sound left = absurd is
 
   abbrev Facts : ℕ → Came → Type 0 → Type 0
   Facts n came P =
       is_down core.state.phase ≡ false → (IsOk (told (Ok came)) → is_down core'.state.phase ≡ false)
       → (disks store'.disk).sectors ≡ (disks store.disk).sectors → (disks store'.disk).honest ≡ (disks store.disk).honest
-      → IsServed n nodes id core.state (durable_of store) event core'.state (durable_of store') came came.what → option_map command_of came.command ≡ command_by wants came.what
+      → IsServed n nodes id core.state (durable_of store) event core'.state (durable_of store') came came.fate → came.tried ≡ option_map attempt_of (command_by wants came.fate)
       → (IsOk (told (Ok came)) → IsFalse store'.broken × (doubt' ≡ doubt))
       → (IsErrOf (told (Ok came)) node.Device → (core'.state ≡ down id) × (doubt' ≡ told_doubt (durable_of store) wants))
       → IfErr (told (Ok came)) (λ fault. fault ≢ node.Device → (core'.state ≡ core.state) × (store' ≡ store) × (doubt' ≡ doubt))
@@ -197,18 +198,18 @@ module _ {Disk : Type 0} (disks : Disk → DiskState) (id nodes : ℕ) (core cor
       → IsSound n (disks store'.disk) → P
 
   pub serves : (came : Came) → Facts slots came (Steps disks (node_with id nodes core None (Some store) doubt was) (node_with id nodes core' None (Some store') doubt' None) event came)
-  serves came up up' sectors honest done command whole fallen unchanged run each all sound disk s at stands mounting =
+  serves came up up' sectors honest done tried whole fallen unchanged run each all sound disk s at stands mounting =
       let kept = stands.up up in
       let is : up_at core store ≡ s = (λ i. record { state = stands.state i; durable = kept_up (is_down core.state.phase) store s.durable up kept.0 i; doubt = sym kept.1 i }) in
       let on : store.disk ≡ disk = cc in
       let left : IsLeft (disks store.disk) (up_at core store) = subst (λ (t : NodeState). IsLeft (disks store.disk) t) (sym is) (stands.disk store.disk refl) in
       let stood = stands_all (disks store.disk) (up_at core store) refl left in
       let none : doubt ≡ None = subst (λ (t : NodeState). doubt ≡ told_doubt t.durable t.doubt) (sym is) stands.doubt in
-      subst (λ (d : Disk). Does (slots_for (disks d).sectors) id nodes s event came None came.what
-      × Stands disks (node_with id nodes core' None (Some store') doubt' None) (after id nodes s came.what)) on
-      (subst (λ (t : NodeState). Does slots id nodes t event came None came.what
-      × Stands disks (node_with id nodes core' None (Some store') doubt' None) (after id nodes t came.what)) is
-      (by_what up (omega (arith, left.sectors, sectors)) sectors honest none came came.what done command up' whole fallen unchanged run
+      subst (λ (d : Disk). Does (slots_for (disks d).sectors) id nodes s event came None (what_of event came.fate)
+      × Stands disks (node_with id nodes core' None (Some store') doubt' None) (after id nodes s (what_of event came.fate))) on
+      (subst (λ (t : NodeState). Does slots id nodes t event came None (what_of event came.fate)
+      × Stands disks (node_with id nodes core' None (Some store') doubt' None) (after id nodes t (what_of event came.fate))) is
+      (by_fate up (omega (arith, left.sectors, sectors)) sectors honest none came came.fate done tried up' whole fallen unchanged run
       (λ h. each h (stood h)) (λ h. all h (stood h)) sound left))
 
 -- the same, wherever the parts of the node say that its disk is
@@ -224,8 +225,8 @@ pub all_served : {Disk : Type 0} (disks : Disk → DiskState) (id nodes size : �
     → IsPlaced disk (Some store) → size ≡ slots_for (disks store.disk).sectors
     → is_down core.state.phase ≡ false → (IsOk (told result) → is_down core'.state.phase ≡ false)
     → (disks store'.disk).sectors ≡ (disks store.disk).sectors → (disks store'.disk).honest ≡ (disks store.disk).honest
-    → IfOk result (λ came. IsServed size nodes id core.state (durable_of store) event core'.state (durable_of store') came came.what)
-    → IfOk result (λ came. option_map command_of came.command ≡ command_by (wants_of id (durable_of store).pending event core.state) came.what)
+    → IfOk result (λ came. IsServed size nodes id core.state (durable_of store) event core'.state (durable_of store') came came.fate)
+    → IfOk result (λ came. came.tried ≡ option_map attempt_of (command_by (wants_of id (durable_of store).pending event core.state) came.fate))
     → (IsOk (told result) → IsFalse store'.broken × (doubt' ≡ doubt))
     → (IsErrOf (told result) node.Device → (core'.state ≡ down id) × (doubt' ≡ told_doubt (durable_of store) (wants_of id (durable_of store).pending event core.state)))
     → IfErr (told result) (λ fault. fault ≢ node.Device → (core'.state ≡ core.state) × (store' ≡ store) × (doubt' ≡ doubt))
@@ -235,24 +236,22 @@ pub all_served : {Disk : Type 0} (disks : Disk → DiskState) (id nodes size : �
     → (IsTrue (disks store.disk).honest → AllStandFor size (durable_of store) (disks store.disk) → IsOk (told result) → AllStandFor size (durable_of store') (disks store'.disk))
     → IsSound size (disks store'.disk)
     → IfOk result (Steps disks (node_with id nodes core disk (Some store) doubt was) (node_with id nodes core' disk (Some store') doubt' None) event)
-all_served disks id nodes size core core' disk store store' doubt doubt' was event (Ok came) placed at up up' sectors honest is command whole fallen unchanged run each all sound =
-    serves_at disks id nodes size core core' disk store store' doubt doubt' was event came placed at up up' sectors honest is command whole fallen unchanged run each all sound
-all_served disks id nodes size core core' disk store store' doubt doubt' was event (Err fault) placed at up up' sectors honest is command whole fallen unchanged run each all sound = tt
+all_served disks id nodes size core core' disk store store' doubt doubt' was event (Ok came) placed at up up' sectors honest is tried whole fallen unchanged run each all sound =
+    serves_at disks id nodes size core core' disk store store' doubt doubt' was event came placed at up up' sectors honest is tried whole fallen unchanged run each all sound
+all_served disks id nodes size core core' disk store store' doubt doubt' was event (Err fault) placed at up up' sectors honest is tried whole fallen unchanged run each all sound = tt
 
 -- ---- what a caller is told of it
 
 module _ (slots nodes self : ℕ) (s s' : State) (d d' : Durable) (event : Event) where
-  done_as : (came : Came) (what : What) → IsServed slots nodes self s d event s' d' came what → IfOk (told_as came (fault_of what)) (IsDone slots nodes self s d event s' d')
-  done_as came (Did e) is = is.1
-  done_as came (Refused e why) is = tt
-  done_as came (Faulted e) is = tt
-  done_as came (Rests rest) is = absurd is
-  done_as came Crashed is = absurd is
-  done_as came (Recovered kept) is = absurd is
-  done_as came MountFailed is = absurd is
-  done_as came (RaiseFailed kept) is = absurd is
-  done_as came (RaiseRefused kept) is = absurd is
+  done_as : (came : Came) (end : Fate) → IsServed slots nodes self s d event s' d' came end → IfOk (told_as came (fault_of end)) (IsDone slots nodes self s d event s' d')
+  done_as came fate.Done is = is
+  done_as came (fate.Refused why) is = tt
+  done_as came fate.Faulted is = tt
+  done_as came (fate.Recovered kept) is = absurd is
+  done_as came fate.MountFailed is = absurd is
+  done_as came (fate.RaiseFailed kept) is = absurd is
+  done_as came (fate.RaiseRefused kept) is = absurd is
 
-  pub done_told : (result : Result Came NodeFault) → IfOk result (λ came. IsServed slots nodes self s d event s' d' came came.what) → IfOk (told result) (IsDone slots nodes self s d event s' d')
-  done_told (Ok came) is = done_as came came.what is
+  pub done_told : (result : Result Came NodeFault) → IfOk result (λ came. IsServed slots nodes self s d event s' d' came came.fate) → IfOk (told result) (IsDone slots nodes self s d event s' d')
+  done_told (Ok came) is = done_as came came.fate is
   done_told (Err fault) is = tt

@@ -7,8 +7,8 @@ use Rattle.node_store.specs.declared.fault.StoreFault.TheVariants as store
 use Rattle.durable_node.specs.declared.fault.NodeFault.{NodeFault}
 use Rattle.durable_node.specs.declared.fault.NodeFault.TheVariants as node
 use Rattle.durable_node.specs.declared.came.Came.{Came}
-use Rattle.histories.specs.declared.what.What.{What}
-use Rattle.histories.specs.declared.what.What.TheVariants.{Did, Refused, Faulted, Rests, Crashed, Recovered, MountFailed, RaiseFailed, RaiseRefused}
+use Rattle.histories.specs.declared.fate.Fate.{Fate}
+use Rattle.histories.specs.declared.fate.Fate.TheVariants.{Done, Refused, Faulted, Recovered, MountFailed, RaiseFailed, RaiseRefused}
 use Rattle.histories.specs.What.{reason_of}
 
 -- why an event is refused, as it is told: a caller sees no areas
@@ -31,12 +31,10 @@ fault_for store.NoMemory = node.Core core.NoMemory
 fault_for store.TooSmall = node.TooSmall
 
 -- why an event wasn't done, by what came of it: it was refused, or the device failed
-abbrev pub fault_of : What → Option NodeFault
-fault_of (Did event) = None
-fault_of (Refused event why) = Some (shown (reason_of why))
-fault_of (Faulted event) = Some node.Device
-fault_of (Rests rest) = None
-fault_of Crashed = None
+abbrev pub fault_of : Fate → Option NodeFault
+fault_of Done = None
+fault_of (Refused why) = Some (shown (reason_of why))
+fault_of Faulted = Some node.Device
 fault_of (Recovered kept) = None
 fault_of MountFailed = Some node.Device
 fault_of (RaiseFailed kept) = Some node.Device
@@ -48,5 +46,5 @@ told_as came (Some fault) = Err fault
 
 -- what a call answers, where what wasn't done is a fault
 abbrev pub told : Result Came NodeFault → Result Came NodeFault
-told (Ok came) = told_as came (fault_of came.what)
+told (Ok came) = told_as came (fault_of came.fate)
 told (Err fault) = Err fault

@@ -12,8 +12,8 @@ use Rattle.durable_node.specs.declared.fault.NodeFault.{NodeFault}
 use Rattle.durable_node.specs.declared.fault.NodeFault.TheVariants as node
 use Rattle.durable_node.specs.declared.came.Came.{Came}
 use Rattle.node_store.specs.Store.{StoreState, durable_of}
-use Rattle.histories.specs.declared.what.What.{What}
-use Rattle.histories.specs.declared.what.What.TheVariants.{Recovered, MountFailed, RaiseFailed, RaiseRefused}
+use Rattle.histories.specs.declared.fate.Fate.{Fate}
+use Rattle.histories.specs.declared.fate.Fate.TheVariants.{Recovered, MountFailed, RaiseFailed, RaiseRefused}
 use Rattle.durable_node.specs.Node.{Node}
 use Rattle.durable_node.specs.Stepping.{IsSilent}
 
@@ -39,18 +39,18 @@ pub record IsRiseRefused (found : Durable) (fault : NodeFault) : Type 0 where
   pub told : fault ≡ node.Exhausted
 
 -- what came of the raise, where the command that was in doubt was found, or wasn't
-abbrev pub HasRisen : {Disk : Type 0} → ℕ → Bool → Core → Core → StoreState Disk → StoreState Disk → Option (Wanted × ℕ) → Option (Wanted × ℕ) → Came → What → Type 0
+abbrev pub HasRisen : {Disk : Type 0} → ℕ → Bool → Core → Core → StoreState Disk → StoreState Disk → Option (Wanted × ℕ) → Option (Wanted × ℕ) → Came → Fate → Type 0
 HasRisen self kept core core' store store' doubt doubt' came (Recovered k) = (k ≡ kept) × IsRisen self (durable_of store) (durable_of store') core' doubt' came
 HasRisen self kept core core' store store' doubt doubt' came (RaiseFailed k) = (k ≡ kept) × IsRiseFailed (durable_of store) (durable_of store') core core' doubt' × IsSilent came
 HasRisen self kept core core' store store' doubt doubt' came (RaiseRefused k) =
     (k ≡ kept) × IsRiseRefused (durable_of store) node.Exhausted × (core'.state ≡ core.state) × (store' ≡ store) × (doubt' ≡ doubt) × IsSilent came
-HasRisen self kept core core' store store' doubt doubt' came what = ⊥
+HasRisen self kept core core' store store' doubt doubt' came fate = ⊥
 
 -- the raise, where it was tried
-abbrev pub raise_by : What → Option Command
+abbrev pub raise_by : Fate → Option Command
 raise_by (Recovered kept) = Some Raise
 raise_by (RaiseFailed kept) = Some Raise
-raise_by what = None
+raise_by fate = None
 
 -- whether what was found has a command that was in doubt: the count or the next id went on, or the job is gone
 abbrev pub has_command : Wanted → ℕ → Durable → Bool
@@ -65,12 +65,12 @@ IsKeptIn None d kept = kept ≡ false
 IsKeptIn (Some doubt) d kept = kept ≡ has_command doubt.0 doubt.1 d
 
 -- what came of a mounting over any disk, by what was in doubt and what was found
-abbrev pub IsFoundBy : Option (Wanted × ℕ) → What → Option Durable → Type 0
+abbrev pub IsFoundBy : Option (Wanted × ℕ) → Fate → Option Durable → Type 0
 IsFoundBy doubt MountFailed None = Unit {0}
 IsFoundBy doubt (Recovered kept) (Some d) = IsKeptIn doubt d kept
 IsFoundBy doubt (RaiseFailed kept) (Some d) = IsKeptIn doubt d kept
 IsFoundBy doubt (RaiseRefused kept) (Some d) = IsKeptIn doubt d kept
-IsFoundBy doubt what found = ⊥
+IsFoundBy doubt fate found = ⊥
 
 -- a disk that isn't mounted is refused with one of these
 abbrev pub IsUnmounted : NodeFault → Type 0

@@ -1,5 +1,5 @@
 -- What a call of a node does, and how it is told.
-use Rattle.std.specs.Prelude.{ℕ, ◌≡◌, ◌+◌, Bool, true, false, IsTrue, IsErrOf, [], Option, Some, None, option_map, Result}
+use Rattle.std.specs.Prelude.{ℕ, ◌≡◌, ◌+◌, Bool, true, false, IsTrue, IsErrOf, [], Option, Some, None, Result}
 use Rattle.sector_disk.specs.Disk.{DiskState, Counts}
 use Rattle.job_model.specs.Durable.{Durable}
 use Rattle.node_core.specs.declared.event.Event.{Event}
@@ -17,7 +17,10 @@ use Rattle.histories.specs.declared.what.What.{What}
 use Rattle.histories.specs.declared.what.What.TheVariants.{Did, Refused, Faulted, Rests, Crashed, Recovered, MountFailed, RaiseFailed, RaiseRefused}
 use Rattle.histories.specs.After.{after, sent_at, found_at}
 use Rattle.histories.specs.Possible.{IsPossible, IsOfSlots, IsWanted}
-use Rattle.histories.specs.What.{command_of, reason_of}
+use Rattle.histories.specs.What.{reason_of}
+use Rattle.histories.specs.Fates.{IsTriedAt, what_of}
+use Rattle.histories.specs.declared.fate.Fate.{Fate}
+use Rattle.histories.specs.declared.fate.Fate.TheVariants as fate
 use Rattle.histories.specs.declared.what.Refusal.TheVariants as refusal
 use Rattle.job_model.specs.Command.{Command, Raise}
 use Rattle.node_core.specs.declared.fault.CoreFault.{CoreFault}
@@ -53,25 +56,25 @@ abbrev pub IsSilent : Came → Type 0
 IsSilent came = (came.sent.items ≡ []) × (came.answer ≡ None)
 
 -- what came of the event
-abbrev pub IsServed : ℕ → ℕ → ℕ → State → Durable → Event → State → Durable → Came → What → Type 0
-IsServed slots nodes self s d event s' d' came (Did e) = (e ≡ event) × IsDone slots nodes self s d event s' d' came
-IsServed slots nodes self s d event s' d' came (Refused e why) = (e ≡ event) × IsTurnedAway slots nodes self s d event (reason_of why) × IsSilent came
-IsServed slots nodes self s d event s' d' came (Faulted e) = (e ≡ event) × IsFailed slots nodes self s d event × IsSilent came
-IsServed slots nodes self s d event s' d' came what = ⊥
+abbrev pub IsServed : ℕ → ℕ → ℕ → State → Durable → Event → State → Durable → Came → Fate → Type 0
+IsServed slots nodes self s d event s' d' came fate.Done = IsDone slots nodes self s d event s' d' came
+IsServed slots nodes self s d event s' d' came (fate.Refused why) = IsTurnedAway slots nodes self s d event (reason_of why) × IsSilent came
+IsServed slots nodes self s d event s' d' came fate.Faulted = IsFailed slots nodes self s d event × IsSilent came
+IsServed slots nodes self s d event s' d' came other = ⊥
 
 -- the command that was tried, of one that was wanted
-abbrev pub command_by : Option Command → What → Option Command
-command_by wants (Did event) = wants
-command_by wants (Faulted event) = wants
-command_by wants what = None
+abbrev pub command_by : Option Command → Fate → Option Command
+command_by wants fate.Done = wants
+command_by wants fate.Faulted = wants
+command_by wants other = None
 
 -- ---- an event at a node that is down
 
 -- it did nothing, or was refused for this reason
-abbrev pub IsIgnored : Option CoreFault → Event → Came → What → Type 0
-IsIgnored why event came (Did e) = (e ≡ event) × (why ≡ None) × IsSilent came
-IsIgnored why event came (Refused e (refusal.Core fault)) = (e ≡ event) × (why ≡ Some fault) × IsSilent came
-IsIgnored why event came what = ⊥
+abbrev pub IsIgnored : Option CoreFault → Came → Fate → Type 0
+IsIgnored why came fate.Done = (why ≡ None) × IsSilent came
+IsIgnored why came (fate.Refused (refusal.Core fault)) = (why ≡ Some fault) × IsSilent came
+IsIgnored why came other = ⊥
 
 -- ---- any call
 
@@ -106,7 +109,7 @@ pub record Does (slots self nodes : ℕ) (s : NodeState) (event : Event) (came :
   pub of : CameOf event what
   pub possible : IsPossible self nodes s what
   pub of_slots : IsOfSlots slots self nodes s what
-  pub command : option_map command_of came.command ≡ command_at self nodes s what
+  pub tried : IsTriedAt event came.tried (command_at self nodes s what)
   pub answer : came.answer ≡ answer_at self nodes s what
   pub sent : came.sent.items ≡ sent_at self nodes s what
   pub mounted : found ≡ found_at s what
@@ -119,7 +122,7 @@ IsMounting s event = (is_down s.phase ≡ true) × (is_recover event ≡ true)
 abbrev pub Steps : {Disk : Type 0} → (Disk → DiskState) → Node Disk → Node Disk → Event → Came → Type 0
 Steps {Disk} disks old new event came =
     (disk : Disk) (s : NodeState) → old.disk ≡ Some disk → Stands disks old s → (IsMounting old.state event → IsTrue (disks disk).honest) →
-    Does (slots_for (disks disk).sectors) old.id old.nodes s event came new.found came.what × Stands disks new (after old.id old.nodes s came.what)
+    Does (slots_for (disks disk).sectors) old.id old.nodes s event came new.found (what_of event came.fate) × Stands disks new (after old.id old.nodes s (what_of event came.fate))
 
 -- the disk can't be mounted, which no disk of a node's history is, and nothing but the disk has changed
 pub record IsUnmountable {Disk : Type 0} (disks : Disk → DiskState) (old new : Node Disk) (event : Event) : Type 0 where

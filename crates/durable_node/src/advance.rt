@@ -39,7 +39,7 @@ pub(crate) fn advance<D: SectorDisk + Drop>(
     ensures counts { CountsOf D.state (disk_in disk.old store.old) (disk_in disk.new store.new) (told result) }
     ensures mounting { is_down core.old.state.phase ≡ true → event.now ≡ Event.Recover
         → Remounted (node_with id nodes core.old disk.old store.old doubt.old found.old) (node_with id nodes core.new disk.new store.new doubt.new found.new) (told result) (found_in found.new store.new) }
-    ensures kept { is_down core.old.state.phase ≡ true → event.now ≡ Event.Recover → IfOk result (λ came. IsFoundBy doubt.old came.what (found_in found.new store.new)) }
+    ensures kept { is_down core.old.state.phase ≡ true → event.now ≡ Event.Recover → IfOk result (λ came. IsFoundBy doubt.old came.fate (found_in found.new store.new)) }
     ensures reads { is_down core.old.state.phase ≡ true → event.now ≡ Event.Recover → ReadsDisk D.state (disk_in disk.old store.old) (disk_in disk.new store.new) (told result) (found_in found.new store.new) }
     ensures few { IfOk result (λ came. length came.sent.items ≤ most_by nodes (kept_in (is_down core.old.state.phase) store.old)) }
 {

@@ -1,21 +1,25 @@
 // What a call of a node tells.
 ghost use Rattle.std.specs.Prelude.{◌≡◌, option_map};
-ghost use Rattle.histories.specs.What.{command_of, reason_of};
+ghost use Rattle.histories.specs.Fates.{attempt_of};
+ghost use Rattle.histories.specs.What.{reason_of};
 ghost use Rattle.node_core.specs.Planned.{wanted_by};
 ghost use Rattle.durable_node.specs.Faults.{fault_of, shown};
+ghost use Rattle.durable_node.specs.Stepping.{IsSilent};
 
 use crate::fault::NodeFault;
-use histories::{Command, Refusal, What};
+use histories::{Attempt, Fate, Refusal};
 use node_core::Durable;
+use std::alloc::Global;
 use wire_msg::Message;
 
-/// All that came of an event: an entry of the node's history, with the command that was tried.
+/// All that came of an event, for who has the event: with it, `fate` is an entry of the node's history ([`Fate::what`]), and
+/// `tried` the whole command ([`Attempt::command`]).
 #[derive(Drop)]
 pub struct Came {
     /// What came of the event, whether it was done, refused or met a device that failed.
-    pub what: What,
-    /// The command that was tried on the disk, if one was.
-    pub command: Option<Command>,
+    pub fate: Fate,
+    /// Which command was tried on the disk, if one was.
+    pub tried: Option<Attempt>,
     /// The answer of that command: the new count, the new id, or the id that is done. None where the device failed in it.
     pub answer: Option<u64>,
     /// The messages to be sent, in their order.
@@ -23,15 +27,29 @@ pub struct Came {
 }
 
 impl Came {
+    /// Nothing is sent or answered.
+    pub(crate) fn silent(alloc: Global, fate: Fate, tried: Option<Attempt>) -> Came
+        ensures fate { result.fate ≡ fate }
+        ensures tried { result.tried ≡ tried }
+        ensures silent { IsSilent result }
+    {
+        Came {
+            fate,
+            tried,
+            answer: None,
+            sent: Vec::new(alloc),
+        }
+    }
+
     /// Why the event wasn't done: it was refused, or the device failed. None where it was done.
     pub fn fault(&self) -> Option<NodeFault>
-        ensures { result ≡ fault_of self.now.what }
+        ensures { result ≡ fault_of self.now.fate }
     {
-        match self.what {
-            What::Refused(_, why) => Some(shown(why)),
-            What::Faulted(_) | What::MountFailed | What::RaiseFailed(_) => Some(NodeFault::Device),
-            What::RaiseRefused(_) => Some(NodeFault::Exhausted),
-            What::Did(_) | What::Rests(_) | What::Crashed | What::Recovered(_) => None,
+        match self.fate {
+            Fate::Refused(why) => Some(shown(why)),
+            Fate::Faulted | Fate::MountFailed | Fate::RaiseFailed(_) => Some(NodeFault::Device),
+            Fate::RaiseRefused(_) => Some(NodeFault::Exhausted),
+            Fate::Done | Fate::Recovered(_) => None,
         }
     }
 }
@@ -47,14 +65,14 @@ pub(crate) fn shown(why: Refusal) -> NodeFault
     }
 }
 
-/// The command that an event wants, as it is told.
-pub(crate) fn command_in(wants: Durable) -> Option<Command>
-    ensures { option_map command_of result ≡ wanted_by wants }
+/// Which command an event wants, as it is told.
+pub(crate) fn attempt_in(wants: &Durable) -> Option<Attempt>
+    ensures { result ≡ option_map attempt_of (wanted_by wants.now) }
 {
     match wants {
         Durable::None => None,
-        Durable::Raise => Some(Command::Raise),
-        Durable::Put(work) => Some(Command::Put(work)),
-        Durable::Done(id) => Some(Command::Done(id)),
+        Durable::Raise => Some(Attempt::Raise),
+        Durable::Put(_) => Some(Attempt::Put),
+        Durable::Done(id) => Some(Attempt::Done(*id)),
     }
 }

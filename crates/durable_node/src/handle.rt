@@ -13,17 +13,18 @@ ghost use Rattle.job_journal.specs.Journal.{IsSound};
 ghost use Rattle.node_store.specs.Store.{durable_of, InStore, AllStandFor};
 ghost use Rattle.durable_node.specs.Carrying.{BeforeOrAfter, CantCarry};
 ghost use Rattle.durable_node.specs.Node.{area_of, told_doubt};
-ghost use Rattle.histories.specs.What.{command_of, reason_of};
+ghost use Rattle.histories.specs.Fates.{attempt_of};
+ghost use Rattle.histories.specs.What.{reason_of};
 ghost use Rattle.node_core.specs.NodeStep.{IsSpent};
 ghost use Rattle.durable_node.specs.Faults.{told};
 ghost use Rattle.durable_node.specs.Refusing.{AnswersEvent, disk_refusal};
 ghost use Rattle.durable_node.specs.Stepping.{IsServed, command_by};
 
-use crate::came::{Came, command_in};
+use crate::came::{Came, attempt_in};
 use crate::carry::carry;
 use crate::fault::NodeFault;
 use group_task::NodeId;
-use histories::{Refusal, What};
+use histories::{Fate, Refusal};
 use node_core::{CoreFault, Durable, Event, NodeCore};
 use node_store::NodeStore;
 use sector_disk::SectorDisk;
@@ -54,9 +55,9 @@ pub(crate) fn handle<D: SectorDisk>(
     ensures answers { AnswersEvent (refusal_of nodes id event.now core.old.state) (disk_refusal (durable_of store.old) (area_of store.old) (wants_of id (durable_of store.old).pending event.now core.old.state)) (told result) }
     ensures stuck { IfErr result (λ fault. fault ≡ NodeFault.Core NoMemory) }
 
-    // What came of the event, and the command that it wanted, if it was tried.
-    ensures what { IfOk result (λ came. IsServed store.old.journal.slots nodes id core.old.state (durable_of store.old) event.now core.new.state (durable_of store.new) came came.what) }
-    ensures command { IfOk result (λ came. option_map command_of came.command ≡ command_by (wants_of id (durable_of store.old).pending event.now core.old.state) came.what) }
+    // What came of the event, and which command it wanted, if it was tried.
+    ensures what { IfOk result (λ came. IsServed store.old.journal.slots nodes id core.old.state (durable_of store.old) event.now core.new.state (durable_of store.new) came came.fate) }
+    ensures tried { IfOk result (λ came. came.tried ≡ option_map attempt_of (command_by (wants_of id (durable_of store.old).pending event.now core.old.state) came.fate)) }
     ensures few { IfOk result (λ came. length came.sent.items ≤ most_of nodes (durable_of store.old).pending) }
 
     // The event was done, the device failed in its command, or it was refused.
@@ -76,12 +77,8 @@ pub(crate) fn handle<D: SectorDisk>(
         Ok(plan) => plan,
         Err(CoreFault::NoMemory) => return Err(NodeFault::Core(CoreFault::NoMemory)),
         Err(fault) => {
-            return Ok(Came {
-                what: What::Refused(*event, Refusal::Core(fault)),
-                command: None,
-                answer: None,
-                sent: Vec::new(alloc),
-            });
+            let fate = Fate::Refused(Refusal::Core(fault));
+            return Ok(Came::silent(alloc, fate, None));
         }
     };
     let wants = plan.wants();
@@ -89,27 +86,18 @@ pub(crate) fn handle<D: SectorDisk>(
         Ok(answer) => answer,
         Err(fault) => {
             if !fault.is_device() {
-                return Ok(Came {
-                    what: What::Refused(*event, refusal(store, &wants, fault)),
-                    command: None,
-                    answer: None,
-                    sent: Vec::new(alloc),
-                });
+                let fate = Fate::Refused(refusal(store, &wants, fault));
+                return Ok(Came::silent(alloc, fate, None));
             }
             *doubt = doubted(store, wants);
             *core = NodeCore::down(alloc, id, nodes);
-            return Ok(Came {
-                what: What::Faulted(*event),
-                command: command_in(wants),
-                answer: None,
-                sent: Vec::new(alloc),
-            });
+            return Ok(Came::silent(alloc, Fate::Faulted, attempt_in(&wants)));
         }
     };
     let sent = core.commit_step(plan, answer.unwrap_or(0));
     Ok(Came {
-        what: What::Did(*event),
-        command: command_in(wants),
+        fate: Fate::Done,
+        tried: attempt_in(&wants),
         answer,
         sent,
     })

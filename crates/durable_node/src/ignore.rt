@@ -5,7 +5,7 @@ ghost use Rattle.durable_node.specs.Stepping.{IsIgnored};
 
 use crate::came::Came;
 use crate::fault::NodeFault;
-use histories::{Refusal, What};
+use histories::{Fate, Refusal};
 use job_model::JobTable;
 use node_core::{CoreFault, Event, NodeCore};
 use node_store::NodeStore;
@@ -22,18 +22,18 @@ pub(crate) fn ignore<D: SectorDisk>(
     ensures kept { core.new.state ≡ core.old.state }
     ensures id { core.new.id ≡ core.old.id }
     ensures nodes { core.new.nodes ≡ core.old.nodes }
-    ensures what { IfOk result (λ came. IsIgnored (refusal_of core.old.nodes core.old.id event.now core.old.state) event.now came came.what) }
-    ensures command { IfOk result (λ came. came.command ≡ None) }
+    ensures what { IfOk result (λ came. IsIgnored (refusal_of core.old.nodes core.old.id event.now core.old.state) came came.fate) }
+    ensures tried { IfOk result (λ came. came.tried ≡ None) }
     ensures stuck { IfErr result (λ fault. fault ≡ NodeFault.Core NoMemory) }
 {
-    let what = match plan_over(alloc, core, store, event) {
-        Ok(()) => What::Did(*event),
+    let fate = match plan_over(alloc, core, store, event) {
+        Ok(()) => Fate::Done,
         Err(CoreFault::NoMemory) => return Err(NodeFault::Core(CoreFault::NoMemory)),
-        Err(fault) => What::Refused(*event, Refusal::Core(fault)),
+        Err(fault) => Fate::Refused(Refusal::Core(fault)),
     };
     Ok(Came {
-        what,
-        command: None,
+        fate,
+        tried: None,
         answer: None,
         sent: Vec::new(alloc),
     })

@@ -20,6 +20,3 @@ mod remount;
 pub use came::Came;
 pub use fault::NodeFault;
 pub use node::DurableNode;
-
-#[cfg(test)]
-mod runs;

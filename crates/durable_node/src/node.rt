@@ -142,7 +142,7 @@ impl<D: SectorDisk + Drop> DurableNode<D> {
         ensures counts { CountsOf D.state self.old.disk self.new.disk (told result) }
         // Over any disk, honest or not.
         ensures mounting { is_down self.old.state.phase ≡ true → event.now ≡ Event.Recover → Remounted self.old self.new (told result) self.new.found }
-        ensures kept { is_down self.old.state.phase ≡ true → event.now ≡ Event.Recover → IfOk result (λ came. IsFoundBy self.old.doubt came.what self.new.found) }
+        ensures kept { is_down self.old.state.phase ≡ true → event.now ≡ Event.Recover → IfOk result (λ came. IsFoundBy self.old.doubt came.fate self.new.found) }
         ensures reads { is_down self.old.state.phase ≡ true → event.now ≡ Event.Recover → ReadsDisk D.state self.old.disk self.new.disk (told result) self.new.found }
         ensures few { IfOk result (λ came. length came.sent.items ≤ most_by self.old.nodes self.old.kept) }
     {
@@ -169,7 +169,7 @@ impl<D: SectorDisk + Drop> DurableNode<D> {
         ensures answers { Answers self.old Event.Recover (told result) }
         ensures counts { CountsOf D.state self.old.disk self.new.disk (told result) }
         ensures mounting { is_down self.old.state.phase ≡ true → Remounted self.old self.new (told result) self.new.found }
-        ensures kept { is_down self.old.state.phase ≡ true → IfOk result (λ came. IsFoundBy self.old.doubt came.what self.new.found) }
+        ensures kept { is_down self.old.state.phase ≡ true → IfOk result (λ came. IsFoundBy self.old.doubt came.fate self.new.found) }
         ensures reads { is_down self.old.state.phase ≡ true → ReadsDisk D.state self.old.disk self.new.disk (told result) self.new.found }
         ensures few { IfOk result (λ came. length came.sent.items ≤ most_by self.old.nodes self.old.kept) }
     {

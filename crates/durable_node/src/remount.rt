@@ -7,7 +7,7 @@ ghost use Rattle.job_journal.specs.Journal.{IsSound};
 ghost use Rattle.node_core.specs.declared.event.Event.TheVariants.{Recover};
 ghost use Rattle.node_core.specs.declared.fault.CoreFault.TheVariants.{NoMemory};
 ghost use Rattle.node_core.specs.State.{is_down};
-ghost use Rattle.histories.specs.What.{command_of};
+ghost use Rattle.histories.specs.Fates.{attempt_of};
 ghost use Rattle.durable_node.specs.Faults.{told};
 ghost use Rattle.node_store.specs.Store.{durable_of, InStore, AllStandFor};
 ghost use Rattle.durable_node.specs.Carrying.{BeforeOrAfter};
@@ -20,7 +20,7 @@ use crate::came::Came;
 use crate::carry::carry;
 use crate::fault::{NodeFault, node_fault};
 use group_task::NodeId;
-use histories::{Command, What};
+use histories::{Attempt, Fate};
 use node_core::{Durable, NodeCore};
 use node_store::NodeStore;
 use sector_disk::SectorDisk;
@@ -48,7 +48,7 @@ pub(crate) fn remount<D: SectorDisk + Drop>(
     ensures counts { CountsOf D.state (disk_in disk.old store.old) (disk_in disk.new store.new) (told result) }
     ensures mounting { (was : Option ℕ)
         → Remounted (node_with id nodes core.old disk.old store.old doubt.old was) (node_with id nodes core.new disk.new store.new doubt.new found.new) (told result) (found_in found.new store.new) }
-    ensures kept { IfOk result (λ came. IsFoundBy doubt.old came.what (found_in found.new store.new)) }
+    ensures kept { IfOk result (λ came. IsFoundBy doubt.old came.fate (found_in found.new store.new)) }
     ensures reads { ReadsDisk D.state (disk_in disk.old store.old) (disk_in disk.new store.new) (told result) (found_in found.new store.new) }
     ensures quiet { IfOk result (λ came. came.sent.items ≡ []) }
 {
@@ -70,16 +70,16 @@ pub(crate) fn remount<D: SectorDisk + Drop>(
 fn unmounted(alloc: Global, fault: NodeFault) -> Result<Came, NodeFault>
     ensures told { told result ≡ Err fault }
     ensures stuck { IfErr result (λ why. (why ≡ fault) × (fault ≢ NodeFault.Device)) }
-    ensures what { IfOk result (λ came. (came.what ≡ What.MountFailed) × (fault ≡ NodeFault.Device)) }
+    ensures what { IfOk result (λ came. (came.fate ≡ Fate.MountFailed) × (fault ≡ NodeFault.Device)) }
     ensures quiet { IfOk result IsSilent }
-    ensures command { IfOk result (λ came. came.command ≡ None) }
+    ensures tried { IfOk result (λ came. came.tried ≡ None) }
 {
     if !fault.is_device() {
         return Err(fault);
     }
     Ok(Came {
-        what: What::MountFailed,
-        command: None,
+        fate: Fate::MountFailed,
+        tried: None,
         answer: None,
         sent: Vec::new(alloc),
     })
@@ -132,8 +132,8 @@ fn rise<D: SectorDisk>(
     ensures id { core.new.id ≡ id }
     ensures nodes { core.new.nodes ≡ nodes }
     ensures counts { Counts (D.state store.old.disk) (D.state store.new.disk) (IsErrOf (told (Ok result)) NodeFault.Device) (IsErrOf (told (Ok result)) NodeFault.Device → ⊥) }
-    ensures what { HasRisen id kept core.old core.new store.old store.new doubt.old doubt.new result result.what }
-    ensures command { option_map command_of result.command ≡ raise_by result.what }
+    ensures what { HasRisen id kept core.old core.new store.old store.new doubt.old doubt.new result result.fate }
+    ensures tried { result.tried ≡ option_map attempt_of (raise_by result.fate) }
     ensures whole { IsOk (told (Ok result)) → IsFalse store.new.broken }
     ensures slots { store.new.journal.slots ≡ store.old.journal.slots }
     ensures sound { IsSound store.old.journal.slots (D.state store.new.disk) }
@@ -149,8 +149,8 @@ fn rise<D: SectorDisk>(
             *core = NodeCore::new(alloc, id, nodes, store.counter());
             *doubt = None;
             Came {
-                what: What::Recovered(kept),
-                command: Some(Command::Raise),
+                fate: Fate::Recovered(kept),
+                tried: Some(Attempt::Raise),
                 answer,
                 sent: Vec::new(alloc),
             }
@@ -158,15 +158,15 @@ fn rise<D: SectorDisk>(
         Err(NodeFault::Device) => {
             *doubt = Some((Durable::Raise, count));
             Came {
-                what: What::RaiseFailed(kept),
-                command: Some(Command::Raise),
+                fate: Fate::RaiseFailed(kept),
+                tried: Some(Attempt::Raise),
                 answer: None,
                 sent: Vec::new(alloc),
             }
         }
         Err(_) => Came {
-            what: What::RaiseRefused(kept),
-            command: None,
+            fate: Fate::RaiseRefused(kept),
+            tried: None,
             answer: None,
             sent: Vec::new(alloc),
         },

@@ -11,8 +11,6 @@ mod members;
 mod node;
 mod shares;
 mod task;
-#[cfg(test)]
-mod tests;
 
 pub use group::GroupNo;
 pub use laws::limits;

@@ -15,6 +15,7 @@ pub mod Jobs
 pub mod Pending
 pub mod Ups
 pub mod Wanted
+pub mod Attempts
 pub mod OwnMessages
 pub mod Inside
 pub mod Others

@@ -1,5 +1,5 @@
 // The command line: each command with its arguments and its help.
-use clap::{Arg, Command};
+use clap::{Arg, ArgAction, Command};
 use std::alloc::{AllocError, Global};
 
 /// What `--version` prints behind the program's name. There was no release yet.
@@ -19,11 +19,12 @@ pub fn command<'a>(alloc: Global) -> Result<Command<'a>, AllocError> {
         .disable_help_subcommand(true)
         .subcommand(answer_command(alloc)?)?
         .subcommand(show_command(alloc))?
-        .subcommand(sim_command(alloc))?
+        .subcommand(sim_command(alloc)?)?
         .subcommand(store_command(alloc)?)?
         .subcommand(format_command(alloc)?)?
         .subcommand(node_command(alloc)?)?
-        .subcommand(trace_command(alloc))
+        .subcommand(trace_command(alloc))?
+        .subcommand(record_command(alloc))
 }
 
 fn answer_command<'a>(alloc: Global) -> Result<Command<'a>, AllocError> {
@@ -44,12 +45,22 @@ fn show_command<'a>(alloc: Global) -> Command<'a> {
         )
 }
 
-fn sim_command<'a>(alloc: Global) -> Command<'a> {
+fn sim_command<'a>(alloc: Global) -> Result<Command<'a>, AllocError> {
+    let names = Arg::new(alloc, "names")
+        .long("names")
+        .action(ArgAction::SetTrue)
+        .help("Prints what each message says, on a line of its own, in place of its bytes");
+    let nodes = Arg::new(alloc, "nodes")
+        .long("nodes")
+        .action(ArgAction::SetTrue)
+        .help("Prints the nodes in front of each act, too");
     Command::new(alloc, "sim")
         .about("Reads a schedule, runs it on a simulated cluster, and prints what each act did")
         .after_help(
             "The first line is cluster NODES SLOTS, each other one an act, such as check 0, deliver 3, cut 0 1 or crash 2 (docs/SCHEDULES.md). After the last act each node is printed.\n\nExample: invite sim < schedules/partition_heals.txt",
         )
+        .arg(names)?
+        .arg(nodes)
 }
 
 fn store_command<'a>(alloc: Global) -> Result<Command<'a>, AllocError> {
@@ -105,6 +116,14 @@ fn trace_command<'a>(alloc: Global) -> Command<'a> {
         )
         .after_help(
             "A trace is the nodes' histories as JSON (docs/TRACES.md).\n\nExample: echo '{\"nodes\":1,\"histories\":[[{\"do\":\"check\",\"sent\":[]}]]}' | invite trace",
+        )
+}
+
+fn record_command<'a>(alloc: Global) -> Command<'a> {
+    Command::new(alloc, "record")
+        .about("Reads a schedule, runs it on a simulated cluster, and prints its trace")
+        .after_help(
+            "The trace is what trace reads: the nodes' histories as JSON, in one line (docs/TRACES.md).\n\nExample: invite record < schedules/partition_heals.txt",
         )
 }
 

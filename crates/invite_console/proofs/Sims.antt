@@ -21,19 +21,10 @@ use Rattle.runs.specs.Reporting.{Moment, moment_of, step_sent, report_of}
 use Rattle.runs.specs.Growth.{grown, IsNext, RunsGrow, RunsOpen}
 use Rattle.cluster_sim.specs.Told.{told}
 use Rattle.cluster_sim.specs.Machine.{Machine, Acted, StandsFor}
-use Rattle.invite_console.specs.Acts.{act_line, act_lines, first_of}
-use Rattle.invite_console.specs.Sim.{AddsRow, AddsRows, HasWorld, IsSoFar, TellsRun}
+use Rattle.invite_console.specs.declared.telling.Telling.{Telling}
+use Rattle.invite_console.specs.Acts.{act_line, moment_line, first_of}
+use Rattle.invite_console.specs.Sim.{AddsNodes, AddsRow, AddsRows, HasWorld, IsSoFar, Tells, nothing, one_more, TellsRun}
 use Rattle.runs.proofs.Opened.{length_openings}
-
--- ---- the lines
-
-lines_append : (k : ℕ) (ms : List Moment) (m : Moment) → act_lines k (ms ++ m ∷ []) ≡ act_lines k ms ++ act_line (k + length ms) m.act (told m.outcome) m.sent
-lines_append k [] m =
-    append-nil (act_line k m.act (told m.outcome) m.sent) ∙ ap (λ (n : ℕ). act_line n m.act (told m.outcome) m.sent) (sym (add-zero k))
-lines_append k (x ∷ ms) m =
-    ap (λ (rest : List ℕ). act_line k x.act (told x.outcome) x.sent ++ rest) (lines_append (k + 1) ms m)
-    ∙ (sym (append_assoc (act_line k x.act (told x.outcome) x.sent) (act_lines (k + 1) ms) (act_line (k + 1 + length ms) m.act (told m.outcome) m.sent))
-    ∙ ap (λ (n : ℕ). act_lines k (x ∷ ms) ++ act_line n m.act (told m.outcome) m.sent) (omega arith))
 
 -- ---- what was sent
 
@@ -89,37 +80,33 @@ last_sent nodes w step =
 -- ---- one act further
 
 -- the line of the act, as its moment has it
-told_line : (nodes k : ℕ) (w : World) (a : Act) (step : Step) (new : Machine) (outcome : Outcome) → outcome ≡ told (act_outcome nodes w a step) → StandsFor new (world_after nodes w step)
-    → act_line k a outcome (drop (length w.net.sent) new.net.sent) ≡ act_line k a (told (moment_of nodes w a step).outcome) (moment_of nodes w a step).sent
-told_line nodes k w a step new outcome is_told stands =
-    ap (λ (o : Outcome). act_line k a o (drop (length w.net.sent) new.net.sent)) is_told
-    ∙ ap (λ (sent : List Envelope). act_line k a (told (act_outcome nodes w a step)) sent) (ap (λ (net : Network). drop (length w.net.sent) net.sent) stands.net ∙ last_sent nodes w step)
+told_line : (names : Bool) (nodes k : ℕ) (w : World) (a : Act) (step : Step) (new : Machine) (outcome : Outcome) → outcome ≡ told (act_outcome nodes w a step) → StandsFor new (world_after nodes w step)
+    → act_line names k a outcome (drop (length w.net.sent) new.net.sent) ≡ moment_line names k (moment_of nodes w a step)
+told_line names nodes k w a step new outcome is_told stands =
+    ap (λ (o : Outcome). act_line names k a o (drop (length w.net.sent) new.net.sent)) is_told
+    ∙ ap (λ (sent : List Envelope). act_line names k a (told (act_outcome nodes w a step)) sent) (ap (λ (net : Network). drop (length w.net.sent) net.sent) stands.net ∙ last_sent nodes w step)
 
-numbered : (acts : List Act) (ms : List Moment) → map (λ (m : Moment). m.act) ms ≡ acts → length acts ≡ 0 + length ms
-numbered acts ms same = let count : length acts ≡ length ms = ap length (sym same) ∙ length-map ms (λ (m : Moment). m.act) in omega (arith, count)
+numbered : (acts : List Act) (ms : List Moment) → map (λ (m : Moment). m.act) ms ≡ acts → length acts ≡ length ms
+numbered acts ms same = ap length (sym same) ∙ length-map ms (λ (m : Moment). m.act)
 
--- the text has the line of one moment more
-lines_further : (nodes : ℕ) (w : World) (ms : List Moment) (old new : Machine) (acts : List Act) (a : Act) (outcome : Outcome) (step : Step) (text behind : List ℕ)
-    → text ≡ act_lines 0 ms → map (λ (m : Moment). m.act) ms ≡ acts → old.net ≡ w.net
+-- the line that was added is that of one moment more
+line_further : (names : Bool) (nodes : ℕ) (w : World) (ms : List Moment) (old new : Machine) (acts : List Act) (a : Act) (outcome : Outcome) (step : Step) (found behind : List ℕ)
+    → map (λ (m : Moment). m.act) ms ≡ acts → old.net ≡ w.net
     → outcome ≡ told (act_outcome nodes w a step) → StandsFor new (world_after nodes w step)
-    → behind ≡ text ++ act_line (length acts) a outcome (drop (length old.net.sent) new.net.sent)
-    → behind ≡ act_lines 0 (ms ++ moment_of nodes w a step ∷ [])
-lines_further nodes w ms old new acts a outcome step text behind text_is acts_are net is_told stands added =
-    let m = moment_of nodes w a step in
-    let from_w : behind ≡ text ++ act_line (length acts) a outcome (drop (length w.net.sent) new.net.sent) =
-    added ∙ ap (λ (net : Network). text ++ act_line (length acts) a outcome (drop (length net.sent) new.net.sent)) net in
-    let of_moment : behind ≡ text ++ act_line (length acts) a (told m.outcome) m.sent =
-    from_w ∙ ap (λ (l : List ℕ). text ++ l) (told_line nodes (length acts) w a step new outcome is_told stands) in
-    let at_place : behind ≡ text ++ act_line (0 + length ms) a (told m.outcome) m.sent =
-    of_moment ∙ ap (λ (k : ℕ). text ++ act_line k a (told m.outcome) m.sent) (numbered acts ms acts_are) in
-    at_place ∙ (ap (λ (t : List ℕ). t ++ act_line (0 + length ms) a (told m.outcome) m.sent) text_is ∙ sym (lines_append 0 ms m))
+    → behind ≡ found ++ act_line names (length acts) a outcome (drop (length old.net.sent) new.net.sent)
+    → behind ≡ found ++ moment_line names (length ms) (moment_of nodes w a step)
+line_further names nodes w ms old new acts a outcome step found behind acts_are net is_told stands added =
+    added ∙ (ap (λ (net : Network). found ++ act_line names (length acts) a outcome (drop (length net.sent) new.net.sent)) net
+    ∙ (ap (λ (l : List ℕ). found ++ l) (told_line names nodes (length acts) w a step new outcome is_told stands)
+    ∙ ap (λ (k : ℕ). found ++ moment_line names k (moment_of nodes w a step)) (numbered acts ms acts_are)))
 
 -- the acts so far, one act further
-pub further : RunsGrow → (nodes slots : ℕ) (old new : Machine) (acts : List Act) (a : Act) (outcome : Outcome) (text behind : List ℕ)
-    → IsSoFar nodes slots old acts text → ((w : World) → StandsFor old w → Acted w a outcome new) → new.slots ≡ old.slots
-    → behind ≡ text ++ act_line (length acts) a outcome (drop (length old.net.sent) new.net.sent)
-    → IsSoFar nodes slots new (acts ++ a ∷ []) behind
-further grow nodes slots old new acts a outcome text behind so acted same added =
+pub further : RunsGrow → (telling : Telling) (nodes slots : ℕ) (old new : Machine) (acts : List Act) (a : Act) (outcome : Outcome) (text found behind : List ℕ)
+    → IsSoFar telling nodes slots old acts text → ((w : World) → StandsFor old w → Acted w a outcome new) → new.slots ≡ old.slots
+    → ((w : World) → StandsFor old w → AddsNodes telling.nodes w.states text found)
+    → behind ≡ found ++ act_line telling.names (length acts) a outcome (drop (length old.net.sent) new.net.sent)
+    → IsSoFar telling nodes slots new (acts ++ a ∷ []) behind
+further grow telling nodes slots old new acts a outcome text found behind so acted same rows added =
     let w = so.world in
     let act = acted w so.stands in
     let next : IsNext nodes slots w a act.step =
@@ -134,7 +121,8 @@ further grow nodes slots old new acts a outcome text behind so acted same added 
       slots_are = same ∙ so.slots_are;
       stands = stands;
       acts_are = map-append (λ (m : Moment). m.act) so.report.moments (moment_of nodes w a act.step ∷ []) ∙ ap (λ (xs : List Act). xs ++ a ∷ []) so.acts_are;
-      text_is = lines_further nodes w so.report.moments old new acts a outcome act.step text behind so.text_is so.acts_are so.stands.net is_told stands added;
+      told = one_more w so.report a act.step text found behind so.told next (rows w so.stands)
+          (line_further telling.names nodes w so.report.moments old new acts a outcome act.step found behind so.acts_are so.stands.net is_told stands added);
     }
 
 -- ---- what the line of an act asks for
@@ -164,8 +152,8 @@ world_kept old new w a outcome acted = (world_after (length w.states) w acted.st
 -- ---- the beginning, and the end
 
 -- a cluster that was opened has told nothing
-pub begins : RunsOpen → (nodes slots : ℕ) (machine : Machine) → machine.slots ≡ slots → StandsFor machine (start nodes) → IsSoFar nodes slots machine [] []
-begins opens nodes slots machine same stands = record {
+pub begins : RunsOpen → (telling : Telling) (nodes slots : ℕ) (machine : Machine) → machine.slots ≡ slots → StandsFor machine (start nodes) → IsSoFar telling nodes slots machine [] []
+begins opens telling nodes slots machine same stands = record {
   world = start nodes;
   report = report_of nodes [] [];
   left = opens nodes slots;
@@ -173,18 +161,20 @@ begins opens nodes slots machine same stands = record {
   slots_are = same;
   stands = stands;
   acts_are = refl;
-  text_is = refl;
+  told = nothing;
 }
 
 -- all acts were told, and then the nodes
-pub ends : (nodes slots : ℕ) (machine : Machine) (acts : List Act) (text all : List ℕ) → IsSoFar nodes slots machine acts text
-    → ((w : World) → StandsFor machine w → AddsRows 0 w.states text all) → TellsRun nodes slots acts all
-ends nodes slots machine acts text all so rows = record {
+pub ends : (telling : Telling) (nodes slots : ℕ) (machine : Machine) (acts : List Act) (text all : List ℕ) → IsSoFar telling nodes slots machine acts text
+    → ((w : World) → StandsFor machine w → AddsRows 0 w.states text all) → TellsRun telling nodes slots acts all
+ends telling nodes slots machine acts text all so rows = record {
   world = so.world;
   report = so.report;
   left = so.left;
   acts_are = so.acts_are;
-  told = subst (λ (t : List ℕ). AddsRows 0 so.world.states t all) so.text_is (rows so.world so.stands);
+  front = text;
+  told = so.told;
+  ended = rows so.world so.stands;
 }
 
 -- ---- the table
@@ -213,16 +203,17 @@ rows_end w machine k first text stands all before =
 -- ---- one act of the code
 
 -- the act was done, its line was added, and so all that was done is told
-pub step_told : {T E F : Type 0} → RunsGrow → (nodes slots number place : ℕ) (old new : Machine) (before : List Act) (a : Act) (messages : List Envelope) (text behind : List ℕ)
+pub step_told : {T E F : Type 0} → RunsGrow → (telling : Telling) (nodes slots number place : ℕ) (old new : Machine) (before : List Act) (a : Act) (messages : List Envelope) (text found behind : List ℕ)
     (outcome : Result Outcome E) (result : Result T F) → length before ≡ number → place ≡ length old.net.sent → messages ≡ new.net.sent → new.slots ≡ old.slots
     → ((w : World) → StandsFor old w → IfOk outcome (λ o. Acted w a o new)) → OnOk result (IsOk outcome)
-    → IfOk outcome (λ o. OnOk result (behind ≡ text ++ act_line number a o (drop place messages)))
-    → IsSoFar nodes slots old before text → OnOk result (IsSoFar nodes slots new (before ++ a ∷ []) behind)
-step_told grow nodes slots number place old new before a messages text behind outcome (Err f) count at all same acted done added so = tt
-step_told grow nodes slots number place old new before a messages text behind (Err e) (Ok u) count at all same acted done added so = absurd cc
-step_told grow nodes slots number place old new before a messages text behind (Ok o) (Ok u) count at all same acted done added so =
-    let line : behind ≡ text ++ act_line (length before) a o (drop (length old.net.sent) new.net.sent) =
-    added ∙ (ap (λ (k : ℕ). text ++ act_line k a o (drop place messages)) (sym count)
-    ∙ (ap (λ (k : ℕ). text ++ act_line (length before) a o (drop k messages)) at
-    ∙ ap (λ (ms : List Envelope). text ++ act_line (length before) a o (drop (length old.net.sent) ms)) all)) in
-    further grow nodes slots old new before a o text behind so acted same line
+    → ((w : World) → StandsFor old w → AddsNodes telling.nodes w.states text found)
+    → IfOk outcome (λ o. OnOk result (behind ≡ found ++ act_line telling.names number a o (drop place messages)))
+    → IsSoFar telling nodes slots old before text → OnOk result (IsSoFar telling nodes slots new (before ++ a ∷ []) behind)
+step_told grow telling nodes slots number place old new before a messages text found behind outcome (Err f) count at all same acted done rows added so = tt
+step_told grow telling nodes slots number place old new before a messages text found behind (Err e) (Ok u) count at all same acted done rows added so = absurd cc
+step_told grow telling nodes slots number place old new before a messages text found behind (Ok o) (Ok u) count at all same acted done rows added so =
+    let line : behind ≡ found ++ act_line telling.names (length before) a o (drop (length old.net.sent) new.net.sent) =
+    added ∙ (ap (λ (k : ℕ). found ++ act_line telling.names k a o (drop place messages)) (sym count)
+    ∙ (ap (λ (k : ℕ). found ++ act_line telling.names (length before) a o (drop k messages)) at
+    ∙ ap (λ (ms : List Envelope). found ++ act_line telling.names (length before) a o (drop (length old.net.sent) ms)) all)) in
+    further grow telling nodes slots old new before a o text found behind so acted same rows line

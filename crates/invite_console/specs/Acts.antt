@@ -1,5 +1,5 @@
 -- The lines of a simulation: one for each act.
-use Rattle.std.specs.Prelude.{ℕ, ◌+◌, List, [], ◌∷◌, ◌++◌, codes, decimal, Option, Some, None}
+use Rattle.std.specs.Prelude.{ℕ, ◌+◌, List, [], ◌∷◌, ◌++◌, codes, decimal, Bool, true, false, Option, Some, None}
 use Rattle.hex.specs.Hex.{encode_lower}
 use Rattle.wire_msg.specs.Envelope.{Envelope}
 use Rattle.wire_msg.specs.Spelling.{spelling}
@@ -17,14 +17,17 @@ use Rattle.cluster_sim.specs.declared.outcome.Refusal.{Refusal}
 use Rattle.cluster_sim.specs.declared.outcome.Refusal.TheVariants.{Node, Net, Stranger}
 use Rattle.cluster_sim.specs.Told.{told}
 use Rattle.runs.specs.Reporting.{Moment}
+use Rattle.invite_console.specs.Show.{message_text as text_shown}
 
-abbrev pub message_text : ℕ → Envelope → List ℕ
-message_text number m = codes " " ++ decimal number ++ codes ":" ++ encode_lower (spelling m)
+-- a message with its number: its bytes in hex, or on a line of its own what it says
+abbrev pub message_text : Bool → ℕ → Envelope → List ℕ
+message_text false number m = codes " " ++ decimal number ++ codes ":" ++ encode_lower (spelling m)
+message_text true number m = codes "\n    " ++ decimal number ++ codes ": " ++ text_shown m
 
 -- messages, each with its number, the first of them having this one
-abbrev pub sent_text : ℕ → List Envelope → List ℕ
-sent_text number [] = []
-sent_text number (m ∷ ms) = message_text number m ++ sent_text (number + 1) ms
+abbrev pub sent_text : Bool → ℕ → List Envelope → List ℕ
+sent_text names number [] = []
+sent_text names number (m ∷ ms) = message_text names number m ++ sent_text names (number + 1) ms
 
 abbrev pub core_name : CoreFault → List ℕ
 core_name core.Stranger = codes "Stranger"
@@ -79,18 +82,18 @@ answer_text (act.Recover n) answer = []
 answer_text (act.Compact n) answer = []
 
 -- what came of an act, and the messages that were sent in it
-abbrev pub outcome_text : Act → Outcome → List Envelope → List ℕ
-outcome_text a (Done answer first many) sent = codes "ok" ++ answer_text a answer ++ sent_text first sent
-outcome_text a (Refused why) sent = codes "refused " ++ refusal_name why
-outcome_text a Faulted sent = codes "fault Device"
+abbrev pub outcome_text : Bool → Act → Outcome → List Envelope → List ℕ
+outcome_text names a (Done answer first many) sent = codes "ok" ++ answer_text a answer ++ sent_text names first sent
+outcome_text names a (Refused why) sent = codes "refused " ++ refusal_name why
+outcome_text names a Faulted sent = codes "fault Device"
 
--- the line of an act, by its number from 0 on
-abbrev pub act_line : ℕ → Act → Outcome → List Envelope → List ℕ
-act_line number a outcome sent = decimal number ++ codes " " ++ outcome_text a outcome sent ++ codes "\n"
+-- the line of an act, by its number from 0 on, with its messages by name or as bytes
+abbrev pub act_line : Bool → ℕ → Act → Outcome → List Envelope → List ℕ
+act_line names number a outcome sent = decimal number ++ codes " " ++ outcome_text names a outcome sent ++ codes "\n"
 
-abbrev pub act_lines : ℕ → List Moment → List ℕ
-act_lines number [] = []
-act_lines number (m ∷ ms) = act_line number m.act (told m.outcome) m.sent ++ act_lines (number + 1) ms
+-- the line of a moment
+abbrev pub moment_line : Bool → ℕ → Moment → List ℕ
+moment_line names number m = act_line names number m.act (told m.outcome) m.sent
 
 -- the number of the first message that was sent, where an act was done
 abbrev pub first_of : ℕ → Outcome → ℕ

@@ -6,3 +6,4 @@ pub mod Show
 pub mod Acts
 pub mod Rows
 pub mod Sim
+pub mod Reasons

@@ -4,12 +4,14 @@ use Rattle.node_core.specs.State.{is_down}
 use Rattle.histories.specs.NodeState.{NodeState}
 use Rattle.schedule.specs.declared.act.Act.{Act}
 use Rattle.schedule.specs.Text.{Plan, plan_of}
-use Rattle.runs.specs.World.{World}
-use Rattle.runs.specs.Reporting.{Report}
-use Rattle.runs.specs.Growth.{IsLeft, acts_in}
+use Rattle.runs.specs.World.{World, start}
+use Rattle.runs.specs.Step.{Step, world_after}
+use Rattle.runs.specs.Reporting.{Report, moment_of, report_of}
+use Rattle.runs.specs.Growth.{IsLeft, IsNext, acts_in, grown}
 use Rattle.cluster_sim.specs.Machine.{Machine, StandsFor}
 use Rattle.console_text.specs.Ends.{Outcome, line, refused}
-use Rattle.invite_console.specs.Acts.{act_lines}
+use Rattle.invite_console.specs.declared.telling.Telling.{Telling}
+use Rattle.invite_console.specs.Acts.{moment_line}
 use Rattle.invite_console.specs.Rows.{HasRow, down_row}
 
 -- ---- the table
@@ -27,29 +29,45 @@ abbrev pub AddsRows : ℕ → List NodeState → List ℕ → List ℕ → Type 
 AddsRows id [] old new = new ≡ old
 AddsRows id (s ∷ states) old new = (behind : List ℕ) × AddsRow id s old behind × AddsRows (id + 1) states behind new
 
+-- the lines of the nodes, where they are asked for
+abbrev pub AddsNodes : Bool → List NodeState → List ℕ → List ℕ → Type 0
+AddsNodes false states old new = new ≡ old
+AddsNodes true states old new = AddsRows 0 states old new
+
 -- ---- the whole text
+
+-- A run and its report, with the text that tells it so far: in front of the line of each act, where they are asked for, the nodes as it
+-- finds them.
+pub data Tells (telling : Telling) (nodes slots : ℕ) : World → Report → List ℕ → Type 0 where
+  nothing : Tells telling nodes slots (start nodes) (report_of nodes [] []) []
+  one_more : (w : World) (r : Report) (a : Act) (step : Step) (text found behind : List ℕ) → Tells telling nodes slots w r text
+      → IsNext nodes slots w a step → AddsNodes telling.nodes w.states text found
+      → behind ≡ found ++ moment_line telling.names (length r.moments) (moment_of nodes w a step)
+      → Tells telling nodes slots (world_after nodes w step) (grown nodes w a step r) behind
 
 -- Some run of these acts is told act by act, and then the nodes as it leaves them. Whatever is promised of every run of a
 -- schedule is promised of this one.
-pub record TellsRun (nodes slots : ℕ) (acts : List Act) (text : List ℕ) : Type 0 where
+pub record TellsRun (telling : Telling) (nodes slots : ℕ) (acts : List Act) (text : List ℕ) : Type 0 where
   pub world : World
   pub report : Report
   pub left : IsLeft nodes slots world report
   pub acts_are : acts_in report ≡ acts
-  pub told : AddsRows 0 world.states (act_lines 0 report.moments) text
+  pub front : List ℕ
+  pub told : Tells telling nodes slots world report front
+  pub ended : AddsRows 0 world.states front text
 
-abbrev pub TellsPlan : Result Plan ℕ → Outcome → Type 0
-TellsPlan (Err n) outcome = outcome ≡ refused (codes "bad line " ++ decimal n)
-TellsPlan (Ok plan) outcome = (outcome.good ≡ true) × TellsRun plan.size.nodes plan.size.slots plan.acts outcome.text
+abbrev pub TellsPlan : Telling → Result Plan ℕ → Outcome → Type 0
+TellsPlan telling (Err n) outcome = outcome ≡ refused (codes "bad line " ++ decimal n)
+TellsPlan telling (Ok plan) outcome = (outcome.good ≡ true) × TellsRun telling plan.size.nodes plan.size.slots plan.acts outcome.text
 
 -- what `sim` prints for an input
-abbrev pub IsSimulation : List ℕ → Outcome → Type 0
-IsSimulation input outcome = TellsPlan (plan_of input) outcome
+abbrev pub IsSimulation : Telling → List ℕ → Outcome → Type 0
+IsSimulation telling input outcome = TellsPlan telling (plan_of input) outcome
 
 -- ---- on the way
 
 -- the acts so far were told, and the cluster is as they left it
-pub record IsSoFar (nodes slots : ℕ) (machine : Machine) (acts : List Act) (text : List ℕ) : Type 0 where
+pub record IsSoFar (telling : Telling) (nodes slots : ℕ) (machine : Machine) (acts : List Act) (text : List ℕ) : Type 0 where
   pub world : World
   pub report : Report
   pub left : IsLeft nodes slots world report
@@ -57,7 +75,7 @@ pub record IsSoFar (nodes slots : ℕ) (machine : Machine) (acts : List Act) (te
   pub slots_are : machine.slots ≡ slots
   pub stands : StandsFor machine world
   pub acts_are : acts_in report ≡ acts
-  pub text_is : text ≡ act_lines 0 report.moments
+  pub told : Tells telling nodes slots world report text
 
 -- the cluster stands for some world
 abbrev pub HasWorld : Machine → Type 0

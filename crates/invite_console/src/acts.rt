@@ -1,8 +1,9 @@
 //! The lines of a simulation: one for each act.
 
-ghost use Rattle.std.specs.Prelude.{◌≡◌, ◌++◌, ◌<◌, ◌≤◌, IfOk, IfSome, IsOk, OnOk, codes, decimal, drop, length, slice_get};
+ghost use Rattle.std.specs.Prelude.{◌≡◌, ◌++◌, ◌<◌, ◌≤◌, IfOk, IfSome, IsOk, OnOk, codes, decimal, drop, length, slice_get, true};
 ghost use Rattle.invite_console.specs.Acts.{act_line, answer_text, core_name, fault_name, first_of, message_text, net_name, outcome_text, refusal_name, sent_text};
 
+use crate::showing::push_shown;
 use cluster_sim::{Outcome, Refusal};
 use console_text::{push_hex, push_number, push_text};
 use durable_node::NodeFault;
@@ -21,14 +22,15 @@ pub(crate) fn push_done(
     outcome: Result<Outcome, AllocError>,
     messages: &MessageList,
     place: usize,
+    names: bool,
 ) -> Result<(), AllocError>
     requires place { IfOk outcome (λ _. place ≤ length messages.now.messages) }
     requires first { IfOk outcome (λ came. first_of place came ≡ place) }
     ensures done { OnOk result (IsOk outcome) }
-    ensures line { IfOk outcome (λ came. OnOk result (text.new.items ≡ text.old.items ++ act_line number act.now came (drop place messages.now.messages))) }
+    ensures line { IfOk outcome (λ came. OnOk result (text.new.items ≡ text.old.items ++ act_line names number act.now came (drop place messages.now.messages))) }
 {
     match outcome {
-        Ok(outcome) => push_act(text, bytes, number, act, outcome, messages, place),
+        Ok(outcome) => push_act(text, bytes, number, act, outcome, messages, place, names),
         Err(error) => Err(error),
     }
 }
@@ -42,14 +44,15 @@ fn push_act(
     outcome: Outcome,
     messages: &MessageList,
     place: usize,
+    names: bool,
 ) -> Result<(), AllocError>
     requires place { place ≤ length messages.now.messages }
     requires first { first_of place outcome ≡ place }
-    ensures { OnOk result (text.new.items ≡ text.old.items ++ act_line number act.now outcome (drop place messages.now.messages)) }
+    ensures { OnOk result (text.new.items ≡ text.old.items ++ act_line names number act.now outcome (drop place messages.now.messages)) }
 {
     push_number(text, number)?;
     push_text(text, " ")?;
-    push_outcome(text, bytes, act, outcome, messages, place)?;
+    push_outcome(text, bytes, act, outcome, messages, place, names)?;
     push_text(text, "\n")
 }
 
@@ -60,16 +63,17 @@ fn push_outcome(
     outcome: Outcome,
     messages: &MessageList,
     place: usize,
+    names: bool,
 ) -> Result<(), AllocError>
     requires place { place ≤ length messages.now.messages }
     requires first { first_of place outcome ≡ place }
-    ensures { OnOk result (text.new.items ≡ text.old.items ++ outcome_text act.now outcome (drop place messages.now.messages)) }
+    ensures { OnOk result (text.new.items ≡ text.old.items ++ outcome_text names act.now outcome (drop place messages.now.messages)) }
 {
     match outcome {
         Outcome::Done { answer, .. } => {
             push_text(text, "ok")?;
             push_answer(text, act, answer)?;
-            push_sent(text, bytes, messages, place)
+            push_sent(text, bytes, messages, place, names)
         }
         Outcome::Refused(why) => {
             push_text(text, "refused ")?;
@@ -157,29 +161,48 @@ fn push_sent(
     bytes: &mut Vec<u8>,
     messages: &MessageList,
     place: usize,
+    names: bool,
 ) -> Result<(), AllocError>
     requires place { place ≤ length messages.now.messages }
-    ensures { OnOk result (text.new.items ≡ text.old.items ++ sent_text place (drop place messages.now.messages)) }
+    ensures { OnOk result (text.new.items ≡ text.old.items ++ sent_text names place (drop place messages.now.messages)) }
 {
     for at in place..messages.len() {
-        push_message(text, bytes, messages, at)?;
+        push_message(text, bytes, messages, at, names)?;
     }
     Ok(())
 }
 
-/// Adds the message at a place. Its spelling is written in place of what `bytes` held.
+/// Adds the message at a place, by name or as bytes. Its spelling is written in place of what `bytes` held.
 fn push_message(
     text: &mut Vec<u8>,
     bytes: &mut Vec<u8>,
     messages: &MessageList,
     place: usize,
+    names: bool,
 ) -> Result<(), AllocError>
     requires { place < length messages.now.messages }
-    ensures { IfSome (slice_get messages.now.messages place) (λ message. OnOk result (text.new.items ≡ text.old.items ++ message_text place message)) }
+    ensures { IfSome (slice_get messages.now.messages place) (λ message. OnOk result (text.new.items ≡ text.old.items ++ message_text names place message)) }
 {
+    if names {
+        return push_named(text, messages, place);
+    }
     push_text(text, " ")?;
     push_number(text, place as u64)?;
     push_text(text, ":")?;
     messages.spell(place, bytes)?;
     push_hex(text, bytes)
+}
+
+/// Adds what the message at a place says, on a line of its own.
+fn push_named(text: &mut Vec<u8>, messages: &MessageList, place: usize) -> Result<(), AllocError>
+    ensures { IfSome (slice_get messages.now.messages place) (λ message. OnOk result (text.new.items ≡ text.old.items ++ message_text true place message)) }
+{
+    let Some(message) = messages.get(place) else {
+        return Ok(());
+    };
+    let number = place as u64;
+    push_text(text, "\n    ")?;
+    push_number(text, number)?;
+    push_text(text, ": ")?;
+    push_shown(text, &message)
 }

@@ -1,16 +1,18 @@
-ghost use Rattle.std.specs.Prelude.{◌≡◌, ◌<◌, ◌≤◌, ℕ, List, [], IfOk, None};
+ghost use Rattle.std.specs.Prelude.{◌≡◌, ◌<◌, ◌≤◌, ◌+◌, ℕ, List, [], IfOk, None};
 ghost use Rattle.group_task.specs.declared.node.TheConstants.{NODES};
 ghost use Rattle.wire_msg.specs.Envelope.{Envelope};
 ghost use Rattle.node_core.specs.declared.event.Event.TheVariants.{Deliver};
 ghost use Rattle.node_core.specs.Start.{alone};
 ghost use Rattle.node_core.specs.Wants.{wants_of};
-ghost use Rattle.console_text.specs.Ends.{outcome_of, IsFixed, Prints};
+ghost use Rattle.console_text.specs.Ends.{outcome_of, IsFixed, IsWhy, Prints};
+ghost use Rattle.invite_console.specs.Reasons.{answer_flaw};
 ghost use Rattle.invite_console.specs.Answer.{answer_text, answers_to, first_count, state_after};
 
 use crate::batches::{PIECE, next_batch};
 use crate::lines::hex_lines;
+use crate::reasons::{bad_hex, with_reason};
 use crate::session::Session;
-use console_text::{Ending, Printout, Trouble, bad_line, print, read_input};
+use console_text::{Ended, Printout, Source, Told, Trouble, read_source, tell};
 use group_task::NodeId;
 use line_words::LineFault;
 use std::alloc::{AllocError, Global};
@@ -23,37 +25,36 @@ pub fn answer<R: Read, W: Write>(
     alloc: Global,
     id: NodeId,
     nodes: u8,
-    input: &mut R,
+    input: &mut Source<R>,
     output: &mut W,
-) -> Ending
+) -> Ended
     requires within { id < nodes }
     requires limit { nodes ≤ NODES }
-    ensures { Prints (IsFixed (answer_text id nodes)) (R.remaining input.old) (W.contents output.old) (W.contents output.new) result }
+    ensures prints { Prints (IsFixed (answer_text id nodes)) (R.remaining input.old.reader) (W.contents output.old) (W.contents output.new) result.ending }
+    ensures why { IsWhy (answer_flaw id nodes) (R.remaining input.old.reader) result.ending result.why.items }
+    ensures reads { input.old.left ≤ input.new.left + 16777216 }
 {
-    let outcome = match read_input(alloc, input) {
+    let outcome = match read_source(alloc, input) {
         Ok(bytes) => answer_to(alloc, id, nodes, bytes).map_err(Trouble::from),
         Err(trouble) => Err(trouble),
     };
-    print(output, outcome)
+    tell(alloc, output, outcome)
 }
 
-/// What `answer` prints for an input. The text is written in the input's memory.
-fn answer_to(
-    alloc: Global,
-    id: NodeId,
-    nodes: u8,
-    mut input: Vec<u8>,
-) -> Result<Printout, AllocError>
+/// What `answer` prints for an input, and what is wrong with it. The text is written in the input's memory.
+fn answer_to(alloc: Global, id: NodeId, nodes: u8, mut input: Vec<u8>) -> Result<Told, AllocError>
     requires within { id < nodes }
     requires limit { nodes ≤ NODES }
-    ensures { IfOk result (λ printout. outcome_of printout ≡ answer_text id nodes input.items) }
+    ensures printed { IfOk result (λ told. outcome_of told.printout ≡ answer_text id nodes input.items) }
+    ensures why { IfOk result (λ told. told.why.items ≡ answer_flaw id nodes input.items) }
 {
     match hex_lines(alloc, &input) {
         Ok(bytes) => {
             input.clear();
-            answers_to(alloc, id, nodes, &bytes, input)
+            let printout = answers_to(alloc, id, nodes, &bytes, input)?;
+            with_reason(alloc, printout)
         }
-        Err(LineFault::BadLine(number)) => bad_line(alloc, number),
+        Err(LineFault::BadLine(number)) => bad_hex(alloc, number),
         Err(LineFault::NoMemory) => Err(AllocError),
     }
 }

@@ -10,16 +10,19 @@ mod answers;
 mod batches;
 mod digits;
 mod lines;
+mod reasons;
 mod rows;
 mod session;
 mod showing;
 mod simulating;
+mod telling;
 mod words;
 
 pub use answers::{answer, needs_no_disk};
 pub use console_text::Ending;
 pub use showing::show;
 pub use simulating::sim;
+pub use telling::Telling;
 
 #[cfg(test)]
 mod schedules;

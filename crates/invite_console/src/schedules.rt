@@ -1,6 +1,9 @@
 //! Whole schedules and what they print: those of the folder `schedules` at the top of the repository, where they are to be read.
-use super::sim;
+use super::{Telling, sim};
+use console_text::{Ending, Sink, Source};
 use std::alloc::Global;
+use std::io;
+use std::io::{Read, Write};
 use std::process::Abort;
 use std::test::Fail;
 
@@ -107,16 +110,53 @@ const SCHEDULES: [(&str, &str); 20] = [
     ),
 ];
 
-/// Schedules of which a line can't be read, with what is printed.
-const BAD_LINES: [(&str, &str); 8] = [
-    ("", "bad line 1\n"),
-    ("\n", "bad line 2\n"),
-    ("check 0\ncluster 3 8\n", "bad line 1\n"),
-    ("cluster 3 8\n\ncluster 3 8\n", "bad line 3\n"),
-    ("cluster 3 8\r\n", "bad line 1\n"),
-    ("cluster 3 8\ncheck 128\n", "bad line 2\n"),
-    ("cluster 3 8\ncheck 0\ndeliver 00", "bad line 3\n"),
-    ("cluster 3 8\nsubmit 0 16 -\n", "bad line 2\n"),
+/// Schedules of which a line can't be read, with what is printed, and what standard error says.
+const BAD_LINES: [(&str, &str, &str); 9] = [
+    (
+        "",
+        "bad line 1\n",
+        "line 1: there is no line cluster NODES SLOTS",
+    ),
+    (
+        "\n",
+        "bad line 2\n",
+        "line 2: there is no line cluster NODES SLOTS",
+    ),
+    (
+        "check 0\ncluster 3 8\n",
+        "bad line 1\n",
+        "line 1: an act in front of the line cluster NODES SLOTS, or behind 65536 acts",
+    ),
+    (
+        "cluster 3 8\n\ncluster 3 8\n",
+        "bad line 3\n",
+        "line 3: not of the form cluster NODES SLOTS, or not the first line",
+    ),
+    (
+        "cluster 3 8\r\n",
+        "bad line 1\n",
+        "line 1: not of the form cluster NODES SLOTS, or not the first line",
+    ),
+    (
+        "cluster 3 8\ncheck 128\n",
+        "bad line 2\n",
+        "line 2: not of the form check N",
+    ),
+    (
+        "cluster 3 8\ncheck 0\ndeliver 00",
+        "bad line 3\n",
+        "line 3: not of the form deliver K",
+    ),
+    (
+        "cluster 3 8\nsubmit 0 16 -\n",
+        "bad line 2\n",
+        "line 2: not of the form submit N QUEUE HEX [P]",
+    ),
+    (
+        "cluster 3 8\n\nchek 0\n",
+        "bad line 3\n",
+        "line 3: no such act: chek",
+    ),
 ];
 
 /// Acts that are refused for a node outside the cluster, or for a message that isn't there.
@@ -126,11 +166,93 @@ const REFUSED: (&str, &str) = (
 );
 
 fn check(rt: &impl Abort, alloc: Global, input: &str, want: &str, status: u8) {
-    let mut reader = input.as_bytes();
+    let mut source = Source::new(input.as_bytes());
     let mut output = Vec::new(alloc);
-    let ending = sim(alloc, &mut reader, &mut output);
+    let ended = sim(alloc, PLAIN, &mut source, &mut output);
     assert_eq!(rt; output.as_slice(), want.as_bytes());
-    assert_eq!(rt; ending.status(), status);
+    assert_eq!(rt; ended.ending.status(), status);
+}
+
+const PLAIN: Telling = Telling {
+    names: false,
+    nodes: false,
+};
+
+/// The same schedule as it is told by default, with messages by name, and with the nodes in between.
+const TOLD: (&str, [(Telling, &str); 3]) = (
+    "cluster 2 4\ncheck 1\ndeliver 0\nlose 9\n",
+    [
+        (
+            PLAIN,
+            "0 ok 0:010101000000\n1 ok 1:01020001000101\n2 refused NoSuch\nnode 0 Normal coord 0 group 0:1 up - members 0 count 1 pending - hand -\nnode 1 Normal coord 1 group 1:1 up - members 1 count 1 pending - hand -\n",
+        ),
+        (
+            Telling {
+                names: true,
+                nodes: false,
+            },
+            "0 ok\n    0: 1>0 AreYouCoordinator\n1 ok\n    1: 0>1 Coordinator yes\n2 refused NoSuch\nnode 0 Normal coord 0 group 0:1 up - members 0 count 1 pending - hand -\nnode 1 Normal coord 1 group 1:1 up - members 1 count 1 pending - hand -\n",
+        ),
+        (
+            Telling {
+                names: false,
+                nodes: true,
+            },
+            "node 0 Normal coord 0 group 0:1 up - members 0 count 1 pending - hand -\nnode 1 Normal coord 1 group 1:1 up - members 1 count 1 pending - hand -\n0 ok 0:010101000000\nnode 0 Normal coord 0 group 0:1 up - members 0 count 1 pending - hand -\nnode 1 Normal coord 1 group 1:1 up - members 1 count 1 pending - hand -\n1 ok 1:01020001000101\nnode 0 Normal coord 0 group 0:1 up - members 0 count 1 pending - hand -\nnode 1 Normal coord 1 group 1:1 up - members 1 count 1 pending - hand -\n2 refused NoSuch\nnode 0 Normal coord 0 group 0:1 up - members 0 count 1 pending - hand -\nnode 1 Normal coord 1 group 1:1 up - members 1 count 1 pending - hand -\n",
+        ),
+    ],
+);
+
+#[test]
+fn told_in_three_ways(rt: HostRuntime) -> Result<(), Fail> {
+    for (telling, want) in TOLD.1 {
+        let mut source = Source::new(TOLD.0.as_bytes());
+        let mut output = Vec::new(rt.alloc());
+        let ended = sim(rt.alloc(), telling, &mut source, &mut output);
+        assert_eq!(rt; output.as_slice(), want.as_bytes());
+        assert_eq!(rt; ended.ending, Ending::Done);
+        assert_eq!(rt; ended.why.as_slice(), b"".as_slice());
+    }
+    Ok(())
+}
+
+/// Fails at each call.
+#[derive(Drop)]
+struct Broken;
+
+impl Read for Broken {
+    fn read(&mut self, _buf: &mut [u8]) -> io::Result<usize> {
+        Err(io::Error::from(io::ErrorKind::Other))
+    }
+}
+
+impl Write for Broken {
+    fn write(&mut self, _buf: &[u8]) -> io::Result<usize> {
+        Err(io::Error::from(io::ErrorKind::StorageFull))
+    }
+
+    fn flush(&mut self) -> io::Result<()> {
+        Ok(())
+    }
+}
+
+#[test]
+fn streams_that_fail(rt: HostRuntime) -> Result<(), Fail> {
+    let mut output = Sink::new(Vec::new(rt.alloc()));
+    let mut source = Source::new(Broken);
+    let ended = sim(rt.alloc(), PLAIN, &mut source, &mut output);
+    assert_eq!(rt; ended.ending, Ending::Unread);
+    assert!(rt; source.fault().is_some());
+    assert!(rt; output.fault().is_none());
+
+    let mut source = Source::new(b"cluster 1 4\n".as_slice());
+    let mut output = Sink::new(Broken);
+    let ended = sim(rt.alloc(), PLAIN, &mut source, &mut output);
+    assert_eq!(rt; ended.ending, Ending::Unwritten);
+    assert!(rt; source.fault().is_none());
+    let fault = output.fault().ok_or("the error of the write is lost")?;
+    assert_eq!(rt; fault.kind(), io::ErrorKind::StorageFull);
+    Ok(())
 }
 
 #[test]
@@ -143,8 +265,13 @@ fn whole_schedules(rt: HostRuntime) -> Result<(), Fail> {
 
 #[test]
 fn lines_that_cannot_be_read(rt: HostRuntime) -> Result<(), Fail> {
-    for (input, want) in BAD_LINES {
-        check(&rt, rt.alloc(), input, want, 1);
+    for (input, want, why) in BAD_LINES {
+        let mut source = Source::new(input.as_bytes());
+        let mut output = Vec::new(rt.alloc());
+        let ended = sim(rt.alloc(), PLAIN, &mut source, &mut output);
+        assert_eq!(rt; output.as_slice(), want.as_bytes());
+        assert_eq!(rt; ended.ending, Ending::Refused);
+        assert_eq!(rt; ended.why.as_slice(), why.as_bytes());
     }
     Ok(())
 }

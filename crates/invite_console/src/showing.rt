@@ -1,13 +1,15 @@
-ghost use Rattle.std.specs.Prelude.{◌≡◌, ◌++◌, [], IfOk, OnOk, codes};
-ghost use Rattle.console_text.specs.Ends.{line, outcome_of, IsFixed, Prints};
+ghost use Rattle.std.specs.Prelude.{◌≡◌, ◌≤◌, ◌+◌, ◌++◌, [], IfOk, OnOk, codes};
+ghost use Rattle.console_text.specs.Ends.{line, outcome_of, IsFixed, IsWhy, Prints};
+ghost use Rattle.invite_console.specs.Reasons.{show_flaw};
 ghost use Rattle.invite_console.specs.Show.{body_text, group_text, message_text, rest_text, shown, shown_of, show_text, task_text, truth_text, order_text};
 ghost use Rattle.console_text.specs.Words.{work_text};
 
 use crate::batches::{PIECE, next_batch};
 use crate::lines::hex_lines;
+use crate::reasons::{bad_hex, with_reason};
 use crate::words::{push_group, push_ids, push_truth};
 use console_text::{
-    Ending, Printout, Trouble, bad_line, print, push_number, push_text, push_work, read_input,
+    Ended, Printout, Source, Told, Trouble, push_number, push_text, push_work, read_source, tell,
 };
 use group_task::{GroupNo, Task};
 use job_model::Work;
@@ -18,26 +20,30 @@ use wire_msg::{Body, Message, Stream};
 
 /// Reads a stream of messages in hex lines, and prints them, a line of text for each. Bytes of an unfinished frame are counted
 /// behind the last.
-pub fn show<R: Read, W: Write>(alloc: Global, input: &mut R, output: &mut W) -> Ending
-    ensures { Prints (IsFixed show_text) (R.remaining input.old) (W.contents output.old) (W.contents output.new) result }
+pub fn show<R: Read, W: Write>(alloc: Global, input: &mut Source<R>, output: &mut W) -> Ended
+    ensures prints { Prints (IsFixed show_text) (R.remaining input.old.reader) (W.contents output.old) (W.contents output.new) result.ending }
+    ensures why { IsWhy show_flaw (R.remaining input.old.reader) result.ending result.why.items }
+    ensures reads { input.old.left ≤ input.new.left + 16777216 }
 {
-    let outcome = match read_input(alloc, input) {
+    let outcome = match read_source(alloc, input) {
         Ok(bytes) => show_to(alloc, bytes).map_err(Trouble::from),
         Err(trouble) => Err(trouble),
     };
-    print(output, outcome)
+    tell(alloc, output, outcome)
 }
 
-/// What `show` prints for an input. The text is written in the input's memory.
-fn show_to(alloc: Global, mut input: Vec<u8>) -> Result<Printout, AllocError>
-    ensures { IfOk result (λ printout. outcome_of printout ≡ show_text input.items) }
+/// What `show` prints for an input, and what is wrong with it. The text is written in the input's memory.
+fn show_to(alloc: Global, mut input: Vec<u8>) -> Result<Told, AllocError>
+    ensures printed { IfOk result (λ told. outcome_of told.printout ≡ show_text input.items) }
+    ensures why { IfOk result (λ told. told.why.items ≡ show_flaw input.items) }
 {
     match hex_lines(alloc, &input) {
         Ok(bytes) => {
             input.clear();
-            show_stream(alloc, &bytes, input)
+            let printout = show_stream(alloc, &bytes, input)?;
+            with_reason(alloc, printout)
         }
-        Err(LineFault::BadLine(number)) => bad_line(alloc, number),
+        Err(LineFault::BadLine(number)) => bad_hex(alloc, number),
         Err(LineFault::NoMemory) => Err(AllocError),
     }
 }
@@ -53,7 +59,7 @@ fn show_stream(alloc: Global, bytes: &[u8], mut text: Vec<u8>) -> Result<Printou
     while fed < bytes.len() {
         let end = bytes.len().min(fed + PIECE);
         let is_whole = next_batch(&mut stream, &bytes[fed..end], &mut messages)?;
-        push_shown(&mut text, &messages)?;
+        push_lines(&mut text, &messages)?;
         if !is_whole {
             push_text(&mut text, "malformed\n")?;
             return Ok(Printout { text, good: false });
@@ -77,7 +83,7 @@ fn push_rest(text: &mut Vec<u8>, rest: u64) -> Result<(), AllocError>
 }
 
 /// Adds messages, a line of text for each.
-fn push_shown(text: &mut Vec<u8>, messages: &[Message]) -> Result<(), AllocError>
+fn push_lines(text: &mut Vec<u8>, messages: &[Message]) -> Result<(), AllocError>
     ensures { OnOk result (text.new.items ≡ text.old.items ++ shown messages.now) }
 {
     for message in messages {
@@ -89,12 +95,19 @@ fn push_shown(text: &mut Vec<u8>, messages: &[Message]) -> Result<(), AllocError
 fn push_message(text: &mut Vec<u8>, message: &Message) -> Result<(), AllocError>
     ensures { OnOk result (text.new.items ≡ text.old.items ++ line (message_text message.now)) }
 {
+    push_shown(text, message)?;
+    push_text(text, "\n")
+}
+
+/// Adds what a message says.
+pub(crate) fn push_shown(text: &mut Vec<u8>, message: &Message) -> Result<(), AllocError>
+    ensures { OnOk result (text.new.items ≡ text.old.items ++ message_text message.now) }
+{
     push_number(text, u64::from(message.sender().number()))?;
     push_text(text, ">")?;
     push_number(text, u64::from(message.receiver().number()))?;
     push_text(text, " ")?;
-    push_body(text, message.body())?;
-    push_text(text, "\n")
+    push_body(text, message.body())
 }
 
 fn push_body(text: &mut Vec<u8>, body: &Body) -> Result<(), AllocError>

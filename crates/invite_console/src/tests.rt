@@ -1,5 +1,5 @@
 use super::{answer, show};
-use console_text::{Ending, MAX_READS};
+use console_text::{Ending, MAX_READS, Source};
 use group_task::{NODES, NodeId};
 use std::alloc::Global;
 use std::io;
@@ -73,17 +73,19 @@ fn check_answer<R: Read>(
     assert!(rt; nodes <= NODES);
     assert!(rt; id.number() < nodes);
     let mut output = Vec::new(alloc);
-    let ending = answer(alloc, id, nodes, input, &mut output);
+    let mut source = Source::new(input);
+    let ended = answer(alloc, id, nodes, &mut source, &mut output);
     assert_eq!(rt; output.as_slice(), want.as_bytes());
-    assert_eq!(rt; ending.status(), status);
+    assert_eq!(rt; ended.ending.status(), status);
     Ok(())
 }
 
 fn check_show<R: Read>(rt: &impl Abort, alloc: Global, input: &mut R, want: &str, status: u8) {
     let mut output = Vec::new(alloc);
-    let ending = show(alloc, input, &mut output);
+    let mut source = Source::new(input);
+    let ended = show(alloc, &mut source, &mut output);
     assert_eq!(rt; output.as_slice(), want.as_bytes());
-    assert_eq!(rt; ending.status(), status);
+    assert_eq!(rt; ended.ending.status(), status);
 }
 
 fn check_answers(rt: &impl Abort, alloc: Global, rows: &[(&str, &str, u8)]) -> Result<(), Fail> {
@@ -295,6 +297,41 @@ fn ends_of_show(rt: HostRuntime) {
     }
 }
 
+/// What standard error says of messages that can't be read, or are refused.
+#[test]
+fn reasons(rt: HostRuntime) -> Result<(), Fail> {
+    let id = NodeId::new(0).ok_or("no id of a node")?;
+    for (input, want) in [
+        ("010102000000", ""),
+        (
+            "010102000000\n\nzz",
+            "line 3: neither pairs of hex digits nor a dash",
+        ),
+        ("01010200000100", "a message can't be read"),
+        (
+            "010103000000",
+            "a message is for another node, or names one outside of the cluster",
+        ),
+    ] {
+        let mut output = Vec::new(rt.alloc());
+        let mut source = Source::new(input.as_bytes());
+        let ended = answer(rt.alloc(), id, 3, &mut source, &mut output);
+        assert_eq!(rt; ended.why.as_slice(), want.as_bytes(), "{input}");
+    }
+    for (input, want) in [
+        ("010103000000", ""),
+        ("0", "line 1: neither pairs of hex digits nor a dash"),
+        ("00", ""),
+        ("01020002000102", "a message can't be read"),
+    ] {
+        let mut output = Vec::new(rt.alloc());
+        let mut source = Source::new(input.as_bytes());
+        let ended = show(rt.alloc(), &mut source, &mut output);
+        assert_eq!(rt; ended.why.as_slice(), want.as_bytes(), "{input}");
+    }
+    Ok(())
+}
+
 #[test]
 fn reader_fails_in_mid_stream(rt: HostRuntime) -> Result<(), Fail> {
     let inner = b"010102000000\n010102000000\n".as_slice();
@@ -316,16 +353,16 @@ fn reader_fails_in_mid_stream(rt: HostRuntime) -> Result<(), Fail> {
 
 #[test]
 fn writer_fails_in_mid_stream(rt: HostRuntime) {
-    let mut input = b"010102000000".as_slice();
+    let mut input = Source::new(b"010102000000".as_slice());
     let mut broken = Halting {
         inner: Vec::new(rt.alloc()),
         step: 4,
         calls_left: 2,
     };
-    let ending = show(rt.alloc(), &mut input, &mut broken);
+    let ended = show(rt.alloc(), &mut input, &mut broken);
     assert_eq!(rt; broken.inner.as_slice(), b"2>0 AreY".as_slice());
-    assert_eq!(rt; ending, Ending::Unwritten);
-    assert_eq!(rt; ending.status(), 1);
+    assert_eq!(rt; ended.ending, Ending::Unwritten);
+    assert_eq!(rt; ended.ending.status(), 1);
 }
 
 #[test]

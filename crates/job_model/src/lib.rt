@@ -11,8 +11,6 @@ mod payload;
 mod queue;
 mod record;
 mod table;
-#[cfg(test)]
-mod tests;
 mod work;
 
 pub use command::Command;

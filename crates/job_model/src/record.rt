@@ -8,9 +8,6 @@ use crate::queue::Queue;
 use crate::work::Work;
 use sector_disk::{Sector, is_blank};
 
-#[cfg(test)]
-mod tests;
-
 const OLD_PUT: u8 = 1;
 
 const DONE: u8 = 2;

@@ -1,5 +1,5 @@
 -- Lines of an input, and the bytes that words spell in hex.
-use Rattle.std.specs.Prelude.{◌≡◌, ℕ, List, [], ◌∷◌, length, ◌==◌, ◌&&◌, ◌<◌, Bool, if◌then◌else◌, Option, Some, None, Result, Err}
+use Rattle.std.specs.Prelude.{◌≡◌, ℕ, List, [], ◌∷◌, length, ◌==◌, ◌&&◌, ◌<◌, ◌-◌, nat_lt, Bool, if◌then◌else◌, Option, Some, None, Result, Err}
 use Rattle.std.specs.List.{slice_split}
 use Rattle.std.specs.Result.{result_ok}
 use Rattle.hex.specs.Hex.{decode_of}
@@ -12,6 +12,11 @@ is_line_feed b = b == 10
 -- the lines of an input; what stands behind the last line feed is a line too
 abbrev pub lines_of : List ℕ → List (List ℕ)
 lines_of input = slice_split is_line_feed input
+
+-- the line of this number, of which the first has the number 1; none is there behind the last
+abbrev pub line_numbered : ℕ → List (List ℕ) → List ℕ
+line_numbered n [] = []
+line_numbered n (line ∷ lines) = if nat_lt 1 n then line_numbered (n - 1) lines else line
 
 -- the first line of a text, with what stands behind its line feed
 pub record CutsLine (text line behind : List ℕ) : Type 0 where

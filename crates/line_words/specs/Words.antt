@@ -9,6 +9,11 @@ is_space b = b == 32
 abbrev pub words_of : List ℕ → List (List ℕ)
 words_of line = slice_split is_space line
 
+-- the first of the words of a line
+abbrev pub first_word : List (List ℕ) → List ℕ
+first_word [] = []
+first_word (word ∷ words) = word
+
 -- the first word of a line, with what stands behind the space after it
 pub record CutsWord (line word behind : List ℕ) : Type 0 where
   pub words : words_of line ≡ word ∷ words_of behind

@@ -1,5 +1,5 @@
 ghost use Rattle.std.specs.Prelude.{◌≡◌, MatchOption, ◌∷◌, [], IfOk, option_map};
-ghost use Rattle.line_words.specs.Lines.{bytes_of, lines_of, CutsLine};
+ghost use Rattle.line_words.specs.Lines.{bytes_of, line_numbered, lines_of, CutsLine};
 
 use memchr::memchr;
 use std::alloc::{AllocError, Global};
@@ -29,6 +29,25 @@ pub fn cut_line(text: &[u8]) -> Option<(&[u8], &[u8])>
 {
     let end = memchr(b'\n', text)?;
     Some((&text[..end], &text[end + 1..]))
+}
+
+/// The line of this number, from 1 on. An empty one stands for a line that isn't there.
+pub fn line_numbered(text: &[u8], number: u64) -> &[u8]
+    ensures { result.now ≡ line_numbered number (lines_of text.now) }
+{
+    let mut left = text;
+    let mut number = number;
+    while number > 1 {
+        match cut_line(left) {
+            Some((_, behind)) => left = behind,
+            None => return &[],
+        }
+        number -= 1;
+    }
+    match cut_line(left) {
+        Some((line, _)) => line,
+        None => left,
+    }
 }
 
 /// The bytes that a word spells: hex digits of either case, or a dash for no bytes.

@@ -1,5 +1,5 @@
 ghost use Rattle.std.specs.Prelude.{◌≡◌, MatchOption, ◌∷◌, []};
-ghost use Rattle.line_words.specs.Words.{number_of, value_from, with_digit, words_of, CutsWord};
+ghost use Rattle.line_words.specs.Words.{first_word, number_of, value_from, with_digit, words_of, CutsWord};
 
 use memchr::memchr;
 
@@ -10,6 +10,16 @@ pub fn cut_word(line: &[u8]) -> Option<(&[u8], &[u8])>
 {
     let end = memchr(b' ', line)?;
     Some((&line[..end], &line[end + 1..]))
+}
+
+/// The first word of a line.
+pub fn first_word(line: &[u8]) -> &[u8]
+    ensures { result.now ≡ first_word (words_of line.now) }
+{
+    match cut_word(line) {
+        Some((word, _)) => word,
+        None => line,
+    }
 }
 
 /// The number that a word spells in decimal, with no sign and no zero in front of other digits.

@@ -10,6 +10,3 @@ mod list;
 mod spelling;
 
 pub use list::MessageList;
-
-#[cfg(test)]
-mod tests;

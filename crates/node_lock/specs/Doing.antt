@@ -10,6 +10,7 @@ use Rattle.histories.specs.declared.what.What.TheVariants as what
 use Rattle.histories.specs.declared.what.Rest.TheVariants.{Nothing}
 use Rattle.histories.specs.NodeState.{NodeState}
 use Rattle.histories.specs.After.{after}
+use Rattle.histories.specs.Fates.{what_of}
 use Rattle.durable_node.specs.declared.came.Came.{Came}
 use Rattle.durable_node.specs.Arming.{armed_disk}
 use Rattle.durable_node.specs.Node.{Node, Stands}
@@ -25,7 +26,7 @@ pub record Did (old : Node Memory) (event : Event) (w : What) (sent : List Envel
   pub has : IsSome old.disk
   pub came : Came
   pub steps : Steps state_of old new event came
-  pub written : w ≡ came.what
+  pub written : w ≡ what_of event came.fate
   pub is_sent : sent ≡ came.sent.items
 
 -- the node's disk was armed

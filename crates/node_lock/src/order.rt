@@ -1,9 +1,10 @@
 //! What the clock and the operator are to do.
 
-ghost use Rattle.std.specs.Prelude.{◌≡◌};
+ghost use Rattle.std.specs.Prelude.{◌≡◌, ◌↔◌, IfOk, IsTrue};
 
 use group_task::NodeId;
 use job_model::Work;
+use std::alloc::{AllocError, Global};
 use std::marker::Model;
 
 /// A timer that fires.
@@ -15,6 +16,23 @@ pub enum Timer {
     Ready,
     Coord,
     Dispatch,
+}
+
+impl Timer {
+    /// Whether both are the same timer.
+    pub fn is_same(self, other: Timer) -> bool
+        ensures { IsTrue result ↔ (self ≡ other) }
+    {
+        match (self, other) {
+            (Timer::Check, Timer::Check)
+            | (Timer::Merge, Timer::Merge)
+            | (Timer::Accept, Timer::Accept)
+            | (Timer::Ready, Timer::Ready)
+            | (Timer::Coord, Timer::Coord)
+            | (Timer::Dispatch, Timer::Dispatch) => true,
+            _ => false,
+        }
+    }
 }
 
 /// What a crash leaves in the sectors that weren't synced, in their order.
@@ -43,6 +61,14 @@ impl Fill {
     {
         &self.bytes
     }
+
+    /// The same bytes once more.
+    pub fn try_clone(&self, alloc: Global) -> Result<Fill, AllocError>
+        ensures { IfOk result (λ fill. fill ≡ self.now) }
+    {
+        let bytes = Vec::from_slice(alloc, &self.bytes)?;
+        Ok(Fill { bytes })
+    }
 }
 
 /// What the operator does.
@@ -56,4 +82,35 @@ pub enum Order {
     /// The node crashes, and leaves these bytes in the sectors that weren't synced.
     Crash(Fill),
     Recover,
+}
+
+impl Order {
+    /// The same order once more.
+    pub fn try_clone(&self, alloc: Global) -> Result<Order, AllocError>
+        ensures { IfOk result (λ order. order ≡ self.now) }
+    {
+        match self {
+            Order::Submit(work) => Ok(Order::Submit(*work)),
+            Order::Finish(origin, id) => Ok(Order::Finish(*origin, *id)),
+            Order::Arm(calls) => Ok(Order::Arm(*calls)),
+            Order::Crash(fill) => Ok(Order::Crash(fill.try_clone(alloc)?)),
+            Order::Recover => Ok(Order::Recover),
+        }
+    }
+
+    /// Whether both orders ask the same.
+    pub fn is_same(&self, other: &Order) -> bool
+        ensures { IsTrue result ↔ (self.now ≡ other.now) }
+    {
+        match (self, other) {
+            (Order::Submit(work), Order::Submit(theirs)) => work == theirs,
+            (Order::Finish(origin, id), Order::Finish(their_origin, their_id)) => {
+                origin == their_origin && id == their_id
+            }
+            (Order::Arm(calls), Order::Arm(theirs)) => calls == theirs,
+            (Order::Crash(fill), Order::Crash(theirs)) => fill.as_slice() == theirs.as_slice(),
+            (Order::Recover, Order::Recover) => true,
+            _ => false,
+        }
+    }
 }

@@ -28,7 +28,8 @@ pub(crate) fn perform(
     node.has_disk();
     match node.step(&event) {
         Ok(came) => {
-            let Came { what, sent, .. } = came;
+            let Came { fate, sent, .. } = came;
+            let what = fate.what(&event);
             Ok((what, sent))
         }
         Err(_) => Err(HeldFault::NoMemory),

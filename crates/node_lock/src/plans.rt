@@ -1,9 +1,10 @@
 //! The plans of a node's workers.
 
-ghost use Rattle.std.specs.Prelude.{◌≡◌};
+ghost use Rattle.std.specs.Prelude.{◌≡◌, ◌↔◌, IfOk, IsTrue};
 
 use crate::order::{Order, Timer};
 use group_task::NodeId;
+use std::alloc::{AllocError, Global};
 use std::marker::Model;
 
 /// The turns of each worker of a node, in order: which link the intake polls, which timer the clock fires, what the operator does.
@@ -53,4 +54,66 @@ impl Plans {
     {
         &self.operator
     }
+    /// The same plans once more.
+    pub fn try_clone(&self, alloc: Global) -> Result<Plans, AllocError>
+        ensures { IfOk result (λ plans. plans ≡ self.now) }
+    {
+        let intake = Vec::from_slice(alloc, &self.intake)?;
+        let clock = Vec::from_slice(alloc, &self.clock)?;
+        let mut operator = Vec::with_capacity(alloc, self.operator.len())?;
+        for order in self.operator.iter() {
+            operator.push(order.try_clone(alloc)?)?;
+        }
+        Ok(Plans {
+            intake,
+            clock,
+            operator,
+        })
+    }
+
+    /// Whether both have the same turns for each worker.
+    pub fn is_same(&self, other: &Plans) -> bool
+        ensures { IsTrue result ↔ (self.now ≡ other.now) }
+    {
+        same_nodes(self.intake(), other.intake())
+            && same_timers(self.clock(), other.clock())
+            && same_orders(self.operator(), other.operator())
+    }
+}
+
+/// Whether both lists have the same nodes.
+fn same_nodes(some: &[NodeId], others: &[NodeId]) -> bool
+    ensures { IsTrue result ↔ (some.now ≡ others.now) }
+{
+    some == others
+}
+
+/// Whether both lists have the same timers.
+fn same_timers(some: &[Timer], others: &[Timer]) -> bool
+    ensures { IsTrue result ↔ (some.now ≡ others.now) }
+{
+    if some.len() != others.len() {
+        return false;
+    }
+    for place in 0..some.len() {
+        if !some[place].is_same(others[place]) {
+            return false;
+        }
+    }
+    true
+}
+
+/// Whether both lists have the same orders.
+fn same_orders(some: &[Order], others: &[Order]) -> bool
+    ensures { IsTrue result ↔ (some.now ≡ others.now) }
+{
+    if some.len() != others.len() {
+        return false;
+    }
+    for place in 0..some.len() {
+        if !some[place].is_same(&others[place]) {
+            return false;
+        }
+    }
+    true
 }

@@ -7,9 +7,11 @@ use Rattle.node_store.specs.Store.{slots_for}
 use Rattle.durable_node.specs.Node.{Node, Stands}
 use Rattle.histories.specs.NodeState.{NodeState}
 use Rattle.node_session.specs.declared.ended.Ended.{Ended}
-use Rattle.node_session.specs.Turns.{Turn, after_turn, end_of, IsTimer, IsTimely, IsGoing, MayComeOf}
-use Rattle.node_session.specs.Chains.{AreGoing, AreTimely, IsOne, after_turns, last_end}
-use Rattle.node_session.specs.Text.{turn_text, turns_text}
+use Rattle.histories.specs.declared.what.What.TheVariants.{Did, Refused, Faulted, Rests, Crashed, Recovered, MountFailed, RaiseFailed, RaiseRefused}
+use Rattle.node_session.specs.Turns.{Turn, Goes, Unmounted, Begins, after_turn, end_of, IsTimer, IsTimely, IsGoing, MayComeOf}
+use Rattle.pace.specs.Waiting.{Waits}
+use Rattle.node_session.specs.Chains.{AreGoing, AreTimely, IsOne, after_turns, last_end, waits_turn, waits_turns}
+use Rattle.node_session.specs.Text.{fired_line, fired_told, turn_text, turns_text, untold}
 use Rattle.node_session.specs.Serving.{Progress, IsNodeOf, Turns, Calls}
 
 -- ---- one more turn behind others
@@ -31,11 +33,34 @@ timely_more : (self nodes slots : ℕ) (s : NodeState) (ts : List Turn) (t : Tur
 timely_more self nodes slots s [] t all more = (more, tt)
 timely_more self nodes slots s (u ∷ ts) t all more = (all.0, timely_more self nodes slots (after_turn self nodes s u) ts t all.1 more)
 
-text_more : (self nodes : ℕ) (s : NodeState) (ts : List Turn) (t : Turn) → turns_text self nodes s (ts ++ t ∷ []) ≡ turns_text self nodes s ts ++ turn_text self nodes (after_turns self nodes s ts) t
-text_more self nodes s [] t = append-nil (turn_text self nodes s t)
-text_more self nodes s (u ∷ ts) t =
-    ap (λ (x : List ℕ). turn_text self nodes s u ++ x) (text_more self nodes (after_turn self nodes s u) ts t)
-    ∙ sym (append_assoc (turn_text self nodes s u) (turns_text self nodes (after_turn self nodes s u) ts) _)
+waits_more : (self nodes : ℕ) (s : NodeState) (ts : List Turn) (t : Turn) (w : Waits)
+    → waits_turns self nodes s (ts ++ t ∷ []) w ≡ waits_turn self nodes (after_turns self nodes s ts) t (waits_turns self nodes s ts w)
+waits_more self nodes s [] t w = refl
+waits_more self nodes s (u ∷ ts) t w = waits_more self nodes (after_turn self nodes s u) ts t (waits_turn self nodes s u w)
+
+three_and_more : (a b c d : List ℕ) → a ++ (b ++ (c ++ d)) ≡ (a ++ (b ++ c)) ++ d
+three_and_more a b c d = ap (λ (x : List ℕ). a ++ x) (sym (append_assoc b c d)) ∙ sym (append_assoc a (b ++ c) d)
+
+text_more : (tell : Turn → List ℕ) (self nodes : ℕ) (s : NodeState) (ts : List Turn) (t : Turn)
+    → turns_text tell self nodes s (ts ++ t ∷ []) ≡ turns_text tell self nodes s ts ++ (tell t ++ turn_text self nodes (after_turns self nodes s ts) t)
+text_more tell self nodes s [] t = ap (λ (x : List ℕ). tell t ++ x) (append-nil (turn_text self nodes s t))
+text_more tell self nodes s (u ∷ ts) t =
+    ap (λ (x : List ℕ). tell u ++ (turn_text self nodes s u ++ x)) (text_more tell self nodes (after_turn self nodes s u) ts t)
+    ∙ three_and_more (tell u) (turn_text self nodes s u) (turns_text tell self nodes (after_turn self nodes s u) ts) _
+
+-- what is told before a call names the event that it is of
+fired_so : (self nodes slots : ℕ) (s : NodeState) (event : Event) (turn : Turn) → MayComeOf self nodes event slots s turn → fired_line event ≡ fired_told turn
+fired_so self nodes slots s event (Goes (Did e)) may = ap fired_line (sym may.0)
+fired_so self nodes slots s event (Goes (Refused e fault)) may = ap fired_line (sym may.0)
+fired_so self nodes slots s event (Goes (Faulted e)) may = ap fired_line (sym may.0)
+fired_so self nodes slots s event (Goes (Rests rest)) may = absurd may.0
+fired_so self nodes slots s event (Goes Crashed) may = absurd may.0
+fired_so self nodes slots s event (Goes (Recovered kept)) may = ap fired_line may.0
+fired_so self nodes slots s event (Goes MountFailed) may = ap fired_line may.0
+fired_so self nodes slots s event (Goes (RaiseFailed kept)) may = ap fired_line may.0
+fired_so self nodes slots s event (Goes (RaiseRefused kept)) may = ap fired_line may.0
+fired_so self nodes slots s event (Unmounted fault) may = ap fired_line may.0
+fired_so self nodes slots s event (Begins found what) may = ap fired_line may.0
 
 -- ---- the node stays the same
 
@@ -54,7 +79,7 @@ node_then disks old mid new a b = record {
 -- ---- calls
 
 pub one_call : {Disk : Type 0} (disks : Disk → DiskState) (old new : Progress Disk) (May : ℕ → NodeState → Turn → Type 0) (before ended : Ended) → Turns disks old new May ended
-    → Calls disks old new (λ slots s turns. IsOne (May slots s) turns) before ended
+    → Calls disks old new untold (λ slots s turns. IsOne (May slots s) turns) before ended
 one_call disks old new May before ended a = record {
   node = a.node;
   same = a.same;
@@ -66,62 +91,71 @@ one_call disks old new May before ended a = record {
         stands = x.stands;
         ended_so = x.ended_so;
         text = x.text ∙ ap (λ (t : List ℕ). old.text ++ t) (sym (append-nil (turn_text old.node.id old.node.nodes s x.turn)));
+        waits = x.waits;
       });
 }
 
-pub no_call : {Disk : Type 0} (disks : Disk → DiskState) (p : Progress Disk) (before : Ended) → Calls disks p p (AreTimely p.node.id p.node.nodes) before before
+pub no_call : {Disk : Type 0} (disks : Disk → DiskState) (p : Progress Disk) (before : Ended) → Calls disks p p fired_told (AreTimely p.node.id p.node.nodes) before before
 no_call disks p before = record {
   node = node_refl disks p.node;
   same = refl;
-  called = λ was s is stands. record { turns = []; may = tt; honest = λ honest. tt; stands = stands; ended_so = refl; text = sym (append-nil p.text) };
+  called = λ was s is stands. record { turns = []; may = tt; honest = λ honest. tt; stands = stands; ended_so = refl; text = sym (append-nil p.text); waits = refl };
 }
 
 both_texts : (a b c x y : List ℕ) → b ≡ a ++ x → c ≡ b ++ y → c ≡ a ++ (x ++ y)
 both_texts a b c x y first second = second ∙ (ap (λ (t : List ℕ). t ++ y) first ∙ append_assoc a x y)
 
-pub call_more : {Disk : Type 0} (disks : Disk → DiskState) (old mid new : Progress Disk) (event : Event) (before between ended : Ended) → IsTimer event
-    → Calls disks old mid (AreTimely old.node.id old.node.nodes) before between → Turns disks mid new (MayComeOf mid.node.id mid.node.nodes event) ended
-    → Calls disks old new (AreTimely old.node.id old.node.nodes) before ended
-call_more {Disk} disks old mid new event before between ended timer a b = record {
+-- one more, behind the line that names its event
+pub call_more : {Disk : Type 0} (disks : Disk → DiskState) (old mid new : Progress Disk) (event : Event) (told : List ℕ) (before between ended : Ended) → IsTimer event → told ≡ mid.text ++ fired_line event
+    → Calls disks old mid fired_told (AreTimely old.node.id old.node.nodes) before between → Turns disks (record mid { text = told }) new (MayComeOf mid.node.id mid.node.nodes event) ended
+    → Calls disks old new fired_told (AreTimely old.node.id old.node.nodes) before ended
+call_more {Disk} disks old mid new event told before between ended timer tells a b = record {
   node = node_then disks old.node mid.node new.node a.node b.node;
-  same = b.same ∙ ap (λ (p : Progress Disk). record p { node = new.node; text = new.text }) a.same;
+  same = b.same ∙ ap (λ (p : Progress Disk). record p { node = new.node; text = new.text; waits = new.waits }) a.same;
   called = λ was s is stands. (let x = a.called was s is stands in
       let d = a.node.disk was is in
       let t = after_turns old.node.id old.node.nodes s x.turns in
       let y = b.turned d.now t d.is x.stands in
       let id = a.node.id in
       let nodes = a.node.nodes in
+      let may : MayComeOf old.node.id old.node.nodes event (slots_for (disks was).sectors) t y.turn =
+      subst (λ (n : ℕ). MayComeOf old.node.id old.node.nodes event (slots_for n) t y.turn) d.sectors
+      (subst (λ (n : ℕ). MayComeOf old.node.id n event (slots_for (disks d.now).sectors) t y.turn) nodes
+      (subst (λ (n : ℕ). MayComeOf n mid.node.nodes event (slots_for (disks d.now).sectors) t y.turn) id y.may)) in
+      let turn : new.text ≡ told ++ turn_text old.node.id old.node.nodes t y.turn =
+      y.text ∙ (ap (λ (n : ℕ). told ++ turn_text n mid.node.nodes t y.turn) id ∙ ap (λ (n : ℕ). told ++ turn_text old.node.id n t y.turn) nodes) in
+      let more : new.text ≡ mid.text ++ (fired_told y.turn ++ turn_text old.node.id old.node.nodes t y.turn) =
+      both_texts mid.text told new.text (fired_told y.turn) (turn_text old.node.id old.node.nodes t y.turn)
+      (tells ∙ ap (λ (l : List ℕ). mid.text ++ l) (fired_so old.node.id old.node.nodes (slots_for (disks was).sectors) t event y.turn may)) turn in
       record {
         turns = x.turns ++ y.turn ∷ [];
-        may = timely_more old.node.id old.node.nodes (slots_for (disks was).sectors) s x.turns y.turn x.may (record {
-          event = event;
-          timer = timer;
-          may = subst (λ (n : ℕ). MayComeOf old.node.id old.node.nodes event (slots_for n) t y.turn) d.sectors
-              (subst (λ (n : ℕ). MayComeOf old.node.id n event (slots_for (disks d.now).sectors) t y.turn) nodes
-              (subst (λ (n : ℕ). MayComeOf n mid.node.nodes event (slots_for (disks d.now).sectors) t y.turn) id y.may));
-        });
+        may = timely_more old.node.id old.node.nodes (slots_for (disks was).sectors) s x.turns y.turn x.may (record { event = event; timer = timer; may = may });
         honest = λ honest. going_more x.turns y.turn (x.honest honest) (y.honest (d.honest ∙ honest));
         stands = subst (λ (u : NodeState). Stands disks new.node u) (sym (after_more old.node.id old.node.nodes s x.turns y.turn))
             (subst (λ (n : ℕ). Stands disks new.node (after_turn old.node.id n t y.turn)) nodes
             (subst (λ (n : ℕ). Stands disks new.node (after_turn n mid.node.nodes t y.turn)) id y.stands));
         ended_so = (y.ended_so ∙ (ap (λ (n : ℕ). end_of n mid.node.nodes t y.turn) id ∙ ap (λ (n : ℕ). end_of old.node.id n t y.turn) nodes))
             ∙ sym (end_more old.node.id old.node.nodes before s x.turns y.turn);
-        text = both_texts old.text mid.text new.text (turns_text old.node.id old.node.nodes s x.turns) (turn_text old.node.id old.node.nodes t y.turn) x.text
-            (y.text ∙ (ap (λ (n : ℕ). mid.text ++ turn_text n mid.node.nodes t y.turn) id ∙ ap (λ (n : ℕ). mid.text ++ turn_text old.node.id n t y.turn) nodes))
-            ∙ ap (λ (z : List ℕ). old.text ++ z) (sym (text_more old.node.id old.node.nodes s x.turns y.turn));
+        text = both_texts old.text mid.text new.text (turns_text fired_told old.node.id old.node.nodes s x.turns) (fired_told y.turn ++ turn_text old.node.id old.node.nodes t y.turn) x.text more
+            ∙ ap (λ (z : List ℕ). old.text ++ z) (sym (text_more fired_told old.node.id old.node.nodes s x.turns y.turn));
+        waits = (y.waits ∙ (ap (λ (n : ℕ). waits_turn n mid.node.nodes t y.turn mid.waits) id ∙ (ap (λ (n : ℕ). waits_turn old.node.id n t y.turn mid.waits) nodes
+            ∙ ap (λ (w : Waits). waits_turn old.node.id old.node.nodes t y.turn w) x.waits))) ∙ sym (waits_more old.node.id old.node.nodes s x.turns y.turn old.waits);
       });
 }
 
--- where nothing changed in between
-pub due_more : {Disk : Type 0} (disks : Disk → DiskState) (old mid here new : Progress Disk) (event : Event) (before between ended : Ended) → IsTimer event → here ≡ mid
-    → Calls disks old mid (AreTimely old.node.id old.node.nodes) before between → Turns disks here new (MayComeOf here.node.id here.node.nodes event) ended
-    → Calls disks old new (AreTimely old.node.id old.node.nodes) before ended
-due_more {Disk} disks old mid here new event before between ended timer is a b =
-    call_more disks old mid new event before between ended timer a (subst (λ (p : Progress Disk). Turns disks p new (MayComeOf p.node.id p.node.nodes event) ended) is b)
+-- as the code does it: what is due is looked at, which changes nothing, it is named, and made
+pub due_more : {Disk : Type 0} (disks : Disk → DiskState) (old mid due here new : Progress Disk) (event : Event) (before between ended : Ended) → IsTimer event → due ≡ mid
+    → here ≡ record due { text = due.text ++ fired_line event }
+    → Calls disks old mid fired_told (AreTimely old.node.id old.node.nodes) before between → Turns disks here new (MayComeOf here.node.id here.node.nodes event) ended
+    → Calls disks old new fired_told (AreTimely old.node.id old.node.nodes) before ended
+due_more {Disk} disks old mid due here new event before between ended timer is named a b =
+    call_more disks old mid new event (mid.text ++ fired_line event) before between ended timer refl a
+    (subst (λ (p : Progress Disk). Turns disks p new (MayComeOf p.node.id p.node.nodes event) ended)
+    (named ∙ ap (λ (p : Progress Disk). record p { text = p.text ++ fired_line event }) is) b)
 
 pub none_more : {Disk : Type 0} (disks : Disk → DiskState) (old mid here : Progress Disk) (before between : Ended) → here ≡ mid
-    → Calls disks old mid (AreTimely old.node.id old.node.nodes) before between → Calls disks old here (AreTimely old.node.id old.node.nodes) before between
-none_more {Disk} disks old mid here before between is a = subst (λ (p : Progress Disk). Calls disks old p (AreTimely old.node.id old.node.nodes) before between) (sym is) a
+    → Calls disks old mid fired_told (AreTimely old.node.id old.node.nodes) before between → Calls disks old here fired_told (AreTimely old.node.id old.node.nodes) before between
+none_more {Disk} disks old mid here before between is a = subst (λ (p : Progress Disk). Calls disks old p fired_told (AreTimely old.node.id old.node.nodes) before between) (sym is) a
 
 pub if_ok : {T E : Type 0} (r : Result T E) (P Q : T → Type 0) → ((x : T) → P x → Q x) → IfOk r P → IfOk r Q
 if_ok (Ok x) P Q f h = f x h

@@ -20,6 +20,9 @@ use Rattle.histories.specs.declared.what.What.TheVariants.{Did, Refused, Faulted
 use Rattle.histories.specs.declared.what.Rest.{Rest}
 use Rattle.histories.specs.declared.what.Rest.TheVariants.{Nothing, Compacted, CompactDown, CompactWorn}
 use Rattle.histories.specs.What.{event_of}
+use Rattle.histories.specs.Fates.{what_of}
+use Rattle.histories.specs.declared.fate.Fate.{Fate}
+use Rattle.histories.specs.declared.fate.Fate.TheVariants as fate
 use Rattle.histories.specs.After.{after, sent_at}
 use Rattle.histories.specs.Possible.{IsOfSlots}
 use Rattle.durable_node.specs.Compacting.{Compacts, CompactTold, RestTold}
@@ -30,6 +33,7 @@ use Rattle.durable_node.specs.Remounting.{Remounted}
 use Rattle.node_session.specs.declared.ended.Ended.{Ended}
 use Rattle.node_session.specs.declared.ended.Ended.TheVariants as end
 use Rattle.node_session.specs.Turns.{Turn, Goes, Unmounted, Begins, IsOf, MayComeOf, MayCompact, IsGoing, IsOfCompaction, after_turn, cause, compaction_end, end_at, end_of, ended_by, sent_by, sent_in}
+use Rattle.pace.specs.Waiting.{Waits, waits_behind}
 use Rattle.node_session.specs.Changes.{Sight, changes, gone_told, is_finish, sight_of}
 use Rattle.node_session.specs.Text.{call_text, send_lines}
 use Rattle.node_session.specs.Serving.{Progress, IsNodeOf, Turns}
@@ -56,17 +60,15 @@ is_of event MountFailed of = of
 is_of event (RaiseFailed kept) of = of
 is_of event (RaiseRefused kept) of = of
 
-ends : (slots self nodes : ℕ) (s : NodeState) (event : Event) (came : Came) (found : Option Durable) (what : What) → Does slots self nodes s event came found what
-    → (ended_by (told_as came (fault_of what)) ≡ end_at self nodes s what) × (sent_by (told_as came (fault_of what)) ≡ sent_at self nodes s what)
-ends slots self nodes s event came found (Did e) does = (ap end.Done does.answer, does.sent)
-ends slots self nodes s event came found (Refused e fault) does = (refl, refl)
-ends slots self nodes s event came found (Faulted e) does = (refl, refl)
-ends slots self nodes s event came found (Rests rest) does = absurd does.of
-ends slots self nodes s event came found Crashed does = absurd does.of
-ends slots self nodes s event came found (Recovered kept) does = (ap end.Done does.answer, does.sent)
-ends slots self nodes s event came found MountFailed does = (refl, refl)
-ends slots self nodes s event came found (RaiseFailed kept) does = (refl, refl)
-ends slots self nodes s event came found (RaiseRefused kept) does = (refl, refl)
+ends : (slots self nodes : ℕ) (s : NodeState) (event : Event) (came : Came) (found : Option Durable) (fate : Fate) → Does slots self nodes s event came found (what_of event fate)
+    → (ended_by (told_as came (fault_of fate)) ≡ end_at self nodes s (what_of event fate)) × (sent_by (told_as came (fault_of fate)) ≡ sent_at self nodes s (what_of event fate))
+ends slots self nodes s event came found fate.Done does = (ap end.Done does.answer, does.sent)
+ends slots self nodes s event came found (fate.Refused fault) does = (refl, refl)
+ends slots self nodes s event came found fate.Faulted does = (refl, refl)
+ends slots self nodes s event came found (fate.Recovered kept) does = (ap end.Done does.answer, does.sent)
+ends slots self nodes s event came found fate.MountFailed does = (refl, refl)
+ends slots self nodes s event came found (fate.RaiseFailed kept) does = (refl, refl)
+ends slots self nodes s event came found (fate.RaiseRefused kept) does = (refl, refl)
 
 -- a disk of a history is one that can be mounted
 not_stuck : {Disk : Type 0} (disks : Disk → DiskState) (old new : Node Disk) (event : Event) (fault : NodeFault) (was : Disk) (s : NodeState) → Stuck disks old new event fault → fault ≢ node.Core NoMemory
@@ -85,10 +87,10 @@ goes_on : {Disk : Type 0} (disks : Disk → DiskState) (old new : Node Disk) (ev
 goes_on disks old new event (Ok came) was s steps stuck memory is stands honest =
     let step = steps was s is stands honest in
     let does = step.0 in
-    let told_so = ends (slots_for (disks was).sectors) old.id old.nodes s event came new.found came.what does in
+    let told_so = ends (slots_for (disks was).sectors) old.id old.nodes s event came new.found came.fate does in
     record {
-      turn = Goes came.what;
-      may = (is_of event came.what does.of, does.possible, does.of_slots);
+      turn = Goes (what_of event came.fate);
+      may = (is_of event (what_of event came.fate) does.of, does.possible, does.of_slots);
       going = λ _. tt;
       stands = step.1;
       ended = told_so.0;
@@ -233,18 +235,33 @@ caused self nodes slots s event (Goes (RaiseRefused kept)) sent x y ended may = 
 caused self nodes slots s event (Unmounted fault) sent x y ended may = quiet_end event sent x y ended may.0
 caused self nodes slots s event (Begins found what) sent x y ended may = quiet_end event sent x y ended may.0
 
+caused_waits : (self nodes slots : ℕ) (s : NodeState) (event : Event) (turn : Turn) (sent : List Envelope) (v : State) (w : Waits) → MayComeOf self nodes event slots s turn
+    → waits_behind (Some event) sent v w ≡ waits_behind (cause turn) sent v w
+caused_waits self nodes slots s event (Goes (Did e)) sent v w may = ap (λ (x : Event). waits_behind (Some x) sent v w) (sym may.0)
+caused_waits self nodes slots s event (Goes (Refused e fault)) sent v w may = ap (λ (x : Event). waits_behind (Some x) sent v w) (sym may.0)
+caused_waits self nodes slots s event (Goes (Faulted e)) sent v w may = ap (λ (x : Event). waits_behind (Some x) sent v w) (sym may.0)
+caused_waits self nodes slots s event (Goes (Rests rest)) sent v w may = absurd may.0
+caused_waits self nodes slots s event (Goes Crashed) sent v w may = absurd may.0
+caused_waits self nodes slots s event (Goes (Recovered kept)) sent v w may = ap (λ (x : Event). waits_behind (Some x) sent v w) may.0
+caused_waits self nodes slots s event (Goes MountFailed) sent v w may = ap (λ (x : Event). waits_behind (Some x) sent v w) may.0
+caused_waits self nodes slots s event (Goes (RaiseFailed kept)) sent v w may = ap (λ (x : Event). waits_behind (Some x) sent v w) may.0
+caused_waits self nodes slots s event (Goes (RaiseRefused kept)) sent v w may = ap (λ (x : Event). waits_behind (Some x) sent v w) may.0
+caused_waits self nodes slots s event (Unmounted fault) sent v w may = ap (λ (x : Event). waits_behind (Some x) sent v w) may.0
+caused_waits self nodes slots s event (Begins found what) sent v w may = ap (λ (x : Event). waits_behind (Some x) sent v w) may.0
+
 three_texts : (a b c d x y z : List ℕ) → b ≡ a ++ x → c ≡ b ++ y → d ≡ c ++ z → d ≡ a ++ (x ++ (y ++ z))
 three_texts a b c d x y z first second third =
     third ∙ (ap (λ (t : List ℕ). t ++ z) second ∙ (append_assoc b y z ∙ (ap (λ (t : List ℕ). t ++ (y ++ z)) first ∙ append_assoc a x (y ++ z))))
 
 -- as the code does it
-pub event_turns : {Disk : Type 0} (disks : Disk → DiskState) (old : Progress Disk) (node' : Node Disk) (event : Event) (reply : Result Came NodeFault) (sent changed text : List ℕ)
+pub event_turns : {Disk : Type 0} (disks : Disk → DiskState) (old : Progress Disk) (node' : Node Disk) (event : Event) (reply : Result Came NodeFault) (waits : Waits) (sent changed text : List ℕ)
     → node'.id ≡ old.node.id → node'.nodes ≡ old.node.nodes → IfOk reply (Steps disks old.node node' event) → IfErr reply (Stuck disks old.node node' event) → reply ≢ Err (node.Core NoMemory)
     → (is_down old.node.state.phase ≡ true → event ≡ on.Recover → Remounted old.node node' (told reply) node'.found) → (is_down old.node.state.phase ≡ true → old.node.state ≡ down_state old.node.id)
     → CountsOf disks old.node.disk node'.disk (told reply) → IsSome node'.disk
+    → waits ≡ waits_behind (Some event) (sent_by (told reply)) node'.state old.waits
     → sent ≡ old.text ++ send_lines (sent_by (told reply)) → changed ≡ sent ++ changes (is_finish (Some event)) old.node.state node'.state → text ≡ changed ++ gone_told (Some event) (ended_by (told reply))
-    → Turns disks old (record old { node = node'; text = text }) (MayComeOf old.node.id old.node.nodes event) (ended_by (told reply))
-event_turns {Disk} disks old node' event reply sent changed text id nodes steps stuck memory mounting fallen counts there first second third = record {
+    → Turns disks old (record old { node = node'; text = text; waits = waits }) (MayComeOf old.node.id old.node.nodes event) (ended_by (told reply))
+event_turns {Disk} disks old node' event reply waits sent changed text id nodes steps stuck memory mounting fallen counts there waited first second third = record {
   node = same_node disks old.node node' (told reply) id nodes counts there;
   same = refl;
   turned = λ was s is stands. (let h = happens disks old.node node' event reply was s steps stuck memory mounting fallen is stands
@@ -264,21 +281,26 @@ event_turns {Disk} disks old node' event reply sent changed text id nodes steps 
             ∙ (ap (λ (v : State). old.text ++ call_text (cause h.turn) (sent_by (told reply)) s.state v (ended_by (told reply))) h.stands.state
             ∙ (ap (λ (ms : List Envelope). old.text ++ call_text (cause h.turn) ms s.state t.state (ended_by (told reply))) h.sent
             ∙ ap (λ (e : Ended). old.text ++ call_text (cause h.turn) (sent_in self count s h.turn) s.state t.state e) h.ended))));
+        waits = waited ∙ (caused_waits self count (slots_for (disks was).sectors) s event h.turn (sent_by (told reply)) node'.state old.waits h.may
+            ∙ (ap (λ (v : State). waits_behind (cause h.turn) (sent_by (told reply)) v old.waits) h.stands.state
+            ∙ ap (λ (ms : List Envelope). waits_behind (cause h.turn) ms t.state old.waits) h.sent));
       });
 }
 
 -- by what the code keeps of the state before
-pub turn_so : {Disk : Type 0} (disks : Disk → DiskState) (old here : Progress Disk) (node' : Node Disk) (event : Event) (reply : Result Came NodeFault) (ended : Ended) (finished : Bool) (seen : Sight) (before after : State)
-    (sent changed text : List ℕ) → here ≡ old → node'.id ≡ here.node.id → node'.nodes ≡ here.node.nodes → IfOk reply (Steps disks here.node node' event) → IfErr reply (Stuck disks here.node node' event) → reply ≢ Err (node.Core NoMemory)
+pub turn_so : {Disk : Type 0} (disks : Disk → DiskState) (old here : Progress Disk) (node' : Node Disk) (event : Event) (reply : Result Came NodeFault) (ended : Ended) (finished : Bool) (seen : Sight) (before after behind : State)
+    (waits : Waits) (sent changed text : List ℕ) → here ≡ old → node'.id ≡ here.node.id → node'.nodes ≡ here.node.nodes → IfOk reply (Steps disks here.node node' event) → IfErr reply (Stuck disks here.node node' event) → reply ≢ Err (node.Core NoMemory)
     → (is_down here.node.state.phase ≡ true → event ≡ on.Recover → Remounted here.node node' (told reply) node'.found) → (is_down here.node.state.phase ≡ true → here.node.state ≡ down_state here.node.id)
     → CountsOf disks here.node.disk node'.disk (told reply) → IsSome node'.disk
     → seen ≡ sight_of before → before ≡ here.node.state → after ≡ node'.state → finished ≡ is_finish (Some event) → ended ≡ ended_by (told reply)
+    → behind ≡ node'.state → waits ≡ waits_behind (Some event) (sent_by (told reply)) behind here.waits
     → sent ≡ here.text ++ send_lines (sent_by (told reply)) → ((s : State) → seen ≡ sight_of s → changed ≡ sent ++ changes finished s after) → text ≡ changed ++ gone_told (Some event) ended
-    → Turns disks old (record here { node = node'; text = text }) (MayComeOf old.node.id old.node.nodes event) ended
-turn_so {Disk} disks old here node' event reply ended finished seen before after sent changed text is id nodes steps stuck memory mounting fallen counts there sees was now finish ends_so first second third =
-    subst (λ (p : Progress Disk). Turns disks p (record here { node = node'; text = text }) (MayComeOf p.node.id p.node.nodes event) ended) is
-    (subst (λ (e : Ended). Turns disks here (record here { node = node'; text = text }) (MayComeOf here.node.id here.node.nodes event) e) (sym ends_so)
-    (event_turns disks here node' event reply sent changed text id nodes steps stuck memory mounting fallen counts there first
+    → Turns disks old (record here { node = node'; text = text; waits = waits }) (MayComeOf old.node.id old.node.nodes event) ended
+turn_so {Disk} disks old here node' event reply ended finished seen before after behind waits sent changed text is id nodes steps stuck memory mounting fallen counts there sees was now finish ends_so then waited first second third =
+    subst (λ (p : Progress Disk). Turns disks p (record here { node = node'; text = text; waits = waits }) (MayComeOf p.node.id p.node.nodes event) ended) is
+    (subst (λ (e : Ended). Turns disks here (record here { node = node'; text = text; waits = waits }) (MayComeOf here.node.id here.node.nodes event) e) (sym ends_so)
+    (event_turns disks here node' event reply waits sent changed text id nodes steps stuck memory mounting fallen counts there
+    (waited ∙ ap (λ (v : State). waits_behind (Some event) (sent_by (told reply)) v here.waits) then) first
     (second before sees ∙ (ap (λ (b : Bool). sent ++ changes b before after) finish ∙ (ap (λ (v : State). sent ++ changes (is_finish (Some event)) v after) was
     ∙ ap (λ (v : State). sent ++ changes (is_finish (Some event)) here.node.state v) now)))
     (third ∙ ap (λ (e : Ended). changed ++ gone_told (Some event) e) ends_so)))
@@ -315,11 +337,11 @@ silent_text x y (end.Done None) = sym (append-nil (changes false x y))
 silent_text x y (end.Done (Some id)) = sym (append-nil (changes false x y))
 silent_text x y (end.Denied fault) = sym (append-nil (changes false x y))
 
-pub compaction_turns : {Disk A : Type 0} (disks : Disk → DiskState) (old : Progress Disk) (node' : Node Disk) (result : Result A NodeFault) (text : List ℕ)
+pub compaction_turns : {Disk A : Type 0} (disks : Disk → DiskState) (old : Progress Disk) (node' : Node Disk) (result : Result A NodeFault) (waits : Waits) (text : List ℕ)
     → node'.id ≡ old.node.id → node'.nodes ≡ old.node.nodes → Compacts disks old.node node' result → CountsOf disks old.node.disk node'.disk result → IsSome node'.disk
-    → text ≡ old.text ++ changes false old.node.state node'.state
-    → Turns disks old (record old { node = node'; text = text }) (MayCompact old.node.id old.node.nodes) (compaction_end result)
-compaction_turns {Disk} disks old node' result text id nodes compacts counts there told = record {
+    → waits ≡ waits_behind None [] node'.state old.waits → text ≡ old.text ++ changes false old.node.state node'.state
+    → Turns disks old (record old { node = node'; text = text; waits = waits }) (MayCompact old.node.id old.node.nodes) (compaction_end result)
+compaction_turns {Disk} disks old node' result waits text id nodes compacts counts there waited told = record {
   node = same_node disks old.node node' result id nodes counts there;
   same = refl;
   turned = λ was s is stands. (let step = compacts was s is stands in
@@ -340,16 +362,20 @@ compaction_turns {Disk} disks old node' result text id nodes compacts counts the
             ∙ (ap (λ (ms : List Envelope). old.text ++ call_text None ms s.state t.state (compaction_end result)) (sym of.silent)
             ∙ (ap (λ (e : Option Event). old.text ++ call_text e (sent_at self count s what) s.state t.state (compaction_end result)) (sym of.causeless)
             ∙ ap (λ (e : Ended). old.text ++ call_text (event_of what) (sent_at self count s what) s.state t.state e) of.ended)))));
+        waits = waited ∙ (ap (λ (v : State). waits_behind None [] v old.waits) step.3.state
+            ∙ (ap (λ (ms : List Envelope). waits_behind None ms t.state old.waits) (sym of.silent)
+            ∙ ap (λ (e : Option Event). waits_behind e (sent_at self count s what) t.state old.waits) (sym of.causeless)));
       });
 }
 
-pub compaction_so : {Disk A : Type 0} (disks : Disk → DiskState) (old here : Progress Disk) (node' : Node Disk) (result : Result A NodeFault) (ended : Ended) (seen : Sight) (before after : State) (text : List ℕ)
+pub compaction_so : {Disk A : Type 0} (disks : Disk → DiskState) (old here : Progress Disk) (node' : Node Disk) (result : Result A NodeFault) (ended : Ended) (seen : Sight) (before after behind : State) (waits : Waits) (text : List ℕ)
     → here ≡ old → node'.id ≡ here.node.id → node'.nodes ≡ here.node.nodes → Compacts disks here.node node' result → CountsOf disks here.node.disk node'.disk result → IsSome node'.disk
     → seen ≡ sight_of before → before ≡ here.node.state → after ≡ node'.state → ended ≡ compaction_end result
+    → behind ≡ node'.state → waits ≡ waits_behind None [] behind here.waits
     → ((s : State) → seen ≡ sight_of s → text ≡ here.text ++ changes false s after)
-    → Turns disks old (record here { node = node'; text = text }) (MayCompact old.node.id old.node.nodes) ended
-compaction_so {Disk} disks old here node' result ended seen before after text is id nodes compacts counts there sees was now ends_so told =
-    subst (λ (p : Progress Disk). Turns disks p (record here { node = node'; text = text }) (MayCompact p.node.id p.node.nodes) ended) is
-    (subst (λ (e : Ended). Turns disks here (record here { node = node'; text = text }) (MayCompact here.node.id here.node.nodes) e) (sym ends_so)
-    (compaction_turns disks here node' result text id nodes compacts counts there
+    → Turns disks old (record here { node = node'; text = text; waits = waits }) (MayCompact old.node.id old.node.nodes) ended
+compaction_so {Disk} disks old here node' result ended seen before after behind waits text is id nodes compacts counts there sees was now ends_so then waited told =
+    subst (λ (p : Progress Disk). Turns disks p (record here { node = node'; text = text; waits = waits }) (MayCompact p.node.id p.node.nodes) ended) is
+    (subst (λ (e : Ended). Turns disks here (record here { node = node'; text = text; waits = waits }) (MayCompact here.node.id here.node.nodes) e) (sym ends_so)
+    (compaction_turns disks here node' result waits text id nodes compacts counts there (waited ∙ ap (λ (v : State). waits_behind None [] v here.waits) then)
     (told before sees ∙ (ap (λ (v : State). here.text ++ changes false v after) was ∙ ap (λ (v : State). here.text ++ changes false here.node.state v) now))))

@@ -20,6 +20,24 @@ any_cutting_so disks old mid new first second a b = record {
   serves = serves_then disks old mid new a.lines b.lines a.serves b.serves;
 }
 
+-- what was answered before stands in front
+behind_text : {Disk : Type 0} (disks : Disk → DiskState) (mid new : Progress Disk) (piece : List ℕ) → Fed disks (record mid { text = [] }) piece new
+    → Fed disks mid piece (record new { text = mid.text ++ new.text })
+behind_text disks mid new piece a = record {
+  lines = a.lines;
+  cut = a.cut;
+  serves = record {
+    node = a.serves.node;
+    served = λ was s is stands. (let x = a.serves.served was s is stands in
+        record { all = x.all; came = x.came; honest = x.honest; state = x.state; stands = x.stands; left = x.left; text = ap (λ (t : List ℕ). mid.text ++ t) x.text });
+  };
+}
+
+pub any_clearing_so : {Disk : Type 0} (disks : Disk → DiskState) (old mid new : Progress Disk) (first second : List ℕ) → Fed disks old first mid → Fed disks (record mid { text = [] }) second new
+    → Fed disks old (first ++ second) (record new { text = mid.text ++ new.text })
+any_clearing_so disks old mid new first second a b =
+    any_cutting_so disks old mid (record new { text = mid.text ++ new.text }) first second a (behind_text disks mid new second b)
+
 -- what is kept of the input doesn't count
 serves_rest : {Disk : Type 0} (disks : Disk → DiskState) (old new : Progress Disk) (lines : List (List ℕ)) (was now : List ℕ) → Serves disks (record old { rest = was }) new lines
     → Serves disks old (record new { rest = now }) lines

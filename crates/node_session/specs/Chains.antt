@@ -1,5 +1,6 @@
 -- What comes of each line, and the chains of histories that this makes.
 use Rattle.std.specs.Prelude.{ℕ, ◌+◌, List, [], ◌∷◌, Bool, true, false, None}
+use Rattle.pace.specs.Waiting.{Waits, waits_behind, waits_on}
 use Rattle.histories.specs.NodeState.{NodeState}
 use Rattle.histories.specs.What.{Entry}
 use Rattle.histories.specs.After.{sent_at}
@@ -10,7 +11,7 @@ use Rattle.node_session.specs.declared.asked.Asked.TheVariants as ask
 use Rattle.node_session.specs.declared.ended.Ended.{Ended}
 use Rattle.node_session.specs.declared.ended.Ended.TheVariants as end
 use Rattle.node_session.specs.Asked.{asked_of}
-use Rattle.node_session.specs.Turns.{Turn, Goes, Unmounted, Begins, after_turn, end_of, MayComeOf, MayCompact, IsTimely, IsGoing}
+use Rattle.node_session.specs.Turns.{Turn, Goes, Unmounted, Begins, after_turn, cause, end_of, sent_in, MayComeOf, MayCompact, IsTimely, IsGoing}
 
 -- ---- the turns of one line
 
@@ -27,6 +28,19 @@ last_end self nodes ended s (turn ∷ turns) = last_end self nodes (end_of self 
 -- how a line ends: well, where nothing was asked of the node
 abbrev pub line_end : ℕ → ℕ → NodeState → List Turn → Ended
 line_end self nodes s turns = last_end self nodes (end.Done None) s turns
+
+-- the messages that are waited for behind a call
+abbrev pub waits_turn : ℕ → ℕ → NodeState → Turn → Waits → Waits
+waits_turn self nodes s turn w = waits_behind (cause turn) (sent_in self nodes s turn) (after_turn self nodes s turn).state w
+
+abbrev pub waits_turns : ℕ → ℕ → NodeState → List Turn → Waits → Waits
+waits_turns self nodes s [] w = w
+waits_turns self nodes s (turn ∷ turns) w = waits_turns self nodes (after_turn self nodes s turn) turns (waits_turn self nodes s turn w)
+
+-- a tick sends again what is due, before anything else
+abbrev pub waits_begun : Asked → Waits → Waits
+waits_begun (ask.Tick now) w = waits_on now w
+waits_begun asked w = w
 
 abbrev pub IsNone : List Turn → Type 0
 IsNone [] = Unit {0}
@@ -62,6 +76,8 @@ pub record At : Type 0 where
   -- how many requests there were
   pub count : ℕ
   pub state : NodeState
+  -- the messages that it waits for
+  pub waits : Waits
 
 abbrev pub is_device : NodeFault → Bool
 is_device node.Device = true
@@ -88,6 +104,7 @@ after_by self nodes false a asked turns = record {
   stopped = is_failed (line_end self nodes a.state turns);
   count = next a.count asked;
   state = after_turns self nodes a.state turns;
+  waits = waits_turns self nodes a.state turns (waits_begun asked a.waits);
 }
 
 -- behind a line that asks this, of which these came

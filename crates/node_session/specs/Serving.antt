@@ -5,13 +5,14 @@ use Rattle.job_model.specs.Durable.{Durable}
 use Rattle.node_core.specs.Start.{down}
 use Rattle.node_store.specs.Store.{slots_for}
 use Rattle.durable_node.specs.Node.{Node, Stands}
+use Rattle.pace.specs.Waiting.{Waits, none_waited}
 use Rattle.histories.specs.NodeState.{NodeState}
 use Rattle.histories.specs.declared.what.What.{What}
 use Rattle.histories.specs.After.{after}
 use Rattle.histories.specs.History.{Follows, FollowsSlots, replay}
 use Rattle.line_words.specs.Lines.{lines_of}
 use Rattle.node_session.specs.Turns.{Turn, Goes, Begins, begun, after_begun, after_turn, end_of, IsGoing}
-use Rattle.node_session.specs.Chains.{At, AreOf, AllGoing, AreGoing, after_lines, after_turns, entries_in, last_end}
+use Rattle.node_session.specs.Chains.{At, AreOf, AllGoing, AreGoing, after_lines, after_turns, entries_in, last_end, waits_turn, waits_turns}
 use Rattle.node_session.specs.Text.{answers, turn_text, turns_text}
 use Rattle.node_session.specs.declared.ended.Ended.{Ended}
 
@@ -25,9 +26,11 @@ pub record Progress (Disk : Type 0) : Type 0 where
   pub text : List ℕ
   -- the beginning of the line that isn't whole
   pub rest : List ℕ
+  -- the messages that are waited for
+  pub waits : Waits
 
 abbrev pub at_of : {Disk : Type 0} → Progress Disk → NodeState → At
-at_of p s = record { stopped = p.stopped; count = p.count; state = s }
+at_of p s = record { stopped = p.stopped; count = p.count; state = s; waits = p.waits }
 
 -- These lines were answered, at a node that stood for this state over this disk.
 pub record Served {Disk : Type 0} (disks : Disk → DiskState) (old new : Progress Disk) (lines : List (List ℕ)) (was : Disk) (s : NodeState) : Type 0 where
@@ -77,29 +80,31 @@ pub record Turned {Disk : Type 0} (disks : Disk → DiskState) (old new : Progre
   pub stands : Stands disks new.node (after_turn old.node.id old.node.nodes s turn)
   pub ended_so : ended ≡ end_of old.node.id old.node.nodes s turn
   pub text : new.text ≡ old.text ++ turn_text old.node.id old.node.nodes s turn
+  pub waits : new.waits ≡ waits_turn old.node.id old.node.nodes s turn old.waits
 
--- whatever state the node stood for; it changes the node and the text alone
+-- whatever state the node stood for; it changes the node, the text and what is waited for alone
 pub record Turns {Disk : Type 0} (disks : Disk → DiskState) (old new : Progress Disk) (May : ℕ → NodeState → Turn → Type 0) (ended : Ended) : Type 0 where
   pub node : IsNodeOf disks old.node new.node
-  pub same : new ≡ record old { node = new.node; text = new.text }
+  pub same : new ≡ record old { node = new.node; text = new.text; waits = new.waits }
   pub turned : (was : Disk) (s : NodeState) → old.node.disk ≡ Some was → Stands disks old.node s → Turned disks old new May ended was s
 
 -- ---- several calls, of one line
 
 -- These came of them.
-pub record Called {Disk : Type 0} (disks : Disk → DiskState) (old new : Progress Disk) (May : ℕ → NodeState → List Turn → Type 0) (before ended : Ended) (was : Disk) (s : NodeState) : Type 0 where
+pub record Called {Disk : Type 0} (disks : Disk → DiskState) (old new : Progress Disk) (tell : Turn → List ℕ) (May : ℕ → NodeState → List Turn → Type 0) (before ended : Ended) (was : Disk) (s : NodeState) : Type 0 where
   pub turns : List Turn
   pub may : May (slots_for (disks was).sectors) s turns
   pub honest : IsTrue (disks was).honest → AreGoing turns
   pub stands : Stands disks new.node (after_turns old.node.id old.node.nodes s turns)
   pub ended_so : ended ≡ last_end old.node.id old.node.nodes before s turns
-  pub text : new.text ≡ old.text ++ turns_text old.node.id old.node.nodes s turns
+  pub text : new.text ≡ old.text ++ turns_text tell old.node.id old.node.nodes s turns
+  pub waits : new.waits ≡ waits_turns old.node.id old.node.nodes s turns old.waits
 
--- whatever state the node stood for
-pub record Calls {Disk : Type 0} (disks : Disk → DiskState) (old new : Progress Disk) (May : ℕ → NodeState → List Turn → Type 0) (before ended : Ended) : Type 0 where
+-- whatever state the node stood for; this is told before each
+pub record Calls {Disk : Type 0} (disks : Disk → DiskState) (old new : Progress Disk) (tell : Turn → List ℕ) (May : ℕ → NodeState → List Turn → Type 0) (before ended : Ended) : Type 0 where
   pub node : IsNodeOf disks old.node new.node
-  pub same : new ≡ record old { node = new.node; text = new.text }
-  pub called : (was : Disk) (s : NodeState) → old.node.disk ≡ Some was → Stands disks old.node s → Called disks old new May before ended was s
+  pub same : new ≡ record old { node = new.node; text = new.text; waits = new.waits }
+  pub called : (was : Disk) (s : NodeState) → old.node.disk ≡ Some was → Stands disks old.node s → Called disks old new tell May before ended was s
 
 -- ---- laws
 
@@ -107,6 +112,12 @@ pub record Calls {Disk : Type 0} (disks : Disk → DiskState) (old new : Progres
 abbrev pub AnyCutting : {Disk : Type 0} → (Disk → DiskState) → Type 0
 AnyCutting {Disk} disks =
     (old mid new : Progress Disk) (first second : List ℕ) → Fed disks old first mid → Fed disks mid second new → Fed disks old (first ++ second) new
+
+-- what was answered may be written and cleared between two pieces
+abbrev pub AnyClearing : {Disk : Type 0} → (Disk → DiskState) → Type 0
+AnyClearing {Disk} disks =
+    (old mid new : Progress Disk) (first second : List ℕ) → Fed disks old first mid → Fed disks (record mid { text = [] }) second new →
+    Fed disks old (first ++ second) (record new { text = mid.text ++ new.text })
 
 -- where no history begins, the entries follow each other, and the state is the one that they replay to
 abbrev pub OneHistory : Type 0
@@ -124,17 +135,19 @@ BegunHistory =
     Follows self nodes (begun self found) (entries_in self nodes (begun self found) ((Goes what ∷ []) ∷ all)) ×
     (replay self nodes (begun self found) (entries_in self nodes (begun self found) ((Goes what ∷ []) ∷ all)) ≡ (after_lines self nodes a (line ∷ lines) ((Begins found what ∷ []) ∷ all)).state)
 
-abbrev pub opened : {Disk : Type 0} → ℕ → ℕ → Disk → Progress Disk
-opened id nodes disk = record {
+-- messages are sent again each so many milliseconds
+abbrev pub opened : {Disk : Type 0} → ℕ → ℕ → ℕ → Disk → Progress Disk
+opened id nodes unit disk = record {
   node = record { id = id; nodes = nodes; state = down id; disk = Some disk; kept = None; area = None; doubt = None; found = None };
   stopped = false;
   count = 0;
   text = [];
   rest = [];
+  waits = none_waited unit;
 }
 
 -- over a disk of which nothing is known, a new session stands for any jobs and counter
 abbrev pub BeginsAnywhere : {Disk : Type 0} → (Disk → DiskState) → Type 0
 BeginsAnywhere {Disk} disks =
-    (id nodes : ℕ) (disk : Disk) (d : Durable) → IsFalse (disks disk).honest → 24 ≤ (disks disk).sectors →
-    Stands disks (opened id nodes disk).node (record { state = down id; durable = d; doubt = None })
+    (id nodes unit : ℕ) (disk : Disk) (d : Durable) → IsFalse (disks disk).honest → 24 ≤ (disks disk).sectors →
+    Stands disks (opened id nodes unit disk).node (record { state = down id; durable = d; doubt = None })

@@ -16,6 +16,7 @@ use Rattle.node_core.specs.State.{State, is_down}
 use Rattle.node_core.specs.Words.{members_of}
 use Rattle.durable_node.specs.declared.fault.NodeFault.{NodeFault}
 use Rattle.durable_node.specs.declared.fault.NodeFault.TheVariants as node
+use Rattle.pace.specs.Waiting.{Waits, sent_again}
 use Rattle.histories.specs.NodeState.{NodeState}
 use Rattle.node_session.specs.declared.asked.Asked.{Asked}
 use Rattle.node_session.specs.declared.asked.Asked.TheVariants as ask
@@ -24,7 +25,7 @@ use Rattle.node_session.specs.declared.ended.Ended.TheVariants as end
 use Rattle.node_session.specs.Asked.{asked_of}
 use Rattle.node_session.specs.Words.{group_text, ids_text, phase_text, truth_text}
 use Rattle.node_session.specs.Turns.{Turn, after_turn, cause, end_of, sent_in}
-use Rattle.node_session.specs.Chains.{At, after_line, line_end, next}
+use Rattle.node_session.specs.Chains.{At, after_line, after_turns, line_end, next}
 use Rattle.node_session.specs.Changes.{changes, gone_told, held_text, is_finish}
 
 -- ---- words
@@ -72,9 +73,54 @@ call_text event sent old new ended = send_lines sent ++ (changes (is_finish even
 abbrev pub turn_text : ℕ → ℕ → NodeState → Turn → List ℕ
 turn_text self nodes s turn = call_text (cause turn) (sent_in self nodes s turn) s.state (after_turn self nodes s turn).state (end_of self nodes s turn)
 
-abbrev pub turns_text : ℕ → ℕ → NodeState → List Turn → List ℕ
-turns_text self nodes s [] = []
-turns_text self nodes s (turn ∷ turns) = turn_text self nodes s turn ++ turns_text self nodes (after_turn self nodes s turn) turns
+-- the word of an event, as a request has it
+abbrev pub event_word : Event → List ℕ
+event_word on.CheckTimer = codes "check"
+event_word on.MergeTimer = codes "merge"
+event_word on.AcceptTimer = codes "accept"
+event_word on.ReadyTimer = codes "ready"
+event_word on.CoordTimer = codes "coord"
+event_word on.DispatchTimer = codes "dispatch"
+event_word (on.Deliver m) = codes "deliver"
+event_word (on.Submit work) = codes "submit"
+event_word (on.Finish origin id) = codes "finish"
+event_word on.Recover = codes "recover"
+
+abbrev pub fired_line : Event → List ℕ
+fired_line event = codes "fired " ++ event_word event ++ codes "\n"
+
+-- a recovery alone has no other cause
+abbrev pub fired_by : Option Event → List ℕ
+fired_by None = fired_line on.Recover
+fired_by (Some event) = fired_line event
+
+-- the event that a tick or a loss made, before what came of it
+abbrev pub fired_told : Turn → List ℕ
+fired_told turn = fired_by (cause turn)
+
+-- of a request that names its event
+abbrev pub untold : Turn → List ℕ
+untold turn = []
+
+-- what is told of the calls of a line, with what is told before each
+abbrev pub turns_text : (Turn → List ℕ) → ℕ → ℕ → NodeState → List Turn → List ℕ
+turns_text before self nodes s [] = []
+turns_text before self nodes s (turn ∷ turns) = before turn ++ (turn_text self nodes s turn ++ turns_text before self nodes (after_turn self nodes s turn) turns)
+
+-- ---- what a recovery finds
+
+-- the counter, the id of the next job, and the number of jobs
+abbrev pub keeps_line : Durable → List ℕ
+keeps_line d = codes "keeps " ++ decimal d.counter ++ codes " " ++ decimal d.next ++ codes " " ++ decimal (length d.pending) ++ codes "\n"
+
+abbrev pub keeps_by : Bool → Durable → List ℕ
+keeps_by true d = []
+keeps_by false d = keeps_line d
+
+-- behind a recovery that was done, what the node keeps then
+abbrev pub keeps_told : Event → Ended → NodeState → List ℕ
+keeps_told on.Recover (end.Done answer) s = keeps_by (is_down s.state.phase) s.durable
+keeps_told event ended s = []
 
 -- ---- the closing line
 
@@ -146,21 +192,26 @@ jobs_lines s = jobs_by (is_down s.state.phase) s
 
 -- ---- all answers
 
--- the answer to the n-th request, which asks this of a node in this state; these came of it
-abbrev pub answer : ℕ → ℕ → ℕ → NodeState → Asked → List Turn → List ℕ
-answer self nodes n s ask.Nothing turns = []
-answer self nodes n s (ask.Event event) turns = turns_text self nodes s turns ++ event_closing n event (line_end self nodes s turns)
-answer self nodes n s ask.Compact turns = turns_text self nodes s turns ++ closing n (line_end self nodes s turns)
-answer self nodes n s (ask.Tick now) turns = turns_text self nodes s turns ++ closing n (line_end self nodes s turns)
-answer self nodes n s (ask.Lost id) turns = turns_text self nodes s turns ++ closing n (line_end self nodes s turns)
-answer self nodes n s ask.State turns = state_line s ++ ok_line n []
-answer self nodes n s ask.Jobs turns = jobs_lines s ++ ok_line n []
-answer self nodes n s ask.Bad turns = bad_line n
+-- how the answer to an event ends
+abbrev pub event_end : ℕ → ℕ → ℕ → NodeState → Event → List Turn → List ℕ
+event_end self nodes n s event turns =
+    keeps_told event (line_end self nodes s turns) (after_turns self nodes s turns) ++ event_closing n event (line_end self nodes s turns)
+
+-- the answer to the n-th request, which asks this of a node in this state that waits for these messages; these turns came of it
+abbrev pub answer : ℕ → ℕ → ℕ → NodeState → Waits → Asked → List Turn → List ℕ
+answer self nodes n s w ask.Nothing turns = []
+answer self nodes n s w (ask.Event event) turns = turns_text untold self nodes s turns ++ event_end self nodes n s event turns
+answer self nodes n s w ask.Compact turns = turns_text untold self nodes s turns ++ closing n (line_end self nodes s turns)
+answer self nodes n s w (ask.Tick now) turns = send_lines (sent_again now w) ++ (turns_text fired_told self nodes s turns ++ closing n (line_end self nodes s turns))
+answer self nodes n s w (ask.Lost id) turns = turns_text fired_told self nodes s turns ++ closing n (line_end self nodes s turns)
+answer self nodes n s w ask.State turns = state_line s ++ ok_line n []
+answer self nodes n s w ask.Jobs turns = jobs_lines s ++ ok_line n []
+answer self nodes n s w ask.Bad turns = bad_line n
 
 -- no line is answered once the device failed
 abbrev pub answer_at : ℕ → ℕ → Bool → At → Asked → List Turn → List ℕ
 answer_at self nodes true a asked turns = []
-answer_at self nodes false a asked turns = answer self nodes (next a.count asked) a.state asked turns
+answer_at self nodes false a asked turns = answer self nodes (next a.count asked) a.state a.waits asked turns
 
 abbrev pub answers : ℕ → ℕ → At → List (List ℕ) → List (List Turn) → List ℕ
 answers self nodes a [] all = []

@@ -1,11 +1,16 @@
 // Laws of sessions: the contracts of functions that do nothing.
-ghost use Rattle.node_session.specs.Serving.{AnyCutting, BeginsAnywhere, BegunHistory, OneHistory};
+ghost use Rattle.node_session.specs.Serving.{AnyClearing, AnyCutting, BeginsAnywhere, BegunHistory, OneHistory};
 
 use sector_disk::SectorDisk;
 
 /// What was fed decides what is answered, and not how it was cut.
 pub fn any_cutting<D: SectorDisk>()
     ensures { AnyCutting D.state }
+{}
+
+/// What was answered may be written and cleared at any time: what is written in all is what is answered to all that was fed.
+pub fn any_clearing<D: SectorDisk>()
+    ensures { AnyClearing D.state }
 {}
 
 /// Over an honest disk, what came of the lines is one history of the node.

@@ -5,6 +5,7 @@
 mod asked;
 mod closing;
 mod ended;
+mod fired;
 mod laws;
 mod seen;
 mod sending;
@@ -15,5 +16,5 @@ mod words;
 
 pub use asked::{Asked, read_line};
 pub use ended::Ended;
-pub use laws::{any_cutting, begins_anywhere, begun_history, one_history};
+pub use laws::{any_clearing, any_cutting, begins_anywhere, begun_history, one_history};
 pub use session::Session;

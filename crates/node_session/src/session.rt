@@ -1,5 +1,5 @@
 // A node that is fed with lines, and what it answers.
-ghost use Rattle.std.specs.Prelude.{◌≡◌, ◌<◌, ◌≤◌, ◌+◌, ◌++◌, ◌∷◌, ◌↔◌, List, ℕ, [], IfOk, IfSome, OnOk, IsTrue, Err, None, false};
+ghost use Rattle.std.specs.Prelude.{◌≡◌, ◌<◌, ◌≤◌, ◌+◌, ◌++◌, ◌∷◌, ◌↔◌, List, ℕ, [], IfOk, IfSome, OnOk, IsTrue, Err, None, Some, false};
 ghost use Rattle.group_task.specs.declared.node.TheConstants.{NODES};
 ghost use Rattle.job_journal.specs.Journal.{IsSound};
 ghost use Rattle.node_store.specs.Store.{slots_for};
@@ -11,21 +11,24 @@ ghost use Rattle.node_session.specs.Asked.{asked_of};
 ghost use Rattle.node_session.specs.Chains.{AreTimely, MayCome, is_failed};
 ghost use Rattle.node_session.specs.Serving.{opened, Calls, Fed, Serves, Turns};
 ghost use Rattle.durable_node.specs.Faults.{told};
-ghost use Rattle.node_session.specs.Text.{send_lines};
+ghost use Rattle.node_core.specs.State.{state_of};
+ghost use Rattle.pace.specs.Waiting.{sent_again, waits_behind, waits_on};
+ghost use Rattle.node_session.specs.Text.{fired_line, fired_told, send_lines};
 ghost use Rattle.node_session.specs.Turns.{compaction_end, ended_by, sent_by, IsTimely, IsTimer, MayComeOf, MayCompact};
 
 use crate::asked::{Asked, read_line};
 use crate::closing::{push_bad, push_closing, push_event_closing, push_ok};
 use crate::ended::Ended;
+use crate::fired::push_fired;
 use crate::seen::{Seen, is_finish, push_gone};
 use crate::sending::push_messages;
-use crate::showing::{push_all_jobs, push_state};
+use crate::showing::{push_all_jobs, push_keeps_told, push_state};
 use crate::unread::Unread;
 use durable_node::{Came, DurableNode, NodeFault};
 use group_task::NodeId;
 use line_words::cut_line;
 use node_core::{CoreFault, Event, Phase, Vector};
-use pace::{Pace, Setting, Sight};
+use pace::{Pace, Setting, Sight, Waiting};
 use sector_disk::SectorDisk;
 use std::alloc::{AllocError, Global};
 use std::marker::Model;
@@ -40,6 +43,7 @@ pub struct Session<D: SectorDisk> {
     id: NodeId,
     node: DurableNode<D>,
     pace: Pace,
+    waiting: Waiting,
     stopped: bool,
     count: u64,
     text: Vec<u8>,
@@ -54,7 +58,7 @@ impl<D: SectorDisk> Model for Session<D> {
 
     ghost Value = { Progress D };
 
-    ghost view = { λ a. record { node = a.node; stopped = a.stopped; count = a.count; text = a.text.items; rest = a.unread } };
+    ghost view = { λ a. record { node = a.node; stopped = a.stopped; count = a.count; text = a.text.items; rest = a.unread; waits = a.waiting } };
 }
 
 impl<D: SectorDisk> Session<D> {
@@ -70,13 +74,14 @@ impl<D: SectorDisk> Session<D> {
         requires within { id < nodes }
         requires most { nodes ≤ NODES }
         requires sound { IsSound (slots_for (D.state disk).sectors) (D.state disk) }
-        ensures { result ≡ opened id nodes disk }
+        ensures { result ≡ opened id nodes setting.unit disk }
     {
         Session {
             alloc,
             id,
             node: DurableNode::down(alloc, id, nodes, disk),
             pace: Pace::new(setting, id, seed),
+            waiting: Waiting::new(alloc, setting.unit),
             stopped: false,
             count: 0,
             text: Vec::new(alloc),
@@ -166,6 +171,7 @@ impl<D: SectorDisk + Drop> Session<D> {
         self.hear(event);
         let ended = self.turn(event)?;
         self.stop_where_failed(&ended);
+        push_keeps_told(&mut self.text, event, &ended, &self.node)?;
         push_event_closing(&mut self.text, number, event, &ended)
     }
 
@@ -186,6 +192,7 @@ impl<D: SectorDisk + Drop> Session<D> {
         ensures line { (line : List ℕ) → asked_of line ≡ ask.Tick now → OnOk result (Serves D.state self.old self.new (line ∷ [])) }
     {
         let number = self.next_number()?;
+        self.send_again(now)?;
         let ended = self.fire_due(now)?;
         self.stop_where_failed(&ended);
         push_closing(&mut self.text, number, &ended)
@@ -250,16 +257,26 @@ impl<D: SectorDisk + Drop> Session<D> {
         self.stopped = matches!(ended, Ended::Denied(NodeFault::Device));
     }
 
+    /// Sends again what is waited for and due at this time.
+    fn send_again(&mut self, now: u64) -> Result<(), AllocError>
+        ensures again { OnOk result (self.new ≡ record self.old { text = self.old.text ++ send_lines (sent_again now self.old.waits); waits = waits_on now self.old.waits }) }
+        ensures rest { self.new.rest ≡ self.old.rest }
+    {
+        push_messages(&mut self.text, &mut self.bytes, self.waiting.due(now))?;
+        self.waiting.go_on(now)
+    }
+
     /// Makes the events that are due at this time.
     fn fire_due(&mut self, now: u64) -> Result<Ended, AllocError>
         ensures rest { self.new.rest ≡ self.old.rest }
-        ensures calls { IfOk result (λ ended. Calls D.state self.old self.new (AreTimely self.old.node.id self.old.node.nodes) (end.Done None) ended) }
+        ensures calls { IfOk result (λ ended. Calls D.state self.old self.new fired_told (AreTimely self.old.node.id self.old.node.nodes) (end.Done None) ended) }
     {
         let mut ended = Ended::Done(None);
         for _fired in 0..MOST_FIRED {
             let Some(event) = self.due(now) else {
                 return Ok(ended);
             };
+            self.tell_fired(&event)?;
             ended = self.turn(&event)?;
             if matches!(ended, Ended::Denied(_)) {
                 return Ok(ended);
@@ -281,13 +298,24 @@ impl<D: SectorDisk + Drop> Session<D> {
         self.pace.tick(now, &sight)
     }
 
+    /// Names an event that the session makes by itself.
+    fn tell_fired(&mut self, event: &Event) -> Result<(), AllocError>
+        ensures told { OnOk result (self.new ≡ record self.old { text = self.old.text ++ fired_line event.now }) }
+        ensures rest { self.new.rest ≡ self.old.rest }
+    {
+        push_fired(&mut self.text, event)
+    }
+
     /// A node that the transport gave up isn't waited for: its coordinator leaves the group, and a member asks or leaves.
     fn give_up(&mut self, node: NodeId) -> Result<Ended, AllocError>
         ensures rest { self.new.rest ≡ self.old.rest }
-        ensures calls { IfOk result (λ ended. Calls D.state self.old self.new (AreTimely self.old.node.id self.old.node.nodes) (end.Done None) ended) }
+        ensures calls { IfOk result (λ ended. Calls D.state self.old self.new fired_told (AreTimely self.old.node.id self.old.node.nodes) (end.Done None) ended) }
     {
         match loss_of(self.id, self.node.vector(), node) {
-            Some(event) => self.turn(&event),
+            Some(event) => {
+                self.tell_fired(&event)?;
+                self.turn(&event)
+            }
             None => Ok(Ended::Done(None)),
         }
     }
@@ -319,6 +347,7 @@ impl<D: SectorDisk + Drop> Session<D> {
         if ran_out(&reply) {
             return Err(AllocError);
         }
+        keep_waited(&mut self.waiting, event, &reply, self.node.vector())?;
         push_sent(&mut self.text, &mut self.bytes, &reply)?;
         let ended = ended_by(&reply);
         self.seen
@@ -336,9 +365,25 @@ impl<D: SectorDisk + Drop> Session<D> {
         self.node.has_disk();
         let done = self.node.compact();
         self.node.has_disk();
+        self.waiting.forget(self.node.vector())?;
         self.seen
             .push_changes(&mut self.text, false, self.node.vector())?;
         Ok(compaction_end(&done))
+    }
+}
+
+/// Keeps those of the messages that a step hands out that are waited for in the state that it led to.
+fn keep_waited(
+    waiting: &mut Waiting,
+    event: &Event,
+    reply: &Result<Came, NodeFault>,
+    vector: &Vector,
+) -> Result<(), AllocError>
+    ensures { OnOk result (waiting.new ≡ waits_behind (Some event.now) (sent_by (told reply.now)) (state_of vector.now) waiting.old) }
+{
+    match reply {
+        Ok(came) if came.fault().is_none() => waiting.keep(event, &came.sent, vector),
+        _ => waiting.keep(event, &[], vector),
     }
 }
 

@@ -2,18 +2,19 @@
 ghost use Rattle.std.specs.Prelude.{◌≡◌, ◌++◌, OnOk};
 ghost use Rattle.std.specs.List.{flat_map};
 ghost use Rattle.job_model.specs.Table.{durable_of};
-ghost use Rattle.node_core.specs.State.{state_of};
+ghost use Rattle.node_core.specs.State.{is_down, state_of};
 ghost use Rattle.durable_node.specs.Node.{Stands};
 ghost use Rattle.histories.specs.NodeState.{NodeState};
 ghost use Rattle.node_session.specs.Changes.{held_text};
 ghost use Rattle.console_text.specs.Words.{work_text};
-ghost use Rattle.node_session.specs.Text.{asks_part, group_part, hand_line, jobs_lines, jobs_part, pending_line, sets_part, state_line, up_line};
+ghost use Rattle.node_session.specs.Text.{asks_part, group_part, hand_line, jobs_lines, jobs_part, keeps_by, keeps_line, keeps_told, pending_line, sets_part, state_line, up_line};
 
+use crate::ended::Ended;
 use crate::words::{phase_word, push_group, push_ids, push_truth};
 use console_text::{push_number, push_text, push_work};
 use durable_node::DurableNode;
 use job_model::{Job, JobTable, Work};
-use node_core::{InHand, Phase, Vector};
+use node_core::{Event, InHand, Phase, Vector};
 use sector_disk::SectorDisk;
 use std::alloc::AllocError;
 
@@ -48,6 +49,45 @@ pub(crate) fn push_all_jobs<D: SectorDisk>(
         }
         _ => Ok(()),
     }
+}
+
+/// Adds what the node keeps, behind a recovery that was done.
+pub(crate) fn push_keeps_told<D: SectorDisk>(
+    text: &mut Vec<u8>,
+    event: &Event,
+    ended: &Ended,
+    node: &DurableNode<D>,
+) -> Result<(), AllocError>
+    ensures { (s : NodeState) → Stands D.state node.now s → OnOk result (text.new.items ≡ text.old.items ++ keeps_told event.now ended.now s) }
+{
+    match (event, ended) {
+        (Event::Recover, Ended::Done(_)) => push_keeps(text, node),
+        _ => Ok(()),
+    }
+}
+
+fn push_keeps<D: SectorDisk>(text: &mut Vec<u8>, node: &DurableNode<D>) -> Result<(), AllocError>
+    ensures { (s : NodeState) → Stands D.state node.now s → OnOk result (text.new.items ≡ text.old.items ++ keeps_by (is_down s.state.phase) s.durable) }
+{
+    let vector = node.vector();
+    match node.durable() {
+        Some((count, table)) if !matches!(vector.phase, Phase::Down) => {
+            push_durable(text, count, table)
+        }
+        _ => Ok(()),
+    }
+}
+
+fn push_durable(text: &mut Vec<u8>, count: u64, table: &JobTable) -> Result<(), AllocError>
+    ensures { OnOk result (text.new.items ≡ text.old.items ++ keeps_line (durable_of count table.now)) }
+{
+    push_text(text, "keeps ")?;
+    push_number(text, count)?;
+    push_text(text, " ")?;
+    push_number(text, table.next())?;
+    push_text(text, " ")?;
+    push_number(text, table.pending().len() as u64)?;
+    push_text(text, "\n")
 }
 
 fn push_pending(text: &mut Vec<u8>, jobs: &[Job]) -> Result<(), AllocError>

@@ -10,6 +10,7 @@ mod pace;
 mod setting;
 mod sight;
 mod timer;
+mod waiting;
 
 pub use deadline::Deadline;
 pub use laws::fires_once;
@@ -17,6 +18,7 @@ pub use pace::Pace;
 pub use setting::Setting;
 pub use sight::Sight;
 pub use timer::Timer;
+pub use waiting::Waiting;
 
 #[cfg(test)]
 mod tests;

@@ -28,6 +28,7 @@ struct Place {
 /// The nodes of a cluster, the link between them, and the clock.
 #[derive(Drop)]
 pub struct Cluster {
+    alloc: Global,
     places: Vec<Place>,
     link: Link,
     step: u64,
@@ -49,12 +50,13 @@ impl Cluster {
         for number in 0..nodes {
             let id = NodeId::numbered(number);
             places.push(Place {
-                node: Node::new(alloc, id, nodes, options.setting, seed)?,
+                node: Node::new(alloc, id, nodes, options, seed)?,
                 starts: 1 + u64::from(random.next_word() % (START * u32::from(UNIT))) / STEP,
                 offset: u64::from(random.next_word()) % STEPS,
             })?;
         }
         Ok(Cluster {
+            alloc,
             places,
             link: Link::new(alloc, options, loss, seed),
             step: 0,
@@ -170,9 +172,8 @@ impl Cluster {
         if step == place.starts {
             place.node.start()?;
         } else if step.saturating_add(place.offset) % STEPS == 0 {
-            if let Some(sent) = place.node.tick(now)? {
-                self.send(now, &sent)?;
-            }
+            let sent = place.node.tick(self.alloc, now)?;
+            self.send(now, &sent)?;
         }
         Ok(())
     }

@@ -7,9 +7,8 @@
 //! 2. They go on for as long as `quiet` says, with no fault but loss: each new group in that time was without need.
 //! 3. The coordinator dies for good, and then a member, each time until all others are one group.
 //!
-//! A message, and the acknowledgement of the link, is lost with the given probability and takes 0.2 to 0.5 round trips. The
-//! link sends a message again, one round trip later, until it is acknowledged. Each node's timers are looked at twice a
-//! round trip. Arguments are words NAME=VALUE, in any order, of `options.rt`.
+//! A message is lost with the given probability and takes 0.2 to 0.5 round trips. Nodes send again what they wait for; a link
+//! that does so until a message is acknowledged can be tried too. Each node's timers are looked at twice a round trip. Arguments are words NAME=VALUE, in any order, of `options.rt`.
 //!
 //! A row has times in round trips: their median, the worst of 99 in 100, the worst, and in how many trials it never came. Its
 //! groups are those that a trial starts beside each node's own, `whole%` is the part of the time in which all nodes were one

@@ -3,11 +3,12 @@ ghost use Rattle.group_task.specs.declared.node.TheConstants.{NODES};
 ghost use Rattle.job_model.specs.Command.{Raise};
 ghost use Rattle.node_core.specs.Planned.{wanted_by};
 
+use crate::options::Options;
 use anyhow::bail;
 use group_task::{GroupNo, Members, NodeId};
 use job_model::JobTable;
 use node_core::{Durable, Event, NodeCore, Phase};
-use pace::{Pace, Setting, Sight};
+use pace::{Pace, Sight, Waiting};
 use std::alloc::Global;
 use wire_msg::Message;
 
@@ -16,6 +17,8 @@ use wire_msg::Message;
 pub struct Node {
     core: NodeCore,
     pace: Pace,
+    // None where it leaves it to the link to send messages again
+    waiting: Option<Waiting>,
     table: JobTable,
     count: u64,
     is_dead: bool,
@@ -27,15 +30,21 @@ impl Node {
         alloc: Global,
         id: NodeId,
         nodes: u8,
-        setting: Setting,
+        options: &Options,
         seed: u64,
     ) -> anyhow::Result<Node>
         requires within { id < nodes }
         requires nodes { nodes ≤ NODES }
     {
+        let setting = options.setting;
+        let waiting = match options.repeats {
+            0 => None,
+            _ => Some(Waiting::new(alloc, setting.unit)),
+        };
         Ok(Node {
             core: NodeCore::down(alloc, id, nodes),
             pace: Pace::new(setting, id, seed),
+            waiting,
             table: JobTable::with_room(alloc, 0)?,
             count: 0,
             is_dead: false,
@@ -83,13 +92,18 @@ impl Node {
         Ok(())
     }
 
-    /// What it sends at this time, if a timer is due.
-    pub fn tick(&mut self, now: u64) -> anyhow::Result<Option<Vec<Message>>> {
-        let sight = Sight::of(self.core.id(), self.core.vector(), self.core.merge_wait());
-        match self.pace.tick(now, &sight) {
-            Some(event) => Ok(Some(self.step(&event)?)),
-            None => Ok(None),
+    /// What it sends again at this time, and what it sends where a timer is due.
+    pub fn tick(&mut self, alloc: Global, now: u64) -> anyhow::Result<Vec<Message>> {
+        let mut sent = Vec::new(alloc);
+        if let Some(waiting) = &mut self.waiting {
+            sent.extend_from_slice(waiting.due(now))?;
+            waiting.go_on(now)?;
         }
+        let sight = Sight::of(self.core.id(), self.core.vector(), self.core.merge_wait());
+        if let Some(event) = self.pace.tick(now, &sight) {
+            sent.extend_from_slice(&self.step(&event)?)?;
+        }
+        Ok(sent)
     }
 
     /// What it answers to a message.
@@ -103,7 +117,11 @@ impl Node {
             bail!("a step was refused");
         };
         let answer = self.carry_out(plan.wants());
-        Ok(self.core.commit_step(plan, answer))
+        let sent = self.core.commit_step(plan, answer);
+        if let Some(waiting) = &mut self.waiting {
+            waiting.keep(event, &sent, self.core.vector())?;
+        }
+        Ok(sent)
     }
 
     /// Raises the count of groups where the plan wants it.

@@ -14,6 +14,8 @@ pub struct Options {
     loss: Option<u8>,
     /// `resends`: how often the link sends a message again at most.
     pub resends: u16,
+    /// `repeats`: 1 where nodes send again what they wait for, and 0 where they leave that to the link.
+    pub repeats: u16,
     /// `slow`: the link takes so many times longer than the setting says.
     pub slow: u16,
     /// `quiet`: how many round trips a group is watched with no fault but loss.
@@ -28,7 +30,8 @@ impl Options {
             seeds: 10,
             nodes: None,
             loss: None,
-            resends: 6,
+            resends: 0,
+            repeats: 1,
             slow: 1,
             quiet: 1_000,
             setting: Setting::measured(UNIT),
@@ -47,6 +50,7 @@ impl Options {
             "seeds" => self.seeds = value.parse()?,
             "nodes" => self.nodes = Some(value.parse()?),
             "loss" => self.loss = Some(value.parse()?),
+            "repeats" => self.repeats = value.parse()?,
             "resends" => self.resends = value.parse()?,
             "slow" => self.slow = value.parse()?,
             "quiet" => self.quiet = value.parse()?,

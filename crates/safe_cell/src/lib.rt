@@ -7,8 +7,6 @@ mod cell;
 mod fault;
 mod formatting;
 mod mounting;
-#[cfg(test)]
-mod tests;
 
 pub use cell::SafeCell;
 pub use fault::CellFault;

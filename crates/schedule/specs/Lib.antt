@@ -3,3 +3,4 @@ pub mod Fields
 pub mod Acts
 pub mod Text
 pub mod Limits
+pub mod Flaws

@@ -3,6 +3,7 @@
 
 mod act;
 mod fields;
+mod flaw;
 mod laws;
 mod parsing;
 mod reading;
@@ -10,9 +11,11 @@ mod size;
 mod verb;
 
 pub use act::{Act, Fill, Submitted};
+pub use flaw::{Flaw, flaw_in};
 pub use laws::limits;
 pub use reading::read_schedule;
 pub use size::{LEAST_SLOTS, MOST_ACTS, MOST_SLOTS, Schedule, Size};
+pub use verb::Verb;
 
 #[cfg(test)]
 mod tests;

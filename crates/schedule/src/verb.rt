@@ -1,4 +1,5 @@
 ghost use Rattle.std.specs.Prelude.{◌≡◌, bytes_eq};
+ghost use Rattle.schedule.specs.Flaws.{form_of};
 ghost use Rattle.schedule.specs.Verbs.{verb_of};
 
 /// What a line of a schedule asks for.
@@ -61,6 +62,30 @@ impl Verb {
             Some(Verb::Compact)
         } else {
             None
+        }
+    }
+
+    /// How its act is written, with a word for each field.
+    pub fn form(self) -> &'static str
+        ensures { result.now ≡ form_of self }
+    {
+        match self {
+            Verb::Check => "check N",
+            Verb::Merge => "merge N",
+            Verb::Accept => "accept N",
+            Verb::Ready => "ready N",
+            Verb::Coord => "coord N",
+            Verb::Dispatch => "dispatch N",
+            Verb::Deliver => "deliver K",
+            Verb::Lose => "lose K",
+            Verb::Cut => "cut A B",
+            Verb::Mend => "mend A B",
+            Verb::Submit => "submit N QUEUE HEX [P]",
+            Verb::Finish => "finish N ORIGIN ID",
+            Verb::Arm => "arm N K",
+            Verb::Crash => "crash N [HEX]",
+            Verb::Recover => "recover N",
+            Verb::Compact => "compact N",
         }
     }
 }

@@ -9,8 +9,6 @@ mod notes;
 mod overwritten;
 mod sector;
 mod sectors;
-#[cfg(test)]
-mod tests;
 
 pub use disk::SectorDisk;
 pub use fault::DiskFault;

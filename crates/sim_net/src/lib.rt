@@ -9,6 +9,3 @@ mod net;
 pub use fault::NetFault;
 pub use laws::delivered_by_changes;
 pub use net::Net;
-
-#[cfg(test)]
-mod tests;

@@ -8,8 +8,6 @@
 mod change;
 mod row;
 mod slot;
-#[cfg(test)]
-mod tests;
 
 pub use change::store;
 pub use row::unseal_all;

@@ -6,15 +6,19 @@
 //!   store; it prints how many device calls the last append and a mounting make.
 //! - `front JOBS ROUNDS`: so many Puts, and then their Dones in order, so many times.
 //! - `compact JOBS ROUNDS`: so many compactions of 4,096 slots with so many pending jobs.
+//! - `raise RAISES BETWEEN`: so many raises of one cell, with a crash and a mounting after each so many; it prints the
+//!   value at the end.
 #![tactic(auto)]
 
 mod expected;
 mod life;
+mod raises;
 mod random;
 
 ghost use Rattle.std.specs.Prelude.{◌≡◌, IfOk, length};
 
 use crate::life::Life;
+use crate::raises::raised;
 use anyhow::Context;
 use job_model::{Command, Payload, Queue, Work};
 use node_store::NodeStore;
@@ -30,7 +34,7 @@ const SLOTS: u64 = 4096;
 fn main(rt: HostRuntime) -> anyhow::Result<()> {
     let mode = env::args(&rt)?
         .nth(1)
-        .context("live, fill, front or compact?")?;
+        .context("live, fill, front, compact or raise?")?;
     let first: u64 = env::args(&rt)?.nth(2).context("a number")?.parse()?;
     let second: u64 = env::args(&rt)?.nth(3).context("a second number")?.parse()?;
     match mode.as_str() {
@@ -41,7 +45,8 @@ fn main(rt: HostRuntime) -> anyhow::Result<()> {
         "fill" => fill(rt, first, second),
         "front" => front(rt.alloc(), first, second),
         "compact" => compact(rt.alloc(), first, second),
-        _ => Err(anyhow::anyhow!("live, fill, front or compact?")),
+        "raise" => raise(rt, first, second),
+        _ => Err(anyhow::anyhow!("live, fill, front, compact or raise?")),
     }
 }
 
@@ -100,6 +105,13 @@ fn compact(alloc: Global, jobs: u64, rounds: u64) -> anyhow::Result<()> {
         disk.crash(&[]);
         journal.compact(&mut disk)?;
     }
+    Ok(())
+}
+
+// Raises a cell so many times, and prints its value.
+fn raise(rt: HostRuntime, raises: u64, between: u64) -> anyhow::Result<()> {
+    let value = raised(rt.alloc(), raises, between)?;
+    println!(rt; "{value}")?;
     Ok(())
 }
 

@@ -1,3 +1,4 @@
 pub mod Requests
 pub mod Replies
 pub mod Session
+pub mod Reasons

@@ -5,6 +5,7 @@ mod acting;
 mod fields;
 mod parsing;
 mod reading;
+mod reasons;
 mod reply;
 mod request;
 mod running;

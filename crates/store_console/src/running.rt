@@ -1,15 +1,17 @@
 //! The command.
 
-ghost use Rattle.std.specs.Prelude.{◌∷◌, List, IfOk, OnOk, None};
-ghost use Rattle.console_text.specs.Ends.{outcome_of, Prints};
+ghost use Rattle.std.specs.Prelude.{◌≡◌, ◌≤◌, ◌+◌, ◌∷◌, List, IfOk, OnOk, None};
+ghost use Rattle.console_text.specs.Ends.{outcome_of, IsWhy, Prints};
+ghost use Rattle.store_console.specs.Reasons.{session_flaw};
 ghost use Rattle.store_console.specs.declared.request.Request.{Request as Asked};
 ghost use Rattle.store_console.specs.Session.{Answers, GoesOn, IsSession};
 
 use crate::acting::reply;
 use crate::reading::read_requests;
+use crate::reasons::reason;
 use crate::request::Request;
 use crate::text::push_reply;
-use console_text::{Ending, Printout, Trouble, bad_line, print, read_input};
+use console_text::{Ended, Printout, Source, Told, Trouble, bad_line, read_source, tell};
 use file_disk::FileDisk;
 use line_words::LineFault;
 use node_store::NodeStore;
@@ -25,33 +27,40 @@ pub fn store<P: AsPath, R: Read, W: Write>(
     rt: &impl Files<File = File>,
     alloc: Global,
     path: P,
-    input: &mut R,
+    input: &mut Source<R>,
     output: &mut W,
-) -> Ending
-    ensures { Prints IsSession (R.remaining input.old) (W.contents output.old) (W.contents output.new) result }
+) -> Ended
+    ensures prints { Prints IsSession (R.remaining input.old.reader) (W.contents output.old) (W.contents output.new) result.ending }
+    ensures why { IsWhy session_flaw (R.remaining input.old.reader) result.ending result.why.items }
+    ensures reads { input.old.left ≤ input.new.left + 16777216 }
 {
-    let outcome = match read_input(alloc, input) {
+    let outcome = match read_source(alloc, input) {
         Ok(bytes) => store_to(rt, alloc, &path, &bytes).map_err(Trouble::from),
         Err(trouble) => Err(trouble),
     };
-    print(output, outcome)
+    tell(alloc, output, outcome)
 }
 
-/// What `store` prints for an input.
+/// What `store` prints for an input, and what is wrong with the input.
 fn store_to<P: AsPath>(
     rt: &impl Files<File = File>,
     alloc: Global,
     path: &P,
     input: &[u8],
-) -> Result<Printout, AllocError>
-    ensures { IfOk result (λ printout. IsSession input.now (outcome_of printout)) }
+) -> Result<Told, AllocError>
+    ensures prints { IfOk result (λ told. IsSession input.now (outcome_of told.printout)) }
+    ensures why { IfOk result (λ told. told.why.items ≡ session_flaw input.now) }
 {
     match read_requests(alloc, input) {
         Ok(requests) => {
             let text = answer(rt, alloc, path, &requests)?;
-            Ok(Printout { text, good: true })
+            let printout = Printout { text, good: true };
+            Ok(printout.without_why(alloc))
         }
-        Err(LineFault::BadLine(number)) => bad_line(alloc, number),
+        Err(LineFault::BadLine(number)) => Ok(Told {
+            printout: bad_line(alloc, number)?,
+            why: reason(alloc, input, number)?,
+        }),
         Err(LineFault::NoMemory) => Err(AllocError),
     }
 }

@@ -1,4 +1,5 @@
 use super::store;
+use console_text::Source;
 use file_disk::FileDisk;
 use std::alloc::Global;
 use std::fs::{File, Files};
@@ -24,9 +25,10 @@ fn expect(
     status: u8,
 ) {
     let mut output = Vec::new(alloc);
-    let ending = store(rt, alloc, path, &mut lines.as_bytes(), &mut output);
+    let mut input = Source::new(lines.as_bytes());
+    let ended = store(rt, alloc, path, &mut input, &mut output);
     assert_eq!(rt; output.as_slice(), want.as_bytes(), "{lines}");
-    assert_eq!(rt; ending.status(), status, "{lines}");
+    assert_eq!(rt; ended.ending.status(), status, "{lines}");
 }
 
 #[test]
@@ -150,6 +152,26 @@ fn file_of_another_disk(rt: HostRuntime) -> Result<(), Fail> {
     drop(disk);
     expect(&rt, alloc, path, "mount\nlist\n", "ok\ncount 1 next 0\n", 0);
     fs::remove_file(&rt, path)?;
+    Ok(())
+}
+
+// What standard error says of a line that can't be read.
+#[test]
+fn reasons(rt: HostRuntime) -> Result<(), Fail> {
+    let path = temporary(&rt, "why")?;
+    for (lines, want) in [
+        ("mount\nmout\n", "line 2: no such request: mout"),
+        ("\nput 16 61", "line 2: not of the form put QUEUE HEX [P]"),
+        ("format 3", "line 1: not of the form format SLOTS"),
+        ("raise 1", "line 1: not of the form raise"),
+        (" list", "line 1: no such request: "),
+        ("mount\r\n", "line 1: no such request: mount\\x0d"),
+    ] {
+        let mut output = Vec::new(rt.alloc());
+        let mut input = Source::new(lines.as_bytes());
+        let ended = store(&rt, rt.alloc(), path.as_path(), &mut input, &mut output);
+        assert_eq!(rt; ended.why.as_slice(), want.as_bytes(), "{lines}");
+    }
     Ok(())
 }
 

@@ -1,6 +1,6 @@
 mod Furthest
 mod Bundles
-mod Turning
+pub mod Turning
 pub mod Twins
 pub mod Keyed
 pub mod Desks

@@ -16,6 +16,7 @@ pub use history::{EntryView, History, Sent};
 pub use laws::{
     none_complete, none_goes_further, orders_are_bundles, turns_go_on, verdicts_decide,
 };
+pub use replica::Replica;
 pub use trace::{Deed, RecoverFault, Trace, Verdict};
 
 #[cfg(test)]

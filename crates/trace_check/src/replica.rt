@@ -3,7 +3,7 @@ ghost use Rattle.group_task.specs.declared.node.TheConstants.{NODES};
 ghost use Rattle.node_core.specs.NodeStep.{IsSpent};
 ghost use Rattle.node_core.specs.Planned.{wanted_by};
 ghost use Rattle.node_core.specs.Start.{down};
-ghost use Rattle.node_core.specs.State.{is_down};
+ghost use Rattle.node_core.specs.State.{is_down, state_of};
 ghost use Rattle.histories.specs.NodeState.{opening, wants_at};
 ghost use Rattle.histories.specs.declared.what.What.TheVariants.{Rests, Did, Faulted, Crashed, Recovered, MountFailed, RaiseFailed};
 ghost use Rattle.histories.specs.declared.what.Rest.TheVariants.{Nothing};
@@ -15,7 +15,7 @@ use crate::history::{EntryView, Sent};
 use crate::ledger::Ledger;
 use crate::trace::{Deed, RecoverFault};
 use group_task::NodeId;
-use node_core::{CoreFault, Durable, Event, NodeCore, Phase};
+use node_core::{CoreFault, Durable, Event, NodeCore, Phase, Vector};
 use std::alloc::{AllocError, Global};
 use std::marker::Model;
 use wire_msg::Message;
@@ -55,6 +55,13 @@ impl Replica {
             ledger: Ledger::new(alloc)?,
             doubt: Durable::None,
         })
+    }
+
+    /// What the node knows.
+    pub fn vector(&self) -> &Vector
+        ensures { state_of result.now ≡ self.now.node.state }
+    {
+        self.core.vector()
     }
 
     /// Takes an entry of the node's history, if it is possible here: whether a message that was delivered was sent is left

@@ -1,8 +1,8 @@
-ghost use Rattle.std.specs.Prelude.{◌≡◌, ◌++◌, ◌∷◌, [], ℕ, List, codes, IfOk, OnOk};
+ghost use Rattle.std.specs.Prelude.{◌≡◌, ◌≤◌, ◌+◌, ◌++◌, ◌∷◌, [], ℕ, List, codes, IfOk, OnOk};
 ghost use Rattle.console_text.specs.Ends.{Prints, outcome_of, refused};
 ghost use Rattle.trace_console.specs.Judged.{IsJudged, IsJudgement, bad_trace, verdict_printed, words};
 
-use console_text::{Ending, Printout, Trouble, print, push_number, push_text, read_input};
+use console_text::{Ending, Printout, Source, Trouble, print, push_number, push_text, read_source};
 use group_task::NodeId;
 use std::alloc::{AllocError, Global};
 use std::io::{Read, Write};
@@ -12,10 +12,11 @@ use trace_text::{Spot, TraceFault, read};
 /// Reads a trace, and prints the verdict on it: `Run` and the nodes in the order in which their entries can be taken, or `NotARun` with
 /// the least node that has entries left once none can be taken, and the index of its next. A text that is no trace is a `bad trace`,
 /// with the node and the index of the first bad entry where the whole has the shape of a trace.
-pub fn trace<R: Read, W: Write>(alloc: Global, input: &mut R, output: &mut W) -> Ending
-    ensures { Prints IsJudged (R.remaining input.old) (W.contents output.old) (W.contents output.new) result }
+pub fn trace<R: Read, W: Write>(alloc: Global, input: &mut Source<R>, output: &mut W) -> Ending
+    ensures prints { Prints IsJudged (R.remaining input.old.reader) (W.contents output.old) (W.contents output.new) result }
+    ensures reads { input.old.left ≤ input.new.left + 16777216 }
 {
-    let outcome = match read_input(alloc, input) {
+    let outcome = match read_source(alloc, input) {
         Ok(bytes) => judge_text(alloc, &bytes).map_err(Trouble::from),
         Err(trouble) => Err(trouble),
     };

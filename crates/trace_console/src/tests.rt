@@ -1,5 +1,5 @@
 use super::trace;
-use console_text::push_text;
+use console_text::{Source, push_text};
 use std::alloc::{AllocError, Global};
 use std::process::Abort;
 use std::test::Fail;
@@ -8,7 +8,7 @@ use std::test::Fail;
 fn expect(rt: &impl Abort, alloc: Global, text: &[u8], want: &[u8]) {
     let mut input = text;
     let mut output = Vec::new(alloc);
-    let ending = trace(alloc, &mut input, &mut output);
+    let ending = trace(alloc, &mut Source::new(input), &mut output);
     assert!(rt; output.as_slice() == want);
     assert_eq!(rt; ending.status() == 0, want.starts_with(b"Run"));
 }

@@ -1,6 +1,6 @@
 -- The tokens of a trace are those of its JSON value.
-use Rattle.std.proofs.Common.{◌≡◌, ◌≤◌, ◌+◌, ℕ, Bool, true, false, List, [], ◌∷◌, ◌++◌, length, drop, map, slice_get, Some, codes, decimal, refl, sym, ap, ◌∙◌, append_assoc, arith}
-use Rattle.std.specs.Prelude.{OnOk, Result, if◌then◌else◌, ◌==◌}
+use Rattle.std.proofs.Common.{◌≡◌, ◌≤◌, ◌+◌, ℕ, Bool, true, false, List, [], ◌∷◌, ◌++◌, length, drop, map, slice_get, Some, codes, decimal, refl, sym, ap, ◌∙◌, subst, append_assoc, arith}
+use Rattle.std.specs.Prelude.{OnOk, Result, Ok, Err, if◌then◌else◌, ◌==◌}
 use Rattle.std.specs.declared.alloc.AllocError.{AllocError}
 use Rattle.std.proofs.lemmas.Result.{on_ok_weaker}
 use Rattle.json.specs.Written.{Written}
@@ -15,6 +15,7 @@ use Rattle.serde_json.specs.Data.{Members, array, number, unsigned, no_members, 
 use Rattle.serde_json.specs.View.{items_of}
 use Rattle.serde_json.specs.Written.{outline, items_outline, members_outline, compact_text}
 use Rattle.serde_json.proofs.Texts.{print-outline}
+use Rattle.histories.specs.Lists.{Each}
 use Rattle.wire_msg.specs.Envelope.{Envelope}
 use Rattle.wire_msg.specs.Spelling.{spelling}
 use Rattle.node_core.specs.declared.event.Event.{Event}
@@ -103,6 +104,10 @@ drop_all xs i past = none_left (drop i xs) (let left = length-drop i xs in omega
     none_left [] is = refl
     none_left (y ∷ ys) is = absurd (omega (arith, is))
 
+-- what holds of each from here on, once it holds of the one at this place
+pub each_more : {A : Type 0} (P : A → Type 0) (xs : List A) (i : ℕ) (x : A) → slice_get xs i ≡ Some x → P x → Each P (drop (i + 1) xs) → Each P (drop i xs)
+each_more P xs i x is here rest = subst (Each P) (sym (drop_get xs i x is)) (here, rest)
+
 pub entries_more : (out more : List Token) (h : List Claim) (i : ℕ) (c : Claim) → slice_get h i ≡ Some c → more ≡ out ++ entry_tokens c → more ++ entries_tokens (drop (i + 1) h) ≡ out ++ entries_tokens (drop i h)
 entries_more out more h i c is added =
     ap (λ (ts : List Token). ts ++ entries_tokens (drop (i + 1) h)) added ∙ append_assoc out (entry_tokens c) (entries_tokens (drop (i + 1) h)) ∙ ap (λ (cs : List Claim). out ++ entries_tokens cs) (sym (drop_get h i c is))
@@ -132,6 +137,10 @@ ok_then r a b c ts us x h = on_ok_weaker r (λ (y : Adds b c us). adds_then a b 
   where
     adds_then : (a b c : Written) (ts us : List Token) → Adds a b ts → Adds b c us → Adds a c (ts ++ us)
     adds_then a b c ts us x y = record { before = y.before ∙ x.before; tokens = y.tokens ∙ ap (λ (zs : List Token). zs ++ us) x.tokens ∙ append_assoc a.tokens ts us }
+
+pub if_ok : (r : Result (Unit {0}) AllocError) (P : Type 0) → P → OnOk r P
+if_ok (Ok u) P p = p
+if_ok (Err e) P p = tt
 
 pub written_text : (hs : List (List Claim)) (a b : Written) (items : List ℕ) → a.before ≡ [] → a.tokens ≡ [] → Adds a b (trace_tokens hs) → items ≡ b.before ++ print b.tokens → items ≡ compact_text (trace_data hs)
 written_text hs a b items none empty adds is =

@@ -1,11 +1,16 @@
-ghost use Rattle.std.specs.Prelude.{◌≡◌, [], ◌∷◌, length, codes, decimal, IfOk, OnOk};
+ghost use Rattle.std.specs.Prelude.{◌≡◌, [], ◌∷◌, length, ◌≤◌, codes, decimal, IfOk, OnOk, Ok, ◌<◌, ◌^◌};
 ghost use Rattle.hex.specs.Hex.{encode_lower};
 ghost use Rattle.json.specs.Token.{begin_array, begin_object, end_array, end_object, key, string, number};
 ghost use Rattle.serde_json.specs.Written.{compact_text};
 ghost use Rattle.trace_check.specs.Traces.{claim_seen};
 ghost use Rattle.trace_text.specs.Tokens.{Adds, deed_tokens, event_tokens, priority_tokens, rank_tokens, work_tokens, message_tokens, entry_tokens, history_tokens, histories_tokens, trace_tokens};
+ghost use Rattle.trace_text.specs.Fits.{WorkFits, EventFits, DeedFits, ClaimFits, TraceFits, IsTellable};
+ghost use Rattle.trace_text.specs.Wholes.{trace_of};
 ghost use Rattle.trace_text.specs.Written.{trace_data, deed_name, event_name, fault_name};
-ghost use Rattle.wire_msg.specs.Spelling.{spelling};
+ghost use Rattle.wire_msg.specs.Spelling.{spelling, AreBytes, IsMessage};
+ghost use Rattle.job_model.specs.declared.queue.TheConstants.{QUEUES};
+ghost use Rattle.histories.specs.Lists.{Each};
+ghost use Rattle.group_task.specs.declared.node.TheConstants.{NODES};
 
 use job_model::Work;
 use json::Writer;
@@ -15,8 +20,10 @@ use trace_check::{Deed, EntryView, History, RecoverFault, Sent, Trace};
 use wire_msg::{Message, encode};
 
 /// The text of a trace: the compact text of its JSON value, in which the members of an object stand in the order of their keys.
+/// A trace of no node has no text that is read back, nor has one with an entry that is `Done` or `Faulted` of Recover.
 pub fn write(alloc: Global, trace: &Trace) -> Result<Vec<u8>, AllocError>
-    ensures { IfOk result (λ text. text.items ≡ compact_text (trace_data trace.now)) }
+    ensures text { IfOk result (λ text. text.items ≡ compact_text (trace_data trace.now)) }
+    ensures reads_back { IfOk result (λ text. IsTellable trace.now → trace_of text.items ≡ Ok trace.now) }
 {
     let mut out = Writer::new(Vec::new(alloc));
     write_trace(alloc, &mut out, trace)?;
@@ -24,7 +31,9 @@ pub fn write(alloc: Global, trace: &Trace) -> Result<Vec<u8>, AllocError>
 }
 
 fn write_trace(alloc: Global, out: &mut Writer, trace: &Trace) -> Result<(), AllocError>
-    ensures { OnOk result (Adds out.old out.new (trace_tokens trace.now)) }
+    ensures text { OnOk result (Adds out.old out.new (trace_tokens trace.now)) }
+    ensures most { length trace.now ≤ NODES }
+    ensures fits { OnOk result (TraceFits trace.now) }
 {
     let nodes = trace.nodes();
     write_head(out)?;
@@ -57,7 +66,8 @@ fn write_nodes(out: &mut Writer, nodes: u8) -> Result<(), AllocError>
 }
 
 fn write_histories(alloc: Global, out: &mut Writer, histories: &[History]) -> Result<(), AllocError>
-    ensures { OnOk result (Adds out.old out.new (histories_tokens histories.now)) }
+    ensures text { OnOk result (Adds out.old out.new (histories_tokens histories.now)) }
+    ensures fits { OnOk result (TraceFits histories.now) }
 {
     for history in histories {
         write_history(alloc, out, history)?;
@@ -66,7 +76,8 @@ fn write_histories(alloc: Global, out: &mut Writer, histories: &[History]) -> Re
 }
 
 fn write_history(alloc: Global, out: &mut Writer, history: &History) -> Result<(), AllocError>
-    ensures { OnOk result (Adds out.old out.new (history_tokens history.now)) }
+    ensures text { OnOk result (Adds out.old out.new (history_tokens history.now)) }
+    ensures fits { OnOk result (Each ClaimFits history.now) }
 {
     out.begin_array()?;
     for place in 0..history.len() {
@@ -79,7 +90,8 @@ fn write_history(alloc: Global, out: &mut Writer, history: &History) -> Result<(
 }
 
 fn write_entry(alloc: Global, out: &mut Writer, entry: &EntryView<'_>) -> Result<(), AllocError>
-    ensures { OnOk result (Adds out.old out.new (entry_tokens (claim_seen entry.now))) }
+    ensures text { OnOk result (Adds out.old out.new (entry_tokens (claim_seen entry.now))) }
+    ensures fits { OnOk result (ClaimFits (claim_seen entry.now)) }
 {
     out.begin_object()?;
     out.key("do")?;
@@ -125,7 +137,8 @@ fn event_name(event: &Event) -> &'static str
 #[tactic(auto, using(crate::proofs::Printing::ok_then))]
 /// Writes the fields that a deed names, but for its own name.
 fn write_deed(alloc: Global, out: &mut Writer, deed: &Deed) -> Result<(), AllocError>
-    ensures { OnOk result (Adds out.old out.new (deed_tokens deed.now)) }
+    ensures text { OnOk result (Adds out.old out.new (deed_tokens deed.now)) }
+    ensures fits { OnOk result (DeedFits deed.now) }
 {
     match deed {
         Deed::Nothing | Deed::Crashed => Ok(()),
@@ -166,7 +179,8 @@ fn write_kept(out: &mut Writer, kept: bool) -> Result<(), AllocError>
 }
 
 fn write_event(alloc: Global, out: &mut Writer, event: &Event) -> Result<(), AllocError>
-    ensures { OnOk result (Adds out.old out.new (event_tokens event.now)) }
+    ensures text { OnOk result (Adds out.old out.new (event_tokens event.now)) }
+    ensures fits { OnOk result (EventFits event.now) }
 {
     match event {
         Event::Deliver(message) => {
@@ -183,14 +197,16 @@ fn write_event(alloc: Global, out: &mut Writer, event: &Event) -> Result<(), All
 }
 
 fn write_work(alloc: Global, out: &mut Writer, work: &Work) -> Result<(), AllocError>
-    ensures { OnOk result (Adds out.old out.new (work_tokens work.now)) }
+    ensures text { OnOk result (Adds out.old out.new (work_tokens work.now)) }
+    ensures fits { OnOk result (WorkFits work.now) }
 {
     write_bytes(alloc, out, "payload", work.payload.as_slice())?;
     write_rank(out, work)
 }
 
 fn write_rank(out: &mut Writer, work: &Work) -> Result<(), AllocError>
-    ensures { OnOk result (Adds out.old out.new (rank_tokens work.now)) }
+    ensures text { OnOk result (Adds out.old out.new (rank_tokens work.now)) }
+    ensures fits { OnOk result ((work.now.queue < QUEUES) × (work.now.priority < 2 ^ 8)) }
 {
     write_priority(out, work.priority)?;
     write_number(out, "queue", u64::from(work.queue.number()))
@@ -214,7 +230,8 @@ fn write_number(out: &mut Writer, name: &str, value: u64) -> Result<(), AllocErr
 }
 
 fn write_bytes(alloc: Global, out: &mut Writer, name: &str, bytes: &[u8]) -> Result<(), AllocError>
-    ensures { OnOk result (Adds out.old out.new (key name.now ∷ string (encode_lower bytes.now) ∷ [])) }
+    ensures text { OnOk result (Adds out.old out.new (key name.now ∷ string (encode_lower bytes.now) ∷ [])) }
+    ensures fits { OnOk result (AreBytes bytes.now) }
 {
     out.key(name)?;
     let text = hex::encode(alloc, bytes)?;
@@ -222,7 +239,8 @@ fn write_bytes(alloc: Global, out: &mut Writer, name: &str, bytes: &[u8]) -> Res
 }
 
 fn write_messages(alloc: Global, out: &mut Writer, messages: &Sent<'_>) -> Result<(), AllocError>
-    ensures { OnOk result (Adds out.old out.new (message_tokens messages.now)) }
+    ensures text { OnOk result (Adds out.old out.new (message_tokens messages.now)) }
+    ensures fits { OnOk result (Each IsMessage messages.now) }
 {
     for place in 0..messages.len() {
         let Some(message) = messages.get(place) else {
@@ -234,7 +252,8 @@ fn write_messages(alloc: Global, out: &mut Writer, messages: &Sent<'_>) -> Resul
 }
 
 fn write_message(alloc: Global, out: &mut Writer, message: &Message) -> Result<(), AllocError>
-    ensures { OnOk result (Adds out.old out.new (string (encode_lower (spelling message.now)) ∷ [])) }
+    ensures text { OnOk result (Adds out.old out.new (string (encode_lower (spelling message.now)) ∷ [])) }
+    ensures fits { OnOk result (IsMessage message.now) }
 {
     let Ok(bytes) = encode(alloc, message) else {
         return Err(AllocError);

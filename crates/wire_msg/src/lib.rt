@@ -20,6 +20,3 @@ pub use reading::decode;
 pub use stream::Stream;
 pub use version::{NARROW_NODES, version_between, version_naming};
 pub use writing::{encode, encode_into};
-
-#[cfg(test)]
-mod tests;

@@ -1,4 +1,4 @@
-use Rattle.std.proofs.Common.{◌≡◌, ℕ, ◌+◌, ◌≤◌, List, ◌++◌, length, slice_index_or, slice_set, sym, ◌∙◌, ap, subst, arith, Some, option_map}
+use Rattle.std.proofs.Common.{◌≡◌, ℕ, ◌+◌, ◌≤◌, List, ◌++◌, length, slice_index_or, slice_set, sym, ◌∙◌, ap, subst, arith, Some}
 use Rattle.runs.specs.Reporting.{TriedAt, own_commands}
 use Rattle.std.proofs.lemmas.List.{length-map}
 use Rattle.std.proofs.lemmas.Option.{get_or_from_slice_get}
@@ -9,7 +9,6 @@ use Rattle.durable_node.proofs.Nodes.{is_some}
 use Rattle.durable_node.specs.Node.{Node}
 use Rattle.sector_disk.specs.Memory.{Memory}
 use Rattle.node_core.specs.State.{is_down}
-use Rattle.histories.specs.What.{command_of}
 use Rattle.cluster_sim.specs.Recorded.{pending_room}
 use Rattle.std.specs.Prelude.{vec_capacity}
 use Rattle.cluster_sim.proofs.cluster.advance.Goals.{then-is_some, else-is_some}
@@ -38,7 +37,7 @@ pub add-requires-clause-count : goal.add-requires-clause-count
 add-requires-clause-count c = λ count raise acked.
     let inv = c.requires.recorded in
     (step_is_told c.args.simulation.now c.perform.new.self inv.world c.args.act c.in_ok-deed.deed c.node_named-id.result (λ (k : ℕ). 0) c.node-2.result.now inv.tells.stands (c.in_ok-deed.ensures.acted inv.world inv.tells.stands)
-    (named_by c.count.result c.args.simulation.now c.net.result.now.network c.args.act c.node_named-id.result c.count.ensures.value c.net.ensures c.node_named-id.ensures.named) c.node-2.ensures).raises count (ap (option_map command_of) raise) acked
+    (named_by c.count.result c.args.simulation.now c.net.result.now.network c.args.act c.node_named-id.result c.count.ensures.value c.net.ensures c.node_named-id.ensures.named) c.node-2.ensures).raises count raise acked
 
 pub returns-clause-goes_on : goal.returns-clause-goes_on
 returns-clause-goes_on c w r tells =
@@ -85,8 +84,10 @@ returns-clause-recorded c =
     c.add.ensures ∙ ap (λ (x : ToldReport). with_deed id c.index-before.result.now c.args.act deed c.node-2.result.now x) c.in_ok-room.ensures.told in
     let on = goes_on c.args.simulation.now new (report_in c.args.report.now) (report_in c.add.new.self) inv.world inv.run c.args.act deed id c.node-2.result.now c.index-before.result.now inv.tells c.in_ok-deed.ensures.slots
     performed (named_by c.count.result c.args.simulation.now c.net.result.now.network c.args.act id c.count.ensures.value c.net.ensures c.node_named-id.ensures.named) c.node-2.ensures (value ∙ inv.counted.each id place.0 place.1) grown in
+    let told = step_is_told c.args.simulation.now new inv.world c.args.act deed id (λ (k : ℕ). 0) c.node-2.result.now inv.tells.stands performed
+    (named_by c.count.result c.args.simulation.now c.net.result.now.network c.args.act id c.count.ensures.value c.net.ensures c.node_named-id.ensures.named) c.node-2.ensures in
     let old_commands = (report_in c.args.report.now).commands in
-    let commands : (report_in c.add.new.self).commands ≡ old_commands ++ listed (tried_at id (tried_by deed)) = ap (λ (x : ToldReport). x.commands) grown in
+    let commands : (report_in c.add.new.self).commands ≡ old_commands ++ listed (tried_at id (tried_by c.args.act deed)) = ap (λ (x : ToldReport). x.commands) grown in
     let counted = subst (λ (k : ℕ). AreCounted k old_commands c.args.counts.now.items) (sym same) inv.counted in
     record {
       world = _;
@@ -95,10 +96,10 @@ returns-clause-recorded c =
       counted = subst (λ (ts : List TriedAt). AreCounted (length new.nodes) ts c.if-is_some.counts.items) (sym commands) (elim c.if-is_some.branch [
         | then-is_some b ↦ (let items : c.if-is_some.counts.items ≡ slice_set c.args.counts.now.items id (c.index-before.result.now + 1) =
             (λ i. (b.counts-is i).items) ∙ (λ i. slice_set c.args.counts.now.items (at_id i) (c.index-before.result.now + 1)) in
-            subst (λ (ks : List ℕ). AreCounted (length new.nodes) (old_commands ++ listed (tried_at id (tried_by deed))) ks) (sym items)
-            (counted_some (length new.nodes) id c.index-before.result.now old_commands c.args.counts.now.items deed counted (place.1 ∙ ap (λ (k : ℕ). Some k) (sym value)) (sym b.if-is_some.ensures)))
+            subst (λ (ks : List ℕ). AreCounted (length new.nodes) (old_commands ++ listed (tried_at id (tried_by c.args.act deed))) ks) (sym items)
+            (counted_some (length new.nodes) id c.index-before.result.now old_commands c.args.counts.now.items c.args.act deed counted (place.1 ∙ ap (λ (k : ℕ). Some k) (sym value)) told.whole (sym b.if-is_some.ensures)))
         | else-is_some b ↦ (let items : c.if-is_some.counts.items ≡ c.args.counts.now.items = (λ i. (b.counts-is i).items) in
-            subst (λ (ks : List ℕ). AreCounted (length new.nodes) (old_commands ++ listed (tried_at id (tried_by deed))) ks) (sym items)
-            (counted_none (length new.nodes) id old_commands c.args.counts.now.items deed counted (sym b.if-is_some.ensures)))
+            subst (λ (ks : List ℕ). AreCounted (length new.nodes) (old_commands ++ listed (tried_at id (tried_by c.args.act deed))) ks) (sym items)
+            (counted_none (length new.nodes) id old_commands c.args.counts.now.items c.args.act deed counted (sym b.if-is_some.ensures)))
       ]);
     }

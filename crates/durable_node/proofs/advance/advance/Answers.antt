@@ -34,7 +34,7 @@ returns-clause-step g c =
     node.placed (node.slots store refl) up
     (up_on_ok store.journal.slots c.args.nodes c.args.id c.args.core.now.state c.handle.new.core.state (durable_of store) (durable_of c.handle.new.store) c.args.event.now up (told c.handle.result)
     (done_told store.journal.slots c.args.nodes c.args.id c.args.core.now.state c.handle.new.core.state (durable_of store) (durable_of c.handle.new.store) c.args.event.now c.handle.result e.what))
-    e.counts.sectors e.counts.honest e.what e.command e.whole e.fallen e.unchanged e.run e.images e.after e.sound)
+    e.counts.sectors e.counts.honest e.what e.tried e.whole e.fallen e.unchanged e.run e.images e.after e.sound)
 
 pub returns-clause-stuck : goal.returns-clause-stuck
 returns-clause-stuck g c =
@@ -73,15 +73,15 @@ returns-in_default g c =
     record {
       node = node_ignored state c.args.id c.args.nodes c.args.core.now c.ignore.new.core c.args.disk.now c.args.store.now c.requires.node e.id e.nodes e.kept;
       step = ignores state c.args.id c.args.nodes c.args.core.now c.ignore.new.core c.args.disk.now c.args.store.now c.args.doubt.now c.args.found.now c.args.event.now
-          fallen e.kept c.in_default.not-Recover c.ignore.result (rw (c.requires.node.core_nodes, c.requires.node.core_id) at e.what) e.command;
+          fallen e.kept c.in_default.not-Recover c.ignore.result (rw (c.requires.node.core_nodes, c.requires.node.core_id) at e.what) e.tried;
       stuck = stuck_for_memory state c.args.id c.args.nodes c.args.core.now c.ignore.new.core c.args.disk.now c.args.store.now c.args.store.now c.args.doubt.now c.args.doubt.now c.args.found.now c.args.event.now c.ignore.result e.stuck
           (still_same c.args.core.now c.ignore.new.core c.args.store.now c.args.doubt.now c.ignore.result e.kept);
       mounting = λ down is. absurd (c.in_default.not-Recover is);
       kept = λ down is. absurd (c.in_default.not-Recover is);
       reads = λ down is. absurd (c.in_default.not-Recover is);
       answers = λ d area kept of_area. absurd (none_kept (is_down c.args.core.now.state.phase) c.args.store.now d (sym c.is_down.ensures ∙ c.if-is_down.true) kept);
-      counts = counts_still state (disk_in c.args.disk.now c.args.store.now) (told c.ignore.result) (no_device why c.args.event.now c.ignore.result e.what e.stuck);
-      few = few_ignored (most_by c.args.nodes (kept_in _ c.args.store.now)) why c.args.event.now c.ignore.result e.what;
+      counts = counts_still state (disk_in c.args.disk.now c.args.store.now) (told c.ignore.result) (no_device why c.ignore.result e.what e.stuck);
+      few = few_ignored (most_by c.args.nodes (kept_in _ c.args.store.now)) why c.ignore.result e.what;
     }
 
 pub returns-in-Recover-clause-mounting : goal.returns-in-Recover-clause-mounting

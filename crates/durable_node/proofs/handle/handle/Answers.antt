@@ -8,7 +8,9 @@ use Rattle.node_store.specs.Store.{StoreState, durable_of}
 use Rattle.durable_node.specs.declared.fault.NodeFault.TheVariants as node
 use Rattle.durable_node.specs.declared.fault.NodeFault.{NodeFault}
 use Rattle.histories.specs.What.{reason_of}
+use Rattle.durable_node.specs.Faults.{fault_of, told_as}
 use Rattle.durable_node.specs.Node.{area_of}
+use Rattle.histories.specs.declared.fate.Fate.{Fate}
 use Rattle.durable_node.specs.Refusing.{disk_refusal}
 use Rattle.durable_node.proofs.Turned.{event_by_store, not_so, turned_as}
 use Rattle.durable_node.proofs.handle.handle.Goals as goal
@@ -33,7 +35,7 @@ returns-then-not-is_device-clause-what g c =
     let carried = c.in-Err-carry.ensures.refused not_device in
     let turned = turned_as c.args.store.now.journal.slots c.args.nodes c.args.id c.args.core.now.state d (durable_of c.carry.new.store) c.args.event.now c.in-Err-carry.fault (wanted_by c.wants-wants.result)
     (reason_of c.refusal.result) (rw (c.requires.nodes, c.requires.id) at c.in-Ok.ensures.done) (ap (λ (st : StoreState _). durable_of st) carried.0) wants carried.1 c.refusal.ensures in
-    (refl, turned.0, (c.new-then-not-is_device.ensures.items, refl))
+    rw c.silent-then-not-is_device.ensures.fate (turned.0, c.silent-then-not-is_device.ensures.silent)
 
 pub returns-then-not-is_device-clause-answers : goal.returns-then-not-is_device-clause-answers
 returns-then-not-is_device-clause-answers g c =
@@ -49,4 +51,5 @@ returns-then-not-is_device-clause-answers g c =
     let turned = turned_as c.args.store.now.journal.slots c.args.nodes c.args.id c.args.core.now.state d (durable_of c.carry.new.store) c.args.event.now c.in-Err-carry.fault (wanted_by c.wants-wants.result)
     (reason_of c.refusal.result) none (ap (λ (st : StoreState _). durable_of st) carried.0) wants carried.1 c.refusal.ensures in
     event_by_store _ _ (disk_refusal d (area_of c.args.store.now) (wanted_by c.wants-wants.result)) c.in-Err-carry.fault _ _ none
-    (ap (λ (w : Option Command). disk_refusal d (area_of c.args.store.now) w) wants) refl (ap (λ (f : NodeFault). Err f) turned.1) c.in-Err-carry.ensures.answers
+    (ap (λ (w : Option Command). disk_refusal d (area_of c.args.store.now) w) wants) refl
+    (ap (λ (f : Fate). told_as c.silent-then-not-is_device.result (fault_of f)) c.silent-then-not-is_device.ensures.fate ∙ ap (λ (f : NodeFault). Err f) turned.1) c.in-Err-carry.ensures.answers

@@ -28,7 +28,7 @@ returns-in-Err-clause-step g c = λ was.
     let e = c.unmounted.ensures in
     mount_fails g.D.SectorDisk.state c.args.id c.args.nodes c.args.core.now c.args.disk.now c.args.store.now c.take_disk.new.store c.take_disk.result c.in-Err.refused.disk c.args.doubt.now was c.args.found.now
     c.take_disk.ensures.taken (c.requires.node.fallen c.requires.down) c.requires.found c.in-Err.ensures.counts_refused.sectors c.in-Err.ensures.counts_refused.honest c.in-Err.ensures.run_refused
-    c.node_fault.result c.unmounted.result e.what e.quiet e.command
+    c.node_fault.result c.unmounted.result e.what e.quiet e.tried
 
 pub returns-in-Err-clause-stuck : goal.returns-in-Err-clause-stuck
 returns-in-Err-clause-stuck g c = λ was.
@@ -59,7 +59,7 @@ returns-clause-step g c = λ was.
     (subst (λ (d : Option _). Steps state old (node_with c.args.id c.args.nodes c.rise-came.new.core d (Some c.rise-came.new.store) c.rise-came.new.doubt (Some (durable_of c.in-Ok.mounted).counter)) Recover c.rise-came.result) (sym c.take_disk.ensures.disk)
     (rises state c.args.id c.args.nodes c.in-Ok.mounted.journal.slots c.args.core.now c.rise-came.new.core c.args.disk.now c.args.store.now c.take_disk.result c.in-Ok.mounted c.rise-came.new.store c.args.doubt.now c.rise-came.new.doubt was
     c.take_disk.ensures.taken (c.requires.node.fallen c.requires.down) c.in-Ok.ensures.whole.1 c.in-Ok.ensures.counts.sectors c.in-Ok.ensures.counts.honest e.counts.sectors e.counts.honest
-    c.in-Ok.ensures.run c.in-Ok.ensures.remains c.is_in-kept.result c.is_in-kept.ensures.kept c.rise-came.result e.what e.command e.run e.images e.after e.sound))
+    c.in-Ok.ensures.run c.in-Ok.ensures.remains c.is_in-kept.result c.is_in-kept.ensures.kept c.rise-came.result e.what e.tried e.run e.images e.after e.sound))
 
 pub returns-in-Err-clause-mounting : goal.returns-in-Err-clause-mounting
 returns-in-Err-clause-mounting g c = λ was.
@@ -79,7 +79,7 @@ returns-clause-mounting g c = λ was.
 
 pub returns-clause-kept : goal.returns-clause-kept
 returns-clause-kept g c =
-    subst (λ (f : ℕ). IsFoundBy c.args.doubt.now c.rise-came.result.what (found_in (Some f) (Some c.rise-came.new.store))) (sym c.counter.ensures)
+    subst (λ (f : ℕ). IsFoundBy c.args.doubt.now c.rise-came.result.fate (found_in (Some f) (Some c.rise-came.new.store))) (sym c.counter.ensures)
     (found_kept c.args.id c.is_in-kept.result c.args.core.now c.rise-came.new.core c.in-Ok.mounted c.rise-came.new.store c.args.doubt.now c.rise-came.new.doubt c.rise-came.result c.rise-came.ensures.what c.is_in-kept.ensures.kept)
 
 pub returns-clause-quiet : goal.returns-clause-quiet
@@ -105,7 +105,7 @@ returns-clause-reads g c =
     let old = node_with c.args.id c.args.nodes c.args.core.now c.args.disk.now c.args.store.now c.args.doubt.now None in
     let new = node_with c.args.id c.args.nodes c.rise-came.new.core c.take_disk.new.disk (Some end) c.rise-came.new.doubt (Some (durable_of mid).counter) in
     let risen = rise_told c.args.id c.is_in-kept.result c.args.core.now c.rise-came.new.core mid end c.args.doubt.now c.rise-came.new.doubt c.rise-came.result e.what in
-    let same = found_mid c.args.id c.is_in-kept.result c.args.core.now c.rise-came.new.core mid end c.args.doubt.now c.rise-came.new.doubt c.rise-came.result.what c.rise-came.result e.what in
+    let same = found_mid c.args.id c.is_in-kept.result c.args.core.now c.rise-came.new.core mid end c.args.doubt.now c.rise-came.new.doubt c.rise-came.result.fate c.rise-came.result e.what in
     let remounted = subst (λ (f : Option Durable). Remounted old new answer f) same (remounted_at c.args.id c.args.nodes c.args.core.now c.rise-came.new.core c.args.disk.now c.take_disk.new.disk c.args.store.now mid end c.args.doubt.now c.rise-came.new.doubt None answer risen.0 risen.1 risen.2) in
     let read = subst (λ (f : Option Durable). IsRead state c.take_disk.result end.disk answer f) (sym same) (read_at state c.take_disk.result end.disk old new (durable_of mid) answer remounted c.in-Ok.ensures.enough c.in-Ok.ensures.reads) in
     subst (λ (f : ℕ). ReadsDisk state (disk_in c.args.disk.now c.args.store.now) (disk_in c.take_disk.new.disk (Some end)) answer (found_in (Some f) (Some end))) (sym c.counter.ensures)

@@ -7,7 +7,7 @@ use Rattle.invite_console.specs.Show.{shown, rest_text}
 use Rattle.invite_console.proofs.Shown.{shown_none, shown_more, shows_malformed, shows_all}
 use Rattle.invite_console.proofs.Feeding.{empty_unfinished, messages_turn, stream_turn, none_where}
 use Rattle.invite_console.proofs.showing.show_stream.Goals as goal
-use Rattle.invite_console.proofs.showing.show_stream.Goals.{In_ok-push_shown}
+use Rattle.invite_console.proofs.showing.show_stream.Goals.{In_ok-push_lines}
 
 pub loop-fed-init : goal.loop-fed-init
 loop-fed-init c = record {
@@ -18,22 +18,22 @@ loop-fed-init c = record {
 }
 
 -- what was printed after the turn
-printed : (c : In_ok-push_shown) → c.push_shown.new.text.items ≡ shown (messages_in (take c.min-end.result c.args.bytes.now))
+printed : (c : In_ok-push_lines) → c.push_lines.new.text.items ≡ shown (messages_in (take c.min-end.result c.args.bytes.now))
 printed c =
-    c.in_ok-push_shown.ensures
+    c.in_ok-push_lines.ensures
     ∙ (ap (λ (t : List ℕ). t ++ shown c.deref.result.now) c.loop-fed.invariant.printed
     ∙ shown_more (messages_in (take c.min-end.result c.args.bytes.now)) (messages_in (take c.loop-fed.fed c.args.bytes.now)) c.deref.result.now
     (messages_turn c.args.bytes.now c.loop-fed.fed c.min-end.result c.loop-fed.stream c.deref.result.now (omega arith) c.loop-fed.invariant.stream
     (c.deref.ensures.value ∙ c.in_ok-is_whole.ensures.messages)))
 
-stream : (c : In_ok-push_shown) → c.next_batch.new.stream ≡ unfinished_in (take c.min-end.result c.args.bytes.now)
+stream : (c : In_ok-push_lines) → c.next_batch.new.stream ≡ unfinished_in (take c.min-end.result c.args.bytes.now)
 stream c =
     stream_turn c.args.bytes.now c.loop-fed.fed c.min-end.result c.loop-fed.stream c.next_batch.new.stream (omega arith) c.loop-fed.invariant.stream
     c.in_ok-is_whole.ensures.unfinished
 
 pub returns-then-not-is_whole : goal.returns-then-not-is_whole
 returns-then-not-is_whole c =
-    let at = (goal.at.returns-then-not-is_whole c).In_ok-push_shown in
+    let at = (goal.at.returns-then-not-is_whole c).In_ok-push_lines in
     let broken : unfinished_in (take c.min-end.result c.args.bytes.now) ≡ None =
     sym (stream at) ∙ none_where c.next_batch.new.stream c.in_ok-is_whole.is_whole c.in_ok-is_whole.ensures.whole c.if-not-is_whole.true in
     ap (λ (t : List ℕ). record { text = t; good = false }) (c.in_ok-push_text.ensures ∙ ap (λ (t : List ℕ). t ++ line (codes "malformed")) (printed at))
@@ -41,7 +41,7 @@ returns-then-not-is_whole c =
 
 pub loop-fed-preserved : goal.loop-fed-preserved
 loop-fed-preserved c =
-    let at = (goal.at.loop-fed-preserved c).In_ok-push_shown in record {
+    let at = (goal.at.loop-fed-preserved c).In_ok-push_lines in record {
       within = omega arith;
       stream = stream at;
       whole = sym c.in_ok-is_whole.ensures.whole ∙ c.if-not-is_whole.false;

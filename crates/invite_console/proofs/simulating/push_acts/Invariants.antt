@@ -6,5 +6,5 @@ abbrev pub invariant-loop-act : goal.invariant-loop-act
 invariant-loop-act l = record {
   counted : l.number ≡ l.act-index;
   world : HasWorld l.cluster;
-  told : (nodes slots : ℕ) → IsSoFar nodes slots l.fn.cluster [] l.fn.text.items → IsSoFar nodes slots l.cluster (take l.act-index l.acts) l.text.items;
+  told : (nodes slots : ℕ) → IsSoFar l.telling nodes slots l.fn.cluster [] l.fn.text.items → IsSoFar l.telling nodes slots l.cluster (take l.act-index l.acts) l.text.items;
 }

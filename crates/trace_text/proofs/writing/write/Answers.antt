@@ -1,7 +1,17 @@
-use Rattle.std.proofs.Common.{◌≡◌, ◌∙◌}
+use Rattle.std.proofs.Common.{◌≡◌, List, [], ◌++◌, sym, ap, ◌∙◌}
+use Rattle.std.specs.Str.{IsUtf8}
+use Rattle.json.specs.Lex.{tokens}
+use Rattle.json.specs.Print.{print}
+use Rattle.trace_text.specs.Tokens.{trace_tokens}
 use Rattle.trace_text.proofs.Printing.{written_text}
+use Rattle.trace_text.proofs.Readings.{printed_back}
 use Rattle.trace_text.proofs.writing.write.Goals as goal
 
-pub returns : goal.returns
-returns c =
-    written_text c.args.trace.now c.new-out.result c.write_trace.new.out c.into_inner.result.items (c.new-out.ensures.before ∙ c.new.ensures.items) c.new-out.ensures.tokens c.in_ok-write_trace.ensures c.into_inner.ensures.items
+pub returns-clause-text : goal.returns-clause-text
+returns-clause-text c =
+    written_text c.args.trace.now c.new-out.result c.write_trace.new.out c.into_inner.result.items (c.new-out.ensures.before ∙ c.new.ensures.items) c.new-out.ensures.tokens c.in_ok-write_trace.ensures.text c.into_inner.ensures.items
+
+pub returns-clause-reads_back : goal.returns-clause-reads_back
+returns-clause-reads_back c told =
+    printed_back c.args.trace.now c.new-out.result c.write_trace.new.out c.into_inner.result.items (c.new-out.ensures.before ∙ c.new.ensures.items) c.new-out.ensures.tokens c.in_ok-write_trace.ensures.text c.into_inner.ensures.items
+    c.into_inner.ensures.reads_back c.into_inner.ensures.utf8 c.write_trace.ensures.most c.in_ok-write_trace.ensures.fits told

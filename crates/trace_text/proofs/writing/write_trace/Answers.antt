@@ -6,8 +6,8 @@ use Rattle.trace_text.specs.Tokens.{Adds, histories_tokens}
 use Rattle.trace_text.proofs.Printing.{ok_then}
 use Rattle.trace_text.proofs.writing.write_trace.Goals as goal
 
-pub returns : goal.returns
-returns c =
+pub returns-clause-text : goal.returns-clause-text
+returns-clause-text c =
     let hs = c.args.trace.now in
     let begun = c.write_head.new.out in
     let told = c.write_histories.new.out in
@@ -15,5 +15,5 @@ returns c =
     let rest = end_array ∷ key (codes "nodes") ∷ number (decimal (length hs)) ∷ end_object ∷ [] in
     ok_then c.write_nodes.result c.args.out.now begun last (begin_object ∷ key (codes "histories") ∷ begin_array ∷ []) (histories_tokens hs ++ rest) c.in_ok-write_head.ensures
     (ok_then c.write_nodes.result begun told last (histories_tokens hs) rest
-    (subst (λ (xs : List (List Claim)). Adds begun told (histories_tokens xs)) c.histories.ensures c.in_ok-write_histories.ensures)
+    (subst (λ (xs : List (List Claim)). Adds begun told (histories_tokens xs)) c.histories.ensures c.in_ok-write_histories.ensures.text)
     (subst (λ (n : ℕ). OnOk c.write_nodes.result (Adds told last (end_array ∷ key (codes "nodes") ∷ number (decimal n) ∷ end_object ∷ []))) c.nodes-nodes.ensures.value c.write_nodes.ensures))

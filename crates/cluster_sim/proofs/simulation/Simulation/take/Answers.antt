@@ -18,7 +18,7 @@ returns-then-place-count-clause-acted c = λ w number stands brings goes.
     let past : c.len-count.result ≤ c.from-place.result = grind (arith) in
     let same = ap (λ (m : Machine). length m.nodes) c.self.view_is in
     let beyond : length c.args.self.now.nodes ≤ c.args.id = omega (arith, place, len, past, same) in
-    denied_deed w c.args.id number (CameOf c.args.event) c.args.self.now stands beyond
+    denied_deed w c.args.id number (CameOf c.args.event.now) c.args.self.now stands beyond
 
 pub handle-requires : goal.handle-requires
 handle-requires c =
@@ -48,10 +48,10 @@ returns-clause-acted c = λ w number stands brings goes.
     let at = place_at was.nodes.items c.len-count.result c.from-place.result c.args.id c.index_mut.result.now len within place c.index_mut.ensures.value in
     let before : StandsFor (record { slots = was.slots; nodes = was.nodes.items; net = was.net.network }) w = subst (λ (m : Machine). StandsFor m w) (sym c.self.view_is) stands in
     let member = c.self.invariant.members c.args.id c.index_mut.result.now at in
-    subst (λ (k : ℕ). IfOk c.handle.result (λ (d : Deed). Made (λ step. At (nat_lt c.args.id (length w.states)) c.args.id number (CameOf c.args.event) step) w d
+    subst (λ (k : ℕ). IfOk c.handle.result (λ (d : Deed). Made (λ step. At (nat_lt c.args.id (length w.states)) c.args.id number (CameOf c.args.event.now) step) w d
     (record { slots = was.slots; nodes = slice_set was.nodes.items k c.handle.new.node; net = c.handle.new.net.network }))) (sym place)
-    (takes_if was.slots c.args.id number (CameOf c.args.event) was.nodes.items c.index_mut.result.now c.handle.new.node was.net.network c.handle.new.net.network c.handle.result w c.self.invariant at before
-    (brought_came w c.args.id number c.args.event brings goes) (λ s is. c.handle.ensures.came was.slots s c.self.invariant.most_slots member.size is))
+    (takes_if was.slots c.args.id number (CameOf c.args.event.now) was.nodes.items c.index_mut.result.now c.handle.new.node was.net.network c.handle.new.net.network c.handle.result w c.self.invariant at before
+    (brought_came w c.args.id number c.args.event.now brings goes) (λ s is. c.handle.ensures.came was.slots s c.self.invariant.most_slots member.size is))
 
 pub returns-clause-memory : goal.returns-clause-memory
 returns-clause-memory c = λ w stands.

@@ -32,7 +32,7 @@ pub returns-clause-kept : goal.returns-clause-kept
 returns-clause-kept g c =
     let n = c.advance.new in
     let new = node_with c.self.inside.id c.self.inside.nodes n.core n.disk n.store n.doubt n.found in
-    subst (λ (old : Node _). is_down old.state.phase ≡ true → c.args.event.now ≡ Recover → IfOk c.advance.result (λ came. IsFoundBy old.doubt came.what new.found)) c.self.view_is c.advance.ensures.kept
+    subst (λ (old : Node _). is_down old.state.phase ≡ true → c.args.event.now ≡ Recover → IfOk c.advance.result (λ came. IsFoundBy old.doubt came.fate new.found)) c.self.view_is c.advance.ensures.kept
 
 pub returns-clause-answers : goal.returns-clause-answers
 returns-clause-answers g c = subst (λ (old : Node _). Answers old c.args.event.now (told c.advance.result)) c.self.view_is c.advance.ensures.answers

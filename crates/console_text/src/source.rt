@@ -1,0 +1,111 @@
+//! The streams of a command, each of which keeps the error that it failed with.
+
+ghost use Rattle.std.specs.Prelude.{◌≡◌, ◌<◌, ◌≤◌, ◌+◌};
+ghost use Rattle.std.specs.Io.{ReadsAtMost};
+ghost use Rattle.std.specs.Io.KnownBytes.{ReadConsumes};
+ghost use Rattle.console_text.specs.declared.source.TheConstants.{MAX_READS};
+
+use std::io;
+use std::io::{ErrorKind, Read, Write};
+use std::marker::Model;
+
+/// At most so many reads are made of an input. The read that finds its end is one of them.
+pub const MAX_READS: u32 = 16_777_216;
+
+/// An input of which at most so many reads are made: one that has no end gives an error then.
+#[derive(Drop)]
+pub struct Source<R: Read> {
+    reader: R,
+    left: u32,
+    fault: Option<io::Error>,
+}
+
+impl<R: Read> Model for Source<R> {
+    ghost use Rattle.console_text.specs.Input.{Feed};
+
+    ghost Value = { Feed R };
+
+    ghost view = { λ a. record { reader = a.reader; left = a.left } };
+}
+
+impl<R: Read> Source<R> {
+    /// An input that nothing was read of.
+    pub fn new(reader: R) -> Source<R>
+        ensures reader { result.reader ≡ reader }
+        ensures left { result.left ≡ MAX_READS }
+    {
+        Source {
+            reader,
+            left: MAX_READS,
+            fault: None,
+        }
+    }
+
+    /// The error of the last read that failed. None where no read failed, also where too many were asked for.
+    pub fn fault(&self) -> Option<io::Error> {
+        self.fault
+    }
+}
+
+impl<R: Read> Read for Source<R> {
+    ghost remaining = { λ a. R.remaining a.reader };
+
+    fn read(&mut self, buf: &mut [u8]) -> io::Result<usize>
+        ensures bound { ReadsAtMost result buf.new }
+        ensures bytes { ReadConsumes (R.remaining self.old.reader) (R.remaining self.new.reader) result buf.new }
+        ensures counted { self.old.left ≤ self.new.left + 1 }
+        ensures taken { 0 < self.old.left → self.new.left + 1 ≡ self.old.left }
+        ensures spent { self.old.left ≡ 0 → self.new ≡ self.old }
+    {
+        if self.left == 0 {
+            return Err(io::Error::from(ErrorKind::Other));
+        }
+        self.left -= 1;
+        let result = self.reader.read(buf);
+        if let Err(error) = &result {
+            self.fault = Some(*error);
+        }
+        result
+    }
+}
+
+/// An output that keeps the error of the last write that failed.
+#[derive(Drop)]
+pub struct Sink<W: Write> {
+    writer: W,
+    fault: Option<io::Error>,
+}
+
+impl<W: Write> Sink<W> {
+    pub fn new(writer: W) -> Sink<W> {
+        Sink {
+            writer,
+            fault: None,
+        }
+    }
+
+    /// The error of the last write that failed.
+    pub fn fault(&self) -> Option<io::Error> {
+        self.fault
+    }
+}
+
+impl<W: Write> Write for Sink<W> {
+    ghost contents = { λ a. W.contents a.writer };
+
+    fn write(&mut self, buf: &[u8]) -> io::Result<usize> {
+        let result = self.writer.write(buf);
+        if let Err(error) = &result {
+            self.fault = Some(*error);
+        }
+        result
+    }
+
+    fn flush(&mut self) -> io::Result<()> {
+        let result = self.writer.flush();
+        if let Err(error) = &result {
+            self.fault = Some(*error);
+        }
+        result
+    }
+}

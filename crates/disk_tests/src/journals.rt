@@ -1,0 +1,411 @@
+// What no clause says: how many device calls a call makes, that the definitions of a journal mean its layout, and
+// whole runs with stops and crashes.
+ghost use Rattle.std.specs.Prelude.{◌<◌};
+
+use job_journal::{JournalFault, format, mount};
+use job_model::{Command, Job, Payload, Queue, Record, Work};
+use sector_disk::{MemDisk, Sector, SectorDisk};
+use std::alloc::Global;
+use std::process::Abort;
+use std::test::Fail;
+
+// A disk of 24 sectors with an empty journal, four slots in each area.
+fn formatted(rt: &impl Abort, alloc: Global) -> Result<MemDisk, Fail> {
+    let mut disk = MemDisk::new(alloc, 24)?;
+    assert!(rt; disk.sectors() == 24);
+    format(&mut disk, 4)?;
+    Ok(disk)
+}
+
+fn job(id: u64) -> Result<Job, Fail> {
+    let queue = Queue::new(1).ok_or("no queue")?;
+    let payload = Payload::new(b"hi").ok_or("no payload")?;
+    let work = Work {
+        queue,
+        priority: 7,
+        payload,
+    };
+    Ok(Job { id, work })
+}
+
+fn put() -> Result<Command, Fail> {
+    let job = job(0)?;
+    Ok(Command::Put(job.work))
+}
+
+fn seal_over(rt: &impl Abort, disk: &mut MemDisk, slot: u64, record: &Record) -> Result<(), Fail>
+    requires { slot < 23 }
+{
+    seal_body(rt, disk, slot, &record.to_sector())
+}
+
+fn seal_body(rt: &impl Abort, disk: &mut MemDisk, slot: u64, body: &Sector) -> Result<(), Fail>
+    requires { slot < 23 }
+{
+    disk.arm(u64::MAX);
+    assert!(rt; disk.sectors() == 24);
+    slot_gate::store(disk, slot, false, body)?;
+    Ok(())
+}
+
+// A sector that begins with these bytes, with zeros behind them.
+fn sector(bytes: &[u8]) -> Sector {
+    let mut sector = [0; 512];
+    for at in 0..bytes.len().min(512) {
+        sector[at] = bytes[at];
+    }
+    sector
+}
+
+fn check_sector(rt: &impl Abort, disk: &mut MemDisk, at: u64, bytes: &[u8]) -> Result<(), Fail>
+    requires { at < 24 }
+{
+    assert!(rt; disk.sectors() == 24);
+    let mut found = [0; 512];
+    disk.arm(u64::MAX);
+    disk.read(at, &mut found)?;
+    assert!(rt; found == sector(bytes), "sector {at}");
+    Ok(())
+}
+
+// Mounts, and finds these jobs pending.
+fn check_jobs(
+    rt: &impl Abort,
+    alloc: Global,
+    disk: &mut MemDisk,
+    next: u64,
+    jobs: &[Job],
+) -> Result<(), Fail> {
+    assert!(rt; disk.sectors() == 24);
+    disk.arm(u64::MAX);
+    let journal = mount(alloc, disk, 4)?;
+    assert_eq!(rt; journal.table().next(), next);
+    assert!(rt; journal.table().pending() == jobs);
+    Ok(())
+}
+
+// Mounts in so many device calls at most: the next id, and how many jobs are pending.
+fn mounted_within(
+    rt: &impl Abort,
+    alloc: Global,
+    disk: &mut MemDisk,
+    calls: u64,
+) -> Result<(u64, usize), JournalFault> {
+    assert!(rt; disk.sectors() == 24);
+    disk.arm(calls);
+    let journal = mount(alloc, disk, 4)?;
+    let table = journal.table();
+    Ok((table.next(), table.pending().len()))
+}
+
+// Mounts, and appends in so many device calls at most.
+fn append_within(
+    rt: &impl Abort,
+    alloc: Global,
+    disk: &mut MemDisk,
+    command: Command,
+    calls: u64,
+) -> Result<u64, JournalFault> {
+    assert!(rt; disk.sectors() == 24);
+    disk.arm(u64::MAX);
+    let mut journal = mount(alloc, disk, 4)?;
+    disk.arm(calls);
+    journal.append(disk, command)
+}
+
+// Mounts, and compacts in so many device calls at most.
+fn compact_within(
+    rt: &impl Abort,
+    alloc: Global,
+    disk: &mut MemDisk,
+    calls: u64,
+) -> Result<(), JournalFault> {
+    assert!(rt; disk.sectors() == 24);
+    disk.arm(u64::MAX);
+    let mut journal = mount(alloc, disk, 4)?;
+    disk.arm(calls);
+    journal.compact(disk)
+}
+
+fn seal_greatest_area(rt: &impl Abort, disk: &mut MemDisk) -> Result<(), Fail> {
+    disk.arm(u64::MAX);
+    assert!(rt; disk.sectors() == 24);
+    let mut greatest = [0; 512];
+    greatest[..8].copy_from_slice(&[0xff; 8]);
+    slot_gate::store(disk, 6, false, &greatest)?;
+    Ok(())
+}
+
+// The body is written and synced, and then the gate: a crash after the gate's write, done or failed, keeps the job
+// where it leaves 0xA5 there.
+#[test]
+fn append_stopped_at_each_call(rt: HostRuntime) -> Result<(), Fail> {
+    for (fill, seals) in [
+        (&[][..], false),
+        (&[0xa5][..], true),
+        (&[0x37; 512][..], false),
+    ] {
+        for k in 0..=4 {
+            let mut disk = formatted(&rt, rt.alloc())?;
+            let answer = append_within(&rt, rt.alloc(), &mut disk, put()?, k);
+            assert_eq!(rt; answer.is_ok(), k == 4, "{k} calls");
+            disk.crash(fill);
+            let jobs = if k == 4 || (seals && k >= 2) { 1 } else { 0 };
+            let (next, pending) = mounted_within(&rt, rt.alloc(), &mut disk, u64::MAX)?;
+            assert_eq!(rt; next, jobs, "{k} calls");
+            assert_eq!(rt; pending as u64, jobs, "{k} calls");
+        }
+    }
+    Ok(())
+}
+
+#[test]
+fn put_with_another_id(rt: HostRuntime) -> Result<(), Fail> {
+    let mut disk = formatted(&rt, rt.alloc())?;
+    seal_over(&rt, &mut disk, 8, &Record::Put(job(1)?))?;
+    assert_eq!(rt;
+        mounted_within(&rt, rt.alloc(), &mut disk, u64::MAX),
+        Err(JournalFault::Damaged(8))
+    );
+    Ok(())
+}
+
+// The journal of area 0 begins with the greatest next id there is, and one job was kept.
+#[test]
+fn no_id_left(rt: HostRuntime) -> Result<(), Fail> {
+    let mut disk = formatted(&rt, rt.alloc())?;
+    seal_over(&rt, &mut disk, 8, &Record::Base(18446744073709551615))?;
+    seal_over(&rt, &mut disk, 10, &Record::Keep(job(7)?))?;
+    assert_eq!(rt;
+        append_within(&rt, rt.alloc(), &mut disk, put()?, 0),
+        Err(JournalFault::Exhausted)
+    );
+    assert_eq!(rt; disk.failures(), 0);
+    assert_eq!(rt;
+        append_within(&rt, rt.alloc(), &mut disk, Command::Done(7), 4),
+        Ok(7)
+    );
+    Ok(())
+}
+
+// Two jobs are pending: a Base, three jobs and a Done wouldn't fit into four slots.
+#[test]
+fn full_journal(rt: HostRuntime) -> Result<(), Fail> {
+    let mut disk = formatted(&rt, rt.alloc())?;
+    for id in 0..2 {
+        assert_eq!(rt;
+            append_within(&rt, rt.alloc(), &mut disk, put()?, 4),
+            Ok(id)
+        );
+    }
+    assert_eq!(rt;
+        append_within(&rt, rt.alloc(), &mut disk, put()?, 0),
+        Err(JournalFault::Full)
+    );
+    Ok(())
+}
+
+// Four records stand in the four slots, and jobs 1 and 2 are pending.
+fn with_no_free_slot(rt: &impl Abort, alloc: Global) -> Result<MemDisk, Fail> {
+    let mut disk = formatted(rt, alloc)?;
+    for command in [put()?, put()?, Command::Done(0), put()?] {
+        append_within(rt, alloc, &mut disk, command, 4)?;
+    }
+    Ok(disk)
+}
+
+// Eight calls unseal the other area, six fill a Base and two Keeps, six seal them, four raise the area cell over its
+// unsealed slot, and the last four are those of the Done: only a gate that is left sealed there keeps it.
+#[test]
+fn stops_in_a_compaction(rt: HostRuntime) -> Result<(), Fail> {
+    for (fill, seals) in [
+        (&[][..], false),
+        (&[0xa5][..], true),
+        (&[0x37; 512][..], false),
+        (&[0xff; 512][..], false),
+    ] {
+        for k in 0..=28 {
+            let mut disk = with_no_free_slot(&rt, rt.alloc())?;
+            let answer = append_within(&rt, rt.alloc(), &mut disk, Command::Done(1), k);
+            let done = if k == 28 {
+                Ok(1)
+            } else {
+                Err(JournalFault::Device)
+            };
+            assert_eq!(rt; answer, done, "{k} calls");
+            disk.crash(fill);
+            let pending = if k == 28 || (seals && k >= 26) { 1 } else { 2 };
+            assert_eq!(rt;
+                mounted_within(&rt, rt.alloc(), &mut disk, u64::MAX),
+                Ok((3, pending)),
+                "{k} calls"
+            );
+        }
+    }
+    Ok(())
+}
+
+const BASE_3: [u8; 9] = [3, 0, 0, 0, 0, 0, 0, 0, 3];
+
+// A disk from before jobs had priorities: area 0 holds Base 3, and Keep of id 1, queue 0 and payload `62`.
+fn old_disk(rt: &impl Abort, alloc: Global) -> Result<MemDisk, Fail> {
+    let mut disk = formatted(rt, alloc)?;
+    let keep = [4, 0, 0, 0, 0, 0, 0, 0, 1, 0, 0, 1, 0x62];
+    seal_body(rt, &mut disk, 8, &sector(&BASE_3))?;
+    seal_body(rt, &mut disk, 10, &sector(&keep))?;
+    Ok(disk)
+}
+
+// Its job, which has no priority.
+fn old_job() -> Result<Job, Fail> {
+    let work = Work {
+        queue: Queue::new(0).ok_or("no queue")?,
+        priority: 0,
+        payload: Payload::new(b"b").ok_or("no payload")?,
+    };
+    Ok(Job { id: 1, work })
+}
+
+#[test]
+fn old_disk_is_compacted(rt: HostRuntime) -> Result<(), Fail> {
+    let mut disk = old_disk(&rt, rt.alloc())?;
+    check_jobs(&rt, rt.alloc(), &mut disk, 3, &[old_job()?])?;
+    compact_within(&rt, rt.alloc(), &mut disk, 20)?;
+    let keep = [6, 0, 0, 0, 0, 0, 0, 0, 1, 0, 0, 0, 1, 0x62];
+    check_sector(&rt, &mut disk, 16, &BASE_3)?;
+    check_sector(&rt, &mut disk, 18, &keep)?;
+    check_jobs(&rt, rt.alloc(), &mut disk, 3, &[old_job()?])
+}
+
+// Eight calls unseal the other area, four fill a Base and a Keep, four seal them, and four raise the area cell.
+#[test]
+fn stops_on_an_old_disk(rt: HostRuntime) -> Result<(), Fail> {
+    for fill in [
+        &[][..],
+        &[0xa5][..],
+        &[0x37; 512][..],
+        &[0xff; 512][..],
+        &[0xa5; 4096][..],
+    ] {
+        for k in 0..=20 {
+            let mut disk = old_disk(&rt, rt.alloc())?;
+            let answer = compact_within(&rt, rt.alloc(), &mut disk, k);
+            assert_eq!(rt; answer.is_ok(), k == 20, "{k} calls");
+            disk.crash(fill);
+            check_jobs(&rt, rt.alloc(), &mut disk, 3, &[old_job()?])?;
+        }
+    }
+    Ok(())
+}
+
+// An old Put stands between two others.
+#[test]
+fn old_among_new(rt: HostRuntime) -> Result<(), Fail> {
+    let mut disk = formatted(&rt, rt.alloc())?;
+    append_within(&rt, rt.alloc(), &mut disk, put()?, 4)?;
+    let old = [1, 0, 0, 0, 0, 0, 0, 0, 1, 0, 0, 1, 0x62];
+    seal_body(&rt, &mut disk, 10, &sector(&old))?;
+    append_within(&rt, rt.alloc(), &mut disk, Command::Done(0), 4)?;
+    append_within(&rt, rt.alloc(), &mut disk, put()?, 4)?;
+    check_sector(
+        &rt,
+        &mut disk,
+        14,
+        &[5, 0, 0, 0, 0, 0, 0, 0, 2, 1, 7, 0, 2, 0x68, 0x69],
+    )?;
+    check_jobs(&rt, rt.alloc(), &mut disk, 3, &[old_job()?, job(2)?])
+}
+
+// Compactions by turns into either area; over a sealed slot of the area cell a raise takes six calls.
+#[test]
+fn compaction_repeated(rt: HostRuntime) -> Result<(), Fail> {
+    let mut disk = with_no_free_slot(&rt, rt.alloc())?;
+    compact_within(&rt, rt.alloc(), &mut disk, 24)?;
+    for _ in 0..9 {
+        compact_within(&rt, rt.alloc(), &mut disk, 26)?;
+    }
+    disk.crash(&[]);
+    assert_eq!(rt;
+        mounted_within(&rt, rt.alloc(), &mut disk, u64::MAX),
+        Ok((3, 2))
+    );
+    Ok(())
+}
+
+// Slot B of the area cell has the greatest value there is, which is odd: no compaction any more.
+#[test]
+fn no_compaction_left(rt: HostRuntime) -> Result<(), Fail> {
+    let mut disk = with_no_free_slot(&rt, rt.alloc())?;
+    seal_greatest_area(&rt, &mut disk)?;
+    assert_eq!(rt;
+        append_within(&rt, rt.alloc(), &mut disk, put()?, 0),
+        Err(JournalFault::Full)
+    );
+    assert_eq!(rt;
+        append_within(&rt, rt.alloc(), &mut disk, Command::Done(1), 0),
+        Err(JournalFault::Exhausted)
+    );
+    assert_eq!(rt;
+        compact_within(&rt, rt.alloc(), &mut disk, 0),
+        Err(JournalFault::Exhausted)
+    );
+    Ok(())
+}
+
+// The area cell is raised to 2: the first slot of area 1 is in sector 16.
+#[test]
+fn second_area(rt: HostRuntime) -> Result<(), Fail> {
+    let mut disk = formatted(&rt, rt.alloc())?;
+    assert!(rt; disk.sectors() == 24);
+    safe_cell::mount(&mut disk, 4)?.raise(&mut disk)?;
+    seal_over(&rt, &mut disk, 16, &Record::Base(3))?;
+    assert_eq!(rt; append_within(&rt, rt.alloc(), &mut disk, put()?, 4), Ok(3));
+    assert_eq!(rt;
+        mounted_within(&rt, rt.alloc(), &mut disk, u64::MAX),
+        Ok((4, 1))
+    );
+    Ok(())
+}
+
+// Sectors 5, 4 and 7, and the gate in sector 9. Of a disk of zeros the area cell isn't sealed.
+#[test]
+fn mounting_fails_at_each_call(rt: HostRuntime) -> Result<(), Fail> {
+    for k in 0..=4 {
+        let mut disk = formatted(&rt, rt.alloc())?;
+        let answer = if k < 4 {
+            Err(JournalFault::Device)
+        } else {
+            Ok((0, 0))
+        };
+        assert_eq!(rt;
+            mounted_within(&rt, rt.alloc(), &mut disk, k),
+            answer,
+            "{k} calls"
+        );
+    }
+    let mut zeros = MemDisk::new(rt.alloc(), 24)?;
+    assert_eq!(rt;
+        mounted_within(&rt, rt.alloc(), &mut zeros, u64::MAX),
+        Err(JournalFault::Damaged(5))
+    );
+    Ok(())
+}
+
+#[test]
+fn faults_as_text(rt: HostRuntime) -> Result<(), Fail> {
+    for (fault, text) in [
+        (JournalFault::Device, "the device failed"),
+        (
+            JournalFault::Broken,
+            "the device failed earlier, mount again",
+        ),
+        (JournalFault::Exhausted, "no number is left"),
+        (JournalFault::Damaged(6), "the body in sector 6 is damaged"),
+        (JournalFault::Full, "the journal is full"),
+        (JournalFault::NoSuchJob, "no such job is pending"),
+        (JournalFault::NoMemory, "out of memory"),
+    ] {
+        assert_eq!(rt; format!(in rt.alloc(); "{fault}")?.as_str(), text);
+    }
+    Ok(())
+}

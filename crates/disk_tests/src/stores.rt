@@ -1,0 +1,270 @@
+// What no clause says: how many device calls a mounting makes, that the sizes are the layout's, and whole runs.
+ghost use Rattle.std.specs.Prelude.{IfOk};
+ghost use Rattle.sector_disk.specs.Memory.{state_of};
+ghost use Rattle.job_journal.specs.Journal.{IsSound};
+ghost use Rattle.node_store.specs.Store.{slots_for};
+
+use job_model::{Payload, Queue, Work};
+use node_store::{NodeStore, StoreFault, format};
+use sector_disk::MemDisk;
+use std::alloc::Global;
+use std::test::Fail;
+
+// The fault of a mounting, if it is refused.
+fn refusal(alloc: Global, disk: MemDisk) -> Option<StoreFault> {
+    match NodeStore::mount(alloc, disk) {
+        Ok(_) => None,
+        Err(refused) => Some(refused.fault),
+    }
+}
+
+// A disk of 24 sectors with an empty store.
+fn formatted(alloc: Global) -> Result<MemDisk, Fail>
+    ensures { IfOk result (λ disk. IsSound (slots_for (state_of disk).sectors) (state_of disk)) }
+{
+    let mut disk = MemDisk::new(alloc, 24)?;
+    format(&mut disk)?;
+    Ok(disk)
+}
+
+fn mounted(alloc: Global, disk: MemDisk) -> Result<NodeStore<MemDisk>, Fail>
+    requires { IsSound (slots_for (state_of disk).sectors) (state_of disk) }
+    ensures { IfOk result (λ store. IsSound store.journal.slots (state_of store.disk)) }
+{
+    match NodeStore::mount(alloc, disk) {
+        Ok(store) => Ok(store),
+        Err(refused) => Err(Fail::new(refused.fault)),
+    }
+}
+
+fn opened(alloc: Global) -> Result<NodeStore<MemDisk>, Fail>
+    ensures { IfOk result (λ store. IsSound store.journal.slots (state_of store.disk)) }
+{
+    let disk = formatted(alloc)?;
+    mounted(alloc, disk)
+}
+
+// Puts a job of two bytes.
+fn put(store: &mut NodeStore<MemDisk>) -> Option<Result<u64, StoreFault>>
+    requires { IsSound store.old.journal.slots (state_of store.old.disk) }
+    ensures { IsSound store.new.journal.slots (state_of store.new.disk) }
+{
+    let queue = Queue::new(1)?;
+    let payload = Payload::new(b"hi")?;
+    Some(store.put(Work {
+        queue,
+        priority: 7,
+        payload,
+    }))
+}
+
+fn done(store: &mut NodeStore<MemDisk>, id: u64) -> Result<u64, StoreFault>
+    requires { IsSound store.old.journal.slots (state_of store.old.disk) }
+    ensures { IsSound store.new.journal.slots (state_of store.new.disk) }
+{
+    store.done(id)
+}
+
+fn compact(store: &mut NodeStore<MemDisk>) -> Result<(), StoreFault>
+    requires { IsSound store.old.journal.slots (state_of store.old.disk) }
+    ensures { IsSound store.new.journal.slots (state_of store.new.disk) }
+{
+    store.compact()
+}
+
+// Of 24 sectors an area has four slots: two jobs, a Base and a Done fit.
+#[test]
+fn smallest_disk(rt: HostRuntime) -> Result<(), Fail> {
+    let mut small = MemDisk::new(rt.alloc(), 23)?;
+    assert_eq!(rt; format(&mut small), Err(StoreFault::TooSmall));
+    assert_eq!(rt; refusal(rt.alloc(), small), Some(StoreFault::TooSmall));
+    let zeros = MemDisk::new(rt.alloc(), 24)?;
+    assert_eq!(rt; refusal(rt.alloc(), zeros), Some(StoreFault::NotFormatted));
+    let mut store = opened(rt.alloc())?;
+    assert_eq!(rt; put(&mut store), Some(Ok(0)));
+    assert_eq!(rt; put(&mut store), Some(Ok(1)));
+    assert_eq!(rt; put(&mut store), Some(Err(StoreFault::Full)));
+    Ok(())
+}
+
+// What a disk mounts as: its counter and how many jobs are pending, or why not.
+fn mounts_as(alloc: Global, disk: MemDisk) -> Result<(u64, usize), StoreFault> {
+    match NodeStore::mount(alloc, disk) {
+        Ok(store) => Ok((store.counter(), store.table().pending().len())),
+        Err(refused) => Err(refused.fault),
+    }
+}
+
+// A disk whose counter is 2, in slot A over a 1 in slot B, and on which one job is pending.
+fn used(alloc: Global) -> Result<MemDisk, Fail> {
+    let mut store = opened(alloc)?;
+    if put(&mut store) != Some(Ok(0)) {
+        return Err(Fail::new("no job was put"));
+    }
+    store.raise()?;
+    store.raise()?;
+    Ok(store.into_disk())
+}
+
+// Formats in so many device calls at most, and crashes.
+fn formatted_within(disk: &mut MemDisk, calls: u64, fill: &[u8]) -> Result<(), StoreFault> {
+    disk.arm(calls);
+    let answer = format(disk);
+    disk.crash(fill);
+    answer
+}
+
+// Eight writes and a sync unseal the gates of both areas; eight calls format the area cell and eight the counter. Cut off,
+// a new disk isn't formatted, unless a gate of the counter was torn shut: over a body of zeros that is a counter of 0.
+#[test]
+fn format_stopped_at_each_call(rt: HostRuntime) -> Result<(), Fail> {
+    for (fill, seals) in [(&[][..], false), (&[0xa5][..], true)] {
+        for k in 0..=25 {
+            let mut disk = MemDisk::new(rt.alloc(), 24)?;
+            let answer = formatted_within(&mut disk, k, fill);
+            assert_eq!(rt; answer.is_ok(), k == 25, "{k} calls");
+            let torn = seals && (k >= 17 && k <= 20 || k >= 23);
+            let found = if k == 25 || torn {
+                Ok((0, 0))
+            } else {
+                Err(StoreFault::NotFormatted)
+            };
+            assert_eq!(rt; mounts_as(rt.alloc(), disk), found, "{k} calls");
+        }
+    }
+    Ok(())
+}
+
+// A disk in use isn't to be formatted: cut off, it may have lost its jobs and not its counter, its area cell, both, or have
+// an older counter, which slot B still holds once slot A is unsealed.
+#[test]
+fn used_disk_formatted_again(rt: HostRuntime) -> Result<(), Fail> {
+    for k in 0..=25 {
+        let mut disk = used(rt.alloc())?;
+        let answer = formatted_within(&mut disk, k, &[]);
+        assert_eq!(rt; answer.is_ok(), k == 25, "{k} calls");
+        let found = match k {
+            0..=8 => Ok((2, 1)),
+            9 | 10 | 17 | 18 => Ok((2, 0)),
+            11..=16 => Err(StoreFault::Damaged(5)),
+            19 | 20 => Ok((1, 0)),
+            21..=24 => Err(StoreFault::NotFormatted),
+            _ => Ok((0, 0)),
+        };
+        assert_eq!(rt; mounts_as(rt.alloc(), disk), found, "{k} calls");
+    }
+    Ok(())
+}
+
+// Areas of 4,096 slots, the most there are: the second one ends in the last sector.
+#[test]
+fn greatest_disk(rt: HostRuntime) -> Result<(), Fail> {
+    let mut disk = MemDisk::new(rt.alloc(), 16392)?;
+    format(&mut disk)?;
+    let mut store = mounted(rt.alloc(), disk)?;
+    assert_eq!(rt; put(&mut store), Some(Ok(0)));
+    compact(&mut store)?;
+    assert_eq!(rt; put(&mut store), Some(Ok(1)));
+    let mut disk = store.into_disk();
+    disk.crash(&[]);
+    assert_eq!(rt; mounts_as(rt.alloc(), disk), Ok((0, 2)));
+    Ok(())
+}
+
+// Five commands for four slots: the last of them finds no free slot, and compacts.
+#[test]
+fn full_journal(rt: HostRuntime) -> Result<(), Fail> {
+    let mut store = opened(rt.alloc())?;
+    assert_eq!(rt; put(&mut store), Some(Ok(0)));
+    assert_eq!(rt; put(&mut store), Some(Ok(1)));
+    assert_eq!(rt; put(&mut store), Some(Err(StoreFault::Full)));
+    assert_eq!(rt; done(&mut store, 0), Ok(0));
+    assert_eq!(rt; put(&mut store), Some(Ok(2)));
+    assert_eq!(rt; done(&mut store, 1), Ok(1));
+    assert_eq!(rt; store.table().pending().len(), 1);
+    Ok(())
+}
+
+#[test]
+fn compacted_again_and_again(rt: HostRuntime) -> Result<(), Fail> {
+    let mut store = opened(rt.alloc())?;
+    compact(&mut store)?;
+    compact(&mut store)?;
+    compact(&mut store)?;
+    assert_eq!(rt; put(&mut store), Some(Ok(0)));
+    Ok(())
+}
+
+#[test]
+fn commands_are_mounted_again(rt: HostRuntime) -> Result<(), Fail> {
+    let mut store = opened(rt.alloc())?;
+    assert_eq!(rt; put(&mut store), Some(Ok(0)));
+    assert_eq!(rt; put(&mut store), Some(Ok(1)));
+    assert_eq!(rt; store.done(0), Ok(0));
+    assert_eq!(rt; store.raise(), Ok(1));
+    let mut disk = store.into_disk();
+    disk.crash(&[0xff; 512]);
+    let Ok(store) = NodeStore::mount(rt.alloc(), disk) else {
+        return Err(Fail::new("not mounted"));
+    };
+    assert_eq!(rt; store.counter(), 1);
+    assert_eq!(rt; store.table().next(), 2);
+    assert_eq!(rt; store.table().pending().len(), 1);
+    Ok(())
+}
+
+// A sync; sectors 1, 0, 3 and 2 of the counter; 5, 4 and 7 of the area cell; and the gate in sector 9.
+#[test]
+fn mounting_fails_at_each_call(rt: HostRuntime) -> Result<(), Fail> {
+    for k in 0..=9 {
+        let mut store = opened(rt.alloc())?;
+        store.raise()?;
+        let mut disk = store.into_disk();
+        disk.arm(k);
+        let mut disk = match NodeStore::mount(rt.alloc(), disk) {
+            Ok(store) => {
+                assert_eq!(rt; k, 9);
+                store.into_disk()
+            }
+            Err(refused) => {
+                assert!(rt; k < 9);
+                assert_eq!(rt; refused.fault, StoreFault::Device);
+                refused.disk
+            }
+        };
+        disk.arm(9);
+        assert_eq!(rt; refusal(rt.alloc(), disk), None, "after {k} calls");
+    }
+    Ok(())
+}
+
+// The mounting takes eight calls, since the second slot of the counter isn't sealed, and the raise fails in its second.
+#[test]
+fn broken_after_a_device_fault(rt: HostRuntime) -> Result<(), Fail> {
+    let mut disk = opened(rt.alloc())?.into_disk();
+    disk.arm(9);
+    let Ok(mut store) = NodeStore::mount(rt.alloc(), disk) else {
+        return Err(Fail::new("not mounted"));
+    };
+    assert_eq!(rt; store.raise(), Err(StoreFault::Device));
+    assert_eq!(rt; store.raise(), Err(StoreFault::Broken));
+    Ok(())
+}
+
+#[test]
+fn faults_as_text(rt: HostRuntime) -> Result<(), Fail> {
+    for (fault, text) in [
+        (StoreFault::Device, "the device failed"),
+        (StoreFault::Broken, "the device failed earlier, mount again"),
+        (StoreFault::Exhausted, "no number is left"),
+        (StoreFault::NotFormatted, "the disk isn't formatted"),
+        (StoreFault::Damaged(8), "the body in sector 8 is damaged"),
+        (StoreFault::Full, "the journal is full"),
+        (StoreFault::NoSuchJob, "no such job is pending"),
+        (StoreFault::NoMemory, "out of memory"),
+        (StoreFault::TooSmall, "the disk has too few sectors"),
+    ] {
+        assert_eq!(rt; format!(in rt.alloc(); "{fault}")?.as_str(), text);
+    }
+    Ok(())
+}

@@ -1,0 +1,42 @@
+// Which command was tried, told without the work of a job.
+ghost use Rattle.std.specs.Prelude.{◌≡◌, Some, option_map};
+ghost use Rattle.histories.specs.Fates.{command_with, work_of};
+ghost use Rattle.histories.specs.What.{command_of};
+
+use crate::what::Command;
+use job_model::Work;
+use node_core::Event;
+
+/// Which command was tried at an event, for who has the event: a [`Command`] holds the work of a job.
+#[derive(Clone, Copy, Debug, PartialEq, Eq)]
+pub enum Attempt {
+    /// The counter of groups rises by one.
+    Raise,
+    /// The job that the event submits becomes pending.
+    Put,
+    /// The job of this id, which is pending, is done.
+    Done(u64),
+}
+
+impl Attempt {
+    /// The whole command, by the work that the event submits ([`submitted`]). None for a Put where there is no work.
+    pub fn command(self, work: Option<Work>) -> Option<Command>
+        ensures { option_map command_of result ≡ command_with work (Some self) }
+    {
+        match self {
+            Attempt::Raise => Some(Command::Raise),
+            Attempt::Put => Some(Command::Put(work?)),
+            Attempt::Done(id) => Some(Command::Done(id)),
+        }
+    }
+}
+
+/// The work that an event submits.
+pub fn submitted(event: &Event) -> Option<Work>
+    ensures { result ≡ work_of event.now }
+{
+    match event {
+        Event::Submit(work) => Some(*work),
+        _ => None,
+    }
+}

@@ -1,0 +1,108 @@
+-- What the words of a command line ask for.
+use Rattle.std.specs.Prelude.{ℕ, List, [], nat_le, nat_lt, ◌&&◌, Bool, false, bytes_eq, codes, if◌then◌else◌, option_map, Option, Some, None, string_bytes}
+use Rattle.group_task.specs.declared.node.TheConstants.{NODES}
+use Rattle.node_console.specs.declared.making.TheConstants.{LEAST_SLOTS, MOST_SLOTS}
+use Rattle.line_words.specs.Words.{number_of}
+use Rattle.invite.specs.declared.task.Place.{Place}
+use Rattle.invite.specs.declared.task.Making.{Making}
+use Rattle.invite.specs.declared.task.Batch.{Batch}
+use Rattle.invite.specs.declared.task.Batch.TheVariants.{Answer, Show, Sim, Store, Trace, Record}
+use Rattle.invite.specs.declared.task.Task.{Task}
+use Rattle.invite.specs.declared.task.Task.TheVariants as task
+
+-- what a file is made for: a node, the slots of an area, and the count
+pub record Made : Type 0 where
+  pub place : ℕ × ℕ
+  pub slots : ℕ
+  pub first : ℕ
+
+-- a command with its arguments; paths are texts
+pub data Asked : Type 0 where
+  answers : ℕ × ℕ → Asked
+  shows : Asked
+  simulates : Bool → Bool → Asked
+  stores : List ℕ → Asked
+  traces : Asked
+  records : Asked
+  makes : List ℕ → Made → Asked
+  serves : List ℕ → ℕ × ℕ → Asked
+
+abbrev pub placed : Place → ℕ × ℕ
+placed place = (place.id, place.nodes)
+
+abbrev pub made : Making → Made
+made making = record { place = placed making.place; slots = making.slots; first = making.first }
+
+abbrev pub asked_batch : Batch → Asked
+asked_batch (Answer place) = answers (placed place)
+asked_batch Show = shows
+asked_batch (Sim telling) = simulates telling.names telling.nodes
+asked_batch (Store path) = stores (string_bytes path)
+asked_batch Trace = traces
+asked_batch Record = records
+
+abbrev pub asked : Task → Asked
+asked (task.Batch batch) = asked_batch batch
+asked (task.Format path making) = makes (string_bytes path) (made making)
+asked (task.Node path place) = serves (string_bytes path) (placed place)
+
+-- ---- arguments, by their names
+
+abbrev pub Arguments : Type 0
+Arguments = List ℕ → Option (List ℕ)
+
+abbrev pub number_in : Option (List ℕ) → Option ℕ
+number_in None = None
+number_in (Some word) = number_of word
+
+-- a node, and how many there are
+abbrev pub place_by : Option ℕ → Option ℕ → Option (ℕ × ℕ)
+place_by None nodes = None
+place_by (Some id) None = None
+place_by (Some id) (Some nodes) = if nat_lt NODES nodes then None else if nat_le nodes id then None else Some (id, nodes)
+
+abbrev pub place_of : Arguments → Option (ℕ × ℕ)
+place_of arguments = place_by (number_in (arguments (codes "SELF"))) (number_in (arguments (codes "NODES")))
+
+-- an option without a value
+abbrev pub is_set : Option (List ℕ) → Bool
+is_set None = false
+is_set (Some word) = bytes_eq word (codes "true")
+
+-- the count that a node begins behind
+abbrev pub first_of : Option (List ℕ) → Option ℕ
+first_of None = Some 0
+first_of (Some word) = number_of word
+
+abbrev pub making_by : Option (ℕ × ℕ) → Option ℕ → Option ℕ → Option Made
+making_by None slots first = None
+making_by (Some place) None first = None
+making_by (Some place) (Some slots) None = None
+making_by (Some place) (Some slots) (Some first) =
+    if nat_lt slots LEAST_SLOTS then None else if nat_lt MOST_SLOTS slots then None else Some (record { place = place; slots = slots; first = first })
+
+abbrev pub making_of : Arguments → Option Made
+making_of arguments = making_by (place_of arguments) (number_in (arguments (codes "SLOTS"))) (first_of (arguments (codes "FIRST")))
+
+abbrev pub format_by : Option (List ℕ) → Option Made → Option Asked
+format_by None made = None
+format_by (Some path) made = option_map (makes path) made
+
+abbrev pub format_of : Arguments → Option Asked
+format_of arguments = format_by (arguments (codes "FILE")) (making_of arguments)
+
+abbrev pub serves_by : Option (List ℕ) → Option (ℕ × ℕ) → Option Asked
+serves_by None place = None
+serves_by (Some path) place = option_map (serves path) place
+
+-- what the command of a name asks for; nothing, where a number is out of its range
+abbrev pub asked_by : List ℕ → Arguments → Option Asked
+asked_by name arguments =
+    if bytes_eq name (codes "answer") then option_map answers (place_of arguments) else
+    if bytes_eq name (codes "show") then Some shows else
+    if bytes_eq name (codes "sim") then Some (simulates (is_set (arguments (codes "names"))) (is_set (arguments (codes "nodes")))) else
+    if bytes_eq name (codes "store") then option_map stores (arguments (codes "PATH")) else
+    if bytes_eq name (codes "trace") then Some traces else
+    if bytes_eq name (codes "record") then Some records else
+    if bytes_eq name (codes "format") then format_of arguments else
+    if bytes_eq name (codes "node") then serves_by (arguments (codes "FILE")) (place_of arguments) else None

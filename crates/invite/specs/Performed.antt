@@ -1,0 +1,32 @@
+-- What a command that reads its whole input prints, and what is wrong with its input.
+use Rattle.std.specs.Prelude.{◌≡◌, ℕ, List, [], Option}
+use Rattle.console_text.specs.Ends.{IsFixed, IsWhy, Outcome}
+use Rattle.console_text.specs.declared.ends.Ending.{Ending}
+use Rattle.invite_console.specs.Answer.{answer_text}
+use Rattle.invite_console.specs.Show.{show_text}
+use Rattle.invite_console.specs.Sim.{IsSimulation}
+use Rattle.invite_console.specs.Reasons.{answer_flaw, schedule_flaw, show_flaw}
+use Rattle.store_console.specs.Session.{IsSession}
+use Rattle.store_console.specs.Reasons.{session_flaw}
+use Rattle.trace_console.specs.Judged.{IsJudged}
+use Rattle.run_trace.specs.Recorded.{IsRecording}
+use Rattle.invite.specs.declared.task.Batch.{Batch}
+use Rattle.invite.specs.declared.task.Batch.TheVariants.{Answer, Show, Sim, Store, Trace, Record}
+
+-- the outcome is what the command prints for these bytes
+abbrev pub IsOutcomeOf : Batch → List ℕ → Outcome → Type 0
+IsOutcomeOf (Answer place) = IsFixed (answer_text place.id place.nodes)
+IsOutcomeOf Show = IsFixed show_text
+IsOutcomeOf (Sim telling) = IsSimulation telling
+IsOutcomeOf (Store path) = IsSession
+IsOutcomeOf Trace = IsJudged
+IsOutcomeOf Record = IsRecording
+
+-- this is what is wrong with the input; what is wrong with a trace, and which line of a schedule to be recorded, is printed, and not said again
+abbrev pub IsWhyOf : Batch → Option (List ℕ) → Ending → List ℕ → Type 0
+IsWhyOf (Answer place) = IsWhy (answer_flaw place.id place.nodes)
+IsWhyOf Show = IsWhy show_flaw
+IsWhyOf (Sim telling) = IsWhy schedule_flaw
+IsWhyOf (Store path) = IsWhy session_flaw
+IsWhyOf Trace = λ input ending why. why ≡ []
+IsWhyOf Record = λ input ending why. why ≡ []

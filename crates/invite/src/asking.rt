@@ -1,0 +1,132 @@
+// From the words of the command line to what they ask for.
+ghost use Rattle.std.specs.Prelude.{◌≡◌, IfOk, bytes_eq, codes, option_map};
+ghost use Rattle.clap.specs.Words.{first_value, found_of};
+ghost use Rattle.invite.specs.Asked.{answers, asked, asked_by, format_of, is_set, made, making_of, placed, place_of, serves_by, stores};
+
+use crate::task::{Batch, Making, Place, Task};
+use clap::ArgMatches;
+use group_task::{NODES, NodeId};
+use invite_console::Telling;
+use line_words::number;
+use node_console::{LEAST_SLOTS, MOST_SLOTS};
+use std::alloc::{AllocError, Global};
+
+/// What the command of this name asks for, with these arguments. None where a number is out of its range.
+pub fn task(alloc: Global, name: &str, words: &ArgMatches<'_>) -> Result<Option<Task>, AllocError>
+    ensures { IfOk result (λ task. option_map asked task ≡ asked_by name.now (λ id. first_value (found_of words.now) id)) }
+{
+    if is(name, "answer") {
+        Ok(answer(words))
+    } else if is(name, "show") {
+        Ok(Some(Task::Batch(Batch::Show)))
+    } else if is(name, "sim") {
+        Ok(Some(Task::Batch(Batch::Sim(telling(words)))))
+    } else if is(name, "store") {
+        store(alloc, words)
+    } else if is(name, "trace") {
+        Ok(Some(Task::Batch(Batch::Trace)))
+    } else if is(name, "record") {
+        Ok(Some(Task::Batch(Batch::Record)))
+    } else if is(name, "format") {
+        format(alloc, words)
+    } else if is(name, "node") {
+        node(alloc, words)
+    } else {
+        Ok(None)
+    }
+}
+
+fn answer(words: &ArgMatches<'_>) -> Option<Task>
+    ensures { option_map asked result ≡ option_map answers (place_of (λ id. first_value (found_of words.now) id)) }
+{
+    Some(Task::Batch(Batch::Answer(place(words)?)))
+}
+
+fn telling(words: &ArgMatches<'_>) -> Telling
+    ensures names { result.names ≡ is_set (first_value (found_of words.now) (codes "names")) }
+    ensures nodes { result.nodes ≡ is_set (first_value (found_of words.now) (codes "nodes")) }
+{
+    Telling {
+        names: is_set(words, "names"),
+        nodes: is_set(words, "nodes"),
+    }
+}
+
+fn store(alloc: Global, words: &ArgMatches<'_>) -> Result<Option<Task>, AllocError>
+    ensures { IfOk result (λ task. option_map asked task ≡ option_map stores (first_value (found_of words.now) (codes "PATH"))) }
+{
+    let Some(path) = words.get_str("PATH") else {
+        return Ok(None);
+    };
+    Ok(Some(Task::Batch(Batch::Store(String::from_str(alloc, path)?))))
+}
+
+fn format(alloc: Global, words: &ArgMatches<'_>) -> Result<Option<Task>, AllocError>
+    ensures { IfOk result (λ task. option_map asked task ≡ format_of (λ id. first_value (found_of words.now) id)) }
+{
+    let (Some(path), Some(making)) = (words.get_str("FILE"), making(words)) else {
+        return Ok(None);
+    };
+    Ok(Some(Task::Format(String::from_str(alloc, path)?, making)))
+}
+
+fn node(alloc: Global, words: &ArgMatches<'_>) -> Result<Option<Task>, AllocError>
+    ensures { IfOk result (λ task. option_map asked task ≡ serves_by (first_value (found_of words.now) (codes "FILE")) (place_of (λ id. first_value (found_of words.now) id))) }
+{
+    let (Some(path), Some(place)) = (words.get_str("FILE"), place(words)) else {
+        return Ok(None);
+    };
+    Ok(Some(Task::Node(String::from_str(alloc, path)?, place)))
+}
+
+/// What FILE is made for, by SLOTS, SELF, NODES and FIRST.
+fn making(words: &ArgMatches<'_>) -> Option<Making>
+    ensures { option_map made result ≡ making_of (λ id. first_value (found_of words.now) id) }
+{
+    let place = place(words)?;
+    let slots = number(words.get_str("SLOTS")?.as_bytes())?;
+    let first = match words.get_str("FIRST") {
+        Some(word) => number(word.as_bytes())?,
+        None => 0,
+    };
+    if slots < LEAST_SLOTS || MOST_SLOTS < slots {
+        return None;
+    }
+    Some(Making {
+        place,
+        slots,
+        first,
+    })
+}
+
+/// The node that SELF and NODES tell.
+fn place(words: &ArgMatches<'_>) -> Option<Place>
+    ensures { option_map placed result ≡ place_of (λ id. first_value (found_of words.now) id) }
+{
+    let id = number(words.get_str("SELF")?.as_bytes())?;
+    let nodes = number(words.get_str("NODES")?.as_bytes())?;
+    if u64::from(NODES) < nodes || nodes <= id {
+        return None;
+    }
+    Some(Place {
+        id: NodeId::numbered(id as u8),
+        nodes: nodes as u8,
+    })
+}
+
+/// Whether an option without a value was given.
+fn is_set(words: &ArgMatches<'_>, option: &str) -> bool
+    ensures { result ≡ is_set (first_value (found_of words.now) option.now) }
+{
+    match words.get_str(option) {
+        Some(word) => is(word, "true"),
+        None => false,
+    }
+}
+
+/// Whether a word is this name.
+fn is(word: &str, name: &str) -> bool
+    ensures { result ≡ bytes_eq word.now name.now }
+{
+    word.as_bytes() == name.as_bytes()
+}

@@ -1,0 +1,64 @@
+// The commands that read their whole input first.
+ghost use Rattle.std.specs.Prelude.{◌≡◌, ◌≤◌, ◌+◌};
+ghost use Rattle.console_text.specs.Ends.{Prints, status_of};
+ghost use Rattle.invite.specs.Performed.{IsOutcomeOf, IsWhyOf};
+
+use crate::task::Batch;
+use console_text::{Ended, Source};
+use std::alloc::Global;
+use std::fs::{File, Files};
+use std::io::{Read, Write};
+
+/// How a command ended, and the exit status of the program.
+#[derive(Drop)]
+pub struct Performed {
+    pub ended: Ended,
+    pub status: u8,
+}
+
+/// Runs a command over an input and an output.
+pub fn perform<R: Read, W: Write>(
+    rt: &impl Files<File = File>,
+    alloc: Global,
+    batch: &Batch,
+    input: &mut Source<R>,
+    output: &mut W,
+) -> Performed
+    ensures prints { Prints (IsOutcomeOf batch.now) (R.remaining input.old.reader) (W.contents output.old) (W.contents output.new) result.ended.ending }
+    ensures why { IsWhyOf batch.now (R.remaining input.old.reader) result.ended.ending result.ended.why.items }
+    ensures status { result.status ≡ status_of result.ended.ending }
+    ensures reads { input.old.left ≤ input.new.left + 16777216 }
+{
+    let ended = carry_out(rt, alloc, batch, input, output);
+    let status = ended.ending.status();
+    Performed { ended, status }
+}
+
+fn carry_out<R: Read, W: Write>(
+    rt: &impl Files<File = File>,
+    alloc: Global,
+    batch: &Batch,
+    input: &mut Source<R>,
+    output: &mut W,
+) -> Ended
+    ensures prints { Prints (IsOutcomeOf batch.now) (R.remaining input.old.reader) (W.contents output.old) (W.contents output.new) result.ending }
+    ensures why { IsWhyOf batch.now (R.remaining input.old.reader) result.ending result.why.items }
+    ensures reads { input.old.left ≤ input.new.left + 16777216 }
+{
+    match batch {
+        Batch::Answer(place) => {
+            invite_console::answer(alloc, place.id, place.nodes, input, output)
+        }
+        Batch::Show => invite_console::show(alloc, input, output),
+        Batch::Sim(telling) => invite_console::sim(alloc, *telling, input, output),
+        Batch::Store(path) => store_console::store(rt, alloc, path.as_str(), input, output),
+        Batch::Trace => Ended {
+            ending: trace_console::trace(alloc, input, output),
+            why: Vec::new(alloc),
+        },
+        Batch::Record => Ended {
+            ending: run_trace::record(alloc, input, output),
+            why: Vec::new(alloc),
+        },
+    }
+}

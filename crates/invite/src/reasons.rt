@@ -1,0 +1,52 @@
+// What standard error says where a command didn't end well.
+use crate::performing::Performed;
+use console_text::{Ended, Ending, MAX_READS};
+use std::io;
+use std::io::Write;
+
+/// Why a command didn't end well. What was wrong with an input is a line that the command wrote itself.
+#[derive(Drop)]
+pub enum Reason {
+    Input(Vec<u8>),
+    NoMemory,
+    /// A read failed with this error; with none, the input had no end within the reads that are made of it.
+    Unread(Option<io::Error>),
+    Unwritten(Option<io::Error>),
+}
+
+/// Why the command didn't end well, where it didn't. What is wrong with a trace is printed, and isn't said again.
+pub fn reason_of(
+    performed: Performed,
+    unread: Option<io::Error>,
+    unwritten: Option<io::Error>,
+) -> Option<Reason> {
+    let Performed { ended, .. } = performed;
+    let Ended { ending, why } = ended;
+    match ending {
+        Ending::Done => None,
+        Ending::Refused if why.is_empty() => None,
+        Ending::Refused => Some(Reason::Input(why)),
+        Ending::NoMemory => Some(Reason::NoMemory),
+        Ending::Unread => Some(Reason::Unread(unread)),
+        Ending::Unwritten => Some(Reason::Unwritten(unwritten)),
+    }
+}
+
+/// Says on standard error why, in one line.
+pub fn explain(rt: &HostRuntime, reason: Reason) -> io::Result<()> {
+    match reason {
+        Reason::Input(line) => {
+            let mut errors = rt.stderr();
+            errors.write_all(b"invite: ")?;
+            errors.write_all(&line)?;
+            errors.write_all(b"\n")
+        }
+        Reason::NoMemory => rt.eprintln("invite: no memory"),
+        Reason::Unread(Some(error)) => eprintln!(rt; "invite: can't read: {error}"),
+        Reason::Unread(None) => {
+            eprintln!(rt; "invite: can't read: the input has no end within {MAX_READS} reads")
+        }
+        Reason::Unwritten(Some(error)) => eprintln!(rt; "invite: can't write: {error}"),
+        Reason::Unwritten(None) => rt.eprintln("invite: can't write"),
+    }
+}

@@ -1,0 +1,35 @@
+-- Places of lists.
+use Rattle.std.proofs.Common.{◌≡◌, ℕ, zero, suc, ◌<◌, Option, Some, None, List, [], ◌∷◌, ◌++◌, map, length, slice_get, slice_index_or, option_map, refl, sym, ◌∙◌, inl, inr, arith}
+use Rattle.std.proofs.lemmas.Option.{slice_get-map, same_Some}
+use Rattle.histories.specs.Lists.{IsAmong}
+
+-- the item at a place of the list
+pub place_of : {A : Type 0} (xs : List A) (n : ℕ) → n < length xs → (x : A) × (slice_get xs n ≡ Some x)
+place_of [] n within = absurd (omega (arith, within))
+place_of (x ∷ xs) zero within = (x, refl)
+place_of (x ∷ xs) (suc n) within = place_of xs n (omega (arith, within))
+
+-- one of the list stands at a place
+pub among_at : {A : Type 0} (x : A) (xs : List A) → IsAmong x xs → (k : ℕ) × (k < length xs) × (slice_index_or xs k x ≡ x)
+among_at x [] is = absurd is
+among_at x (y ∷ xs) (inl same) = (0, omega arith, sym same)
+among_at x (y ∷ xs) (inr later) = let rest = among_at x xs later in let lt = rest.1 in (suc rest.0, omega (arith, lt), rest.2)
+
+pub at_map : {A B : Type 0} (f : A → B) (xs : List A) (k : ℕ) (y : B) → slice_get (map f xs) k ≡ Some y → (x : A) × (slice_get xs k ≡ Some x) × (f x ≡ y)
+at_map f xs k y at = by_option (slice_get xs k) refl (sym (slice_get-map f xs k) ∙ at)
+  where
+    by_option : (o : Option _) → slice_get xs k ≡ o → option_map f o ≡ Some y → (x : _) × (slice_get xs k ≡ Some x) × (f x ≡ y)
+    by_option None is e = absurd cc
+    by_option (Some x) is e = (x, is, same_Some (f x) y e)
+
+-- what stands in a list stays there when the list is added to
+pub get_more : {A : Type 0} (xs ys : List A) (k : ℕ) (x : A) → slice_get xs k ≡ Some x → slice_get (xs ++ ys) k ≡ Some x
+get_more [] ys k x at = absurd cc
+get_more (y ∷ xs) ys zero x at = at
+get_more (y ∷ xs) ys (suc k) x at = get_more xs ys k x at
+
+-- and what is added stands behind it
+pub get_last : {A : Type 0} (xs : List A) (k : ℕ) (x : A) → k ≡ length xs → slice_get (xs ++ x ∷ []) k ≡ Some x
+get_last [] k x is = rw is refl
+get_last (y ∷ xs) zero x is = absurd cc
+get_last (y ∷ xs) (suc k) x is = get_last xs k x (omega (arith, is))

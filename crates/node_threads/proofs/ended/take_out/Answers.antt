@@ -1,0 +1,39 @@
+use Rattle.std.proofs.Common.{◌≡◌, ℕ, Bool, true, false, not, sym, ◌∙◌, ap, arith, refl}
+use Rattle.std.proofs.lemmas.Bool.Decides.{nat_tests}
+use Rattle.node_lock.specs.declared.run.Run.{Run}
+use Rattle.node_lock.specs.contracts.run.RunPartialEq as eq
+use Rattle.node_threads.specs.Nodes.{NodeEnds}
+use Rattle.node_threads.proofs.ended.take_out.Goals as goal
+
+abbrev run_of : ℕ → ℕ → ℕ → ℕ → Run
+run_of node nodes slots capacity = record { node = node; nodes = nodes; slots = slots; capacity = capacity }
+
+not_false : (b : Bool) → false ≡ not b → b ≡ true
+not_false true e = refl
+not_false false e = absurd cc
+
+-- `==` on runs says that they are one
+run_same : (a b : Run) → eq.TheImpl.eq-value.it a b ≡ true → a ≡ b
+run_same a b t =
+    let node : a.node ≡ b.node = grind (arith, nat_tests) in
+    let nodes : a.nodes ≡ b.nodes = grind (arith, nat_tests) in
+    let slots : a.slots ≡ b.slots = grind (arith, nat_tests) in
+    let capacity : a.capacity ≡ b.capacity = grind (arith, nat_tests) in
+    λ i. run_of (node i) (nodes i) (slots i) (capacity i)
+
+pub returns : goal.returns
+returns c =
+    let p = c.into_parts-parts.ensures.parts in
+    let h = c.into_held-held.result in
+    let same : c.run.result ≡ c.args.run = run_same c.run.result c.args.run (not_false _ (sym c.if-ne.false ∙ c.ne.ensures)) in
+    let ends = c.new.ensures in
+    record {
+      view = h;
+      kept = c.into_parts-parts.ensures.kept;
+      is_run = sym c.run.ensures ∙ same;
+      is_plan = sym p.1 ∙ c.is_same.ensures.0 c.if-not-is_same.false;
+      is_history = sym p.2;
+      is_puts = sym p.3 ∙ sym (ap (λ (e : NodeEnds). e.puts) ends);
+      is_takes = sym p.4 ∙ sym (ap (λ (e : NodeEnds). e.takes) ends);
+      used_up = c.is_ended.ensures c.if-not-is_ended.false;
+    }

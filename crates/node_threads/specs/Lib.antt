@@ -1,0 +1,5 @@
+pub mod Nodes
+pub mod Wired
+pub mod Ended
+pub mod Links
+pub mod Whole

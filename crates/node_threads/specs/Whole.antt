@@ -1,0 +1,66 @@
+-- What a whole run leaves.
+use Rattle.std.specs.Prelude.{◌≡◌, ℕ, ◌+◌, ◌*◌, ◌-◌, ◌==◌, List, [], map, length, slice_get, Some}
+use Rattle.std.specs.List.{filter}
+use mathlib.Core.List.{IsPrefix}
+use Rattle.group_task.specs.Assignment.{Assignment}
+use Rattle.wire_msg.specs.Envelope.{Envelope}
+use Rattle.node_core.specs.State.{State}
+use Rattle.node_core.specs.declared.phase.Phase.TheVariants.{Normal}
+use Rattle.link_ring.specs.declared.gathering.LinkEnd.{LinkEnd}
+use Rattle.histories.specs.What.{Entry}
+use Rattle.histories.specs.History.{sent_in, brought_in}
+use Rattle.histories.specs.Bundle.{Bundle}
+use Rattle.histories.specs.Rising.{EachRises}
+use Rattle.histories.specs.Moments.{IsMoment}
+use Rattle.histories.specs.Book.{Agrees, IsInGroup}
+use Rattle.node_lock.specs.declared.worker.Turns.{Turns}
+use Rattle.node_lock.specs.declared.worker.Worker.{Worker}
+use Rattle.node_lock.specs.HeldView.{IsOther}
+use Rattle.node_lock.specs.History.{Turn, FollowsPlans, entries_of, polled}
+use Rattle.node_lock.specs.Kept.{Log}
+use Rattle.node_lock.specs.Planned.{Planned, plan_len, turns_of}
+use Rattle.node_lock.specs.Sending.{PutsSome, addressed_to}
+use Rattle.node_threads.specs.declared.size.Size.{Size}
+
+-- each worker's turns are its whole plan, in its order
+pub record IsInterleaving (plan : Planned) (history : List Turn) : Type 0 where
+  pub turns : Turns
+  pub follows : FollowsPlans plan history turns
+  pub whole : (w : Worker) → turns_of turns w ≡ plan_len plan w
+
+-- the messages from one node, in order
+abbrev pub sent_by : ℕ → List Envelope → List Envelope
+sent_by i ms = filter (λ (m : Envelope). m.sender == i) ms
+
+-- what went over a link: what was put is, in order, some of what the sender's history sent to the receiver, its first
+-- `capacity` messages among them; what was taken is the front of it; and that is what the receiver's polls of this link
+-- found, and all that its history was brought from the sender
+pub record IsCarried (capacity sender receiver : ℕ) (plan : Planned) (sender_history receiver_history : List Turn) (link : LinkEnd) : Type 0 where
+  pub from : link.sender ≡ sender
+  pub to : link.receiver ≡ receiver
+  pub put : PutsSome capacity [] (addressed_to receiver (sent_in (entries_of sender_history))) link.put.messages
+  pub taken : IsPrefix link.taken.messages link.put.messages
+  pub found : link.taken.messages ≡ polled plan.intake sender receiver_history
+  pub brought : link.taken.messages ≡ sent_by sender (brought_in (entries_of receiver_history))
+
+-- the histories of the nodes
+abbrev pub histories_in : List Log → List (List Entry)
+histories_in logs = map (λ (l : Log). entries_of l.turns) logs
+
+-- the histories are a bundle, so one book of groups agrees with all of them
+pub record IsOneBook (histories : List (List Entry)) : Type 0 where
+  pub bundle : Bundle histories
+  pub rises : EachRises histories
+  pub book : List Assignment
+  pub agrees : Agrees book histories
+  pub coordinator : (n m : ℕ) (v w : State) → IsMoment histories n v → IsMoment histories m w → IsInGroup v.phase → IsInGroup w.phase → v.group ≡ w.group → v.coordinator ≡ w.coordinator
+  pub task : (n m : ℕ) (v w : State) → IsMoment histories n v → IsMoment histories m w → v.phase ≡ Normal → w.phase ≡ Normal → v.group ≡ w.group → v.task ≡ w.task
+
+-- a history for each node, and a link for each ordered pair of different nodes, by sender and then receiver: the k-th link of
+-- node i goes to the k-th other node
+pub record IsWhole (size : Size) (plans : List Planned) (histories : List Log) (links : List LinkEnd) : Type 0 where
+  pub history_count : length histories ≡ length plans
+  pub interleaved : (n : ℕ) (p : Planned) (h : Log) → slice_get plans n ≡ Some p → slice_get histories n ≡ Some h → IsInterleaving p h.turns
+  pub link_count : length links ≡ length plans * (length plans - 1)
+  pub carried : (i k j : ℕ) (p : Planned) (from to : Log) → slice_get histories i ≡ Some from → slice_get histories j ≡ Some to → slice_get plans j ≡ Some p → IsOther i k j → (link : LinkEnd) × (slice_get links (i * (length plans - 1) + k) ≡ Some link) × IsCarried size.capacity i j p from.turns to.turns link
+  pub one_book : IsOneBook (histories_in histories)

@@ -1,0 +1,44 @@
+//! Why a run wasn't gathered.
+
+ghost use Rattle.std.specs.Prelude.{◌≡◌};
+ghost use Rattle.node_threads.specs.declared.fault.ThreadsFault.TheVariants.{NoMemory, Unpaired};
+
+use group_task::NodeId;
+use link_ring::Unpaired;
+use node_lock::Worker;
+use std::alloc::AllocError;
+use thiserror::Error;
+
+/// Why a run wasn't gathered. Of several reasons that of the first worker counts: by its node, and then Intake, Clock, Operator.
+#[derive(Clone, Copy, PartialEq, Eq, Debug, Error)]
+pub enum ThreadsFault {
+    /// The gate didn't let a worker pass.
+    #[error("GateShut")]
+    GateShut,
+    /// The history of this node was full when this worker had turns left.
+    #[error("Unfinished")]
+    Unfinished(NodeId, Worker),
+    /// There is no memory, or a worker's thread couldn't be made.
+    #[error("NoMemory")]
+    NoMemory,
+    /// What the locks gave back isn't what the run began with, or two ends of a link don't belong together. No run is known
+    /// that ends so.
+    #[error("Unpaired")]
+    Unpaired,
+}
+
+impl From<AllocError> for ThreadsFault {
+    ghost from_gives = { λ _ e. e ≡ NoMemory };
+
+    fn from(_e: AllocError) -> ThreadsFault {
+        ThreadsFault::NoMemory
+    }
+}
+
+impl From<Unpaired> for ThreadsFault {
+    ghost from_gives = { λ _ e. e ≡ Unpaired };
+
+    fn from(_e: Unpaired) -> ThreadsFault {
+        ThreadsFault::Unpaired
+    }
+}

@@ -1,0 +1,474 @@
+//! Whole runs, on real threads.
+
+ghost use Rattle.std.specs.Prelude.{◌≡◌, ◌<◌, ◌≤◌, IfSome, length};
+ghost use Rattle.group_task.specs.declared.node.TheConstants.{NODES};
+ghost use Rattle.node_threads.specs.Nodes.{PollOthers};
+
+use super::*;
+use crossbeam_utils::CachePadded;
+use durable_node::{Came, DurableNode};
+use group_task::{NODES, NodeId};
+use histories::{Rest, What};
+use job_model::{Payload, Queue, Work};
+use node_core::Event;
+use node_lock::{Fill, Gate, History, MOST_ENTRIES, Order, Plans, Timer, Worker};
+use sector_disk::MemDisk;
+use std::alloc::{AllocError, Global};
+use std::process::Abort;
+use std::sync::Wait;
+use std::sync::atomic::{AtomicU64, Ordering};
+use std::test::Fail;
+use std::thread::Threads;
+use wire_msg::Message;
+
+/// How often a gate looks at most before it gives up.
+const LOOKS: u64 = 1_000_000_000;
+
+/// The size of a run of these plans.
+fn size_for(plans: &[Plans], slots: u64, capacity: usize) -> Option<Size>
+    ensures { IfSome result (λ size. (length plans.now ≡ size.nodes) × (size.nodes ≤ NODES) × (4 ≤ size.slots) × (size.slots ≤ 4096) × PollOthers plans.now) }
+{
+    if plans.len() <= usize::from(NODES) && (4..=4096).contains(&slots) && poll_others(plans) {
+        Some(Size {
+            nodes: plans.len() as u8,
+            slots,
+            capacity,
+        })
+    } else {
+        None
+    }
+}
+
+/// A run on disks of four slots, with room for four messages on each link.
+fn run<R: Threads + Wait + Sync, G: Gate>(
+    rt: &R,
+    alloc: Global,
+    plans: &[Plans],
+    gate: &G,
+) -> Result<Result<Gathered, ThreadsFault>, Fail> {
+    let size = size_for(plans, 4, 4).ok_or("plans of a run")?;
+    Ok(run_threads(rt, alloc, size, plans, gate))
+}
+
+/// The plan of a node whose clock fires Check so often, and that does nothing else.
+fn checks(alloc: Global, turns: usize) -> Result<Plans, AllocError> {
+    let clock = vec![in alloc; Timer::Check; turns]?;
+    Ok(Plans::new(Vec::new(alloc), clock, Vec::new(alloc)))
+}
+
+/// As many nodes, each of which checks so often.
+fn checking(alloc: Global, nodes: usize, turns: usize) -> Result<Vec<Plans>, AllocError> {
+    let mut plans = Vec::new(alloc);
+    for _node in 0..nodes {
+        plans.push(checks(alloc, turns)?)?;
+    }
+    Ok(plans)
+}
+
+/// Whether so many have come, looked at again and again.
+fn wait_for(flag: &AtomicU64, many: u64) -> bool {
+    for _look in 0..LOOKS {
+        if many <= flag.load(Ordering::SeqCst) {
+            return true;
+        }
+    }
+    false
+}
+
+/// What came of the turn at this place, where it is that of this worker and has this number in its plan.
+fn came(history: &History, place: usize, worker: Worker, index: u64) -> Option<What> {
+    let entry = history.entry(place)?;
+    if entry.worker == worker && entry.index == index {
+        Some(entry.what)
+    } else {
+        None
+    }
+}
+
+/// Each node raises its flag inside its lock, and waits there for the flag of the other one.
+#[derive(Drop)]
+struct Meeting {
+    first: CachePadded<AtomicU64>,
+    second: CachePadded<AtomicU64>,
+}
+
+impl Gate for Meeting {
+    fn reach(&self, _node: NodeId, _worker: Worker) -> bool {
+        true
+    }
+
+    fn pass(&self, node: NodeId, _worker: Worker, _index: u64) -> bool {
+        let first: &AtomicU64 = &self.first;
+        let second: &AtomicU64 = &self.second;
+        if node.number() == 0 {
+            first.store(1, Ordering::SeqCst);
+            wait_for(second, 1)
+        } else {
+            second.store(1, Ordering::SeqCst);
+            wait_for(first, 1)
+        }
+    }
+}
+
+// One thread for all, or one lock for all nodes, would leave each waiting in vain.
+#[test]
+fn nodes_meet_inside_their_locks(rt: HostRuntime) -> Result<(), Fail> {
+    let plans = checking(rt.alloc(), 2, 1)?;
+    let gate = Meeting {
+        first: CachePadded::new(AtomicU64::new(0)),
+        second: CachePadded::new(AtomicU64::new(0)),
+    };
+    let whole = run(&rt, rt.alloc(), &plans, &gate)?
+        .ok()
+        .ok_or("a whole run")?;
+    assert_eq!(rt; whole.histories.len(), 2);
+    for history in whole.histories.iter() {
+        assert_eq!(rt; history.len(), 1);
+        assert!(rt; came(history, 0, Worker::Clock, 0) == Some(What::Did(Event::CheckTimer)));
+    }
+    assert_eq!(rt; whole.links.len(), 2);
+    for link in whole.links.iter() {
+        assert_eq!(rt; link.put.len(), 1);
+        assert_eq!(rt; link.taken.len(), 0);
+    }
+    Ok(())
+}
+
+/// All workers wait for one another before their first turns.
+#[derive(Drop)]
+struct Assembly {
+    workers: u64,
+    come: CachePadded<AtomicU64>,
+}
+
+impl Gate for Assembly {
+    fn reach(&self, _node: NodeId, _worker: Worker) -> bool {
+        let come: &AtomicU64 = &self.come;
+        come.fetch_add(1, Ordering::SeqCst);
+        wait_for(come, self.workers)
+    }
+
+    fn pass(&self, _node: NodeId, _worker: Worker, _index: u64) -> bool {
+        true
+    }
+}
+
+// One thread for each node would leave it waiting in vain.
+#[test]
+fn all_workers_meet(rt: HostRuntime) -> Result<(), Fail> {
+    let plans = checking(rt.alloc(), 2, 1)?;
+    let gate = Assembly {
+        workers: 6,
+        come: CachePadded::new(AtomicU64::new(0)),
+    };
+    let whole = run(&rt, rt.alloc(), &plans, &gate)?
+        .ok()
+        .ok_or("a whole run")?;
+    assert_eq!(rt; whole.histories.len(), 2);
+    Ok(())
+}
+
+/// Node 1's first poll waits until node 0's clock begins its second turn.
+#[derive(Drop)]
+struct PollLater {
+    sent: CachePadded<AtomicU64>,
+}
+
+impl Gate for PollLater {
+    fn reach(&self, _node: NodeId, _worker: Worker) -> bool {
+        true
+    }
+
+    fn pass(&self, node: NodeId, worker: Worker, index: u64) -> bool {
+        let sent: &AtomicU64 = &self.sent;
+        match (node.number(), worker, index) {
+            (0, Worker::Clock, 1) => {
+                sent.store(1, Ordering::SeqCst);
+                true
+            }
+            (1, Worker::Intake, 0) => wait_for(sent, 1),
+            _ => true,
+        }
+    }
+}
+
+#[test]
+fn poll_finds_what_was_put(rt: HostRuntime) -> Result<(), Fail> {
+    let alloc = rt.alloc();
+    let intake = vec![in alloc; NodeId::numbered(0); 1]?;
+    let mut plans = checking(alloc, 1, 2)?;
+    plans.push(Plans::new(intake, Vec::new(alloc), Vec::new(alloc)))?;
+    let gate = PollLater {
+        sent: CachePadded::new(AtomicU64::new(0)),
+    };
+    let whole = run(&rt, alloc, &plans, &gate)?.ok().ok_or("a whole run")?;
+    let sender = whole.histories.iter().next().ok_or("a history")?;
+    let receiver = whole.histories.iter().last().ok_or("a history")?;
+    let question = sender
+        .entry(0)
+        .and_then(|entry| entry.sent.get(0))
+        .ok_or("a question")?;
+    assert_eq!(rt; receiver.len(), 1);
+    let told = came(receiver, 0, Worker::Intake, 0);
+    assert!(rt; told == Some(What::Did(Event::Deliver(question))));
+    Ok(())
+}
+
+/// Lets all pass.
+#[derive(Drop)]
+struct Open;
+
+impl Gate for Open {
+    fn reach(&self, _node: NodeId, _worker: Worker) -> bool {
+        true
+    }
+
+    fn pass(&self, _node: NodeId, _worker: Worker, _index: u64) -> bool {
+        true
+    }
+}
+
+#[test]
+fn history_of_the_greatest_length(rt: HostRuntime) -> Result<(), Fail> {
+    let plans = checking(rt.alloc(), 1, MOST_ENTRIES)?;
+    let whole = run(&rt, rt.alloc(), &plans, &Open)?
+        .ok()
+        .ok_or("a whole run")?;
+    assert_eq!(rt; whole.links.len(), 0);
+    for history in whole.histories.iter() {
+        assert_eq!(rt; history.len(), 65_536);
+    }
+    let plans = checking(rt.alloc(), 1, MOST_ENTRIES + 1)?;
+    let fault = run(&rt, rt.alloc(), &plans, &Open)?.err();
+    let full = ThreadsFault::Unfinished(NodeId::numbered(0), Worker::Clock);
+    assert!(rt; fault == Some(full));
+    Ok(())
+}
+
+/// Shut for the workers of one node.
+#[derive(Drop)]
+struct Shut {
+    node: u8,
+    /// Already before their first turns.
+    at_once: bool,
+}
+
+impl Gate for Shut {
+    fn reach(&self, node: NodeId, _worker: Worker) -> bool {
+        !self.at_once || node.number() != self.node
+    }
+
+    fn pass(&self, node: NodeId, _worker: Worker, _index: u64) -> bool {
+        node.number() != self.node
+    }
+}
+
+#[test]
+fn gate_shuts(rt: HostRuntime) -> Result<(), Fail> {
+    let plans = checking(rt.alloc(), 2, 1)?;
+    for at_once in [false, true] {
+        for node in [0, 1] {
+            let fault = run(&rt, rt.alloc(), &plans, &Shut { node, at_once })?.err();
+            assert!(rt; fault == Some(ThreadsFault::GateShut));
+        }
+        let open = run(&rt, rt.alloc(), &plans, &Shut { node: 2, at_once })?;
+        assert!(rt; open.is_ok());
+    }
+    Ok(())
+}
+
+#[test]
+fn first_of_two_reasons(rt: HostRuntime) -> Result<(), Fail> {
+    let plans = checking(rt.alloc(), 2, MOST_ENTRIES + 1)?;
+    let full = ThreadsFault::Unfinished(NodeId::numbered(0), Worker::Clock);
+    let fault = run(
+        &rt,
+        rt.alloc(),
+        &plans,
+        &Shut {
+            node: 1,
+            at_once: true,
+        },
+    )?
+    .err();
+    assert!(rt; fault == Some(full));
+    let fault = run(
+        &rt,
+        rt.alloc(),
+        &plans,
+        &Shut {
+            node: 0,
+            at_once: true,
+        },
+    )?
+    .err();
+    assert!(rt; fault == Some(ThreadsFault::GateShut));
+    Ok(())
+}
+
+// ---- the storm
+
+/// How many nodes, and how many turns each worker of each takes.
+const STORM_NODES: u8 = 8;
+
+const STORM_TURNS: usize = 20_000;
+
+fn timer(turn: usize) -> Timer {
+    match turn % 6 {
+        0 => Timer::Check,
+        1 => Timer::Merge,
+        2 => Timer::Accept,
+        3 => Timer::Ready,
+        4 => Timer::Coord,
+        _ => Timer::Dispatch,
+    }
+}
+
+/// Jobs, and now and then a disk that fails, a crash and a recovery.
+fn order(alloc: Global, node: NodeId, turn: usize, work: &Work) -> Result<Order, AllocError> {
+    Ok(match turn % 50 {
+        10 => Order::Arm(3),
+        15 | 30 => Order::Recover,
+        25 => Order::Crash(Fill::new(vec![in alloc; 0xa5; 700]?)),
+        place if place % 10 == 0 => Order::Submit(*work),
+        _ => Order::Finish(node, turn as u64 / 4),
+    })
+}
+
+fn storm_plan(alloc: Global, node: u8, work: &Work) -> Result<Plans, AllocError>
+    requires { node < 8 }
+{
+    let mut intake = Vec::new(alloc);
+    let mut clock = Vec::new(alloc);
+    let mut operator = Vec::new(alloc);
+    let own = NodeId::numbered(node);
+    for turn in 0..STORM_TURNS {
+        let other = (node + 1 + (turn % 7) as u8) % STORM_NODES;
+        intake.push(NodeId::numbered(other))?;
+        clock.push(timer(turn))?;
+        operator.push(order(alloc, own, turn, work)?)?;
+    }
+    Ok(Plans::new(intake, clock, operator))
+}
+
+/// The event that the node was handed.
+fn event_in(what: What) -> Option<Event> {
+    match what {
+        What::Did(event) => Some(event),
+        What::Refused(event, _) => Some(event),
+        What::Faulted(event) => Some(event),
+        _ => None,
+    }
+}
+
+fn event_for(timer: Timer) -> Event {
+    match timer {
+        Timer::Check => Event::CheckTimer,
+        Timer::Merge => Event::MergeTimer,
+        Timer::Accept => Event::AcceptTimer,
+        Timer::Ready => Event::ReadyTimer,
+        Timer::Coord => Event::CoordTimer,
+        Timer::Dispatch => Event::DispatchTimer,
+    }
+}
+
+/// What comes of an event, and what is sent.
+fn step(node: &mut DurableNode<MemDisk>, event: Event) -> Result<(What, Vec<Message>), Fail> {
+    let Came { fate, sent, .. } = node.step(&event).ok().ok_or("a step")?;
+    Ok((fate.what(&event), sent))
+}
+
+fn obey(
+    alloc: Global,
+    node: &mut DurableNode<MemDisk>,
+    order: &Order,
+) -> Result<(What, Vec<Message>), Fail> {
+    match order {
+        Order::Submit(work) => step(node, Event::Submit(*work)),
+        Order::Finish(origin, id) => step(node, Event::Finish(*origin, *id)),
+        Order::Recover => step(node, Event::Recover),
+        Order::Arm(calls) => {
+            node.arm(*calls);
+            Ok((What::Rests(Rest::Nothing), Vec::new(alloc)))
+        }
+        Order::Crash(fill) => {
+            node.crash(fill.as_slice());
+            Ok((What::Crashed, Vec::new(alloc)))
+        }
+    }
+}
+
+/// Takes a turn once more: this worker's of this number, which was brought what is told.
+fn once_more(
+    alloc: Global,
+    node: &mut DurableNode<MemDisk>,
+    plan: &Plans,
+    worker: Worker,
+    index: usize,
+    told: What,
+) -> Result<(What, Vec<Message>), Fail> {
+    match worker {
+        Worker::Intake => match event_in(told) {
+            Some(event) => step(node, event),
+            None => Ok((What::Rests(Rest::Nothing), Vec::new(alloc))),
+        },
+        Worker::Clock => {
+            let timer = plan.clock().get(index).ok_or("a timer")?;
+            step(node, event_for(*timer))
+        }
+        Worker::Operator => {
+            let order = plan.operator().get(index).ok_or("an order")?;
+            obey(alloc, node, order)
+        }
+    }
+}
+
+/// Takes the turns of a history once more, at a node of its own, and expects what is written in it.
+fn replay(
+    rt: &impl Abort,
+    alloc: Global,
+    mut node: DurableNode<MemDisk>,
+    plan: &Plans,
+    history: &History,
+) -> Result<(), Fail> {
+    for place in 0..history.len() {
+        let entry = history.entry(place).ok_or("an entry")?;
+        let index = usize::try_from(entry.index).ok().ok_or("a place")?;
+        let (what, sent) = once_more(alloc, &mut node, plan, entry.worker, index, entry.what)?;
+        assert!(rt; what == entry.what, "turn {place}");
+        assert_eq!(rt; sent.len(), entry.sent.len());
+        for (number, message) in sent.iter().enumerate() {
+            assert!(rt; entry.sent.get(number) == Some(*message), "turn {place}");
+        }
+    }
+    Ok(())
+}
+
+#[test]
+fn storm(rt: HostRuntime) -> Result<(), Fail> {
+    let alloc = rt.alloc();
+    let work = Work {
+        queue: Queue::new(3).ok_or("a queue")?,
+        priority: 1,
+        payload: Payload::new(b"dig").ok_or("a payload")?,
+    };
+    let mut plans = Vec::new(alloc);
+    for node in 0..STORM_NODES {
+        plans.push(storm_plan(alloc, node, &work)?)?;
+    }
+    let size = size_for(&plans, 256, 256).ok_or("plans of a run")?;
+    let whole = run_threads(&rt, alloc, size, &plans, &Open)
+        .ok()
+        .ok_or("a whole run")?;
+    assert_eq!(rt; whole.histories.len(), 8);
+    assert_eq!(rt; whole.links.len(), 56);
+    for (number, history) in whole.histories.iter().enumerate() {
+        assert_eq!(rt; history.len(), 60_000);
+        let id = NodeId::new(number as u8).filter(|id| id.number() < size.nodes);
+        let id = id.ok_or("a node")?;
+        let node = DurableNode::open(alloc, id, size.nodes, size.slots)?;
+        let plan = plans.get(number).ok_or("a plan")?;
+        replay(&rt, alloc, node, plan, history)?;
+    }
+    Ok(())
+}

@@ -1,0 +1,102 @@
+//! Before the run: the links of each pair of nodes, and a lock round each node.
+
+ghost use Rattle.std.specs.Prelude.{◌≡◌, ◌≢◌, ◌+◌, ◌≤◌, ◌<◌, IfOk, OnOk, length, vec_len};
+ghost use Rattle.group_task.specs.declared.node.TheConstants.{NODES};
+ghost use Rattle.node_threads.specs.Nodes.{PollOthers};
+ghost use Rattle.node_threads.specs.Wired.{AddedEnds, AreUnlinked, AreWired, AreWiredBelow};
+
+use crate::ends::Ends;
+use crate::size::Size;
+use group_task::NodeId;
+use link_ring::{PutEnd, TakeEnd, link};
+use node_lock::{Held, NodeLock, Plans};
+use std::alloc::{AllocError, Global};
+use std::mem;
+
+/// A link for each ordered pair of different nodes.
+pub(crate) fn wire(alloc: Global, nodes: u8, capacity: usize) -> Result<Vec<Ends>, AllocError>
+    requires { nodes ≤ NODES }
+    ensures { IfOk result (λ ends. AreWired nodes capacity ends.items) }
+{
+    let mut ends = unlinked(alloc, nodes)?;
+    for sender in 0..nodes {
+        wire_sender(alloc, nodes, capacity, sender, &mut ends)?;
+    }
+    Ok(ends)
+}
+
+/// So many nodes with no links.
+fn unlinked(alloc: Global, nodes: u8) -> Result<Vec<Ends>, AllocError>
+    ensures { IfOk result (λ ends. AreUnlinked nodes ends.items) }
+{
+    let mut ends = Vec::new(alloc);
+    for _node in 0..nodes {
+        ends.push(Ends::new(alloc))?;
+    }
+    Ok(ends)
+}
+
+/// A link from one node to each other one.
+fn wire_sender(
+    alloc: Global,
+    nodes: u8,
+    capacity: usize,
+    sender: u8,
+    ends: &mut Vec<Ends>,
+) -> Result<(), AllocError>
+    requires within { (sender < nodes) × (nodes ≤ NODES) }
+    requires wired { AreWiredBelow nodes capacity sender ends.old.items }
+    ensures { OnOk result (AreWiredBelow nodes capacity (sender + 1) ends.new.items) }
+{
+    for receiver in 0..nodes {
+        if receiver != sender {
+            let (put, take) = link(
+                alloc,
+                NodeId::numbered(sender),
+                NodeId::numbered(receiver),
+                capacity,
+            )?;
+            add_ends(sender as usize, receiver as usize, put, take, ends)?;
+        }
+    }
+    Ok(())
+}
+
+/// The two ends of a link are added at their nodes.
+fn add_ends(
+    sender: usize,
+    receiver: usize,
+    put: PutEnd,
+    take: TakeEnd,
+    ends: &mut Vec<Ends>,
+) -> Result<(), AllocError>
+    requires { (sender < vec_len ends.old) × (receiver < vec_len ends.old) × (receiver ≢ sender) }
+    ensures { OnOk result (AddedEnds sender receiver put take ends.old.items ends.new.items) }
+{
+    ends[sender].add_put(put)?;
+    ends[receiver].add_take(take)
+}
+
+/// A lock round each node, which has just opened, with its ends and its plans.
+pub(crate) fn lock_nodes(
+    alloc: Global,
+    size: Size,
+    mut ends: Vec<Ends>,
+    plans: &[Plans],
+) -> Result<Vec<NodeLock>, AllocError>
+    requires nodes { (length plans.now ≡ size.nodes) × (size.nodes ≤ NODES) }
+    requires slots { (4 ≤ size.slots) × (size.slots ≤ 4096) }
+    requires polls { PollOthers plans.now }
+    requires wired { AreWired size.nodes size.capacity ends.items }
+    ensures { IfOk result (λ locks. vec_len locks ≡ length plans.now) }
+{
+    let mut locks = Vec::new(alloc);
+    for node in 0..plans.len() {
+        let mine = mem::replace(&mut ends[node], Ends::new(alloc));
+        let run = size.run(NodeId::numbered(node as u8));
+        let plan = plans[node].try_clone(alloc)?;
+        let held = Held::new(alloc, run, mine.puts, mine.takes, plan)?;
+        locks.push(NodeLock::new(held))?;
+    }
+    Ok(locks)
+}

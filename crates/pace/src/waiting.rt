@@ -1,0 +1,175 @@
+ghost use Rattle.std.specs.Prelude.{◌≡◌, ◌++◌, [], OnOk, None, Some};
+ghost use Rattle.std.specs.List.{filter};
+ghost use Rattle.node_core.specs.State.{state_of};
+ghost use Rattle.pace.specs.Waiting.{answerer, invites, is_of, is_waited, none_waited, sent_again, waits_behind, waits_on, waits_since};
+
+use group_task::{GroupNo, NodeId};
+use node_core::{Event, Phase, Vector};
+use std::alloc::{AllocError, Global};
+use std::marker::Model;
+use wire_msg::{Body, Message};
+
+/// The messages that a node sent and still waits for. A link may lose a message, so each is sent again, a unit of the setting
+/// after another, until it isn't waited for any more.
+#[derive(Drop)]
+pub struct Waiting {
+    unit: u64,
+    next: u64,
+    // those that are sent again at the next time, and those that were sent since the last
+    again: Vec<Message>,
+    fresh: Vec<Message>,
+}
+
+impl Model for Waiting {
+    ghost use Rattle.pace.specs.Waiting.{Waits};
+
+    ghost Value = { Waits };
+
+    ghost view = { λ a. record { unit = a.unit; next = a.next; again = a.again.items; fresh = a.fresh.items } };
+}
+
+impl Waiting {
+    /// Nothing is waited for. Messages are sent again each so many milliseconds.
+    pub fn new(alloc: Global, unit: u16) -> Waiting
+        ensures { result ≡ none_waited unit }
+    {
+        Waiting {
+            unit: u64::from(unit),
+            next: 0,
+            again: Vec::new(alloc),
+            fresh: Vec::new(alloc),
+        }
+    }
+
+    /// Keeps what a node sent in an event that led to this state, and forgets what it doesn't wait for there.
+    pub fn keep(
+        &mut self,
+        event: &Event,
+        sent: &[Message],
+        vector: &Vector,
+    ) -> Result<(), AllocError>
+        ensures { OnOk result (self.new ≡ waits_behind (Some event.now) sent.now (state_of vector.now) self.old) }
+    {
+        self.renew(&answerer(event), sent, vector)
+    }
+
+    /// Forgets what a node in this state doesn't wait for, where no event led to it.
+    pub fn forget(&mut self, vector: &Vector) -> Result<(), AllocError>
+        ensures { OnOk result (self.new ≡ waits_behind None [] (state_of vector.now) self.old) }
+    {
+        self.renew(&None, &[], vector)
+    }
+
+    fn renew(
+        &mut self,
+        answered: &Option<NodeId>,
+        sent: &[Message],
+        vector: &Vector,
+    ) -> Result<(), AllocError>
+        ensures { OnOk result (self.new ≡ waits_since answered.now sent.now (state_of vector.now) self.old) }
+    {
+        keep_waited(&mut self.again, answered, vector);
+        keep_waited(&mut self.fresh, answered, vector);
+        push_waited(&mut self.fresh, answered, sent, vector)
+    }
+
+    /// What is to be sent again at this time.
+    pub fn due(&self, now: u64) -> &[Message]
+        ensures { result.now ≡ sent_again now self.now }
+    {
+        if self.next <= now { &self.again } else { &[] }
+    }
+
+    /// What was due is sent; what was sent since the last time is sent again at the next.
+    pub fn go_on(&mut self, now: u64) -> Result<(), AllocError>
+        ensures { OnOk result (self.new ≡ waits_on now self.old) }
+    {
+        if now < self.next {
+            return Ok(());
+        }
+        self.next = now.saturating_add(self.unit);
+        self.again.extend_from_slice(&self.fresh)?;
+        self.fresh.clear();
+        Ok(())
+    }
+}
+
+fn keep_waited(messages: &mut Vec<Message>, answered: &Option<NodeId>, vector: &Vector)
+    ensures { messages.new.items ≡ filter (is_waited answered.now (state_of vector.now)) messages.old.items }
+{
+    messages.retain(|message| is_waited(answered, vector, message));
+}
+
+fn push_waited(
+    messages: &mut Vec<Message>,
+    answered: &Option<NodeId>,
+    sent: &[Message],
+    vector: &Vector,
+) -> Result<(), AllocError>
+    ensures { OnOk result (messages.new.items ≡ messages.old.items ++ filter (is_waited answered.now (state_of vector.now)) sent.now) }
+{
+    for message in sent {
+        if is_waited(answered, vector, message) {
+            messages.push(*message)?;
+        }
+    }
+    Ok(())
+}
+
+/// Whether a node still waits for what comes of a message that it sent.
+fn is_waited(answered: &Option<NodeId>, vector: &Vector, message: &Message) -> bool
+    ensures { result ≡ is_waited answered.now (state_of vector.now) message.now }
+{
+    let receiver = message.receiver();
+    match message.body() {
+        Body::AreYouCoordinator => vector.checking && !is_of(receiver, answered),
+        Body::AreYouThere(group) => vector.probing && group.is(vector.group),
+        Body::Invitation(group) => group.is(vector.group) && invites(vector, message, *group),
+        Body::Accept(group) => {
+            matches!(vector.phase, Phase::Reorganization) && group.is(vector.group)
+        }
+        Body::Ready(task) => {
+            matches!(vector.phase, Phase::Reorganization)
+                && task.group().is(vector.group)
+                && vector.unready.contains(receiver)
+        }
+        Body::Coordinator(_)
+        | Body::Here(_, _)
+        | Body::ReadyAck(_)
+        | Body::Work { .. }
+        | Body::Done(_) => false,
+    }
+}
+
+/// Whether a node still invites the receiver of an invitation into this group, the one that it is in.
+fn invites(vector: &Vector, message: &Message, group: GroupNo) -> bool
+    ensures { result ≡ invites (state_of vector.now) message.now.sender message.now.receiver group }
+{
+    match vector.phase {
+        Phase::Election => !vector.up.contains(message.receiver()),
+        Phase::Reorganization => !group.creator().is(message.sender()),
+        Phase::Down | Phase::Normal => false,
+    }
+}
+
+fn is_of(node: NodeId, other: &Option<NodeId>) -> bool
+    ensures { result ≡ is_of node other.now }
+{
+    match other {
+        Some(other) => node.is(*other),
+        None => false,
+    }
+}
+
+/// The node that says, in this event, whether it coordinates a group.
+fn answerer(event: &Event) -> Option<NodeId>
+    ensures { result ≡ answerer (Some event.now) }
+{
+    match event {
+        Event::Deliver(message) => match message.body() {
+            Body::Coordinator(_) => Some(message.sender()),
+            _ => None,
+        },
+        _ => None,
+    }
+}

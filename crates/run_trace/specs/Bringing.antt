@@ -1,0 +1,50 @@
+-- What an act brings to a node, and what may come of it.
+use Rattle.std.specs.Prelude.{ℕ, ◌≡◌, Bool, List, nat_lt, if◌then◌else◌, Option, Some, None, option_and_then, Result, Ok, Err}
+use Rattle.wire_msg.specs.Envelope.{Envelope}
+use Rattle.node_core.specs.declared.event.Event.TheVariants as on
+use Rattle.histories.specs.declared.what.What.{What}
+use Rattle.histories.specs.declared.what.What.TheVariants.{Rests, Crashed}
+use Rattle.histories.specs.declared.what.Rest.TheVariants.{Nothing}
+use Rattle.schedule.specs.declared.act.Act.{Act}
+use Rattle.schedule.specs.declared.act.Act.TheVariants as act
+use Rattle.sim_net.specs.declared.fault.NetFault.{NetFault}
+use Rattle.sim_net.specs.Network.{Network, delivery}
+use Rattle.runs.specs.Acts.{IsOf, IsRecovery, IsCompaction}
+use Rattle.run_trace.specs.declared.bringing.Brought.{Brought}
+use Rattle.run_trace.specs.declared.bringing.Brought.TheVariants.{Event, Recovery, Arming, Crash, Compaction}
+
+-- a message that comes is an event of its receiver
+abbrev pub delivered : Result Envelope NetFault → Option (ℕ × Brought)
+delivered (Ok m) = Some (m.receiver, Event (on.Deliver m))
+delivered (Err why) = None
+
+-- the node that an act names, and what it brings there
+abbrev pub named_by : Network → Act → Option (ℕ × Brought)
+named_by net (act.Check n) = Some (n, Event on.CheckTimer)
+named_by net (act.Merge n) = Some (n, Event on.MergeTimer)
+named_by net (act.Accept n) = Some (n, Event on.AcceptTimer)
+named_by net (act.Ready n) = Some (n, Event on.ReadyTimer)
+named_by net (act.Coord n) = Some (n, Event on.CoordTimer)
+named_by net (act.Dispatch n) = Some (n, Event on.DispatchTimer)
+named_by net (act.Deliver k) = delivered (delivery net k)
+named_by net (act.Lose k) = None
+named_by net (act.Cut a b) = None
+named_by net (act.Mend a b) = None
+named_by net (act.Submit n work) = Some (n, Event (on.Submit work))
+named_by net (act.Finish n origin id) = Some (n, Event (on.Finish origin id))
+named_by net (act.Arm n calls) = Some (n, Arming)
+named_by net (act.Crash n fill) = Some (n, Crash)
+named_by net (act.Recover n) = Some (n, Recovery)
+named_by net (act.Compact n) = Some (n, Compaction)
+
+-- and so in a cluster of so many nodes: nothing comes to a node outside it
+abbrev pub brought_by : ℕ → Network → Act → Option (ℕ × Brought)
+brought_by nodes net a = option_and_then (λ (comes : ℕ × Brought). if nat_lt comes.0 nodes then Some comes else None) (named_by net a)
+
+-- it came of what was brought
+abbrev pub CameOf : Brought → What → Type 0
+CameOf (Event event) what = IsOf event what
+CameOf Recovery what = IsRecovery what
+CameOf Arming what = what ≡ Rests Nothing
+CameOf Crash what = what ≡ Crashed
+CameOf Compaction what = IsCompaction what

@@ -1,0 +1,4 @@
+pub mod Bringing
+pub mod Recorded
+pub mod Telling
+pub mod Traced

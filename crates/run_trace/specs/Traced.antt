@@ -1,0 +1,62 @@
+-- The trace of a run: each entry of the nodes' histories, as a trace tells it.
+use Rattle.std.specs.Prelude.{ℕ, ◌≡◌, true, false, List, map, length}
+use Rattle.node_core.specs.declared.event.Event.{Event}
+use Rattle.node_core.specs.declared.event.Event.TheVariants as on
+use Rattle.histories.specs.declared.what.What.{What}
+use Rattle.histories.specs.declared.what.What.TheVariants.{Did, Refused, Faulted, Rests, Crashed, Recovered, MountFailed, RaiseFailed, RaiseRefused}
+use Rattle.histories.specs.What.{Entry}
+use Rattle.schedule.specs.declared.act.Act.{Act}
+use Rattle.trace_check.specs.declared.trace.Deed.{Deed}
+use Rattle.trace_check.specs.declared.trace.Deed.TheVariants as deed
+use Rattle.trace_check.specs.declared.trace.RecoverFault.TheVariants as recover
+use Rattle.trace_check.specs.Claims.{Claim}
+use Rattle.runs.specs.World.{World, start}
+use Rattle.runs.specs.Step.{Step}
+use Rattle.runs.specs.Run.{histories_of, world_at}
+use Rattle.runs.specs.Acts.{IsRunOf}
+use Rattle.cluster_sim.specs.Machine.{Machine, StandsFor}
+
+-- an event that was handled: a recovery of a node that is up has a name of its own
+abbrev pub done : Event → Deed
+done on.Recover = deed.Recovered false
+done event = deed.Done event
+
+-- and one in whose command the device failed
+abbrev pub failed : Event → Deed
+failed on.Recover = deed.NotRecovered false recover.Raise
+failed event = deed.Faulted event
+
+-- how a trace tells what came: what was refused, and what leaves a node as it is, is nothing
+abbrev pub deed_of : What → Deed
+deed_of (Did event) = done event
+deed_of (Refused event fault) = deed.Nothing
+deed_of (Faulted event) = failed event
+deed_of (Rests rest) = deed.Nothing
+deed_of Crashed = deed.Crashed
+deed_of (Recovered kept) = deed.Recovered kept
+deed_of MountFailed = deed.NotRecovered false recover.Mount
+deed_of (RaiseFailed kept) = deed.NotRecovered kept recover.Raise
+deed_of (RaiseRefused kept) = deed.Nothing
+
+abbrev pub claim_of : Entry → Claim
+claim_of e = record { deed = deed_of e.what; sent = e.sent }
+
+abbrev pub trace_in : List (List Entry) → List (List Claim)
+trace_in hs = map (λ (h : List Entry). map claim_of h) hs
+
+-- the trace is that of some run of these acts, in a cluster of so many nodes whose disks have so many slots
+pub record IsTraceOf (nodes slots : ℕ) (acts : List Act) (trace : List (List Claim)) : Type 0 where
+  pub steps : List Step
+  pub is_run : IsRunOf nodes slots (start nodes) acts steps
+  pub tells : trace ≡ trace_in (histories_of nodes steps)
+
+-- and the cluster is as that run left it
+pub record IsSoFar (nodes slots : ℕ) (machine : Machine) (acts : List Act) (trace : List (List Claim)) : Type 0 where
+  pub run : IsTraceOf nodes slots acts trace
+  pub slots_are : machine.slots ≡ slots
+  pub count : length (world_at nodes (start nodes) run.steps).states ≡ nodes
+  pub stands : StandsFor machine (world_at nodes (start nodes) run.steps)
+
+-- the cluster stands for some world
+abbrev pub HasWorld : Machine → Type 0
+HasWorld machine = (w : World) × StandsFor machine w

@@ -1,0 +1,166 @@
+// A schedule's run as a trace.
+ghost use Rattle.std.specs.Prelude.{◌≡◌, ◌<◌, ◌≤◌, ◌++◌, [], ◌∷◌, ℕ, List, length, drop, replicate, IfOk, OnOk, Some};
+ghost use Rattle.schedule.specs.declared.act.Act.{Act as ActValue};
+ghost use Rattle.schedule.specs.Limits.{IsWithinLimits};
+ghost use Rattle.cluster_sim.specs.Machine.{StandsFor};
+ghost use Rattle.runs.specs.World.{World};
+ghost use Rattle.trace_check.specs.Claims.{Claim};
+ghost use Rattle.trace_check.specs.Traces.{claim};
+ghost use Rattle.trace_check.specs.Verdicts.{IsRun};
+ghost use Rattle.run_trace.specs.Bringing.{brought_by};
+ghost use Rattle.run_trace.specs.Telling.{ActedAs, IsNoted};
+ghost use Rattle.run_trace.specs.Traced.{HasWorld, IsSoFar, IsTraceOf};
+
+use crate::bringing::{Brought, brought_by};
+use crate::telling::{Ended, deed_told, rise_of, seen_at};
+use cluster_sim::{Outcome, Refusal, Simulation};
+use durable_node::NodeFault;
+use group_task::NodeId;
+use message_list::MessageList;
+use node_core::CoreFault;
+use schedule::{Act, Schedule};
+use std::alloc::{AllocError, Global};
+use trace_check::{Deed, History, Trace};
+use wire_msg::Message;
+
+/// The trace of a schedule's run on a simulated cluster.
+pub fn trace_of(alloc: Global, schedule: &Schedule) -> Result<Trace, AllocError>
+    requires { IsWithinLimits schedule.now.size schedule.now.acts.items }
+    ensures traced { IfOk result (IsTraceOf schedule.now.size.nodes schedule.now.size.slots schedule.now.acts.items) }
+    // Some order of its entries is a run, so the verdict on it is one.
+    ensures run { IfOk result IsRun }
+{
+    let size = schedule.size;
+    let mut cluster = Simulation::open(alloc, size.nodes, size.slots)?;
+    let mut histories = begun(alloc, size.nodes)?;
+    trace_acts(alloc, &mut cluster, &mut histories, &schedule.acts)?;
+    Ok(Trace::new(histories))
+}
+
+/// A history of no entries for each node.
+#[tactic(auto, using(crate::proofs::Histories::one_more))]
+fn begun(alloc: Global, nodes: u8) -> Result<Vec<History>, AllocError>
+    ensures { IfOk result (λ histories. histories.items ≡ replicate nodes []) }
+{
+    let mut histories = Vec::new(alloc);
+    for _number in 0..nodes {
+        histories.push(History::new(alloc))?;
+    }
+    Ok(histories)
+}
+
+/// Does the acts, and adds what came of each to the history of its node.
+fn trace_acts(
+    alloc: Global,
+    cluster: &mut Simulation,
+    histories: &mut Vec<History>,
+    acts: &[Act],
+) -> Result<(), AllocError>
+    requires world { HasWorld cluster.old }
+    requires many { length histories.old.items ≡ length cluster.old.nodes }
+    ensures many { OnOk result (length histories.new.items ≡ length histories.old.items) }
+    ensures traced { (nodes slots : ℕ) → IsSoFar nodes slots cluster.old [] histories.old.items → OnOk result (IsSoFar nodes slots cluster.new acts.now histories.new.items) }
+{
+    for act in acts {
+        trace_act(alloc, cluster, histories, act)?;
+    }
+    Ok(())
+}
+
+/// Does one act.
+fn trace_act(
+    alloc: Global,
+    cluster: &mut Simulation,
+    histories: &mut Vec<History>,
+    act: &Act,
+) -> Result<(), AllocError>
+    requires world { HasWorld cluster.old }
+    requires many { length histories.old.items ≡ length cluster.old.nodes }
+    ensures world { OnOk result (HasWorld cluster.new) }
+    ensures many { OnOk result (length histories.new.items ≡ length histories.old.items) }
+    ensures nodes { OnOk result (length cluster.new.nodes ≡ length cluster.old.nodes) }
+    ensures traced { (nodes slots : ℕ) (before : List ActValue) → IsSoFar nodes slots cluster.old before histories.old.items
+        → OnOk result (IsSoFar nodes slots cluster.new (before ++ act.now ∷ []) histories.new.items) }
+{
+    match brought_by(cluster.count(), cluster.net(), act) {
+        Some((id, brought)) => trace_at(alloc, cluster, histories, act, id, &brought),
+        None => {
+            step(cluster, act)?;
+            Ok(())
+        }
+    }
+}
+
+/// Does an act that comes to a node.
+fn trace_at(
+    alloc: Global,
+    cluster: &mut Simulation,
+    histories: &mut Vec<History>,
+    act: &Act,
+    id: NodeId,
+    brought: &Brought,
+) -> Result<(), AllocError>
+    requires brought { brought_by (length cluster.old.nodes) cluster.old.net act.now ≡ Some (id, brought.now) }
+    requires within { id < length cluster.old.nodes }
+    requires world { HasWorld cluster.old }
+    requires many { length histories.old.items ≡ length cluster.old.nodes }
+    ensures world { OnOk result (HasWorld cluster.new) }
+    ensures many { OnOk result (length histories.new.items ≡ length histories.old.items) }
+    ensures nodes { OnOk result (length cluster.new.nodes ≡ length cluster.old.nodes) }
+    ensures traced { (nodes slots : ℕ) (before : List ActValue) → IsSoFar nodes slots cluster.old before histories.old.items
+        → OnOk result (IsSoFar nodes slots cluster.new (before ++ act.now ∷ []) histories.new.items) }
+{
+    let was = seen_at(cluster.node(id));
+    let place = cluster.net().sent().len();
+    let ended = step(cluster, act)?;
+    let rise = rise_of(&was, cluster.node(id));
+    let deed = deed_told(brought, rise, ended);
+    let sent = sent_since(alloc, cluster.net().sent(), place)?;
+    note(histories, id, &deed, &sent)
+}
+
+/// Does an act, and tells how it ended. Want of memory is an error, wherever it came.
+fn step(cluster: &mut Simulation, act: &Act) -> Result<Ended, AllocError>
+    ensures slots { cluster.new.slots ≡ cluster.old.slots }
+    ensures acted { (w : World) → StandsFor cluster.old w → IfOk result (λ ended. ActedAs w act.now ended cluster.new) }
+{
+    match cluster.step(act)? {
+        Outcome::Done { .. } => Ok(Ended::Done),
+        Outcome::Refused(Refusal::Node(NodeFault::Core(CoreFault::NoMemory))) => Err(AllocError),
+        Outcome::Refused(_) => Ok(Ended::Refused),
+        Outcome::Faulted => Ok(Ended::Faulted),
+    }
+}
+
+/// The messages from this place on.
+#[tactic(auto, using(crate::proofs::Histories::sent_more, crate::proofs::Histories::sent_all))]
+fn sent_since(
+    alloc: Global,
+    messages: &MessageList,
+    place: usize,
+) -> Result<Vec<Message>, AllocError>
+    ensures { IfOk result (λ sent. sent.items ≡ drop place messages.now.messages) }
+{
+    let mut sent = Vec::new(alloc);
+    for at in place..messages.len() {
+        let Some(message) = messages.get(at) else {
+            unreachable!()
+        };
+        sent.push(message)?;
+    }
+    Ok(sent)
+}
+
+/// Adds an entry to the history of its node.
+fn note(
+    histories: &mut Vec<History>,
+    id: NodeId,
+    deed: &Deed,
+    sent: &[Message],
+) -> Result<(), AllocError>
+    requires { id < length histories.old.items }
+    ensures noted { OnOk result (IsNoted id (claim deed.now sent.now) histories.old.items histories.new.items) }
+    ensures many { OnOk result (length histories.new.items ≡ length histories.old.items) }
+{
+    histories[usize::from(id.number())].push(deed, sent)
+}

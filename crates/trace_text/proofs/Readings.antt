@@ -1,0 +1,157 @@
+-- The text that is written for a trace is read as the JSON value of that trace.
+use Rattle.std.proofs.Common.{◌≡◌, ◌<◌, ◌≤◌, ◌^◌, ℕ, suc, max, Bool, true, false, List, [], ◌∷◌, ◌++◌, length, map, Option, Some, None, Result, Ok, codes, decimal, refl, sym, ap, ◌∙◌, arith, append-nil}
+use Rattle.std.specs.Prelude.{if◌then◌else◌, ◌==◌, option_map, option_and_then}
+use Rattle.std.specs.Str.{IsUtf8}
+use Rattle.json.specs.Lex.{tokens}
+use Rattle.json.specs.Print.{print}
+use Rattle.json.specs.Token.{Token}
+use Rattle.json.specs.Written.{Written}
+use Rattle.json.specs.Json as json
+use Rattle.json.specs.Tree as tree
+use Rattle.json.proofs.Printed.Trees.{value-json_tokens}
+use Rattle.serde_json.specs.Data.{Data, Items, Members, Num, boolean, number, unsigned, string, array, object, no_items, item, no_members, member, put}
+use Rattle.serde_json.specs.View.{items_of}
+use Rattle.serde_json.specs.Read.{of_json, of_items, of_members, number_of, read, max_depth}
+use Rattle.serde_json.specs.Written.{outline, items_outline, members_outline}
+use Rattle.serde_json.proofs.Numbers.{number_of-decimal}
+use Rattle.group_task.specs.declared.node.TheConstants.{NODES}
+use Rattle.job_model.specs.declared.work.Work.{Work}
+use Rattle.wire_msg.specs.Envelope.{Envelope}
+use Rattle.node_core.specs.declared.event.Event.{Event}
+use Rattle.node_core.specs.declared.event.Event.TheVariants as on
+use Rattle.histories.specs.Lists.{Each}
+use Rattle.trace_check.specs.declared.trace.Deed.{Deed}
+use Rattle.trace_check.specs.declared.trace.Deed.TheVariants as deed
+use Rattle.trace_check.specs.Claims.{Claim}
+use Rattle.trace_text.specs.Fits.{WorkFits, DeedFits, ClaimFits, TraceFits, IsTellable}
+use Rattle.trace_text.specs.Tokens.{Adds, trace_tokens}
+use Rattle.trace_text.specs.Wholes.{trace_of}
+use Rattle.trace_text.specs.Written.{message_data, event_members, deed_members, entry_data, history_data, trace_data}
+use Rattle.trace_text.proofs.Backs.{claim_with, ranked_members, sent_data, trace_back, work_members}
+use Rattle.trace_text.proofs.Printing.{trace_tokens_of}
+use Rattle.trace_text.proofs.Texts.{good_text}
+
+-- ---- each value is read as it is
+
+sent_read : (ms : List Envelope) → of_items (items_outline (items_of (map message_data ms))) ≡ Some (items_of (map message_data ms))
+sent_read [] = refl
+sent_read (m ∷ ms) = ap (λ (o : Option Items). option_map (item (message_data m)) o) (sent_read ms)
+
+-- a priority takes a byte, a queue one too
+work_read : (failed b : Bool) (w : Work) (ms : List Envelope) → WorkFits w → of_json (outline (object (work_members failed b w ms))) ≡ Some (object (work_members failed b w ms))
+work_read true true w ms fits = let queue : w.queue < 2 ^ 64 = omega (arith, fits.queue) in rw (number_of-decimal w.queue queue, sent_read ms) refl
+work_read true false w ms fits =
+    let queue : w.queue < 2 ^ 64 = omega (arith, fits.queue) in
+    let priority : w.priority < 2 ^ 64 = omega (arith, fits.priority) in
+    rw (number_of-decimal w.priority priority, number_of-decimal w.queue queue, sent_read ms) refl
+work_read false true w ms fits = let queue : w.queue < 2 ^ 64 = omega (arith, fits.queue) in rw (number_of-decimal w.queue queue, sent_read ms) refl
+work_read false false w ms fits =
+    let queue : w.queue < 2 ^ 64 = omega (arith, fits.queue) in
+    let priority : w.priority < 2 ^ 64 = omega (arith, fits.priority) in
+    rw (number_of-decimal w.priority priority, number_of-decimal w.queue queue, sent_read ms) refl
+
+entry_read : (d : Deed) (ms : List Envelope) → DeedFits d → of_json (outline (entry_data (claim_with d ms))) ≡ Some (entry_data (claim_with d ms))
+entry_read deed.Nothing ms fits = rw (sent_read ms) refl
+entry_read (deed.Done on.CheckTimer) ms fits = rw (sent_read ms) refl
+entry_read (deed.Done on.MergeTimer) ms fits = rw (sent_read ms) refl
+entry_read (deed.Done on.AcceptTimer) ms fits = rw (sent_read ms) refl
+entry_read (deed.Done on.ReadyTimer) ms fits = rw (sent_read ms) refl
+entry_read (deed.Done on.CoordTimer) ms fits = rw (sent_read ms) refl
+entry_read (deed.Done on.DispatchTimer) ms fits = rw (sent_read ms) refl
+entry_read (deed.Done (on.Deliver m)) ms fits = rw (sent_read ms) refl
+entry_read (deed.Done (on.Submit w)) ms fits = work_read false (w.priority == 0) w ms fits
+entry_read (deed.Done (on.Finish origin id)) ms fits = let place : origin < 2 ^ 64 = omega (arith, fits.0) in rw (number_of-decimal id fits.1, number_of-decimal origin place, sent_read ms) refl
+entry_read (deed.Done on.Recover) ms fits = rw (sent_read ms) refl
+entry_read (deed.Faulted on.CheckTimer) ms fits = rw (sent_read ms) refl
+entry_read (deed.Faulted on.MergeTimer) ms fits = rw (sent_read ms) refl
+entry_read (deed.Faulted on.AcceptTimer) ms fits = rw (sent_read ms) refl
+entry_read (deed.Faulted on.ReadyTimer) ms fits = rw (sent_read ms) refl
+entry_read (deed.Faulted on.CoordTimer) ms fits = rw (sent_read ms) refl
+entry_read (deed.Faulted on.DispatchTimer) ms fits = rw (sent_read ms) refl
+entry_read (deed.Faulted (on.Deliver m)) ms fits = rw (sent_read ms) refl
+entry_read (deed.Faulted (on.Submit w)) ms fits = work_read true (w.priority == 0) w ms fits
+entry_read (deed.Faulted (on.Finish origin id)) ms fits = let place : origin < 2 ^ 64 = omega (arith, fits.0) in rw (number_of-decimal id fits.1, number_of-decimal origin place, sent_read ms) refl
+entry_read (deed.Faulted on.Recover) ms fits = rw (sent_read ms) refl
+entry_read deed.Crashed ms fits = rw (sent_read ms) refl
+entry_read (deed.Recovered kept) ms fits = rw (sent_read ms) refl
+entry_read (deed.NotRecovered kept fault) ms fits = rw (sent_read ms) refl
+
+entries_read : (h : List Claim) → Each ClaimFits h → of_items (items_outline (items_of (map entry_data h))) ≡ Some (items_of (map entry_data h))
+entries_read [] fits = refl
+entries_read (c ∷ h) fits =
+    ap (λ (o : Option Data). option_and_then (λ (d : Data). option_map (item d) (of_items (items_outline (items_of (map entry_data h))))) o) (entry_read c.deed c.sent fits.0.0)
+    ∙ ap (λ (o : Option Items). option_map (item (entry_data c)) o) (entries_read h fits.1)
+
+histories_read : (hs : List (List Claim)) → TraceFits hs → of_items (items_outline (items_of (map history_data hs))) ≡ Some (items_of (map history_data hs))
+histories_read [] fits = refl
+histories_read (h ∷ hs) fits =
+    ap (λ (o : Option Items). option_and_then (λ (d : Data). option_map (item d) (of_items (items_outline (items_of (map history_data hs))))) (option_map array o)) (entries_read h fits.0)
+    ∙ ap (λ (o : Option Items). option_map (item (history_data h)) o) (histories_read hs fits.1)
+
+trace_read : (hs : List (List Claim)) → length hs ≤ NODES → TraceFits hs → of_json (outline (trace_data hs)) ≡ Some (trace_data hs)
+trace_read hs most fits = let nodes : length hs < 2 ^ 64 = omega (arith, most) in rw (histories_read hs fits, number_of-decimal (length hs) nodes) refl
+
+-- ---- and its lists and objects aren't nested deep
+
+sent_flat : (ms : List Envelope) → tree.items_depth (items_outline (items_of (map message_data ms))) ≡ 0
+sent_flat [] = refl
+sent_flat (m ∷ ms) = let rest = sent_flat ms in omega (arith, rest)
+
+priority_flat : (b : Bool) (priority : ℕ) (rest : Members) → tree.members_depth (members_outline (if b then rest else member (codes "priority") (number (unsigned priority)) rest)) ≤ tree.members_depth (members_outline rest)
+priority_flat true priority rest = omega arith
+priority_flat false priority rest = omega arith
+
+event_flat : (e : Event) (rest : Members) → tree.members_depth (members_outline (event_members e rest)) ≤ tree.members_depth (members_outline rest)
+event_flat on.CheckTimer rest = omega arith
+event_flat on.MergeTimer rest = omega arith
+event_flat on.AcceptTimer rest = omega arith
+event_flat on.ReadyTimer rest = omega arith
+event_flat on.CoordTimer rest = omega arith
+event_flat on.DispatchTimer rest = omega arith
+event_flat (on.Deliver m) rest = omega arith
+event_flat (on.Submit w) rest = let ranked = priority_flat (w.priority == 0) w.priority (member (codes "queue") (number (unsigned w.queue)) rest) in omega (arith, ranked)
+event_flat (on.Finish origin id) rest = omega arith
+event_flat on.Recover rest = omega arith
+
+deed_flat : (d : Deed) (rest : Members) → tree.members_depth (members_outline (deed_members d rest)) ≤ tree.members_depth (members_outline rest)
+deed_flat deed.Nothing rest = omega arith
+deed_flat (deed.Done event) rest = event_flat event rest
+deed_flat (deed.Faulted event) rest = let told = event_flat event rest in omega (arith, told)
+deed_flat deed.Crashed rest = omega arith
+deed_flat (deed.Recovered kept) rest = omega arith
+deed_flat (deed.NotRecovered kept fault) rest = omega arith
+
+entry_flat : (c : Claim) → tree.depth (outline (entry_data c)) ≤ 2
+entry_flat c =
+    let sent = sent_flat c.sent in
+    let done = deed_flat c.deed (member (codes "sent") (sent_data c.sent) no_members) in
+    omega (arith, sent, done)
+
+entries_flat : (h : List Claim) → tree.items_depth (items_outline (items_of (map entry_data h))) ≤ 2
+entries_flat [] = omega arith
+entries_flat (c ∷ h) = let first = entry_flat c in let rest = entries_flat h in omega (arith, first, rest)
+
+histories_flat : (hs : List (List Claim)) → tree.items_depth (items_outline (items_of (map history_data hs))) ≤ 3
+histories_flat [] = omega arith
+histories_flat (h ∷ hs) = let first = entries_flat h in let rest = histories_flat hs in omega (arith, first, rest)
+
+trace_flat : (hs : List (List Claim)) → tree.depth (outline (trace_data hs)) ≤ max_depth
+trace_flat hs = let inside = histories_flat hs in omega (arith, inside)
+
+-- ---- the text
+
+value_read : (text : List ℕ) (j : json.Json) (d : Data) → json.value max_depth (tokens text) ≡ Some (j, []) → of_json j ≡ Some d → read text ≡ Some d
+value_read text j d is means = ap (λ (r : Option (json.Json × List Token)). option_and_then of_json (option_and_then (λ (p : json.Json × List Token). json.if_last p.0 p.1) r)) is ∙ means
+
+reads_back : (hs : List (List Claim)) (text : List ℕ) → tokens text ≡ trace_tokens hs → IsUtf8 text → length hs ≤ NODES → TraceFits hs → IsTellable hs → trace_of text ≡ Ok hs
+reads_back hs text same utf8 most fits tells =
+    let j = outline (trace_data hs) in
+    let is : read text ≡ Some (trace_data hs) =
+    value_read text j (trace_data hs) (ap (json.value max_depth) (same ∙ sym (trace_tokens_of hs) ∙ sym (append-nil (tree.json_tokens j))) ∙ value-json_tokens j max_depth [] (trace_flat hs)) (trace_read hs most fits) in
+    good_text text (trace_data hs) utf8 is ∙ trace_back hs most fits tells
+
+pub printed_back : (hs : List (List Claim)) (a b : Written) (items : List ℕ) → a.before ≡ [] → a.tokens ≡ [] → Adds a b (trace_tokens hs) → items ≡ b.before ++ print b.tokens
+    → tokens (print b.tokens) ≡ b.tokens → IsUtf8 (print b.tokens) → length hs ≤ NODES → TraceFits hs → IsTellable hs → trace_of items ≡ Ok hs
+printed_back hs a b items none empty adds is again utf8 most fits tells =
+    let text : items ≡ print b.tokens = is ∙ ap (λ (xs : List ℕ). xs ++ print b.tokens) (adds.before ∙ none) in
+    ap trace_of text ∙ reads_back hs (print b.tokens) (again ∙ adds.tokens ∙ ap (λ (ts : List Token). ts ++ trace_tokens hs) empty) utf8 most fits tells

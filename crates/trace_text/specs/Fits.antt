@@ -1,0 +1,63 @@
+-- Which traces are read back as they were written.
+use Rattle.std.specs.Prelude.{ℕ, ◌<◌, ◌≤◌, ◌^◌, List, length, ⊤}
+use Rattle.group_task.specs.declared.node.TheConstants.{NODES}
+use Rattle.job_model.specs.declared.payload.TheConstants.{PAYLOAD_CAPACITY}
+use Rattle.job_model.specs.declared.queue.TheConstants.{QUEUES}
+use Rattle.job_model.specs.declared.work.Work.{Work}
+use Rattle.wire_msg.specs.Spelling.{AreBytes, IsMessage}
+use Rattle.node_core.specs.declared.event.Event.{Event}
+use Rattle.node_core.specs.declared.event.Event.TheVariants as on
+use Rattle.histories.specs.Lists.{Each}
+use Rattle.trace_check.specs.declared.trace.Deed.{Deed}
+use Rattle.trace_check.specs.declared.trace.Deed.TheVariants as deed
+use Rattle.trace_check.specs.Claims.{Claim}
+
+-- ---- the numbers of a trace are in their ranges
+
+pub record WorkFits (w : Work) : Type 0 where
+  pub queue : w.queue < QUEUES
+  pub priority : w.priority < 2 ^ 8
+  pub payload : length w.payload ≤ PAYLOAD_CAPACITY
+  pub bytes : AreBytes w.payload
+
+abbrev pub EventFits : Event → Type 0
+EventFits on.CheckTimer = ⊤
+EventFits on.MergeTimer = ⊤
+EventFits on.AcceptTimer = ⊤
+EventFits on.ReadyTimer = ⊤
+EventFits on.CoordTimer = ⊤
+EventFits on.DispatchTimer = ⊤
+EventFits (on.Deliver m) = IsMessage m
+EventFits (on.Submit work) = WorkFits work
+EventFits (on.Finish origin id) = (origin < NODES) × (id < 2 ^ 64)
+EventFits on.Recover = ⊤
+
+abbrev pub DeedFits : Deed → Type 0
+DeedFits deed.Nothing = ⊤
+DeedFits (deed.Done event) = EventFits event
+DeedFits (deed.Faulted event) = EventFits event
+DeedFits deed.Crashed = ⊤
+DeedFits (deed.Recovered kept) = ⊤
+DeedFits (deed.NotRecovered kept fault) = ⊤
+
+abbrev pub ClaimFits : Claim → Type 0
+ClaimFits c = DeedFits c.deed × Each IsMessage c.sent
+
+abbrev pub TraceFits : List (List Claim) → Type 0
+TraceFits hs = Each (λ (h : List Claim). Each ClaimFits h) hs
+
+-- ---- each deed has a name of its own: a recovery is told as Recovered or NotRecovered
+
+abbrev pub IsNamed : Event → Type 0
+IsNamed on.Recover = ⊥
+IsNamed event = ⊤
+
+abbrev pub HasName : Deed → Type 0
+HasName (deed.Done event) = IsNamed event
+HasName (deed.Faulted event) = IsNamed event
+HasName d = ⊤
+
+-- the trace can be told: it has a node, and each of its entries a name
+pub record IsTellable (hs : List (List Claim)) : Type 0 where
+  pub some : 1 ≤ length hs
+  pub named : Each (λ (h : List Claim). Each (λ (c : Claim). HasName c.deed) h) hs
