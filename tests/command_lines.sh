@@ -228,6 +228,7 @@ prints 1 '{"nodes":2,"histories":[[],[{"do":"deliver","msg":"010100010000","sent
 prints 1 '{"nodes":1,"histories":[[{"do":"none","sent":[]},{"do":"none"}]]}\n' 'bad trace 0 1\n' trace
 prints 1 '' 'bad trace\n' trace
 prints 0 'cluster 2 8\ncheck 0\ndeliver 0\n' '{"histories":[[{"do":"check","sent":["010100010000"]}],[{"do":"deliver","msg":"010100010000","sent":["01020100000101"]}]],"nodes":2}\n' record
+says 'line 2: no such act: chek'
 prints 1 'cluster 2 8\nchek 0\n' 'bad line 2\n' record
 
 full '010102000000\n' answer 0 3

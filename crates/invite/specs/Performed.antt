@@ -9,7 +9,7 @@ use Rattle.invite_console.specs.Reasons.{answer_flaw, schedule_flaw, show_flaw}
 use Rattle.store_console.specs.Session.{IsSession}
 use Rattle.store_console.specs.Reasons.{session_flaw}
 use Rattle.trace_console.specs.Judged.{IsJudged}
-use Rattle.run_trace.specs.Recorded.{IsRecording}
+use Rattle.invite_console.specs.Recorded.{IsRecording}
 use Rattle.invite.specs.declared.task.Batch.{Batch}
 use Rattle.invite.specs.declared.task.Batch.TheVariants.{Answer, Show, Sim, Store, Trace, Record}
 
@@ -22,11 +22,11 @@ IsOutcomeOf (Store path) = IsSession
 IsOutcomeOf Trace = IsJudged
 IsOutcomeOf Record = IsRecording
 
--- this is what is wrong with the input; what is wrong with a trace, and which line of a schedule to be recorded, is printed, and not said again
+-- this is what is wrong with the input; what is wrong with a trace is printed, and not said again
 abbrev pub IsWhyOf : Batch → Option (List ℕ) → Ending → List ℕ → Type 0
 IsWhyOf (Answer place) = IsWhy (answer_flaw place.id place.nodes)
 IsWhyOf Show = IsWhy show_flaw
 IsWhyOf (Sim telling) = IsWhy schedule_flaw
 IsWhyOf (Store path) = IsWhy session_flaw
 IsWhyOf Trace = λ input ending why. why ≡ []
-IsWhyOf Record = λ input ending why. why ≡ []
+IsWhyOf Record = IsWhy schedule_flaw

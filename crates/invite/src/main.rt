@@ -169,7 +169,7 @@ fn hint(rt: &HostRuntime, words: &[String]) -> io::Result<()> {
         return Ok(());
     }
     let name = words[1].as_str();
-    if matches!(name, "show" | "sim" | "trace") {
+    if matches!(name, "show" | "sim" | "trace" | "record") {
         println!(rt; "\n{name} reads standard input, as in: invite {name} < FILE")?;
     }
     Ok(())

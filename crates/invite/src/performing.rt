@@ -56,9 +56,6 @@ fn carry_out<R: Read, W: Write>(
             ending: trace_console::trace(alloc, input, output),
             why: Vec::new(alloc),
         },
-        Batch::Record => Ended {
-            ending: run_trace::record(alloc, input, output),
-            why: Vec::new(alloc),
-        },
+        Batch::Record => invite_console::record(alloc, input, output),
     }
 }

@@ -7,3 +7,4 @@ pub mod Acts
 pub mod Rows
 pub mod Sim
 pub mod Reasons
+pub mod Recorded

@@ -11,6 +11,7 @@ mod batches;
 mod digits;
 mod lines;
 mod reasons;
+mod recording;
 mod rows;
 mod session;
 mod showing;
@@ -20,6 +21,7 @@ mod words;
 
 pub use answers::{answer, needs_no_disk};
 pub use console_text::Ending;
+pub use recording::record;
 pub use showing::show;
 pub use simulating::sim;
 pub use telling::Telling;

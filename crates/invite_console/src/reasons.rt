@@ -11,19 +11,19 @@ use line_words::{first_word, line_numbered};
 use schedule::{Flaw, flaw_in};
 use std::alloc::{AllocError, Global};
 
-/// Why the line of this number of a schedule can't be read, where it is known that it can't.
-pub(crate) fn schedule_reason(
-    alloc: Global,
-    input: &[u8],
-    number: u64,
-) -> Result<Vec<u8>, AllocError>
-    ensures { IfOk result (λ text. text.items ≡ line_head number ++ act_flaw (line_numbered number (lines_of input.now))) }
+/// What is told of a schedule of which the line of this number can't be read, where it is known that it can't.
+pub(crate) fn bad_schedule(alloc: Global, input: &[u8], number: u64) -> Result<Told, AllocError>
+    ensures printed { IfOk result (λ told. outcome_of told.printout ≡ refused (codes "bad line " ++ decimal number)) }
+    ensures why { IfOk result (λ told. told.why.items ≡ line_head number ++ act_flaw (line_numbered number (lines_of input.now))) }
 {
     let line = line_numbered(input, number);
     let flaw = flaw_in(alloc, line)?;
-    let mut text = line_reason(alloc, number)?;
-    push_flaw(&mut text, line, flaw)?;
-    Ok(text)
+    let mut why = line_reason(alloc, number)?;
+    push_flaw(&mut why, line, flaw)?;
+    Ok(Told {
+        printout: bad_line(alloc, number)?,
+        why,
+    })
 }
 
 /// Adds what is wrong with a line of a schedule.

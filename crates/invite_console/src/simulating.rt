@@ -10,11 +10,11 @@ ghost use Rattle.invite_console.specs.Reasons.{schedule_flaw};
 ghost use Rattle.invite_console.specs.Sim.{AddsNodes, AddsRows, HasWorld, IsSimulation, IsSoFar, TellsRun};
 
 use crate::acts::push_done;
-use crate::reasons::schedule_reason;
+use crate::reasons::bad_schedule;
 use crate::rows::push_row;
 use crate::telling::Telling;
 use cluster_sim::Simulation;
-use console_text::{Ended, Printout, Source, Told, Trouble, bad_line, read_source, tell};
+use console_text::{Ended, Printout, Source, Told, Trouble, read_source, tell};
 use group_task::NodeId;
 use line_words::LineFault;
 use runs::left_by_a_run;
@@ -51,10 +51,7 @@ fn sim_to(alloc: Global, telling: Telling, input: &[u8]) -> Result<Told, AllocEr
             let printout = Printout { text, good: true };
             Ok(printout.without_why(alloc))
         }
-        Err(LineFault::BadLine(number)) => Ok(Told {
-            printout: bad_line(alloc, number)?,
-            why: schedule_reason(alloc, input, number)?,
-        }),
+        Err(LineFault::BadLine(number)) => bad_schedule(alloc, input, number),
         Err(LineFault::NoMemory) => Err(AllocError),
     }
 }

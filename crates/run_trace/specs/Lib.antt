@@ -1,4 +1,3 @@
 pub mod Bringing
-pub mod Recorded
 pub mod Telling
 pub mod Traced

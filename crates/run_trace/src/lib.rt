@@ -5,11 +5,9 @@
 #![tactic(auto)]
 
 mod bringing;
-mod recording;
 mod telling;
 #[cfg(test)]
 mod tests;
 mod tracing;
 
-pub use recording::record;
 pub use tracing::trace_of;

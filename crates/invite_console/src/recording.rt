@@ -1,0 +1,45 @@
+//! The command `record`: a schedule in, the trace of its run out.
+ghost use Rattle.std.specs.Prelude.{◌≡◌, ◌≤◌, ◌+◌, IfOk};
+ghost use Rattle.console_text.specs.Ends.{outcome_of, IsWhy, Prints};
+ghost use Rattle.invite_console.specs.Reasons.{schedule_flaw};
+ghost use Rattle.invite_console.specs.Recorded.{IsRecording};
+
+use crate::reasons::bad_schedule;
+use console_text::{Ended, Printout, Source, Told, Trouble, push_text, read_source, tell};
+use line_words::LineFault;
+use run_trace::trace_of;
+use schedule::read_schedule;
+use std::alloc::{AllocError, Global};
+use std::io::{Read, Write};
+use trace_text::write;
+
+/// Reads a schedule, runs it on a simulated cluster, and prints the trace of the run as one line of JSON.
+pub fn record<R: Read, W: Write>(alloc: Global, input: &mut Source<R>, output: &mut W) -> Ended
+    ensures prints { Prints IsRecording (R.remaining input.old.reader) (W.contents output.old) (W.contents output.new) result.ending }
+    ensures why { IsWhy schedule_flaw (R.remaining input.old.reader) result.ending result.why.items }
+    ensures reads { input.old.left ≤ input.new.left + 16777216 }
+{
+    let outcome = match read_source(alloc, input) {
+        Ok(bytes) => record_text(alloc, &bytes).map_err(Trouble::from),
+        Err(trouble) => Err(trouble),
+    };
+    tell(alloc, output, outcome)
+}
+
+/// What `record` prints for an input, and what is wrong with it.
+fn record_text(alloc: Global, input: &[u8]) -> Result<Told, AllocError>
+    ensures printed { IfOk result (λ told. IsRecording input.now (outcome_of told.printout)) }
+    ensures why { IfOk result (λ told. told.why.items ≡ schedule_flaw input.now) }
+{
+    match read_schedule(alloc, input) {
+        Ok(schedule) => {
+            let trace = trace_of(alloc, &schedule)?;
+            let mut text = write(alloc, &trace)?;
+            push_text(&mut text, "\n")?;
+            let printout = Printout { text, good: true };
+            Ok(printout.without_why(alloc))
+        }
+        Err(LineFault::BadLine(number)) => bad_schedule(alloc, input, number),
+        Err(LineFault::NoMemory) => Err(AllocError),
+    }
+}
