@@ -26,7 +26,7 @@ use Rattle.cluster_sim.specs.declared.outcome.Outcome.TheVariants as outcome
 use Rattle.runs.specs.Acts.{RefusedAct, what_outcome}
 use Rattle.cluster_sim.specs.Told.{told, came_told}
 use Rattle.durable_node.specs.Stepping.{CameOf}
-use Rattle.cluster_sim.specs.Machine.{IsOfSize, IsSame, IsCounted, CameAt as Told, is_mounting}
+use Rattle.cluster_sim.specs.Machine.{IsOfSize, IsSame, IsCounted, IsUntouchedNode, CameAt as Told, is_mounting}
 use Rattle.cluster_sim.specs.declared.outcome.Deed.{Deed}
 
 -- a refusal
@@ -84,21 +84,24 @@ comes_by event old new net net' came deed has steps tried acked mounted is_told 
       tells = record { tried = tried ∙ does.tried.which; acked = acked ∙ does.answer; mounted = mounted };
     }
 
-still_stands : (old new : Node Memory) (s : NodeState) → new ≡ record old { found = None } → Stands state_of old s → Stands state_of new s
-still_stands old new s same stands = subst (λ (n : Node Memory). Stands state_of n s) (sym same) (record { state = stands.state; doubt = stands.doubt; up = stands.up; disk = stands.disk })
+pub untouched_stands : (old new : Node Memory) (s : NodeState) → IsUntouchedNode old new → Stands state_of old s → Stands state_of new s
+untouched_stands old new s same stands = subst (λ (n : Node Memory). Stands state_of n s) (sym same) (record { state = stands.state; doubt = stands.doubt; up = stands.up; disk = stands.disk })
+
+forgotten : (old new : Node Memory) → new ≡ record old { found = None } → IsUntouchedNode old new
+forgotten old new same = same ∙ ap (λ (found : Option Durable). record old { found = found }) (sym (ap (λ (n : Node Memory). n.found) same))
 
 strange : (old new : Node Memory) (event : Event) (s : NodeState) → IsSome old.disk → IsUnmountable state_of old new event → Stands state_of old s → ⊥
 strange old new event s has is stands = let was = some_of old.disk has in is.strange was.0 s was.1 stands refl
 
--- where nothing came of it the node stands for what it stood for
-pub stuck_stands : (old new : Node Memory) (event : Event) (fault : NodeFault) (s : NodeState) → IsSome old.disk → Stuck state_of old new event fault → Stands state_of old s → Stands state_of new s
-stuck_stands old new event (node.Core f) s has stuck stands = still_stands old new s stuck.1 stands
-stuck_stands old new event node.Full s has stuck stands = absurd stuck
-stuck_stands old new event node.Exhausted s has stuck stands = absurd stuck
-stuck_stands old new event node.Device s has stuck stands = absurd stuck
-stuck_stands old new event node.NotFormatted s has stuck stands = absurd (strange old new event s has stuck stands)
-stuck_stands old new event (node.Damaged sector) s has stuck stands = absurd (strange old new event s has stuck stands)
-stuck_stands old new event node.TooSmall s has stuck stands = absurd (strange old new event s has stuck stands)
+-- where nothing came of it the node is as it was
+pub stuck_untouched : (old new : Node Memory) (event : Event) (fault : NodeFault) (s : NodeState) → IsSome old.disk → Stuck state_of old new event fault → Stands state_of old s → IsUntouchedNode old new
+stuck_untouched old new event (node.Core f) s has stuck stands = forgotten old new stuck.1
+stuck_untouched old new event node.Full s has stuck stands = absurd stuck
+stuck_untouched old new event node.Exhausted s has stuck stands = absurd stuck
+stuck_untouched old new event node.Device s has stuck stands = absurd stuck
+stuck_untouched old new event node.NotFormatted s has stuck stands = absurd (strange old new event s has stuck stands)
+stuck_untouched old new event (node.Damaged sector) s has stuck stands = absurd (strange old new event s has stuck stands)
+stuck_untouched old new event node.TooSmall s has stuck stands = absurd (strange old new event s has stuck stands)
 
 -- ---- the failures of the disk
 

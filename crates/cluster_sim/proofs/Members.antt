@@ -19,8 +19,9 @@ use Rattle.runs.specs.Step.{Step, Takes, Denies, Stranger, state_after, sent_aft
 use Rattle.runs.specs.Run.{IsBrought}
 use Rattle.runs.specs.Acts.{At, IsOfSlotsAt, what_outcome, node_outcome}
 use Rattle.cluster_sim.specs.Told.{told}
-use Rattle.cluster_sim.specs.Machine.{Machine, IsMember, IsCluster, StandsFor, IsSame, CameAt, Comes, DeedOf, Made, Makes}
+use Rattle.cluster_sim.specs.Machine.{Machine, IsMember, IsCluster, IsUntouched, IsUntouchedNode, StandsFor, IsSame, CameAt, Comes, DeedOf, Made, Makes}
 use Rattle.cluster_sim.specs.declared.outcome.Deed.{Deed}
+use Rattle.cluster_sim.proofs.Coming.{untouched_stands}
 use Rattle.runs.proofs.Runs.{at_place, get_set_same, get_set_other}
 use Rattle.histories.proofs.Tests.{eq_nat}
 use Rattle.std.proofs.lemmas.Bool.Decides.{nat_tests}
@@ -158,10 +159,30 @@ pub denies : (Q : Step → Type 0) (machine : Machine) (w : World) → StandsFor
 denies Q machine w stands is = record { step = Denies Stranger; is = is; allowed = tt; of_slots = tt; is_told = refl; shows = tt; stands = stands }
 
 pub rests_if : {E : Type 0} (slots n : ℕ) (nodes : List (Node Memory)) (old new : Node Memory) (net net' : Network) (result : Result Deed E) (w : World) → slice_get nodes n ≡ Some old
-    → StandsFor (record { slots = slots; nodes = nodes; net = net }) w → OnErr result ((s : NodeState) → Stands state_of old s → Stands state_of new s) → OnErr result (net' ≡ net)
+    → StandsFor (record { slots = slots; nodes = nodes; net = net }) w → OnErr result ((s : NodeState) → Stands state_of old s → IsUntouchedNode old new) → OnErr result (net' ≡ net)
     → OnErr result (StandsFor (record { slots = slots; nodes = slice_set nodes n new; net = net' }) w)
 rests_if slots n nodes old new net net' (Ok o) w at stands keeps same = tt
-rests_if slots n nodes old new net net' (Err e) w at stands keeps same = rests slots n nodes old new net net' w at stands keeps same
+rests_if slots n nodes old new net net' (Err e) w at stands keeps same = rests slots n nodes old new net net' w at stands (λ s is. untouched_stands old new s (keeps s is) is) same
+
+-- one node is as it was, and the others too
+untouched : (slots n : ℕ) (nodes : List (Node Memory)) (old new : Node Memory) (net net' : Network) (w : World) → slice_get nodes n ≡ Some old
+    → StandsFor (record { slots = slots; nodes = nodes; net = net }) w → ((s : NodeState) → Stands state_of old s → IsUntouchedNode old new) → net' ≡ net
+    → IsUntouched (record { slots = slots; nodes = nodes; net = net }) (record { slots = slots; nodes = slice_set nodes n new; net = net' })
+untouched slots n nodes old new net net' w at stands keeps same_net =
+    let s = at_place w.states n (subst (λ (k : ℕ). n < k) stands.count (slice_get_within nodes n old at)) in
+    record {
+      count = length-set nodes n new;
+      net = same_net;
+      each = λ k was now was_k at_k. at_each (λ (j : ℕ) (x : Node Memory). (y : Node Memory) → slice_get nodes j ≡ Some y → IsUntouchedNode y x) nodes n old new at
+          (λ y was_n. subst (λ (z : Node Memory). IsUntouchedNode z new) (is_some old y (sym at ∙ was_n)) (keeps s.0 (stands.each n old s.0 at s.1)))
+          (λ j x ne at_j y was_j. subst (λ (z : Node Memory). IsUntouchedNode y z) (is_some y x (sym was_j ∙ at_j)) refl) k now at_k was was_k;
+    }
+
+pub untouched_if : {E : Type 0} (slots n : ℕ) (nodes : List (Node Memory)) (old new : Node Memory) (net net' : Network) (result : Result Deed E) (w : World) → slice_get nodes n ≡ Some old
+    → StandsFor (record { slots = slots; nodes = nodes; net = net }) w → OnErr result ((s : NodeState) → Stands state_of old s → IsUntouchedNode old new) → OnErr result (net' ≡ net)
+    → OnErr result (IsUntouched (record { slots = slots; nodes = nodes; net = net }) (record { slots = slots; nodes = slice_set nodes n new; net = net' }))
+untouched_if slots n nodes old new net net' (Ok o) w at stands keeps same = tt
+untouched_if slots n nodes old new net net' (Err e) w at stands keeps same = untouched slots n nodes old new net net' w at stands keeps same
 
 -- what is read at a place
 pub place_at : {A : Type 0} (xs : List A) (count place id : ℕ) (x : A) → count ≡ length xs → place < count → place ≡ id → x ≡ get_or xs place x → slice_get xs id ≡ Some x

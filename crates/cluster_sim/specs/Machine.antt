@@ -127,7 +127,17 @@ pub record IsSame (old new : Node Memory) : Type 0 where
   pub nodes : new.nodes ≡ old.nodes
   pub size : (slots : ℕ) → IsOfSize slots old.disk → IsOfSize slots new.disk
 
+-- nothing but what the last call mounted has changed
+abbrev pub IsUntouchedNode : Node Memory → Node Memory → Type 0
+IsUntouchedNode old new = new ≡ record old { found = new.found }
+
 -- ---- the cluster
+
+-- nothing has changed, but for what a node's last call mounted
+pub record IsUntouched (old new : Machine) : Type 0 where
+  pub count : length new.nodes ≡ length old.nodes
+  pub net : new.net ≡ old.net
+  pub each : (k : ℕ) (was now : Node Memory) → slice_get old.nodes k ≡ Some was → slice_get new.nodes k ≡ Some now → IsUntouchedNode was now
 
 -- the node of a step tells what it mounted in it, if it mounted anything
 abbrev pub Shows : World → Step → Machine → Type 0

@@ -1,7 +1,7 @@
 // A cluster that keeps a report of all its acts.
 ghost use Rattle.std.specs.Prelude.{◌≡◌, ◌≤◌, ◌<◌, ◌+◌, [], ◌++◌, map, length, slice_get, Some, IfOk, OnErr, OnOk, ℕ};
 ghost use Rattle.group_task.specs.declared.node.TheConstants.{NODES};
-ghost use Rattle.cluster_sim.specs.Machine.{FaultsAt};
+ghost use Rattle.cluster_sim.specs.Machine.{FaultsAt, IsUntouched};
 ghost use Rattle.cluster_sim.specs.Operated.{Operates};
 ghost use Rattle.cluster_sim.specs.Recorded.{report_in, Tells, GoesOn, HasRun, IsPromised, IsRecorded, ToldMoment};
 ghost use Rattle.runs.specs.Growth.{acts_in};
@@ -69,13 +69,14 @@ impl Cluster {
 
     /// One act. It is refused where it names a node outside the cluster, and else as the node or the network refuses it:
     /// then nothing changed but the report, which tells it. An error says that there was no memory for it, and nothing
-    /// changed at all.
+    /// changed at all, but that a node may not tell any more what it mounted last.
     pub fn step(&mut self, act: Act) -> Result<Outcome, AllocError>
         ensures slots { self.new.machine.slots ≡ self.old.machine.slots }
         ensures goes_on { (w : World) (r : RunReport) → Tells self.old w r → IfOk result (λ outcome. GoesOn w r act outcome self.new) }
         ensures faults { IfOk result (FaultsAt (node_named (length self.old.machine.nodes) self.old.machine.net.sent act) self.old.machine self.new.machine) }
         ensures disk { OnOk result (Operates act self.old.machine self.new.machine) }
         ensures memory { (w : World) (r : RunReport) → Tells self.old w r → OnErr result (Tells self.new w r) }
+        ensures untouched { OnErr result (IsUntouched self.old.machine self.new.machine × (self.new.report ≡ self.old.report)) }
     {
         advance(
             self.alloc,
@@ -115,6 +116,8 @@ impl Cluster {
     /// What came of all acts so far, from the opening on.
     pub fn report(&self) -> &Report
         ensures told { report_in result.now ≡ self.now.report }
+        // The nodes and the network are what the run left of which it is the report.
+        ensures run { HasRun (length self.now.machine.nodes) (map (λ (m : ToldMoment). m.act) self.now.report.moments) self.now }
         ensures keeps { IsPromised (length self.now.machine.nodes) self.now.machine.slots (map (λ (m : ToldMoment). m.act) self.now.report.moments) (report_in result.now) self.now.machine.net.sent }
     {
         &self.report
@@ -161,6 +164,7 @@ fn advance(
     ensures disk { OnOk result (Operates act simulation.old simulation.new) }
     ensures memory { (w : World) (r : RunReport) → Tells (record { machine = simulation.old; report = report_in report.old }) w r
         → OnErr result (Tells (record { machine = simulation.new; report = report_in report.new }) w r) }
+    ensures untouched { OnErr result (IsUntouched simulation.old simulation.new × (report_in report.new ≡ report_in report.old)) }
 {
     let id = node_named(simulation.count(), simulation.net(), &act);
     let room = report.reserve(alloc, simulation.node(id), simulation.slots())?;

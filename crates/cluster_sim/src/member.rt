@@ -9,7 +9,7 @@ ghost use Rattle.durable_node.specs.Stepping.{CameOf, most_by};
 ghost use Rattle.histories.specs.Fates.{what_of};
 ghost use Rattle.histories.specs.declared.what.What.TheVariants.{Rests, Crashed};
 ghost use Rattle.histories.specs.declared.what.Rest.TheVariants.{Nothing};
-ghost use Rattle.cluster_sim.specs.Machine.{IsOfSize, IsSame, IsCounted, CameAt, Comes, CompactedAs, bare_outcome, is_mounting};
+ghost use Rattle.cluster_sim.specs.Machine.{IsOfSize, IsSame, IsCounted, IsUntouchedNode, CameAt, Comes, CompactedAs, bare_outcome, is_mounting};
 ghost use Rattle.cluster_sim.specs.Operated.{IsLeftWith};
 ghost use Rattle.cluster_sim.specs.Told.{IsCompactionTold, came_told};
 ghost use Rattle.durable_node.specs.Faults.{fault_of};
@@ -37,7 +37,7 @@ pub(crate) fn handle(
     ensures same { IsSame node.old node.new }
     ensures came { (slots : ℕ) (s : NodeState) → slots ≤ 4096 → IsOfSize slots node.old.disk → Stands state_of node.old s
         → IfOk result (λ deed. CameAt slots node.old.id node.old.nodes (CameOf event.now) s deed node.new net.old.network net.new.network) }
-    ensures memory { OnErr result ((s : NodeState) → Stands state_of node.old s → Stands state_of node.new s) }
+    ensures memory { OnErr result ((s : NodeState) → Stands state_of node.old s → IsUntouchedNode node.old node.new) }
     ensures unsent { OnErr result (net.new.network ≡ net.old.network) }
     ensures counted { IfOk result (λ deed. IsCounted node.old.disk node.new.disk deed.outcome) }
 {

@@ -7,7 +7,7 @@ ghost use Rattle.schedule.specs.declared.act.Act.TheVariants as acts;
 ghost use Rattle.runs.specs.Acts.{At};
 ghost use Rattle.runs.specs.Events.{event_at};
 ghost use Rattle.durable_node.specs.Stepping.{CameOf};
-ghost use Rattle.cluster_sim.specs.Machine.{AreOpened, StandsFor, Made, Acted, Performed, FaultsAt};
+ghost use Rattle.cluster_sim.specs.Machine.{AreOpened, IsUntouched, StandsFor, Made, Acted, Performed, FaultsAt};
 ghost use Rattle.cluster_sim.specs.Operated.{Operates, IsLeftWith, disk_at};
 ghost use Rattle.runs.specs.Reporting.{node_named, node_or_first, receiver_or_first};
 ghost use Rattle.runs.specs.Run.{IsBrought};
@@ -64,11 +64,13 @@ impl Simulation {
     }
 
     /// One act. It is refused where it names a node outside the cluster, and else as the node or the network refuses it:
-    /// then nothing changed. An error says that there was no memory for it, and nothing changed either.
+    /// then nothing changed. An error says that there was no memory for it, and nothing changed either, but that a node may not tell any more
+    /// what it mounted last.
     pub fn step(&mut self, act: &Act) -> Result<Outcome, AllocError>
         ensures slots { self.new.slots ≡ self.old.slots }
         ensures acted { (w : World) → StandsFor self.old w → IfOk result (λ outcome. Acted w act.now outcome self.new) }
         ensures memory { (w : World) → StandsFor self.old w → OnErr result (StandsFor self.new w) }
+        ensures untouched { (w : World) → StandsFor self.old w → OnErr result (IsUntouched self.old self.new) }
         ensures faults { IfOk result (FaultsAt (node_named (length self.old.nodes) self.old.net.sent act.now) self.old self.new) }
         ensures disk { OnOk result (Operates act.now self.old self.new) }
     {
@@ -83,6 +85,7 @@ impl Simulation {
         ensures slots { self.new.slots ≡ self.old.slots }
         ensures acted { (w : World) → StandsFor self.old w → IfOk result (λ deed. Performed w act.now deed self.new) }
         ensures memory { (w : World) → StandsFor self.old w → OnErr result (StandsFor self.new w) }
+        ensures untouched { (w : World) → StandsFor self.old w → OnErr result (IsUntouched self.old self.new) }
         ensures faults { IfOk result (λ deed. FaultsAt (node_named (length self.old.nodes) self.old.net.sent act.now) self.old self.new deed.outcome) }
         ensures disk { OnOk result (Operates act.now self.old self.new) }
     {
@@ -146,6 +149,7 @@ impl Simulation {
         ensures acted { (w : World) (number : ℕ) → StandsFor self.old w → IsBrought w number (brought (Some event.now)) → AreAddressed id (brought (Some event.now))
             → IfOk result (λ deed. Made (λ step. At (nat_lt id (length w.states)) id number (CameOf event.now) step) w deed self.new) }
         ensures memory { (w : World) → StandsFor self.old w → OnErr result (StandsFor self.new w) }
+        ensures untouched { (w : World) → StandsFor self.old w → OnErr result (IsUntouched self.old self.new) }
         ensures faults { IfOk result (λ deed. FaultsAt (node_or_first (length self.old.nodes) id) self.old self.new deed.outcome) }
     {
         let count = self.nodes.len();
@@ -166,6 +170,7 @@ impl Simulation {
         ensures slots { self.new.slots ≡ self.old.slots }
         ensures acted { (w : World) → StandsFor self.old w → IfOk result (λ deed. Performed w (acts.Deliver number) deed self.new) }
         ensures memory { (w : World) → StandsFor self.old w → OnErr result (StandsFor self.new w) }
+        ensures untouched { (w : World) → StandsFor self.old w → OnErr result (IsUntouched self.old self.new) }
         ensures faults { IfOk result (λ deed. FaultsAt (receiver_or_first (length self.old.nodes) (slice_get self.old.net.sent number)) self.old self.new deed.outcome) }
     {
         match self.net.deliver(number) {

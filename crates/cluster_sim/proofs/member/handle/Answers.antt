@@ -3,7 +3,7 @@ use Rattle.wire_msg.specs.Envelope.{Envelope}
 use Rattle.sim_net.specs.Network.{Network, after_all_sent}
 use Rattle.durable_node.specs.Faults.{fault_of, told}
 use Rattle.cluster_sim.specs.Told.{came_told}
-use Rattle.cluster_sim.proofs.Coming.{same_by, comes_by, came_counted, stuck_stands}
+use Rattle.cluster_sim.proofs.Coming.{same_by, comes_by, came_counted, stuck_untouched}
 use Rattle.cluster_sim.proofs.member.handle.Goals as goal
 
 pub returns-clause-same : goal.returns-clause-same
@@ -13,7 +13,7 @@ pub returns-in-Err-clause-same : goal.returns-in-Err-clause-same
 returns-in-Err-clause-same c = same_by c.args.node.now c.step.new.self (told c.step.result) c.has_disk.ensures c.step.ensures.id c.step.ensures.nodes c.step.ensures.counts
 
 pub returns-in-Err-clause-memory : goal.returns-in-Err-clause-memory
-returns-in-Err-clause-memory c = λ s stands. stuck_stands c.args.node.now c.step.new.self c.args.event.now _ s c.has_disk.ensures c.in-Err.ensures.stuck stands
+returns-in-Err-clause-memory c = λ s stands. stuck_untouched c.args.node.now c.step.new.self c.args.event.now _ s c.has_disk.ensures c.in-Err.ensures.stuck stands
 
 pub returns-clause-came : goal.returns-clause-came
 returns-clause-came c =

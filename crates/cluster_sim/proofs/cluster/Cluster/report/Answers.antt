@@ -1,8 +1,16 @@
-use Rattle.std.proofs.Common.{◌≡◌, ◌+◌, ◌<◌, ◌≤◌, ◌^◌, length, map, subst, arith}
+use Rattle.std.proofs.Common.{◌≡◌, ◌+◌, ◌<◌, ◌≤◌, ◌^◌, length, map, refl, subst, arith}
 use Rattle.std.proofs.lemmas.List.{length-map}
-use Rattle.cluster_sim.specs.Recorded.{Recorded, ToldMoment, IsPromised, moment_in, report_in}
+use Rattle.cluster_sim.specs.Recorded.{Recorded, ToldMoment, HasRun, IsPromised, moment_in, report_in}
 use Rattle.cluster_sim.proofs.Promised.{acts_shown, promised}
 use Rattle.cluster_sim.proofs.cluster.Cluster.report.Goals as goal
+
+pub returns-clause-run : goal.returns-clause-run
+returns-clause-run c =
+    let inv = c.self.invariant in
+    let was = c.self.inside in
+    let whole : Recorded = record { machine = was.simulation; report = report_in was.report } in
+    subst (λ (x : Recorded). HasRun (length x.machine.nodes) (map (λ (m : ToldMoment). m.act) x.report.moments) x) c.self.view_is
+    (record { world = inv.world; run = inv.run; tells = inv.tells; as_many = refl; of_acts = acts_shown whole inv.world inv.run inv.tells })
 
 pub returns-clause-keeps : goal.returns-clause-keeps
 returns-clause-keeps c =

@@ -3,9 +3,9 @@ use Rattle.std.specs.Prelude.{slice_set, IfOk, OnErr}
 use Rattle.cluster_sim.specs.declared.outcome.Deed.{Deed}
 use Rattle.runs.specs.Acts.{At}
 use Rattle.durable_node.specs.Stepping.{CameOf}
-use Rattle.cluster_sim.specs.Machine.{Machine, IsCluster, StandsFor, Made, FaultsAt}
+use Rattle.cluster_sim.specs.Machine.{Machine, IsCluster, IsUntouched, StandsFor, Made, FaultsAt}
 use Rattle.runs.specs.Reporting.{node_or_first}
-use Rattle.cluster_sim.proofs.Members.{place_at, denied_deed, still_cluster, takes_if, rests_if}
+use Rattle.cluster_sim.proofs.Members.{place_at, denied_deed, still_cluster, takes_if, rests_if, untouched_if}
 use Rattle.cluster_sim.proofs.Doings.{brought_came}
 use Rattle.cluster_sim.proofs.Faulting.{faults_still, faults_if}
 use Rattle.cluster_sim.proofs.simulation.Simulation.take.Goals as goal
@@ -63,6 +63,18 @@ returns-clause-memory c = λ w stands.
     let before : StandsFor (record { slots = was.slots; nodes = was.nodes.items; net = was.net.network }) w = subst (λ (m : Machine). StandsFor m w) (sym c.self.view_is) stands in
     subst (λ (k : ℕ). OnErr c.handle.result (StandsFor (record { slots = was.slots; nodes = slice_set was.nodes.items k c.handle.new.node; net = c.handle.new.net.network }) w)) (sym place)
     (rests_if was.slots c.args.id was.nodes.items c.index_mut.result.now c.handle.new.node was.net.network c.handle.new.net.network c.handle.result w at before c.handle.ensures.memory c.handle.ensures.unsent)
+
+pub returns-clause-untouched : goal.returns-clause-untouched
+returns-clause-untouched c = λ w stands.
+    let was = c.self.inside in
+    let place : c.from-place.result ≡ c.args.id = c.from-place.ensures ∙ c.number.ensures.value in
+    let len : c.len-count.result ≡ length was.nodes.items = grind (arith) in
+    let within : c.from-place.result < c.len-count.result = grind (arith) in
+    let at = place_at was.nodes.items c.len-count.result c.from-place.result c.args.id c.index_mut.result.now len within place c.index_mut.ensures.value in
+    let before : StandsFor (record { slots = was.slots; nodes = was.nodes.items; net = was.net.network }) w = subst (λ (m : Machine). StandsFor m w) (sym c.self.view_is) stands in
+    subst (λ (m : Machine). OnErr c.handle.result (IsUntouched m (record { slots = was.slots; nodes = slice_set was.nodes.items c.from-place.result c.handle.new.node; net = c.handle.new.net.network }))) c.self.view_is
+    (subst (λ (k : ℕ). OnErr c.handle.result (IsUntouched (record { slots = was.slots; nodes = was.nodes.items; net = was.net.network }) (record { slots = was.slots; nodes = slice_set was.nodes.items k c.handle.new.node; net = c.handle.new.net.network }))) (sym place)
+    (untouched_if was.slots c.args.id was.nodes.items c.index_mut.result.now c.handle.new.node was.net.network c.handle.new.net.network c.handle.result w at before c.handle.ensures.memory c.handle.ensures.unsent))
 
 pub returns-then-place-count-clause-faults : goal.returns-then-place-count-clause-faults
 returns-then-place-count-clause-faults c = faults_still (node_or_first (length c.args.self.now.nodes) c.args.id) c.args.self.now c.args.self.now _ refl (λ bad. cc)
