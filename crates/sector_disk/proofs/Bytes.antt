@@ -1,6 +1,6 @@
 -- A sector without its last zeros, and back.
-use Rattle.std.proofs.Common.{◌≡◌, ◌<◌, ◌+◌, ◌-◌, ◌≤◌, ⊎_elim, ℕ, List, ◌++◌, length, take, drop, replicate, min, sym, ◌∙◌, ap, arith, take-append-drop}
-use Rattle.std.proofs.lemmas.List.{take_all, drop_all, drop-replicate, length-take, length-drop, take-replicate, replicate-append-replicate, drop-drop}
+use Rattle.std.proofs.Common.{◌≡◌, ◌+◌, ◌-◌, ◌≤◌, ⊎_elim, ℕ, List, ◌++◌, length, take, drop, replicate, min, sym, ◌∙◌, ap, arith, take-append-drop}
+use Rattle.std.proofs.lemmas.List.{take_all, drop_all, drop-replicate, length-take, length-drop, replicate-append-replicate, drop-drop}
 use Rattle.std.proofs.lemmas.Bool.{cases_lt}
 use Rattle.sector_disk.specs.Undo.{whole}
 use Rattle.sector_disk.specs.Crash.{filled}
@@ -57,6 +57,3 @@ torn fill sector n is =
     let size : length (take n fill) ≡ n = length-take n fill ∙ omega (arith, is) in
     ap (λ k. take n fill ++ drop k sector) (sym size)
     ∙ ap (λ (l : List ℕ). l ++ drop (length l) sector) (taken fill n is)
-
-pub zeros_taken : (n : ℕ) → n ≤ 512 → take {A = ℕ} n (replicate 512 0) ≡ replicate n 0
-zeros_taken n most = take-replicate n 512 0 most

@@ -3,15 +3,21 @@ use Rattle.std.specs.Prelude.{◌≡◌, ℕ, ◌-◌, List, [], ◌∷◌, ◌+
 use Rattle.sector_disk.specs.Disk.{Image, sector_at}
 use Rattle.sector_disk.specs.Memory.{Span, was_written}
 use Rattle.sector_disk.specs.declared.overwritten.Overwritten.{Overwritten}
+use Rattle.sector_disk.specs.declared.overwritten.Held.{Held}
+use Rattle.sector_disk.specs.declared.overwritten.Held.TheVariants.{Short, Long}
 
 -- the sector of which these are the bytes without its last zeros
 abbrev pub whole : List ℕ → List ℕ
 whole bytes = take 512 bytes ++ replicate (512 - length bytes) 0
 
+abbrev pub bytes_of : Held → List ℕ
+bytes_of (Short bytes) = bytes
+bytes_of (Long bytes) = bytes.items
+
 -- the sectors before these writes, the first of them first
 abbrev pub undone : List Overwritten → Image → Image
 undone [] sectors = sectors
-undone (note ∷ notes) sectors = set (undone notes sectors) note.at (whole note.was.items)
+undone (note ∷ notes) sectors = set (undone notes sectors) note.at (whole (bytes_of note.was))
 
 -- the sectors that were written
 abbrev pub touched : List Overwritten → List ℕ
@@ -36,7 +42,7 @@ pub record AddsNote (sectors : Image) (at : ℕ) (old new : List Overwritten) : 
   pub note : Overwritten
   pub added : new ≡ old ++ note ∷ []
   pub here : note.at ≡ at
-  pub was : whole note.was.items ≡ sector_at sectors at
+  pub was : whole (bytes_of note.was) ≡ sector_at sectors at
 
 -- There is a note for an unsynced sector, and for no other one; but where a write failed there may be none.
 pub record IsNoted (sectors : Image) (unsynced : List Bool) (notes : List Overwritten) (torn : Bool) : Type 0 where

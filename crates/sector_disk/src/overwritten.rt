@@ -1,16 +1,24 @@
 // What it takes to undo the writes of a time between two syncs.
-ghost use Rattle.std.specs.Prelude.{◌≡◌, ◌<◌, ◌⊎◌, ℕ, [], length, set, get_or, replicate, false, IsOk, IsTrue, IsFalse, OnErr};
-ghost use Rattle.sector_disk.specs.Undo.{AddsNote, undone, whole, has_touched};
+ghost use Rattle.std.specs.Prelude.{◌≡◌, ◌<◌, ◌⊎◌, ℕ, [], length, set, get_or, replicate, false, IsOk, IfOk, IsTrue, IsFalse, OnErr};
+ghost use Rattle.sector_disk.specs.Disk.{sector_at};
+ghost use Rattle.sector_disk.specs.Undo.{AddsNote, bytes_of, undone, whole, has_touched};
 
 use crate::notes::Notes;
 use crate::sectors::Sectors;
 use std::alloc::{AllocError, Global};
 
-/// A sector that a write took, and the bytes that it held before, without the zeros at its end.
+/// A sector that a write took, and the bytes that it held before.
 #[derive(Drop)]
 pub struct Overwritten {
     pub at: usize,
-    pub was: Vec<u8>,
+    pub was: Held,
+}
+
+/// The bytes of a sector, without zeros at its end. Most sectors have few others, and those take no memory of their own.
+#[derive(Drop)]
+pub enum Held {
+    Short([u8; 32]),
+    Long(Vec<u8>),
 }
 
 // Notes what a sector holds, so that a write to it can be undone.
@@ -25,8 +33,19 @@ pub fn note(
     ensures err { OnErr result (notes.new ≡ notes.old) }
     ensures times { notes.new.times ≡ notes.old.times }
 {
-    let was = sectors.trimmed(at).to_vec(alloc)?;
+    let was = held_at(alloc, sectors, at)?;
     notes.add(Overwritten { at, was })
+}
+
+// What a sector holds.
+fn held_at(alloc: Global, sectors: &Sectors, at: usize) -> Result<Held, AllocError>
+    requires { at < length sectors.now }
+    ensures { IfOk result (λ held. whole (bytes_of held) ≡ sector_at sectors.now at) }
+{
+    match sectors.short(at) {
+        Some(bytes) => Ok(Held::Short(bytes)),
+        None => Ok(Held::Long(sectors.trimmed(at).to_vec(alloc)?)),
+    }
 }
 
 // Notes each unsynced sector as it stands.
@@ -68,13 +87,16 @@ pub fn clear_noted(unsynced: &mut [bool], notes: &[Overwritten])
 }
 
 // Takes a noted write back.
-fn undo_one(sectors: &mut Sectors, note: &Overwritten)
-    ensures { sectors.new ≡ set sectors.old note.now.at (whole note.now.was.items) }
+fn undo_one(sectors: &mut Sectors, note: Overwritten)
+    ensures { sectors.new ≡ set sectors.old note.at (whole (bytes_of note.was)) }
 {
     if note.at >= sectors.len() {
         return;
     }
-    sectors.restore(note.at, &note.was);
+    match &note.was {
+        Held::Short(bytes) => sectors.restore(note.at, bytes),
+        Held::Long(bytes) => sectors.restore(note.at, bytes),
+    }
 }
 
 // Takes the noted writes back, the last one first.
@@ -83,6 +105,6 @@ pub fn undo(sectors: &mut Sectors, notes: &mut Notes)
     ensures none { notes.new.since ≡ [] }
 {
     while let Some(note) = notes.pop() {
-        undo_one(sectors, &note);
+        undo_one(sectors, note);
     }
 }

@@ -1,5 +1,5 @@
 // A sector, and its bytes without the zeros at its end.
-ghost use Rattle.std.specs.Prelude.{◌≡◌, ◌≤◌, ◌↔◌, IsTrue, drop, length, replicate};
+ghost use Rattle.std.specs.Prelude.{◌≡◌, ◌≤◌, ◌↔◌, IsTrue, IfSome, drop, length, replicate};
 ghost use Rattle.sector_disk.specs.Blank.{is_blank};
 ghost use Rattle.sector_disk.specs.Crash.{filled};
 ghost use Rattle.sector_disk.specs.Undo.{whole};
@@ -22,12 +22,27 @@ pub fn is_zero(sector: &Sector) -> bool
     *sector == [0; 512]
 }
 
-// Whether a block of bytes is all zeros.
+// Whether a block of bytes is all zeros. It looks at all of them, many at a time.
 fn is_zero_block(block: &[u8]) -> bool
-    requires { length block.now ≤ 512 }
     ensures { IsTrue result → block.now ≡ replicate (length block.now) 0 }
 {
-    block == &[0; 512][..block.len()]
+    let mut zeros = true;
+    for at in 0..block.len() {
+        zeros &= block[at] == 0;
+    }
+    zeros
+}
+
+// The first bytes of a sector, if all behind them are zeros.
+pub fn short(sector: &Sector) -> Option<[u8; 32]>
+    ensures { IfSome result (λ bytes. whole bytes ≡ sector.now) }
+{
+    if !is_zero_block(&sector[32..]) {
+        return None;
+    }
+    let mut bytes = [0; 32];
+    bytes.copy_from_slice(&sector[..32]);
+    Some(bytes)
 }
 
 // The bytes of a sector without zeros at its end: its last half is looked at first, then half of what is left, down to 32 bytes.

@@ -1,10 +1,10 @@
 // The sectors of a disk in memory: the first ones, and zeros after them.
-ghost use Rattle.std.specs.Prelude.{◌≡◌, ◌<◌, ◌≤◌, ◌+◌, ◌-◌, ◌++◌, length, set, drop, replicate, IfOk, vec_capacity};
+ghost use Rattle.std.specs.Prelude.{◌≡◌, ◌<◌, ◌≤◌, ◌+◌, ◌-◌, ◌++◌, length, set, drop, replicate, IfOk, IfSome, vec_capacity};
 ghost use Rattle.sector_disk.specs.Disk.{sector_at};
 ghost use Rattle.sector_disk.specs.Crash.{filled};
 ghost use Rattle.sector_disk.specs.Undo.{whole};
 
-use crate::sector::{Sector, fill_from, is_zero, restore, trimmed};
+use crate::sector::{Sector, fill_from, is_zero, restore, short, trimmed};
 use std::alloc::{AllocError, Global};
 use std::marker::Model;
 
@@ -52,6 +52,17 @@ impl Sectors {
             Some(sector) => *sector,
             None => [0; 512],
         };
+    }
+
+    /// The first bytes of a sector, if all behind them are zeros.
+    pub fn short(&self, at: usize) -> Option<[u8; 32]>
+        requires { at < length self.now }
+        ensures { IfSome result (λ bytes. whole bytes ≡ sector_at self.now at) }
+    {
+        match self.kept.get(at) {
+            Some(sector) => short(sector),
+            None => Some([0; 32]),
+        }
     }
 
     /// The bytes of a sector without the zeros at its end.

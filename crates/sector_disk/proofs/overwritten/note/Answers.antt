@@ -1,16 +1,14 @@
-use Rattle.std.proofs.Common.{◌≡◌, ◌∙◌, ap, refl, rules}
+use Rattle.std.proofs.Common.{ap, refl}
 use Rattle.sector_disk.specs.Noted.{Noted}
-use Rattle.sector_disk.specs.Undo.{whole}
 use Rattle.sector_disk.specs.declared.overwritten.Overwritten.{Overwritten}
 use Rattle.sector_disk.proofs.overwritten.note.Goals as goal
 
 pub returns-clause-ok : goal.returns-clause-ok
 returns-clause-ok c = λ ok.
-    let same : c.in_ok-was.was'.items ≡ c.trimmed.result.now = search rules in
     let note : Overwritten = record { at = c.args.at; was = c.in_ok-was.was' } in
     record {
       note = note;
       added = ap (λ (n : Noted). n.since) (c.add.ensures.ok ok);
       here = refl;
-      was = ap whole same ∙ c.trimmed.ensures ∙ search rules;
+      was = c.in_ok-was.ensures;
     }

@@ -1,7 +1,12 @@
-use Rattle.std.proofs.Common.{replicate, take, length, sym, ◌∙◌}
-use Rattle.std.specs.Cmp.Lexicographic.{same_text}
-use Rattle.sector_disk.proofs.Bytes.{zeros_taken}
+use Rattle.std.proofs.Common.{◌∙◌, ap, sym}
+use Rattle.std.proofs.lemmas.List.{take_all}
+use Rattle.sector_disk.specs.Blank.{is_blank}
+use Rattle.sector_disk.proofs.Blanks.{blank_more, zeros_alone}
 use Rattle.sector_disk.proofs.sector.is_zero_block.Goals as goal
 
+pub loop-at-preserved : goal.loop-at-preserved
+loop-at-preserved c = blank_more c.args.block.now c.loop-at.at c.loop-at.zeros c.loop-at-test.true c.loop-at.invariant
+
 pub returns : goal.returns
-returns c = λ is. same_text c.args.block.now (take (length c.args.block.now) (replicate 512 0)) (sym is ∙ c.eq.ensures) ∙ zeros_taken (length c.args.block.now) c.requires
+returns c = λ is.
+    zeros_alone c.args.block.now (ap is_blank (sym (take_all c.loop-at.at c.args.block.now c.loop-at-test.false)) ∙ sym c.loop-at.invariant ∙ is)

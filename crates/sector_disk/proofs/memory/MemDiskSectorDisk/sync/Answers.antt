@@ -1,4 +1,4 @@
-use Rattle.std.proofs.Common.{◌≡◌, ◌⊎◌, ⊎_elim, ◌∙◌, ℕ, Bool, List, ap, sym, subst, refl, not, Result, Ok, Err, IsOk, IsFalse, length, get_or, replicate, true, false, rules}
+use Rattle.std.proofs.Common.{◌≡◌, ◌⊎◌, ⊎_elim, ◌∙◌, ℕ, Bool, List, ap, sym, subst, refl, not, Result, Ok, Err, IsOk, IsFalse, length, get_or, replicate, false, rules}
 use Rattle.std.specs.Prelude.{OnErr, is_ok}
 use Rattle.std.proofs.lemmas.Bool.{false≢true}
 use Rattle.std.specs.Vec.{with_items}
