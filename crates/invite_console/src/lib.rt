@@ -23,8 +23,3 @@ pub use console_text::Ending;
 pub use showing::show;
 pub use simulating::sim;
 pub use telling::Telling;
-
-#[cfg(test)]
-mod schedules;
-#[cfg(test)]
-mod tests;
