@@ -25,8 +25,3 @@ pub use recording::record;
 pub use showing::show;
 pub use simulating::sim;
 pub use telling::Telling;
-
-#[cfg(test)]
-mod schedules;
-#[cfg(test)]
-mod tests;

@@ -8,6 +8,3 @@ mod reading;
 pub use laws::numbers;
 pub use lines::{LineFault, bytes, cut_line, line_numbered};
 pub use reading::{cut_word, first_word, number};
-
-#[cfg(test)]
-mod tests;

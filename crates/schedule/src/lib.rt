@@ -16,6 +16,3 @@ pub use laws::limits;
 pub use reading::read_schedule;
 pub use size::{LEAST_SLOTS, MOST_ACTS, MOST_SLOTS, Schedule, Size};
 pub use verb::Verb;
-
-#[cfg(test)]
-mod tests;

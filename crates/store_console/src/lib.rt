@@ -12,6 +12,3 @@ mod running;
 mod text;
 
 pub use running::store;
-
-#[cfg(test)]
-mod tests;

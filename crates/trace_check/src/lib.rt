@@ -18,6 +18,3 @@ pub use laws::{
 };
 pub use replica::Replica;
 pub use trace::{Deed, RecoverFault, Trace, Verdict};
-
-#[cfg(test)]
-mod tests;

@@ -14,6 +14,3 @@ pub use fault::{Spot, TraceFault};
 pub use reading::{Entry, read_entry};
 pub use whole::read;
 pub use writing::write;
-
-#[cfg(test)]
-mod tests;

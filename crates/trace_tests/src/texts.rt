@@ -1,7 +1,7 @@
-use crate::{Spot, TraceFault, read, write};
 use std::alloc::Global;
 use std::test::Fail;
 use trace_check::{Verdict, check};
+use trace_text::{Spot, TraceFault, read, write};
 
 const ASKED: &[u8] =
     b"{\"nodes\":2,\"histories\":[[{\"do\":\"check\",\"sent\":[\"010100010000\"]},{\"do\":\"deliver\",\"msg\":\"01020100000101\",\"sent\":[]}],[{\"do\":\"deliver\",\"msg\":\"010100010000\",\"sent\":[\"01020100000101\"]}]]}";

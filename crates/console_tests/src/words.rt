@@ -1,4 +1,4 @@
-use super::{bytes, cut_line, cut_word, number};
+use line_words::{bytes, cut_line, cut_word, number};
 use std::test::Fail;
 
 #[test]

@@ -1,4 +1,3 @@
-use super::store;
 use console_text::Source;
 use file_disk::FileDisk;
 use std::alloc::Global;
@@ -8,6 +7,7 @@ use std::path::{Path, PathBuf};
 use std::process::Abort;
 use std::test::Fail;
 use std::{env, fs, process};
+use store_console::store;
 
 // A path in the folder for temporary files that no other process takes.
 fn temporary(rt: &HostRuntime, name: &str) -> Result<PathBuf, Fail> {

@@ -1,6 +1,6 @@
-use super::{answer, show};
 use console_text::{Ending, MAX_READS, Source};
 use group_task::{NODES, NodeId};
+use invite_console::{answer, show};
 use std::alloc::Global;
 use std::io;
 use std::io::{Read, Write};

@@ -1,9 +1,9 @@
-use crate::{Deed, History, RecoverFault, Trace, Verdict, check};
 use group_task::NodeId;
 use job_model::{Payload, Queue, Work};
 use node_core::Event;
 use std::alloc::{AllocError, Global};
 use std::test::Fail;
+use trace_check::{Deed, History, RecoverFault, Trace, Verdict, check};
 use wire_msg::{Body, Message};
 
 fn node(number: u8) -> NodeId {

@@ -1,7 +1,7 @@
 //! Schedules that can't be read, or of which acts are refused or cut off, and what they print. Whole ones stand in the folder `schedules` at the top of
 //! the repository, where they are to be read; `tests/schedules.sh` runs them.
-use super::{Telling, sim};
 use console_text::{Ending, Sink, Source};
+use invite_console::{Telling, sim};
 use std::alloc::Global;
 use std::io;
 use std::io::{Read, Write};

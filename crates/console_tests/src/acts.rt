@@ -1,5 +1,5 @@
-use super::{Act, Fill, MOST_ACTS, Schedule, read_schedule};
 use line_words::LineFault;
+use schedule::{Act, Fill, MOST_ACTS, Schedule, read_schedule};
 use std::alloc::Global;
 use std::process::Abort;
 use std::test::Fail;
