@@ -1,5 +1,5 @@
 // The lock round a node.
-ghost use Rattle.std.specs.Prelude.{◌≡◌, ℕ, ⊤, false, Err};
+ghost use Rattle.std.specs.Prelude.{◌≡◌, ℕ, Bool, IsTrue, true, false, Err};
 ghost use Rattle.node_lock.specs.declared.worker.Worker.{Worker as Who};
 ghost use Rattle.node_lock.specs.declared.lock.TurnFault.TheVariants.{GateShut};
 
@@ -11,15 +11,15 @@ use std::sync::{Mutex, Wait};
 /// What may hold workers up.
 pub trait Gate: Sync {
     /// For which worker of which node the gate may shut: any, unless a gate says less.
-    ghost may_shut: { ℕ → Who → Type 0 } = { λ _ _. ⊤ };
+    ghost may_shut: { ℕ → Who → Bool } = { λ _ _. true };
 
     /// Called once by each worker, with no lock held. False shuts the gate.
     fn reach(&self, node: NodeId, worker: Worker) -> bool
-        ensures { result ≡ false → may_shut node worker };
+        ensures { result ≡ false → IsTrue (may_shut node worker) };
 
     /// Called before each turn, with the node's lock held. False shuts the gate.
     fn pass(&self, node: NodeId, worker: Worker, index: u64) -> bool
-        ensures { result ≡ false → may_shut node worker };
+        ensures { result ≡ false → IsTrue (may_shut node worker) };
 }
 
 /// Why a worker stopped.
@@ -59,7 +59,7 @@ impl NodeLock {
         worker: Worker,
         gate: &G,
     ) -> Result<bool, TurnFault>
-        ensures { result ≡ Err GateShut → G.may_shut self.now.node worker }
+        ensures { result ≡ Err GateShut → IsTrue (G.may_shut self.now.node worker) }
     {
         let mut guard = self.held.lock(rt);
         let held = &mut *guard;
