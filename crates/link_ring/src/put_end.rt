@@ -19,13 +19,13 @@ pub struct PutEnd {
 }
 
 impl Model for PutEnd {
-    ghost use Rattle.std.specs.Prelude.{◌≡◌, ◌≤◌, ◌+◌, length};
+    ghost use Rattle.std.specs.Prelude.{◌≡◌, ◌≤◌, ◌+◌, [], length};
     ghost use Rattle.rtrb.specs.Ring.{sent, known_free, producer_capacity};
     ghost use Rattle.link_ring.specs.Sides.{Side};
 
     ghost Value = { Side };
 
-    ghost view = { λ a. record { sender = a.sender; receiver = a.receiver; capacity = producer_capacity a.producer; messages = a.put.messages; room = a.put.room } };
+    ghost view = { λ a. record { sender = a.sender; receiver = a.receiver; capacity = producer_capacity a.producer; messages = a.put.messages; room = a.put.room; seen = [] } };
 
     // a slot that no message went through is known to be free
     ghost invariant = { λ a. (a.put.messages ≡ sent a.producer) × (producer_capacity a.producer ≤ known_free a.producer + length (sent a.producer)) };

@@ -1,6 +1,6 @@
 ghost use Rattle.std.specs.Prelude.{◌≡◌, ◌<◌, [], max, IfSome, IfNone, OnOk, OnErr};
-ghost use Rattle.rtrb.specs.Ring.{received, consumer_capacity};
-ghost use Rattle.link_ring.specs.Sides.{unused, with_message, with_room};
+ghost use Rattle.rtrb.specs.Ring.{received, known_items, consumer_capacity};
+ghost use Rattle.link_ring.specs.Sides.{unused, with_room, TookNext};
 
 use group_task::NodeId;
 use message_list::MessageList;
@@ -20,12 +20,12 @@ pub struct TakeEnd {
 
 impl Model for TakeEnd {
     ghost use Rattle.std.specs.Prelude.{◌≡◌};
-    ghost use Rattle.rtrb.specs.Ring.{received, consumer_capacity};
+    ghost use Rattle.rtrb.specs.Ring.{received, known_items, consumer_capacity};
     ghost use Rattle.link_ring.specs.Sides.{Side};
 
     ghost Value = { Side };
 
-    ghost view = { λ a. record { sender = a.sender; receiver = a.receiver; capacity = consumer_capacity a.consumer; messages = a.taken.messages; room = a.taken.room } };
+    ghost view = { λ a. record { sender = a.sender; receiver = a.receiver; capacity = consumer_capacity a.consumer; messages = a.taken.messages; room = a.taken.room; seen = known_items a.consumer } };
 
     ghost invariant = { λ a. a.taken.messages ≡ received a.consumer };
 }
@@ -38,7 +38,7 @@ impl TakeEnd {
         receiver: NodeId,
         consumer: Consumer<Message>,
     ) -> TakeEnd
-        requires { received consumer ≡ [] }
+        requires { (received consumer ≡ []) × (known_items consumer ≡ []) }
         ensures { result ≡ unused sender receiver (consumer_capacity consumer) }
     {
         TakeEnd {
@@ -78,12 +78,12 @@ impl TakeEnd {
         self.taken.reserve(more)
     }
 
-    /// Takes the message that has been in the ring for longest, or answers none where it finds none. It takes no memory and
-    /// waits for nobody.
+    /// Takes the message that has been in the ring for longest, or answers none where it finds none: so never where an earlier
+    /// look saw one that wasn't taken since. It takes no memory and waits for nobody.
     pub fn take(&mut self) -> Option<Message>
         requires { 0 < self.old.room }
-        ensures taken { IfSome result (λ message. self.new ≡ with_message self.old message) }
-        ensures empty { IfNone result (self.new ≡ self.old) }
+        ensures taken { IfSome result (λ message. TookNext message self.old self.new) }
+        ensures empty { IfNone result ((self.old.seen ≡ []) × (self.new ≡ self.old)) }
     {
         let message = self.consumer.pop().ok()?;
         self.taken.push(&message);

@@ -1,17 +1,58 @@
 -- What a poll takes.
-use Rattle.std.proofs.Common.{◌≡◌, ℕ, ◌+◌, ◌<◌, ◌==◌, cond, Option, Some, None, IfSome, IfNone, List, [], ◌∷◌, ◌++◌, length, slice_index, slice_index_or, refl, ap, sym, ◌∙◌, inl, inr, arith}
-use Rattle.std.proofs.lemmas.List.{append-nil}
+use Rattle.std.proofs.Common.{◌≡◌, ℕ, ◌+◌, ◌<◌, ◌==◌, cond, Option, Some, None, IfSome, IfNone, List, [], ◌∷◌, ◌++◌, length, slice_index, slice_index_or, slice_set, Bool, true, false, ◌≢◌, refl, ap, sym, ◌∙◌, subst, inl, inr, arith}
+use Rattle.std.proofs.lemmas.List.{append-nil, get_or_read, get_or-set_other, length-set}
+use Rattle.std.proofs.lemmas.Grind.{get_or-set_at}
+use Rattle.std.proofs.lemmas.Bool.{cases_eq}
 use Rattle.std.proofs.lemmas.Bool.Decides.{nat_tests}
 use Rattle.wire_msg.specs.Envelope.{Envelope}
 use Rattle.histories.specs.What.{brought, event_of}
-use Rattle.link_ring.specs.Sides.{Side}
+use Rattle.link_ring.specs.Sides.{Side, TookNext}
 use Rattle.node_lock.specs.Asking.{asked_by}
 use Rattle.node_lock.specs.Doing.{Gives}
-use Rattle.node_lock.specs.Sending.{SameLink, SameSides, Brings}
+use Rattle.node_lock.specs.Sending.{SameLink, SameSides, IsFirst, TookAt, Brings}
 use Rattle.node_lock.specs.History.{Turn, polled, from_link, listed}
-use Rattle.node_lock.specs.HeldView.{HeldView, Kept, IsTakeLink, IsOther}
+use Rattle.node_lock.specs.HeldView.{HeldView, Kept, IsTakeLink, IsOther, OfPolled, Finds}
 use Rattle.node_lock.proofs.Keeping.{polled-snoc, from_nothing}
 use Rattle.node_lock.proofs.Telling.{brought_found}
+
+-- ---- a take at a place
+
+-- the side has the message more, or not
+abbrev IsSideWith : Envelope → Side → Side → Bool → Type 0
+IsSideWith m old new b = SameLink old new × (new.messages ≡ old.messages ++ cond b (m ∷ []) [])
+
+side_with : (m : Envelope) (was new : Side) → TookNext m was new → IsSideWith m was new true
+side_with m was new took = (
+  record { sender = ap (λ (s : Side). s.sender) took.taken; receiver = ap (λ (s : Side). s.receiver) took.taken; capacity = ap (λ (s : Side). s.capacity) took.taken },
+  ap (λ (s : Side). s.messages) took.taken,
+)
+
+side_same : (m : Envelope) (s : Side) → IsSideWith m s s false
+side_same m s = (record { sender = refl; receiver = refl; capacity = refl }, sym (append-nil s.messages))
+
+took_at : (place : ℕ) (m : Envelope) (sides : List Side) (was new : Side) → place < length sides → was ≡ slice_index_or sides place was → TookNext m was new → TookAt place m sides (slice_set sides place new)
+took_at place m sides was new lt is took = record {
+  len = length-set sides place new;
+  each = λ k d within. elim (cases_eq k place) [
+    | inl at ↦ (
+        let here : slice_index_or (slice_set sides place new) k d ≡ new = get_or-set_at sides place k new d at lt in
+        let old : slice_index_or sides k d ≡ was = ap (λ (i : ℕ). slice_index_or sides i d) at ∙ sym (get_or_read sides place was lt is d) in
+        let test : (k == place) ≡ true = grind (arith, nat_tests, at) in
+        subst (λ (s : Side). IsSideWith m s (slice_index_or (slice_set sides place new) k d) (k == place)) (sym old)
+        (subst (λ (s : Side). IsSideWith m was s (k == place)) (sym here) (subst (IsSideWith m was new) (sym test) (side_with m was new took))))
+    | inr far ↦ (
+        let there : slice_index_or (slice_set sides place new) k d ≡ slice_index_or sides k d = get_or-set_other sides place k new d far in
+        let test : (k == place) ≡ false = grind (arith, nat_tests, far) in
+        subst (λ (s : Side). IsSideWith m (slice_index_or sides k d) s (k == place)) (sym there) (subst (IsSideWith m (slice_index_or sides k d) (slice_index_or sides k d)) (sym test) (side_same m (slice_index_or sides k d))))
+  ];
+  first = λ d within. subst (λ (s : Side). IsFirst m s.seen) (get_or_read sides place was lt is d) (new.seen, took.first);
+}
+
+-- what was taken at a place is what the poll brings
+pub takes_at : (r : Option Envelope) (place : ℕ) (waiting : Option Envelope) (sides : List Side) (was new : Side) → waiting ≡ None → place < length sides → was ≡ slice_index_or sides place was → IfSome r (λ m. TookNext m was new)
+    → IfSome r (λ m. Brings place m waiting sides (slice_set sides place new))
+takes_at None place waiting sides was new none lt is took = tt
+takes_at (Some m) place waiting sides was new none lt is took = inr (none, took_at place m sides was new lt is took)
 
 -- places and nodes go with each other
 pub same_other : (own k j place from : ℕ) → IsOther own k j → IsOther own place from → (k == place) ≡ (from == j)
@@ -48,6 +89,21 @@ fetched h new place from (Some m) k b is none some =
       | inl s ↦ (s.1.len, λ i d lt. from_same h (Some m) (slice_index_or h.takes i d) (slice_index_or new i d) (k.takes i d lt).0 s.0 (s.1.each i d lt).0 (s.1.each i d lt).1)
       | inr s ↦ (s.1.len, λ i d lt. from_took h m i place from (slice_index_or h.takes i d) (slice_index_or new i d) (k.takes i d lt).0 s.0 (k.takes i d lt).1 b is (s.1.each i d lt).0 (s.1.each i d lt).1)
     ]
+
+one_place : (own k place j : ℕ) → IsOther own k j → IsOther own place j → k ≡ place
+one_place own k place j a b = grind (arith, a.0, a.1, b.0, b.1)
+
+at_polled : (h : HeldView) (place from : ℕ) (P : List Envelope → Type 0) → IsOther h.run.node place from → from ≡ slice_index h.plans.intake h.turns.intake → ((d : Side) → place < length h.takes → P (slice_index_or h.takes place d).seen) → OfPolled h P
+at_polled h place from P b is all k d lt other =
+    let same : k ≡ place = one_place h.run.node k place from (subst (IsOther h.run.node k) (sym is) other) b in
+    subst (λ (i : ℕ). P (slice_index_or h.takes i d).seen) (sym same) (all d (subst (λ (i : ℕ). i < length h.takes) same lt))
+
+-- a poll finds what it takes
+pub finds : (h : HeldView) (new : List Side) (place from : ℕ) (f : Option Envelope) → IsOther h.run.node place from → from ≡ slice_index h.plans.intake h.turns.intake → IfNone f ((h.waiting ≡ None) × SameSides h.takes new)
+    → IfNone f ((d : Side) → (slice_index_or h.takes place d).seen ≡ []) → IfSome f (λ m. Brings place m h.waiting h.takes new) → Finds h f
+finds h new place from None b is none empty some = (none.0, at_polled h place from (λ seen. seen ≡ []) b is (λ d lt. empty d))
+finds h new place from (Some m) b is none empty some =
+    elim some [ inl s ↦ inl s.0 | inr s ↦ inr (s.0, at_polled h place from (IsFirst m) b is s.1.first) ]
 
 -- once the turn stands, nothing waits
 pub entered : (h n : HeldView) (e : Turn) (f : Option Envelope) (old new : Side) → IsTakeLink h old → IsFetched h f old new → n.run ≡ h.run → n.plans ≡ h.plans → n.history ≡ h.history ++ e ∷ [] → n.waiting ≡ None → e.index ≡ h.turns.intake → Gives (asked_by f) e.entry.what

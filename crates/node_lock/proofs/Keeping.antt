@@ -1,6 +1,6 @@
 -- A turn keeps what is always true.
 use Rattle.std.proofs.Common.{◌≡◌, ℕ, ◌<◌, ◌==◌, Option, Some, None, IsSome, IfOk, IfErr, Result, Ok, Err, Bool, true, false, cond, List, [], ◌∷◌, ◌++◌, length, slice_index, slice_index_or, refl, ap, sym, ◌∙◌, subst, inl, inr, arith, append_assoc}
-use Rattle.std.proofs.lemmas.List.{append-nil, map-append}
+use Rattle.std.proofs.lemmas.List.{append-nil, map-append, length-append}
 use Rattle.wire_msg.specs.Envelope.{Envelope}
 use Rattle.sector_disk.specs.Memory.{Memory, state_of}
 use Rattle.link_ring.specs.Sides.{Side}
@@ -14,15 +14,17 @@ use Rattle.histories.proofs.Growing.{history_goes_on}
 use Rattle.node_lock.specs.declared.run.Run.{Run}
 use Rattle.node_lock.specs.declared.worker.Turns.{Turns}
 use Rattle.node_lock.specs.declared.worker.Worker.{Worker}
+use Rattle.node_lock.specs.declared.worker.Worker.TheVariants.{Intake, Clock, Operator}
 use Rattle.node_lock.specs.Asking.{Asked, IsAsked}
 use Rattle.node_lock.specs.Doing.{Gives, StandsForSome, TurnDid}
 use Rattle.node_lock.specs.Path.{Path}
 use Rattle.node_lock.specs.Planned.{Planned, no_turns, turns_of, with_turn}
-use Rattle.node_lock.specs.Sending.{PutsSome, addressed_to, SameLink, SameSides, TookAt, SentTo, SentOn}
+use Rattle.node_lock.specs.Sending.{PutsSome, addressed_to, SameLink, SameSides, IsFirst, TookAt, SentTo, SentOn}
 use Rattle.node_lock.specs.History.{Turn, IsReplay, PlanStep, entries_of, polled, from_link, listed}
+use Rattle.node_lock.specs.declared.held.TheConstants.{MOST_ENTRIES}
 use Rattle.node_lock.specs.declared.held.HeldFault.{HeldFault}
 use Rattle.node_lock.specs.declared.held.HeldFault.TheVariants.{NoMemory}
-use Rattle.node_lock.specs.HeldView.{HeldView, Kept, IsPutLink, IsTakeLink, IsOther, Takes, Unchanged, Unserved, WaitsSince}
+use Rattle.node_lock.specs.HeldView.{HeldView, Kept, IsPutLink, IsTakeLink, IsOther, OfPolled, Finds, Polls, Takes, Unchanged, Unserved, WaitsSince}
 use Rattle.node_lock.proofs.Carried.{puts_append, addressed-append}
 use Rattle.node_lock.proofs.Telling.{Comes, turn_comes}
 
@@ -89,9 +91,9 @@ gives_in h asked t new k did = (comes_in h asked t new k did).gives
 -- one turn more, and all that goes with it
 pub keeps : (h n : HeldView) (asked : Asked) (e : Turn) → Kept h → n.run ≡ h.run → n.plans ≡ h.plans → n.history ≡ h.history ++ e ∷ [] → n.node.id ≡ h.node.id → n.node.nodes ≡ h.node.nodes → PlanStep h.plans h.turns e n.turns
     → TurnDid h.node asked e.entry.what e.entry.sent n.node → SentOn e.entry.sent h.puts n.puts
-    → length n.takes ≡ length h.takes → ((k : ℕ) (d : Side) → k < length h.takes → IsTakeLink n (slice_index_or n.takes k d) × ((slice_index_or n.takes k d).sender ≡ (slice_index_or h.takes k d).sender)) → (IsSome n.waiting → n.turns.intake < length n.plans.intake)
+    → length n.takes ≡ length h.takes → ((k : ℕ) (d : Side) → k < length h.takes → IsTakeLink n (slice_index_or n.takes k d) × ((slice_index_or n.takes k d).sender ≡ (slice_index_or h.takes k d).sender)) → (IsSome n.waiting → n.turns.intake < length n.plans.intake) → length h.history < MOST_ENTRIES
     → Kept n
-keeps h n asked e k run plans history id nodes plan did sent len takes waiting = record {
+keeps h n asked e k run plans history id nodes plan did sent len takes waiting few = record {
   id = id ∙ (k.id ∙ ap (λ r. r.node) (sym run));
   nodes = nodes ∙ (k.nodes ∙ ap (λ r. r.nodes) (sym run));
   member = rw run k.member;
@@ -111,6 +113,7 @@ keeps h n asked e k run plans history id nodes plan did sent len takes waiting =
       (t.0, subst (IsOther n.run.node i) (sym t.1) other);
   intake = rw (run, plans) k.intake;
   waiting = waiting;
+  few = rw history (let long = length-append h.history (e ∷ []) in omega (arith, long, few));
 }
 
 pub from_nothing : (plan : List ℕ) (j i : ℕ) (ms : List Envelope) → ms ≡ [] → from_link plan j i ms ≡ []
@@ -135,15 +138,29 @@ take_link_past h n e t k run plans history turns waiting none =
 -- one entry more of a worker that doesn't poll
 pub keeps_past : (h n : HeldView) (asked : Asked) (e : Turn) → Kept h → n.run ≡ h.run → n.plans ≡ h.plans → n.history ≡ h.history ++ e ∷ [] → n.node.id ≡ h.node.id → n.node.nodes ≡ h.node.nodes → PlanStep h.plans h.turns e n.turns
     → TurnDid h.node asked e.entry.what e.entry.sent n.node → SentOn e.entry.sent h.puts n.puts
-    → n.takes ≡ h.takes → n.turns.intake ≡ h.turns.intake → n.waiting ≡ h.waiting → brought (event_of e.entry.what) ≡ []
+    → n.takes ≡ h.takes → n.turns.intake ≡ h.turns.intake → n.waiting ≡ h.waiting → brought (event_of e.entry.what) ≡ [] → length h.history < MOST_ENTRIES
     → Kept n
-keeps_past h n asked e k run plans history id nodes plan did sent takes turns waiting none =
+keeps_past h n asked e k run plans history id nodes plan did sent takes turns waiting none few =
     let all : (i : ℕ) (d : Side) → i < length h.takes → IsTakeLink n (slice_index_or n.takes i d) × ((slice_index_or n.takes i d).sender ≡ (slice_index_or h.takes i d).sender) = λ i d lt.
     subst (λ (l : List Side). IsTakeLink n (slice_index_or l i d) × ((slice_index_or l i d).sender ≡ (slice_index_or h.takes i d).sender)) (sym takes) (take_link_past h n e (slice_index_or h.takes i d) (k.takes i d lt).0 run plans history turns waiting none, refl) in
     let still : IsSome n.waiting → n.turns.intake < length n.plans.intake = rw (waiting, turns, plans) k.waiting in
-    keeps h n asked e k run plans history id nodes plan did sent (ap length takes) all still
+    keeps h n asked e k run plans history id nodes plan did sent (ap length takes) all still few
 
 -- room alone was made before the turn
+polled_since : (old mid : HeldView) (P : List Envelope → Type 0) → Unchanged old mid → OfPolled mid P → OfPolled old P
+polled_since old mid P u all k d lt other =
+    subst P (u.takes.each k d lt).2
+    (all k d (let len = u.takes.len in omega (arith, lt, len)) (rw (u.same.run, u.same.plans, u.turns) other))
+
+finds_since : (old mid : HeldView) (found : Option Envelope) → Unchanged old mid → Finds mid found → Finds old found
+finds_since old mid None u f = (sym u.waiting ∙ f.0, polled_since old mid (λ seen. seen ≡ []) u f.1)
+finds_since old mid (Some m) u f = elim f [ inl x ↦ inl (sym u.waiting ∙ x) | inr y ↦ inr (sym u.waiting ∙ y.0, polled_since old mid (IsFirst m) u y.1) ]
+
+polls_since : (old mid : HeldView) (w : Worker) (e : Turn) → Unchanged old mid → Polls mid w e → Polls old w e
+polls_since old mid Intake e u p = (p.0, p.1, finds_since old mid p.0 u p.2)
+polls_since old mid Clock e u p = tt
+polls_since old mid Operator e u p = tt
+
 takes_since : (old mid new : HeldView) (w w' : Worker) (e : Turn) → Unchanged old mid → w' ≡ w → Takes mid w e new → Takes old w' e new
 takes_since old mid new w w' e u is t = record {
   history = t.history ∙ ap (λ l. l ++ e ∷ []) u.history;
@@ -156,6 +173,7 @@ takes_since old mid new w w' e u is t = record {
     turns = t.plan.turns ∙ ap (λ (c : Turns). with_turn c e.worker) u.turns;
   };
   did = subst (λ (n : Node Memory). TurnDid n t.plan.asked e.entry.what e.entry.sent new.node) u.node t.did;
+  polls = subst (λ (x : Worker). Polls old x e) (sym is) (polls_since old mid w e u t.polls);
 }
 
 pub taken_since : {F : Type 0} (old mid new : HeldView) (w w' : Worker) (r : Result Bool F) → Unchanged old mid → w' ≡ w → IfOk r (λ b. (b ≡ true) × ((e : Turn) × Takes mid w e new)) → r ≡ Ok true
@@ -174,7 +192,7 @@ same_sides a b c p q = record {
   each = λ k d lt.
       let one = p.each k d lt in
       let two = q.each k d (let len = p.len in omega (arith, lt, len)) in
-      (same_link (slice_index_or a k d) (slice_index_or b k d) (slice_index_or c k d) one.0 two.0, two.1 ∙ one.1);
+      (same_link (slice_index_or a k d) (slice_index_or b k d) (slice_index_or c k d) one.0 two.0, two.1 ∙ one.1, two.2 ∙ one.2);
 }
 
 took_since : (place : ℕ) (m : Envelope) (a b c : List Side) → SameSides a b → TookAt place m b c → TookAt place m a c
@@ -184,6 +202,7 @@ took_since place m a b c p q = record {
       let one = p.each k d lt in
       let two = q.each k d (let len = p.len in omega (arith, lt, len)) in
       (same_link (slice_index_or a k d) (slice_index_or b k d) (slice_index_or c k d) one.0 two.0, two.1 ∙ ap (λ (ms : List Envelope). ms ++ cond (k == place) (m ∷ []) []) one.1);
+  first = λ d lt. subst (IsFirst m) (p.each place d lt).2 (q.first d (let len = p.len in omega (arith, lt, len)));
 }
 
 waits_since : (a b c : List Side) (before now : Option Envelope) → SameSides a b → WaitsSince b c before now → WaitsSince a c before now

@@ -1,17 +1,20 @@
 -- What a contract sees of what a lock holds, and what is always true of it.
-use Rattle.std.specs.Prelude.{◌≡◌, ◌≢◌, ℕ, ◌+◌, ◌<◌, ◌≤◌, Option, Some, None, List, [], ◌∷◌, ◌++◌, length, slice_index_or, IsSome}
+use Rattle.std.specs.Prelude.{◌≡◌, ◌≢◌, ℕ, ◌+◌, ◌<◌, ◌≤◌, ◌⊎◌, ⊤, Option, Some, None, List, [], ◌∷◌, ◌++◌, length, slice_index, slice_index_or, IsSome}
 use Rattle.wire_msg.specs.Envelope.{Envelope}
 use Rattle.sector_disk.specs.Memory.{Memory}
 use Rattle.link_ring.specs.Sides.{Side}
 use Rattle.durable_node.specs.Node.{Node}
 use Rattle.durable_node.specs.Stepping.{most_by}
 use Rattle.histories.specs.History.{sent_in}
+use Rattle.histories.specs.What.{brought, event_of}
+use Rattle.node_lock.specs.declared.held.TheConstants.{MOST_ENTRIES}
 use Rattle.node_lock.specs.declared.run.Run.{Run}
 use Rattle.node_lock.specs.declared.worker.Turns.{Turns}
 use Rattle.node_lock.specs.declared.worker.Worker.{Worker}
+use Rattle.node_lock.specs.declared.worker.Worker.TheVariants.{Intake, Clock, Operator}
 use Rattle.node_lock.specs.Doing.{TurnDid}
 use Rattle.node_lock.specs.Planned.{Planned}
-use Rattle.node_lock.specs.Sending.{PutsSome, addressed_to, HasRoomFor, SameSides, Brings}
+use Rattle.node_lock.specs.Sending.{PutsSome, addressed_to, HasRoomFor, SameSides, IsFirst, Brings}
 use Rattle.node_lock.specs.History.{Turn, IsReplay, FollowsPlans, PlanStep, entries_of, polled, from_link, listed}
 
 -- the node and its disk, the ends of its links, the plans and the turns that were taken of them, and what came of these; a
@@ -60,6 +63,22 @@ pub record Kept (h : HeldView) : Type 0 where
   pub takes : (k : ℕ) (d : Side) → k < length h.takes → IsTakeLink h (slice_index_or h.takes k d) × IsOther h.run.node k (slice_index_or h.takes k d).sender
   pub intake : (i d : ℕ) → i < length h.plans.intake → IsPolled h.run (slice_index_or h.plans.intake i d)
   pub waiting : IsSome h.waiting → h.turns.intake < length h.plans.intake
+  pub few : length h.history ≤ MOST_ENTRIES
+
+-- so it is of the messages that were seen in the ring of the link that the intake's next turn polls
+abbrev pub OfPolled : HeldView → (List Envelope → Type 0) → Type 0
+OfPolled h P = (k : ℕ) (d : Side) → k < length h.takes → IsOther h.run.node k (slice_index h.plans.intake h.turns.intake) → P (slice_index_or h.takes k d).seen
+
+-- what a poll finds: the message that waits, else the first of those that were seen in the ring; and nothing only where none was
+abbrev pub Finds : HeldView → Option Envelope → Type 0
+Finds h None = (h.waiting ≡ None) × OfPolled h (λ seen. seen ≡ [])
+Finds h (Some m) = (h.waiting ≡ Some m) ⊎ ((h.waiting ≡ None) × OfPolled h (IsFirst m))
+
+-- where a worker polls, what its turn was brought is what its poll found
+abbrev pub Polls : HeldView → Worker → Turn → Type 0
+Polls h Intake t = (found : Option Envelope) × (brought (event_of t.entry.what) ≡ listed found) × Finds h found
+Polls h Clock t = ⊤
+Polls h Operator t = ⊤
 
 -- the worker's next entry was added, and it is just what came of its turn
 pub record Takes (old : HeldView) (by : Worker) (t : Turn) (new : HeldView) : Type 0 where
@@ -67,6 +86,7 @@ pub record Takes (old : HeldView) (by : Worker) (t : Turn) (new : HeldView) : Ty
   pub worker : t.worker ≡ by
   pub plan : PlanStep old.plans old.turns t new.turns
   pub did : TurnDid old.node plan.asked t.entry.what t.entry.sent new.node
+  pub polls : Polls old by t
 
 -- run and plans stay
 pub record SameRun (old new : HeldView) : Type 0 where

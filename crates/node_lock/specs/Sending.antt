@@ -1,6 +1,7 @@
 -- What goes onto the links.
 use Rattle.std.specs.Prelude.{◌≡◌, ℕ, ◌<◌, ◌≤◌, ◌==◌, ◌⊎◌, List, [], ◌∷◌, ◌++◌, length, slice_index_or, if◌then◌else◌, Option, Some, None}
 use Rattle.std.specs.List.{filter}
+use mathlib.Core.List.{IsPrefix}
 use Rattle.wire_msg.specs.Envelope.{Envelope}
 use Rattle.link_ring.specs.Sides.{Side}
 
@@ -37,12 +38,17 @@ HasRoomFor n sides = (k : ℕ) (d : Side) → k < length sides → n ≤ (slice_
 -- the links as before, but for their room
 pub record SameSides (old new : List Side) : Type 0 where
   pub len : length new ≡ length old
-  pub each : (k : ℕ) (d : Side) → k < length old → SameLink (slice_index_or old k d) (slice_index_or new k d) × ((slice_index_or new k d).messages ≡ (slice_index_or old k d).messages)
+  pub each : (k : ℕ) (d : Side) → k < length old → SameLink (slice_index_or old k d) (slice_index_or new k d) × ((slice_index_or new k d).messages ≡ (slice_index_or old k d).messages) × ((slice_index_or new k d).seen ≡ (slice_index_or old k d).seen)
 
--- the message was taken from the link at this place, and nothing else changed
+-- the message is the first of these, where there are any
+abbrev pub IsFirst : Envelope → List Envelope → Type 0
+IsFirst m ms = (later : List Envelope) × IsPrefix ms (m ∷ later)
+
+-- the message was taken from the link at this place, the first of those that were seen in its ring, and nothing else changed
 pub record TookAt (place : ℕ) (m : Envelope) (old new : List Side) : Type 0 where
   pub len : length new ≡ length old
   pub each : (k : ℕ) (d : Side) → k < length old → SameLink (slice_index_or old k d) (slice_index_or new k d) × ((slice_index_or new k d).messages ≡ (slice_index_or old k d).messages ++ (if k == place then m ∷ [] else []))
+  pub first : (d : Side) → place < length old → IsFirst m (slice_index_or old place d).seen
 
 -- the message waited, or was taken from the link at this place
 abbrev pub Brings : ℕ → Envelope → Option Envelope → List Side → List Side → Type 0

@@ -147,6 +147,7 @@ impl Held {
 
     fn next_intake(&mut self) -> Result<bool, HeldFault>
         requires more { self.old.turns.intake < length self.old.plans.intake }
+        requires few { length self.old.history < MOST_ENTRIES }
         requires room { HasRoom self.old }
         ensures plans { SameRun self.old self.new }
         ensures taken { IfOk result (λ b. (b ≡ true) × ((t : Turn) × Takes self.old Intake t self.new)) }
@@ -174,6 +175,7 @@ impl Held {
 
     fn next_clock(&mut self) -> Result<bool, HeldFault>
         requires more { self.old.turns.clock < length self.old.plans.clock }
+        requires few { length self.old.history < MOST_ENTRIES }
         requires room { HasRoom self.old }
         ensures plans { SameRun self.old self.new }
         ensures taken { IfOk result (λ b. (b ≡ true) × ((t : Turn) × Takes self.old Clock t self.new)) }
@@ -190,6 +192,7 @@ impl Held {
 
     fn next_operator(&mut self) -> Result<bool, HeldFault>
         requires more { self.old.turns.operator < length self.old.plans.operator }
+        requires few { length self.old.history < MOST_ENTRIES }
         requires room { HasRoom self.old }
         ensures plans { SameRun self.old self.new }
         ensures taken { IfOk result (λ b. (b ≡ true) × ((t : Turn) × Takes self.old Operator t self.new)) }

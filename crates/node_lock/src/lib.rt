@@ -7,6 +7,7 @@
 
 mod held;
 mod history;
+mod laws;
 mod line;
 mod links;
 mod lock;
@@ -19,6 +20,7 @@ mod worker;
 
 pub use held::{Held, HeldFault, MOST_ENTRIES, Parts};
 pub use history::{Entry, History, Sent};
+pub use laws::limits;
 pub use lock::{Gate, NodeLock, TurnFault};
 pub use order::{Fill, Order, Timer};
 pub use plans::Plans;

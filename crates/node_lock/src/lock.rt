@@ -1,4 +1,8 @@
 // The lock round a node.
+ghost use Rattle.std.specs.Prelude.{◌≡◌, ℕ, Bool, IsTrue, true, false, Err};
+ghost use Rattle.node_lock.specs.declared.worker.Worker.{Worker as Who};
+ghost use Rattle.node_lock.specs.declared.lock.TurnFault.TheVariants.{GateShut};
+
 use crate::held::{Held, HeldFault};
 use crate::worker::Worker;
 use group_task::NodeId;
@@ -6,11 +10,16 @@ use std::sync::{Mutex, Wait};
 
 /// What may hold workers up.
 pub trait Gate: Sync {
+    /// For which worker of which node the gate may shut: any, unless a gate says less.
+    ghost may_shut: { ℕ → Who → Bool } = { λ _ _. true };
+
     /// Called once by each worker, with no lock held. False shuts the gate.
-    fn reach(&self, node: NodeId, worker: Worker) -> bool;
+    fn reach(&self, node: NodeId, worker: Worker) -> bool
+        ensures { result ≡ false → IsTrue (may_shut node worker) };
 
     /// Called before each turn, with the node's lock held. False shuts the gate.
-    fn pass(&self, node: NodeId, worker: Worker, index: u64) -> bool;
+    fn pass(&self, node: NodeId, worker: Worker, index: u64) -> bool
+        ensures { result ≡ false → IsTrue (may_shut node worker) };
 }
 
 /// Why a worker stopped.
@@ -27,13 +36,18 @@ pub enum TurnFault {
 /// A node that workers take turns at.
 #[derive(Drop)]
 pub struct NodeLock {
+    /// Which node of the run it is: known without the lock.
+    pub node: NodeId,
     held: Mutex<Held>,
 }
 
 impl NodeLock {
     /// The lock round this node.
-    pub fn new(held: Held) -> NodeLock {
+    pub fn new(held: Held) -> NodeLock
+        ensures { result.node ≡ held.run.node }
+    {
         NodeLock {
+            node: held.run().node,
             held: Mutex::new(held),
         }
     }
@@ -44,13 +58,15 @@ impl NodeLock {
         rt: &R,
         worker: Worker,
         gate: &G,
-    ) -> Result<bool, TurnFault> {
+    ) -> Result<bool, TurnFault>
+        ensures { result ≡ Err GateShut → IsTrue (G.may_shut self.now.node worker) }
+    {
         let mut guard = self.held.lock(rt);
         let held = &mut *guard;
         if held.is_used_up(worker) {
             return Ok(false);
         }
-        if !gate.pass(held.run().node, worker, held.turns(worker) as u64) {
+        if !gate.pass(self.node, worker, held.turns(worker) as u64) {
             return Err(TurnFault::GateShut);
         }
         match held.next(worker) {
@@ -62,7 +78,7 @@ impl NodeLock {
 
     /// What the lock holds.
     pub fn into_held(self) -> Held {
-        let NodeLock { held } = self;
+        let NodeLock { node: _, held } = self;
         held.into_inner()
     }
 }

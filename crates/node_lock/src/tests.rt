@@ -58,10 +58,16 @@ fn paired(
     Held::new(alloc, run, one(alloc, put)?, one(alloc, take)?, plans)
 }
 
-/// Takes so many turns of a worker, each of which is taken.
+/// Takes so many turns of a worker. One that is refused for want of memory is made again, and then it is taken.
 fn take(rt: &impl Abort, held: &mut Held, worker: Worker, turns: usize) {
     for _ in 0..turns {
-        assert!(rt; held.next(worker) == Ok(true));
+        let mut taken = held.next(worker);
+        for _ in 0..9 {
+            if taken == Err(HeldFault::NoMemory) {
+                taken = held.next(worker);
+            }
+        }
+        assert!(rt; taken == Ok(true));
     }
 }
 
@@ -160,7 +166,14 @@ fn question_and_answer(rt: HostRuntime) -> Result<(), Fail> {
     assert!(rt;
         came(&asker.history, 2, Worker::Intake, 1) == Some(What::Did(Event::Deliver(answer)))
     );
-    assert!(rt; asker.waiting.is_none());
+    // each was taken once, and nothing else was
+    assert!(rt; asker.waiting.is_none() && other.waiting.is_none());
+    for (takes, message) in [(&asker.takes, answer), (&other.takes, question)] {
+        for end in takes.iter() {
+            assert_eq!(rt; end.messages().len(), 1);
+            assert!(rt; end.messages().get(0) == Some(message));
+        }
+    }
     Ok(())
 }
 

@@ -1,9 +1,10 @@
 // One turn at a node.
-ghost use Rattle.std.specs.Prelude.{◌≡◌, ◌≤◌, ◌<◌, IfOk, IfErr, IfNone, IfSome, IsSome, vec_len, length, None};
+ghost use Rattle.std.specs.Prelude.{◌≡◌, ◌≤◌, ◌<◌, [], IfOk, IfErr, IfNone, IfSome, IsSome, vec_len, length, slice_index_or, None};
 ghost use Rattle.durable_node.specs.Stepping.{most_by};
 ghost use Rattle.node_lock.specs.declared.held.HeldFault.TheVariants.{NoMemory};
 ghost use Rattle.node_lock.specs.Asking.{Hand, event_for, asked_in, asked_by};
 ghost use Rattle.node_lock.specs.Doing.{StandsForSome, TurnDid};
+ghost use Rattle.link_ring.specs.Sides.{Side};
 ghost use Rattle.node_lock.specs.Sending.{HasRoomFor, SameSides, Brings};
 
 use crate::held::HeldFault;
@@ -101,6 +102,7 @@ pub(crate) fn fetch(
     requires room { HasRoomFor 1 takes.old.items }
     requires place { place < vec_len takes.old }
     ensures none { IfNone result ((waiting ≡ None) × SameSides takes.old.items takes.new.items) }
+    ensures empty { IfNone result ((d : Side) → (slice_index_or takes.old.items place d).seen ≡ []) }
     ensures some { IfSome result (λ m. Brings place m waiting takes.old.items takes.new.items) }
 {
     match waiting {

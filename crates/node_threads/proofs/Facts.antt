@@ -36,11 +36,11 @@ turn_within p c Operator i x d h t at is Intake = rw is (h Intake)
 turn_within p c Operator i x d h t at is Clock = rw is (h Clock)
 turn_within p c Operator i x d h t at is Operator = let lt = slice_get_within p.operator i t.0 t.1 in rw is (omega (arith, lt, at))
 
-path_within : (p : Planned) (c : Turns) (ts : List Turn) (d : Turns) → ((v : Worker) → turns_of c v ≤ plan_len p v) → Path (PlanStep p) c ts d → (v : Worker) → turns_of d v ≤ plan_len p v
+pub path_within : (p : Planned) (c : Turns) (ts : List Turn) (d : Turns) → ((v : Worker) → turns_of c v ≤ plan_len p v) → Path (PlanStep p) c ts d → (v : Worker) → turns_of d v ≤ plan_len p v
 path_within p c [] d h q v = subst (λ (x : Turns). turns_of x v ≤ plan_len p v) q (h v)
 path_within p c (t ∷ ts) d h q v = path_within p q.0 ts d (turn_within p c t.worker t.index q.1.asked q.0 h q.1.asks q.1.index q.1.turns) q.2 v
 
-none_within : (p : Planned) (v : Worker) → turns_of no_turns v ≤ plan_len p v
+pub none_within : (p : Planned) (v : Worker) → turns_of no_turns v ≤ plan_len p v
 none_within p Intake = omega arith
 none_within p Clock = omega arith
 none_within p Operator = omega arith

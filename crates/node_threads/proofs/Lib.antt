@@ -5,3 +5,4 @@ pub mod Runs
 pub mod Wires
 pub mod Gathers
 pub mod Ending
+pub mod Fitting

@@ -3,3 +3,4 @@ pub mod Wired
 pub mod Ended
 pub mod Links
 pub mod Whole
+pub mod Reasons

@@ -1,19 +1,23 @@
 //! After the run: what the locks give back.
 
-ghost use Rattle.std.specs.Prelude.{◌≡◌, ◌≤◌, IfOk, true, length};
+ghost use Rattle.std.specs.Prelude.{◌≡◌, ◌≤◌, ◌<◌, IfOk, IsTrue, true, length};
 ghost use Rattle.group_task.specs.declared.node.TheConstants.{NODES};
+ghost use Rattle.node_lock.specs.declared.held.TheConstants.{MOST_ENTRIES};
 ghost use Rattle.node_lock.specs.declared.worker.Worker.{Worker};
 ghost use Rattle.node_lock.specs.Planned.{plan_len, turns_of};
 ghost use Rattle.node_threads.specs.Nodes.{run_at};
 ghost use Rattle.node_threads.specs.Ended.{AreEnded, HasEnded};
+ghost use Rattle.node_threads.specs.Reasons.{planned, FirstFit, IsReason};
 
 use crate::ends::Left;
 use crate::fault::ThreadsFault;
 use crate::size::Size;
+use crate::workers::Stopped;
 use group_task::NodeId;
 use link_ring::Unpaired;
-use node_lock::{Held, History, NodeLock, Plans, Run, Worker};
+use node_lock::{Gate, Held, History, MOST_ENTRIES, NodeLock, Plans, Run, TurnFault, Worker};
 use std::alloc::Global;
+use std::vec::IntoIter;
 
 /// What all locks give back: the history of each node, and the ends of its links.
 pub(crate) fn take_all(
@@ -62,4 +66,73 @@ fn is_ended(held: &Held) -> bool
     held.is_used_up(Worker::Intake)
         && held.is_used_up(Worker::Clock)
         && held.is_used_up(Worker::Operator)
+}
+
+/// Why a run wasn't gathered in which this worker was the first that stopped early. What the worker told is compared with what the
+/// locks give back: where these tell otherwise the answer is `Unpaired`.
+pub(crate) fn reason_of<G: Gate + Send>(
+    size: Size,
+    locks: Vec<NodeLock>,
+    plans: &[Plans],
+    stopped: Stopped<G>,
+) -> ThreadsFault
+    requires nodes { (length plans.now ≡ size.nodes) × (size.nodes ≤ NODES) }
+    ensures { IsReason G.may_shut plans.now result }
+{
+    let node = usize::from(stopped.node.number());
+    let mut locks = locks.into_iter();
+    if plans.len() <= node || !have_ended(size, node, &mut locks, plans) {
+        return ThreadsFault::Unpaired;
+    }
+    match stopped.fault {
+        TurnFault::NoMemory => ThreadsFault::NoMemory,
+        TurnFault::GateShut => ThreadsFault::GateShut,
+        TurnFault::HistoryFull => {
+            let run = size.run(stopped.node);
+            let Some(lock) = locks.next() else {
+                return ThreadsFault::Unpaired;
+            };
+            if is_full(lock, run, &plans[node], stopped.worker) {
+                ThreadsFault::Unfinished(stopped.node, stopped.worker)
+            } else {
+                ThreadsFault::Unpaired
+            }
+        }
+    }
+}
+
+/// Whether the workers of each of the first nodes have taken all their turns.
+fn have_ended(size: Size, nodes: usize, locks: &mut IntoIter<NodeLock>, plans: &[Plans]) -> bool
+    requires nodes { (length plans.now ≡ size.nodes) × (size.nodes ≤ NODES) }
+    requires within { nodes ≤ length plans.now }
+    ensures { IsTrue result → FirstFit nodes plans.now }
+{
+    for node in 0..nodes {
+        let Some(lock) = locks.next() else {
+            return false;
+        };
+        let run = size.run(NodeId::numbered(node as u8));
+        let Ok((_history, _ends)) = take_out(lock, run, &plans[node]) else {
+            return false;
+        };
+    }
+    true
+}
+
+/// Whether the lock holds this node of this run, with these plans, its history is full, and this worker has turns left.
+fn is_full(lock: NodeLock, run: Run, plan: &Plans, worker: Worker) -> bool
+    ensures { IsTrue result → (MOST_ENTRIES < planned plan.now) × (0 < plan_len plan.now worker) }
+{
+    let held = lock.into_held();
+    if held.run() != run {
+        return false;
+    }
+    if held.is_used_up(worker) {
+        return false;
+    }
+    let parts = held.into_parts();
+    if parts.history.len() < MOST_ENTRIES {
+        return false;
+    }
+    parts.plans.is_same(plan)
 }

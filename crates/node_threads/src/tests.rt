@@ -1,9 +1,13 @@
 //! Whole runs, on real threads.
 
-ghost use Rattle.std.specs.Prelude.{◌≡◌, ◌<◌, ◌≤◌, IfSome, length};
+ghost use Rattle.std.specs.Prelude.{◌≡◌, ◌<◌, ◌≤◌, false, IfSome, length};
 ghost use Rattle.group_task.specs.declared.node.TheConstants.{NODES};
 ghost use Rattle.node_threads.specs.Nodes.{PollOthers};
 
+use super::ended::take_all;
+use super::ends::Left;
+use super::gathering::gather_links;
+use super::wiring::{lock_nodes, wire};
 use super::*;
 use crossbeam_utils::CachePadded;
 use durable_node::{Came, DurableNode};
@@ -11,7 +15,7 @@ use group_task::{NODES, NodeId};
 use histories::{Rest, What};
 use job_model::{Payload, Queue, Work};
 use node_core::Event;
-use node_lock::{Fill, Gate, History, MOST_ENTRIES, Order, Plans, Timer, Worker};
+use node_lock::{Fill, Gate, History, MOST_ENTRIES, NodeLock, Order, Plans, Timer, Worker};
 use sector_disk::MemDisk;
 use std::alloc::{AllocError, Global};
 use std::process::Abort;
@@ -40,7 +44,7 @@ fn size_for(plans: &[Plans], slots: u64, capacity: usize) -> Option<Size>
 }
 
 /// A run on disks of four slots, with room for four messages on each link.
-fn run<R: Threads + Wait + Sync, G: Gate>(
+fn run<R: Threads + Wait + Sync, G: Gate + Send>(
     rt: &R,
     alloc: Global,
     plans: &[Plans],
@@ -219,6 +223,8 @@ fn poll_finds_what_was_put(rt: HostRuntime) -> Result<(), Fail> {
 struct Open;
 
 impl Gate for Open {
+    ghost may_shut = { λ _ _. false };
+
     fn reach(&self, _node: NodeId, _worker: Worker) -> bool {
         true
     }
@@ -303,6 +309,117 @@ fn first_of_two_reasons(rt: HostRuntime) -> Result<(), Fail> {
     )?
     .err();
     assert!(rt; fault == Some(ThreadsFault::GateShut));
+    Ok(())
+}
+
+// ---- what was mixed up
+
+/// The plans of two nodes: the first polls so often, and then the second asks once and polls once.
+fn asking(alloc: Global, polls: usize) -> Result<Vec<Plans>, AllocError> {
+    let first = vec![in alloc; NodeId::numbered(1); polls]?;
+    let second = vec![in alloc; NodeId::numbered(0); 1]?;
+    let clock = vec![in alloc; Timer::Check; 1]?;
+    let mut plans = Vec::new(alloc);
+    plans.push(Plans::new(first, Vec::new(alloc), Vec::new(alloc)))?;
+    plans.push(Plans::new(second, clock, Vec::new(alloc)))?;
+    Ok(plans)
+}
+
+/// The locks of a run of these plans, once these turns were taken in this order.
+fn locks_after(
+    rt: &(impl Abort + Wait),
+    alloc: Global,
+    size: Size,
+    plans: &[Plans],
+    turns: &[(usize, Worker)],
+) -> Result<Vec<NodeLock>, AllocError>
+    requires nodes { (length plans.now ≡ size.nodes) × (size.nodes ≤ NODES) }
+    requires slots { (4 ≤ size.slots) × (size.slots ≤ 4096) }
+    requires polls { PollOthers plans.now }
+{
+    let ends = wire(alloc, size.nodes, size.capacity)?;
+    let locks = lock_nodes(alloc, size, ends, plans)?;
+    for (node, worker) in turns {
+        let taken = locks.get(*node).map(|lock| lock.turn(rt, *worker, &Open));
+        assert!(rt; taken == Some(Ok(true)));
+    }
+    Ok(locks)
+}
+
+const ASKED: [(usize, Worker); 3] = [(1, Worker::Clock), (0, Worker::Intake), (1, Worker::Intake)];
+
+// Of two links from node 0 to node 1 the one carried a question, which wasn't taken, and the other an answer, which was.
+#[test]
+fn ends_of_two_runs(rt: HostRuntime) -> Result<(), Fail> {
+    let alloc = rt.alloc();
+    let checks = checking(alloc, 2, 1)?;
+    let asks = asking(alloc, 1)?;
+    let both = [(0, Worker::Clock), (1, Worker::Clock)];
+    for (is_mixed, fault) in [(false, None), (true, Some(ThreadsFault::Unpaired))] {
+        let size = size_for(&checks, 4, 4).ok_or("plans of a run")?;
+        let locks = locks_after(&rt, alloc, size, &checks, &both)?;
+        let (_, checked) = take_all(alloc, size, locks, &checks).ok().ok_or("ended")?;
+        let size = size_for(&asks, 4, 4).ok_or("plans of a run")?;
+        let locks = locks_after(&rt, alloc, size, &asks, &ASKED)?;
+        let (histories, asked) = take_all(alloc, size, locks, &asks).ok().ok_or("ended")?;
+        let told = histories.iter().last().and_then(|history| history.entry(1));
+        let event = told.and_then(|entry| event_in(entry.what));
+        assert!(rt; matches!(event, Some(Event::Deliver(_))));
+        let mut checked = checked.into_iter();
+        let mut asked = asked.into_iter();
+        let first = asked.next();
+        let from = if is_mixed { checked.next() } else { first };
+        let mut left: Vec<Left> = Vec::new(alloc);
+        left.push(from.ok_or("the ends of node 0")?)?;
+        left.push(asked.next().ok_or("the ends of node 1")?)?;
+        assert!(rt; gather_links(alloc, left).err() == fault);
+    }
+    Ok(())
+}
+
+#[test]
+fn locks_of_another_run(rt: HostRuntime) -> Result<(), Fail> {
+    let alloc = rt.alloc();
+    let plans = asking(alloc, 1)?;
+    let size = size_for(&plans, 4, 4).ok_or("plans of a run")?;
+    let others = asking(alloc, 2)?;
+    let size_of_others = size_for(&others, 4, 4).ok_or("plans of a run")?;
+    let larger = size_for(&plans, 5, 4).ok_or("plans of a run")?;
+    for (expected, wanted, turns, is_whole) in [
+        (size, &plans, 3, true),
+        // a plan with a turn left, other plans, and another size
+        (size, &plans, 2, false),
+        (size_of_others, &others, 3, false),
+        (larger, &plans, 3, false),
+    ] {
+        let locks = locks_after(&rt, alloc, size, &plans, &ASKED[..turns])?;
+        let fault = take_all(alloc, expected, locks, wanted).err();
+        assert!(rt;
+            fault
+                == if is_whole {
+                    None
+                } else {
+                    Some(ThreadsFault::Unpaired)
+                }
+        );
+    }
+    Ok(())
+}
+
+// Each of 65,536 checks asks 63 nodes.
+#[test]
+fn longest_history_in_a_large_cluster(rt: HostRuntime) -> Result<(), Fail> {
+    let alloc = rt.alloc();
+    let mut plans = checking(alloc, 64, 0)?;
+    if let Some(first) = plans.first_mut() {
+        *first = checks(alloc, MOST_ENTRIES)?;
+    }
+    let whole = run(&rt, alloc, &plans, &Open)?.ok().ok_or("a whole run")?;
+    let history = whole.histories.iter().next().ok_or("a history")?;
+    assert_eq!(rt; history.len(), 65_536);
+    let last = history.entry(65_535).ok_or("an entry")?;
+    assert_eq!(rt; last.sent.len(), 63);
+    assert_eq!(rt; whole.links.len(), 64 * 63);
     Ok(())
 }
 

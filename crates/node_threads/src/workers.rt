@@ -1,12 +1,12 @@
 //! The threads.
 
-ghost use Rattle.std.specs.Prelude.{◌≡◌, ◌≤◌, ◌<◌, ◌*◌, length};
-ghost use Rattle.group_task.specs.declared.node.TheConstants.{NODES};
+ghost use Rattle.std.specs.Prelude.{◌≡◌, ◌<◌, ◌*◌, IsTrue, length};
+ghost use Rattle.node_lock.specs.declared.lock.TurnFault.TheVariants.{GateShut};
 
-use crate::fault::ThreadsFault;
 use group_task::NodeId;
 use node_lock::{Gate, NodeLock, TurnFault, Worker};
-use std::alloc::Global;
+use std::alloc::{AllocError, Global};
+use std::marker::PhantomData;
 use std::sync::Wait;
 use std::thread;
 use std::thread::Threads;
@@ -14,11 +14,14 @@ use std::thread::Threads;
 /// The workers of one node.
 const WORKERS: usize = 3;
 
-/// The node of the worker at this place: the three of the first node, then the three of the second and so on.
-fn node_at(place: usize) -> NodeId
-    requires { place < 3 * NODES }
-{
-    NodeId::numbered((place / WORKERS) as u8)
+/// A worker that stopped before its plan was used up, and why. Where the gate shut, it is one that may shut for this worker.
+#[derive(Drop)]
+pub(crate) struct Stopped<G: Gate> {
+    pub(crate) node: NodeId,
+    pub(crate) worker: Worker,
+    pub(crate) fault: TurnFault,
+    by: PhantomData<G>,
+    ghost shut: { fault ≡ GateShut → IsTrue (G.may_shut node worker) },
 }
 
 fn worker_at(place: usize) -> Worker {
@@ -30,77 +33,87 @@ fn worker_at(place: usize) -> Worker {
 }
 
 /// Takes the worker's turns until its plan is used up.
-fn work<R: Wait, G: Gate>(
+fn work<R: Wait, G: Gate + Send>(
     rt: &R,
     locks: &[NodeLock],
     place: usize,
     gate: &G,
-) -> Result<(), TurnFault>
-    requires { (place < 3 * length locks.now) × (length locks.now ≤ NODES) }
+) -> Result<(), Stopped<G>>
+    requires { place < 3 * length locks.now }
 {
     let worker = worker_at(place);
-    if !gate.reach(node_at(place), worker) {
-        return Err(TurnFault::GateShut);
-    }
     let lock = &locks[place / WORKERS];
+    let node = lock.node;
+    if !gate.reach(node, worker) {
+        return Err(Stopped {
+            node,
+            worker,
+            fault: TurnFault::GateShut,
+            by: PhantomData,
+        });
+    }
     for _ in rt.forever() {
-        if !lock.turn(rt, worker, gate)? {
-            return Ok(());
+        match lock.turn(rt, worker, gate) {
+            Ok(true) => {}
+            Ok(false) => return Ok(()),
+            Err(fault) => {
+                return Err(Stopped {
+                    node,
+                    worker,
+                    fault,
+                    by: PhantomData,
+                });
+            }
         }
     }
     unreachable!()
 }
 
-/// Runs all workers, each in a thread of its own. Of those that stopped early the first one's reason counts.
-pub(crate) fn run_workers<R: Threads + Wait + Sync, G: Gate>(
+/// Runs all workers, each in a thread of its own. Of those that stopped early the first one counts.
+pub(crate) fn run_workers<R: Threads + Wait + Sync, G: Gate + Send>(
     rt: &R,
     alloc: Global,
     locks: &[NodeLock],
     gate: &G,
-) -> Result<(), ThreadsFault>
-    requires { length locks.now ≤ NODES }
-{
+) -> Result<Option<Stopped<G>>, AllocError> {
     thread::scope(
         thread::scope_env(),
         rt,
-        move |scope| -> Result<(), ThreadsFault>
-            requires { length locks.now ≤ NODES }
-        {
+        move |scope| -> Result<Option<Stopped<G>>, AllocError> {
             let mut threads = Vec::new(alloc);
             threads.reserve(WORKERS * locks.len())?;
             for place in 0..WORKERS * locks.len() {
                 let started = scope.spawn(
-                    move || -> Result<(), TurnFault>
-                        requires { (place < 3 * length locks.now) × (length locks.now ≤ NODES) }
+                    move || -> Result<(), Stopped<G>>
+                        requires { place < 3 * length locks.now }
                     { work(rt, locks, place, gate) },
                 );
-                if threads.push(started.ok()).is_err() {
-                    return Err(ThreadsFault::NoMemory);
-                }
+                threads.push(started.ok())?;
             }
-            let mut first = Ok(());
+            let mut first = None;
             let mut threads = threads.into_iter();
             for place in 0..WORKERS * locks.len() {
                 let ended = match threads.next() {
                     Some(Some(thread)) => thread.join(rt),
-                    _ => Err(TurnFault::NoMemory),
+                    _ => Err(unstarted(locks, place)),
                 };
-                if let (Ok(()), Err(fault)) = (first, ended) {
-                    first = Err(fault_of(place, fault));
+                if let (None, Err(stopped)) = (&first, ended) {
+                    first = Some(stopped);
                 }
             }
-            first
+            Ok(first)
         },
     )
 }
 
-/// Why the run of a worker that stopped is not gathered.
-fn fault_of(place: usize, fault: TurnFault) -> ThreadsFault
-    requires { place < 3 * NODES }
+/// A worker whose thread couldn't be made.
+fn unstarted<G: Gate + Send>(locks: &[NodeLock], place: usize) -> Stopped<G>
+    requires { place < 3 * length locks.now }
 {
-    match fault {
-        TurnFault::GateShut => ThreadsFault::GateShut,
-        TurnFault::HistoryFull => ThreadsFault::Unfinished(node_at(place), worker_at(place)),
-        TurnFault::NoMemory => ThreadsFault::NoMemory,
+    Stopped {
+        node: locks[place / WORKERS].node,
+        worker: worker_at(place),
+        fault: TurnFault::NoMemory,
+        by: PhantomData,
     }
 }

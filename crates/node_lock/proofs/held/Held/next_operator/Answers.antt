@@ -2,6 +2,7 @@ use Rattle.std.proofs.Common.{◌<◌, List, [], ◌∷◌, ◌++◌, Some, leng
 use Rattle.std.proofs.lemmas.Option.{slice_get-get_or}
 use Rattle.wire_msg.specs.Envelope.{Envelope}
 use Rattle.node_lock.specs.declared.worker.Worker.TheVariants.{Operator}
+use Rattle.node_lock.specs.declared.held.TheConstants.{MOST_ENTRIES}
 use Rattle.node_lock.specs.Asking.{asked_in}
 use Rattle.node_lock.specs.Planned.{with_turn}
 use Rattle.node_lock.specs.Sending.{SentOn}
@@ -16,13 +17,14 @@ invariant_of-self-2 c =
     let h = c.self.inside in
     let e : Turn = record { worker = Operator; index = h.turns.operator; entry = record { what = c.in_ok-what.what; sent = c.in_ok-what.sent.items } } in
     let more : h.turns.operator < length h.plans.operator = subst (λ (v : HeldView). v.turns.operator < length v.plans.operator) (sym c.self.view_is) c.requires.more in
+    let few : length h.history.turns < MOST_ENTRIES = subst (λ (v : HeldView). length v.history < MOST_ENTRIES) (sym c.self.view_is) c.requires.few in
     let order = c.index-operator-index.result in
     let got = slice_get-get_or h.plans.operator h.turns.operator order more ∙ ap (λ o. Some o) (ap (λ l. get_or l h.turns.operator order) (sym c.operator.ensures) ∙ sym c.index-operator-index.is) in
     let did = c.in_ok-what.ensures.did in
     let added = c.push.ensures ∙ ap (λ (l : List Envelope). h.history.turns ++ (record { worker = Operator; index = h.turns.operator; entry = record { what = c.in_ok-what.what; sent = l } }) ∷ []) c.deref-2.ensures.value in
     let plan : PlanStep h.plans h.turns e (with_turn h.turns Operator) = record { asked = asked_in order; asks = (order, got, refl); gives = gives_in _ (asked_in order) e _ c.self.invariant did; index = refl; turns = refl } in
     let on = subst (λ (l : List Envelope). SentOn l h.puts.items c.send_all.new.puts.items) c.deref.ensures.value c.send_all.ensures in
-    keeps_past _ _ (asked_in order) e c.self.invariant refl refl added c.in_ok-what.ensures.id c.in_ok-what.ensures.nodes plan did on refl refl refl (none_of_order order e.entry.what plan.gives)
+    keeps_past _ _ (asked_in order) e c.self.invariant refl refl added c.in_ok-what.ensures.id c.in_ok-what.ensures.nodes plan did on refl refl refl (none_of_order order e.entry.what plan.gives) few
 
 pub returns-clause-taken : goal.returns-clause-taken
 returns-clause-taken c =
@@ -34,4 +36,4 @@ returns-clause-taken c =
     let did = c.in_ok-what.ensures.did in
     let added = c.push.ensures ∙ ap (λ (l : List Envelope). h.history.turns ++ (record { worker = Operator; index = h.turns.operator; entry = record { what = c.in_ok-what.what; sent = l } }) ∷ []) c.deref-2.ensures.value in
     let plan : PlanStep h.plans h.turns e (with_turn h.turns Operator) = record { asked = asked_in order; asks = (order, got, refl); gives = gives_in _ (asked_in order) e _ c.self.invariant did; index = refl; turns = refl } in
-    rw (← c.self.view_is) (refl, (e, record { history = added; worker = refl; plan = plan; did = did }))
+    rw (← c.self.view_is) (refl, (e, record { history = added; worker = refl; plan = plan; did = did; polls = tt }))
