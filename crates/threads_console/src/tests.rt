@@ -1,8 +1,7 @@
 use super::{read_plans, threads};
-use console_text::{Source, push_number, push_text};
-use line_words::LineFault;
-use node_lock::{Order, Timer};
-use std::alloc::{AllocError, Global};
+use console_text::{Source, push_text};
+use node_lock::Timer;
+use std::alloc::Global;
 use std::process::Abort;
 use std::sync::Wait;
 use std::test::Fail;
@@ -92,5 +91,42 @@ fn lines_that_are_no_turns(rt: HostRuntime) -> Result<(), Fail> {
         push_text(&mut want, number)?;
         expect(&rt, alloc, plans.as_bytes(), &want);
     }
+    Ok(())
+}
+
+// What the answer is depends on who looks first; the entries are three, and an order of them is a run.
+#[test]
+fn a_question_is_a_run(rt: HostRuntime) -> Result<(), Fail> {
+    let alloc = rt.alloc();
+    let plans = b"cluster 2 8\nlinks 8\n0 clock check\n1 intake 0\n0 intake 1\n".as_slice();
+    let mut output = Vec::new(alloc);
+    let ending = threads(&rt, alloc, &mut Source::new(plans), &mut output);
+    assert_eq!(rt; ending.status(), 0);
+    let trace = read(alloc, &output).or(Err("a trace"))?;
+    assert_eq!(rt; trace.histories().len(), 2);
+    assert_eq!(rt; trace.histories()[0].len(), 2);
+    assert_eq!(rt; trace.histories()[1].len(), 1);
+    assert!(rt; matches!(check(alloc, &trace)?, Verdict::Run(_)));
+    Ok(())
+}
+
+#[test]
+fn plans_are_read(rt: HostRuntime) -> Result<(), Fail> {
+    let alloc = rt.alloc();
+    let input =
+        b"cluster 3 9\nlinks 7\n2 clock ready\n0 intake 2\n2 operator recover\n2 clock merge\n";
+    let setup = read_plans(alloc, input.as_slice()).or(Err("plans"))?;
+    assert_eq!(rt;
+        (setup.size.nodes, setup.size.slots, setup.size.capacity),
+        (3, 9, 7)
+    );
+    assert_eq!(rt; setup.plans.len(), 3);
+    assert_eq!(rt; setup.plans[0].intake().len(), 1);
+    assert_eq!(rt; setup.plans[1].clock().len(), 0);
+    assert_eq!(rt;
+        setup.plans[2].clock(),
+        [Timer::Ready, Timer::Merge].as_slice()
+    );
+    assert_eq!(rt; setup.plans[2].operator().len(), 1);
     Ok(())
 }
