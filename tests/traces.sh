@@ -1,5 +1,6 @@
 #!/usr/bin/env bash
-# Each schedule of the folder schedules is recorded, and its trace judged: it has to be a run, since a cluster ran it. Spoiled, it is none.
+# Each schedule of the folder schedules is recorded, and the plans of the folder plans and a storm are run in threads; each trace is judged: it
+# has to be a run, since a cluster ran it. Spoiled, it is none.
 # Called with the program, as in: tests/traces.sh crates/invite/out/invite. Its last line counts the checks.
 set -u
 program=$(readlink -f "$1")
@@ -25,26 +26,73 @@ tell() {
     fi
 }
 
-for schedule in schedules/*.txt; do
-    name=$(basename "$schedule" .txt)
-    trace=$room/$name.json
-    problem=''
-    "$program" record <"$schedule" >"$trace" || problem='it is not recorded'
+# judge COMMAND INPUT NAME: what the command prints for this input is the trace of a run, and no run once a first message is one that nobody sent
+judge() {
+    local command=$1 input=$2 name=$3 trace=$room/$1-$3.json problem='' entries turns
+    "$program" "$command" <"$input" >"$trace" || problem="$command gives no trace"
     "$program" trace <"$trace" >"$room/verdict" || problem='its trace is no run'
     grep -qE '^Run( [0-9]+)*$' "$room/verdict" || problem='its verdict is no order'
     # As many turns as entries.
     entries=$(grep -o '"do":' "$trace" | wc -l)
     turns=$(($(wc -w <"$room/verdict") - 1))
     [ "$entries" -eq "$turns" ] || problem="$entries entries in $turns turns"
-    tell "$problem" "$name"
-    # A first message that nobody sent.
+    tell "$problem" "$command $name"
     problem=''
     sed 's/"sent":\["[0-9a-f]*"/"sent":["010100010000"/' "$trace" >"$room/spoiled"
     if ! cmp -s "$trace" "$room/spoiled"; then
         "$program" trace <"$room/spoiled" >"$room/verdict" && problem='it is a run without its first message'
-        tell "$problem" "$name"
+        tell "$problem" "$command $name, spoiled"
     fi
+}
+
+for schedule in schedules/*.txt; do
+    judge record "$schedule" "$(basename "$schedule" .txt)"
 done
+
+# has MANY NAME: the trace of these plans has so many entries: one for each line behind the first two, but for empty ones
+has() {
+    local problem='' entries
+    entries=$(grep -o '"do":' "$room/threads-$2.json" | wc -l)
+    [ "$entries" -eq "$1" ] || problem="$entries entries in place of $1"
+    tell "$problem" "entries of $2"
+}
+
+for plans in plans/*.txt; do
+    name=$(basename "$plans" .txt)
+    judge threads "$plans" "$name"
+    has "$(($(grep -c . "$plans") - 2))" "$name"
+done
+
+# A storm: 8 nodes, of which each polls, fires timers, submits, crashes and recovers in 300 rounds.
+awk 'BEGIN {
+    print "cluster 8 64\nlinks 16"
+    split("check merge accept ready coord dispatch", timers)
+    for (round = 0; round < 300; round++)
+        for (node = 0; node < 8; node++) {
+            for (poll = 1; poll < 8; poll++) print node, "intake", (node + poll) % 8
+            print node, "clock", timers[(round + node) % 6 + 1]
+            if (round % 7 == 3) print node, "operator submit", (round + node) % 16, "6869", 1 + round % 255
+            else if (round % 11 == 5) print node, "operator arm", round % 6
+            else if (round % 31 == 12 + node) print node, "operator crash a5"
+            else if (round % 13 == 8) print node, "operator finish", (node + round) % 8, int(round / 13)
+            else print node, "operator recover"
+        }
+}' >"$room/storm.txt"
+judge threads "$room/storm.txt" storm
+has "$((300 * 8 * 9))" storm
+
+# unread NUMBER TEXT: the line of this number can't be read
+unread() {
+    local problem=''
+    printf "$2" | "$program" threads >"$room/out" && problem='it ends well'
+    [ "$(cat "$room/out")" = "bad line $1" ] || problem="it prints $(head -c 200 "$room/out") in place of bad line $1"
+    tell "$problem" "bad line $1"
+}
+unread 1 ''
+unread 3 'cluster 2 8\n\n'
+unread 2 'cluster 2 8\nlinks 0\n'
+unread 5 'cluster 2 8\nlinks 8\n\n0 clock check\n0 intake 0\n1 intake 7\n'
+unread 4 'cluster 2 8\nlinks 8\n1 operator crash\n1 operator crash 0\n'
 
 echo "$passed passed, $failed failed"
 [ "$failed" -eq 0 ] && [ "$passed" -gt 0 ]

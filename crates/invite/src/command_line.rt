@@ -24,7 +24,8 @@ pub fn command<'a>(alloc: Global) -> Result<Command<'a>, AllocError> {
         .subcommand(format_command(alloc)?)?
         .subcommand(node_command(alloc)?)?
         .subcommand(trace_command(alloc))?
-        .subcommand(record_command(alloc))
+        .subcommand(record_command(alloc))?
+        .subcommand(threads_command(alloc))
 }
 
 fn answer_command<'a>(alloc: Global) -> Result<Command<'a>, AllocError> {
@@ -124,6 +125,14 @@ fn record_command<'a>(alloc: Global) -> Command<'a> {
         .about("Reads a schedule, runs it on a simulated cluster, and prints its trace")
         .after_help(
             "The trace is what trace reads: the nodes' histories as JSON, in one line (docs/TRACES.md).\n\nExample: invite record < schedules/partition_heals.txt",
+        )
+}
+
+fn threads_command<'a>(alloc: Global) -> Command<'a> {
+    Command::new(alloc, "threads")
+        .about("Reads plans, runs them on nodes in threads, and prints the trace of that run")
+        .after_help(
+            "The first line is cluster NODES SLOTS, the second links CAPACITY, each other one a turn of a worker, such as 0 clock check, 1 intake 0 or 0 operator crash (docs/THREADS.md). The trace is what trace reads, in one line.\n\nExample: invite threads < plans/question.txt",
         )
 }
 

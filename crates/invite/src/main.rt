@@ -1,5 +1,5 @@
-//! The program `invite`: its command line. The commands themselves are those of `invite_console`, `store_console`, `node_console` and
-//! `trace_console`, over standard input and output.
+//! The program `invite`: its command line. The commands themselves are those of `invite_console`, `store_console`, `node_console`,
+//! `trace_console`, `run_trace` and `threads_console`, over standard input and output.
 #![tactic(auto)]
 
 mod asking;
@@ -18,13 +18,15 @@ use std::fs::File;
 use std::io;
 use std::io::ErrorKind;
 use std::process::ExitCode;
+use std::sync::Wait;
+use std::thread::Threads;
 use task::{Batch, Making, Place, Task};
 
 /// The exit status of a command line that can't be read.
 const UNREADABLE: u8 = 2;
 
 fn main(rt: HostRuntime) -> ExitCode {
-    match run(&rt) {
+    match run(&rt, &rt) {
         Ok(status) => ExitCode::from(status),
         Err(error) => failed(&rt, &error),
     }
@@ -42,7 +44,7 @@ fn failed(rt: &HostRuntime, error: &io::Error) -> ExitCode {
 }
 
 /// Runs the command, and answers its exit status. The command line is judged before any input is read.
-fn run(rt: &HostRuntime) -> io::Result<u8> {
+fn run<T: Threads + Wait + Sync>(rt: &HostRuntime, threads: &T) -> io::Result<u8> {
     let _held = [null(rt)?, null(rt)?, null(rt)?];
     let Some(words) = words(rt)? else {
         return Ok(UNREADABLE);
@@ -51,7 +53,7 @@ fn run(rt: &HostRuntime) -> io::Result<u8> {
         return Ok(UNREADABLE);
     };
     match task {
-        Task::Batch(batch) => Ok(carry_out(rt, &batch)),
+        Task::Batch(batch) => Ok(carry_out(rt, threads, &batch)),
         Task::Format(path, making) => format(rt, path.as_str(), &making),
         Task::Node(path, place) => node(rt, path.as_str(), place),
     }
@@ -78,10 +80,10 @@ fn words(rt: &HostRuntime) -> io::Result<Option<Vec<String>>> {
 }
 
 /// Runs a command over standard input and output, and answers the exit status. Where it didn't end well, says why on standard error.
-fn carry_out(rt: &HostRuntime, batch: &Batch) -> u8 {
+fn carry_out<T: Threads + Wait + Sync>(rt: &HostRuntime, threads: &T, batch: &Batch) -> u8 {
     let mut input = Source::new(rt.stdin());
     let mut output = Sink::new(rt.stdout());
-    let performed = perform(rt, rt.alloc(), batch, &mut input, &mut output);
+    let performed = perform(rt, threads, rt.alloc(), batch, &mut input, &mut output);
     let status = performed.status;
     if let Some(reason) = reason_of(performed, input.fault(), output.fault()) {
         let _ = explain(rt, reason);
@@ -169,7 +171,7 @@ fn hint(rt: &HostRuntime, words: &[String]) -> io::Result<()> {
         return Ok(());
     }
     let name = words[1].as_str();
-    if matches!(name, "show" | "sim" | "trace" | "record") {
+    if matches!(name, "show" | "sim" | "trace" | "record" | "threads") {
         println!(rt; "\n{name} reads standard input, as in: invite {name} < FILE")?;
     }
     Ok(())

@@ -8,6 +8,8 @@ use console_text::{Ended, Source};
 use std::alloc::Global;
 use std::fs::{File, Files};
 use std::io::{Read, Write};
+use std::sync::Wait;
+use std::thread::Threads;
 
 /// How a command ended, and the exit status of the program.
 #[derive(Drop)]
@@ -17,8 +19,9 @@ pub struct Performed {
 }
 
 /// Runs a command over an input and an output.
-pub fn perform<R: Read, W: Write>(
+pub fn perform<T: Threads + Wait + Sync, R: Read, W: Write>(
     rt: &impl Files<File = File>,
+    threads: &T,
     alloc: Global,
     batch: &Batch,
     input: &mut Source<R>,
@@ -29,13 +32,14 @@ pub fn perform<R: Read, W: Write>(
     ensures status { result.status ≡ status_of result.ended.ending }
     ensures reads { input.old.left ≤ input.new.left + 16777216 }
 {
-    let ended = carry_out(rt, alloc, batch, input, output);
+    let ended = carry_out(rt, threads, alloc, batch, input, output);
     let status = ended.ending.status();
     Performed { ended, status }
 }
 
-fn carry_out<R: Read, W: Write>(
+fn carry_out<T: Threads + Wait + Sync, R: Read, W: Write>(
     rt: &impl Files<File = File>,
+    threads: &T,
     alloc: Global,
     batch: &Batch,
     input: &mut Source<R>,
@@ -57,5 +61,9 @@ fn carry_out<R: Read, W: Write>(
             why: Vec::new(alloc),
         },
         Batch::Record => invite_console::record(alloc, input, output),
+        Batch::Threads => Ended {
+            ending: threads_console::threads(threads, alloc, input, output),
+            why: Vec::new(alloc),
+        },
     }
 }

@@ -1,0 +1,16 @@
+use Rattle.std.proofs.Common.{◌≡◌, length, replicate}
+use Rattle.node_threads.specs.Nodes.{PollOthers}
+use Rattle.threads_console.specs.Planning.{no_plans}
+use Rattle.threads_console.specs.Scripts.{turns_of}
+use Rattle.threads_console.proofs.Filling.{filled}
+use Rattle.threads_console.proofs.reading.read_turns.Given as goal
+
+abbrev pub invariant-loop-number : goal.invariant-loop-number
+invariant-loop-number l = record {
+  count : length l.drafts.items ≡ l.nodes;
+  told : filled l.drafts.items (turns_of l.nodes l.lines.lines) ≡ filled (replicate l.nodes no_plans) (turns_of l.nodes l.fn.lines.lines);
+  polls : PollOthers l.drafts.items;
+}
+
+abbrev pub decreases-loop-number : goal.decreases-loop-number
+decreases-loop-number l = length l.lines.lines

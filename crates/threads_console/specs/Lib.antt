@@ -1,0 +1,6 @@
+pub mod Lines
+pub mod Turns
+pub mod Planning
+pub mod Scripts
+pub mod Told
+pub mod Printed

@@ -1,0 +1,51 @@
+-- The text of the command `threads`.
+use Rattle.std.specs.Prelude.{◌≡◌, ◌⊎◌, ℕ, List, ◌++◌, codes, decimal, Result, Ok, Err, true}
+use Rattle.serde_json.specs.Written.{compact_text}
+use Rattle.console_text.specs.Ends.{Outcome, line, refused}
+use Rattle.link_ring.specs.declared.gathering.LinkEnd.{LinkEnd}
+use Rattle.node_lock.specs.declared.worker.Worker.{Worker}
+use Rattle.node_lock.specs.declared.worker.Worker.TheVariants.{Intake, Clock, Operator}
+use Rattle.node_lock.specs.Kept.{Log}
+use Rattle.node_lock.specs.Planned.{Planned}
+use Rattle.node_threads.specs.declared.fault.ThreadsFault.{ThreadsFault}
+use Rattle.node_threads.specs.declared.fault.ThreadsFault.TheVariants.{GateShut, Unfinished, NoMemory, Unpaired}
+use Rattle.node_threads.specs.declared.size.Size.{Size}
+use Rattle.node_threads.specs.Whole.{IsWhole}
+use Rattle.trace_text.specs.Written.{trace_data}
+use Rattle.threads_console.specs.Planning.{ArePlanned}
+use Rattle.threads_console.specs.Scripts.{Script, script_of}
+use Rattle.threads_console.specs.Told.{run_told}
+
+abbrev pub worker_name : Worker → List ℕ
+worker_name Intake = codes "intake"
+worker_name Clock = codes "clock"
+worker_name Operator = codes "operator"
+
+abbrev pub fault_text : ThreadsFault → List ℕ
+fault_text GateShut = codes "gate shut"
+fault_text (Unfinished node worker) = codes "unfinished " ++ decimal node ++ codes " " ++ worker_name worker
+fault_text NoMemory = codes "no memory"
+fault_text Unpaired = codes "unpaired"
+
+-- a line, with the text of the trace of these histories
+abbrev pub told : List Log → Outcome
+told histories = record { text = line (compact_text (trace_data (run_told histories))); good = true }
+
+-- some whole run of these plans is told
+pub record TellsWhole (size : Size) (plans : List Planned) (outcome : Outcome) : Type 0 where
+  pub histories : List Log
+  pub links : List LinkEnd
+  pub whole : IsWhole size plans histories links
+  pub printed : outcome ≡ told histories
+
+-- or why no run of them was gathered
+abbrev pub TellsRun : Size → List Planned → Outcome → Type 0
+TellsRun size plans outcome = TellsWhole size plans outcome ⊎ ((fault : ThreadsFault) × (outcome ≡ refused (fault_text fault)))
+
+abbrev pub TellsScript : Result Script ℕ → Outcome → Type 0
+TellsScript (Err n) outcome = outcome ≡ refused (codes "bad line " ++ decimal n)
+TellsScript (Ok input) outcome = (plans : List Planned) × ArePlanned input.size.nodes input.turns plans × TellsRun input.size plans outcome
+
+-- what `threads` prints for an input
+abbrev pub IsThreading : List ℕ → Outcome → Type 0
+IsThreading input outcome = TellsScript (script_of input) outcome

@@ -1,0 +1,79 @@
+-- The turn that a line gives to a worker of a node.
+use Rattle.std.specs.Prelude.{ℕ, List, [], ◌∷◌, ◌==◌, Bool, not, bytes_eq, codes, if◌then◌else◌, Option, Some, None, option_map}
+use Rattle.line_words.specs.Words.{number_of}
+use Rattle.line_words.specs.Lines.{bytes_of}
+use Rattle.schedule.specs.Fields.{kept_if, node_of, number_below, payload_of, priority_of, queue_of}
+use Rattle.schedule.specs.Acts.{of_three, of_two, work}
+use Rattle.node_lock.specs.declared.order.Timer.{Timer}
+use Rattle.node_lock.specs.declared.order.Timer.TheVariants.{Check, Merge, Accept, Ready, Coord, Dispatch}
+use Rattle.node_lock.specs.declared.order.Order.{Order}
+use Rattle.node_lock.specs.declared.order.Order.TheVariants.{Submit, Finish, Arm, Crash, Recover}
+use Rattle.threads_console.specs.declared.turn.Turn.{Turn}
+use Rattle.threads_console.specs.declared.turn.Turn.TheVariants.{Poll, Fire, Do}
+
+-- another node than this one, in a cluster of so many
+abbrev pub other_of : ℕ → ℕ → List ℕ → Option ℕ
+other_of nodes own word = kept_if (λ j. not (j == own)) (number_below nodes word)
+
+-- the timer of a name
+abbrev pub timer_of : List ℕ → Option Timer
+timer_of name =
+    if bytes_eq name (codes "check") then Some Check else
+    if bytes_eq name (codes "merge") then Some Merge else
+    if bytes_eq name (codes "accept") then Some Accept else
+    if bytes_eq name (codes "ready") then Some Ready else
+    if bytes_eq name (codes "coord") then Some Coord else
+    if bytes_eq name (codes "dispatch") then Some Dispatch else None
+
+-- ---- what the operator does: a name, and its fields
+
+abbrev pub submit_order : List ℕ → List ℕ → Option ℕ → Option Order
+submit_order queue payload priority = option_map Submit (of_three work (queue_of queue) (payload_of payload) priority)
+
+abbrev pub alone_order : List ℕ → Option Order
+alone_order name = if bytes_eq name (codes "crash") then Some (Crash []) else if bytes_eq name (codes "recover") then Some Recover else None
+
+abbrev pub short_order : List ℕ → List ℕ → Option Order
+short_order name field =
+    if bytes_eq name (codes "arm") then option_map Arm (number_of field) else
+    if bytes_eq name (codes "crash") then option_map Crash (bytes_of field) else None
+
+abbrev pub middle_order : List ℕ → List ℕ → List ℕ → Option Order
+middle_order name first second =
+    if bytes_eq name (codes "submit") then submit_order first second (Some 0) else
+    if bytes_eq name (codes "finish") then of_two Finish (node_of first) (number_of second) else None
+
+abbrev pub long_order : List ℕ → List ℕ → List ℕ → List ℕ → Option Order
+long_order name first second third = if bytes_eq name (codes "submit") then submit_order first second (priority_of third) else None
+
+abbrev pub order_of : List (List ℕ) → Option Order
+order_of [] = None
+order_of (name ∷ []) = alone_order name
+order_of (name ∷ a ∷ []) = short_order name a
+order_of (name ∷ a ∷ b ∷ []) = middle_order name a b
+order_of (name ∷ a ∷ b ∷ c ∷ []) = long_order name a b c
+order_of (name ∷ a ∷ b ∷ c ∷ d ∷ rest) = None
+
+-- ---- the other two workers have one field
+
+abbrev pub of_one : {A : Type 0} → (List ℕ → Option A) → List (List ℕ) → Option A
+of_one read [] = None
+of_one read (word ∷ []) = read word
+of_one read (word ∷ more ∷ rest) = None
+
+-- the turn of the worker of this name, at a node of a cluster of so many
+abbrev pub turn_of : ℕ → ℕ → List ℕ → List (List ℕ) → Option Turn
+turn_of nodes own worker fields =
+    if bytes_eq worker (codes "intake") then option_map Poll (of_one (other_of nodes own) fields) else
+    if bytes_eq worker (codes "clock") then option_map Fire (of_one timer_of fields) else
+    if bytes_eq worker (codes "operator") then option_map Do (order_of fields) else None
+
+abbrev pub turn_at : ℕ → Option ℕ → List ℕ → List (List ℕ) → Option (ℕ × Turn)
+turn_at nodes None worker fields = None
+turn_at nodes (Some own) worker fields = option_map (λ turn. (own, turn)) (turn_of nodes own worker fields)
+
+-- the node and the turn of a line of these words
+abbrev pub line_of : ℕ → List (List ℕ) → Option (ℕ × Turn)
+line_of nodes [] = None
+line_of nodes (node ∷ []) = None
+line_of nodes (node ∷ worker ∷ fields) = turn_at nodes (number_below nodes node) worker fields

@@ -1,0 +1,22 @@
+//! The command `threads`: plans in, the trace of a run in threads out.
+//!
+//! Plans are lines, each a turn of one worker of one node (`specs/Scripts`). They are run by `node_threads`, and the histories of that run
+//! are told as a trace, entry by entry (`specs/Told`).
+#![tactic(auto)]
+
+mod drafts;
+mod fields;
+mod lines;
+mod parsing;
+mod reading;
+mod running;
+mod telling;
+mod turn;
+
+pub use reading::{Setup, read_plans};
+pub use running::threads;
+pub use telling::trace_of;
+pub use turn::Turn;
+
+#[cfg(test)]
+mod tests;

@@ -1,0 +1,150 @@
+//! Reads plans.
+
+ghost use Rattle.std.specs.Prelude.{◌≡◌, ◌≤◌, ◌<◌, Some, length, IfOk, IfErr, IfSome, OnOk};
+ghost use Rattle.group_task.specs.declared.node.TheConstants.{NODES};
+ghost use Rattle.line_words.specs.Lines.{IsFaultAt, IsLineFault};
+ghost use Rattle.line_words.specs.Words.{words_of};
+ghost use Rattle.schedule.specs.Text.{named_size, size_of};
+ghost use Rattle.node_threads.specs.Nodes.{PollOthers};
+ghost use Rattle.threads_console.specs.Turns.{line_of};
+ghost use Rattle.threads_console.specs.Planning.{AddsLine};
+ghost use Rattle.threads_console.specs.Scripts.{AreRead, CanRun, ClusterFits, IsRead, capacity_of, script_left, script_of, sized, turns_of, with_links, with_turns};
+
+use crate::drafts::{Draft, drafts, place, plans};
+use crate::fields::{between, is};
+use crate::lines::Lines;
+use crate::parsing::turn_in;
+use crate::turn::{LEAST_CAPACITY, MOST_CAPACITY};
+use group_task::NODES;
+use line_words::{LineFault, cut_word};
+use node_lock::Plans;
+use node_threads::Size;
+use schedule::{LEAST_SLOTS, MOST_SLOTS, Size as ClusterSize};
+use std::alloc::Global;
+
+/// A run that was planned.
+#[derive(Drop)]
+pub struct Setup {
+    pub size: Size,
+    /// What the workers of each node are to do, by the node's number.
+    pub plans: Vec<Plans>,
+}
+
+/// Reads plans: of the lines that aren't empty the first names the cluster, the second for how many messages each link has room, and
+/// each later one is a turn of a worker. The fault names the first line that can't be read; where one of the first two isn't
+/// there, that is the one behind the last.
+pub fn read_plans(alloc: Global, input: &[u8]) -> Result<Setup, LineFault>
+    ensures read { IfOk result (λ setup. IsRead input.now setup.size setup.plans.items) }
+    ensures fits { IfOk result (λ setup. CanRun setup.size setup.plans.items) }
+    ensures err { IfErr result (IsLineFault (script_of input.now)) }
+{
+    let mut lines = Lines::new(input);
+    let cluster = read_cluster(&mut lines)?;
+    let capacity = read_links(cluster, &mut lines)?;
+    let drafts = read_turns(alloc, cluster.nodes, &mut lines)?;
+    let size = Size {
+        nodes: cluster.nodes,
+        slots: cluster.slots,
+        capacity: capacity as usize,
+    };
+    Ok(Setup {
+        size,
+        plans: plans(alloc, drafts)?,
+    })
+}
+
+/// The cluster that the first line names.
+fn read_cluster(lines: &mut Lines<'_>) -> Result<ClusterSize, LineFault>
+    ensures ok { IfOk result (λ cluster. script_left lines.old ≡ with_links lines.new.end cluster lines.new.lines) }
+    ensures fits { IfOk result ClusterFits }
+    ensures err { IfErr result (IsLineFault (script_left lines.old)) }
+{
+    match lines.next() {
+        Ok((number, line)) => cluster(line).ok_or(LineFault::BadLine(number)),
+        Err(end) => Err(LineFault::BadLine(end)),
+    }
+}
+
+/// For how many messages each link has room, as the second line names it.
+fn read_links(cluster: ClusterSize, lines: &mut Lines<'_>) -> Result<u64, LineFault>
+    ensures ok { IfOk result (λ capacity. with_links lines.old.end cluster lines.old.lines ≡ with_turns (sized cluster capacity) (turns_of cluster.nodes lines.new.lines)) }
+    ensures err { IfErr result (IsLineFault (with_links lines.old.end cluster lines.old.lines)) }
+{
+    match lines.next() {
+        Ok((number, line)) => capacity(line).ok_or(LineFault::BadLine(number)),
+        Err(end) => Err(LineFault::BadLine(end)),
+    }
+}
+
+/// The size that the words of a line name.
+#[tactic(auto, using(crate::proofs::Counts::too_long))]
+fn cluster(line: &[u8]) -> Option<ClusterSize>
+    ensures value { result ≡ size_of (words_of line.now) }
+    ensures fits { IfSome result ClusterFits }
+{
+    let (name, numbers) = cut_word(line)?;
+    let (nodes, slots) = cut_word(numbers)?;
+    match cut_word(slots) {
+        None => named_cluster(name, nodes, slots),
+        Some(_) => None,
+    }
+}
+
+fn named_cluster(name: &[u8], nodes: &[u8], slots: &[u8]) -> Option<ClusterSize>
+    ensures value { result ≡ named_size name.now nodes.now slots.now }
+    ensures fits { IfSome result ClusterFits }
+{
+    if !is(name, "cluster") {
+        return None;
+    }
+    Some(ClusterSize {
+        nodes: between(1, u64::from(NODES), nodes)? as u8,
+        slots: between(LEAST_SLOTS, MOST_SLOTS, slots)?,
+    })
+}
+
+/// The room of a link that the words of a line name.
+#[tactic(auto, using(crate::proofs::Counts::two_numbers))]
+fn capacity(line: &[u8]) -> Option<u64>
+    ensures { result ≡ capacity_of (words_of line.now) }
+{
+    let (name, number) = cut_word(line)?;
+    if cut_word(number).is_some() || !is(name, "links") {
+        return None;
+    }
+    between(LEAST_CAPACITY, MOST_CAPACITY, number)
+}
+
+/// The turns of all lines that are left, in the plans of their nodes.
+#[tactic(auto, using(crate::proofs::Filling::filled_line, crate::proofs::Filling::as_many, crate::proofs::Filling::fault_told, crate::proofs::Filling::all_read, crate::proofs::Polls::none_polls))]
+fn read_turns(alloc: Global, nodes: u8, lines: &mut Lines<'_>) -> Result<Vec<Draft>, LineFault>
+    requires { nodes ≤ NODES }
+    ensures read { IfOk result (λ drafts. AreRead nodes lines.old.lines drafts.items) }
+    ensures polls { IfOk result (λ drafts. PollOthers drafts.items) }
+    ensures err { IfErr result (IsLineFault (turns_of nodes lines.old.lines)) }
+{
+    let mut drafts = drafts(alloc, nodes)?;
+    while let Ok((number, line)) = lines.next() {
+        read_turn(alloc, nodes, number, line, &mut drafts)?;
+    }
+    Ok(drafts)
+}
+
+/// Adds the turn of the line of this number to the plans of its node.
+fn read_turn(
+    alloc: Global,
+    nodes: u8,
+    number: u64,
+    line: &[u8],
+    drafts: &mut Vec<Draft>,
+) -> Result<(), LineFault>
+    requires { (length drafts.old.items ≡ nodes) × (nodes ≤ NODES) }
+    ensures adds { OnOk result (AddsLine nodes line.now drafts.old.items drafts.new.items) }
+    ensures polls { PollOthers drafts.old.items → OnOk result (PollOthers drafts.new.items) }
+    ensures err { IfErr result (IsFaultAt number (line_of nodes (words_of line.now))) }
+{
+    match turn_in(alloc, nodes, line)? {
+        Some((node, turn)) => Ok(place(drafts, node, turn)?),
+        None => Err(LineFault::BadLine(number)),
+    }
+}

@@ -1,0 +1,130 @@
+//! The command `threads`.
+
+ghost use Rattle.std.specs.Prelude.{◌≡◌, ◌≤◌, ◌+◌, ◌++◌, IfOk, OnOk, codes, decimal, vec_len};
+ghost use Rattle.group_task.specs.declared.node.TheConstants.{NODES};
+ghost use Rattle.console_text.specs.Ends.{outcome_of, refused, Prints};
+ghost use Rattle.threads_console.specs.Printed.{IsThreading, TellsRun, fault_text, told, worker_name};
+ghost use Rattle.threads_console.specs.Scripts.{CanRun};
+
+use crate::reading::{Setup, read_plans};
+use crate::telling::trace_of;
+use console_text::{
+    Ending, Printout, Source, Trouble, bad_line, print, push_number, push_text, read_source,
+};
+use group_task::NodeId;
+use line_words::LineFault;
+use node_lock::{Gate, Worker};
+use node_threads::{Gathered, ThreadsFault, run_threads};
+use std::alloc::{AllocError, Global};
+use std::io::{Read, Write};
+use std::sync::Wait;
+use std::thread::Threads;
+use trace_text::write;
+
+/// The gate that lets all pass.
+#[derive(Clone, Copy)]
+struct Open;
+
+impl Gate for Open {
+    fn reach(&self, _node: NodeId, _worker: Worker) -> bool {
+        true
+    }
+
+    fn pass(&self, _node: NodeId, _worker: Worker, _index: u64) -> bool {
+        true
+    }
+}
+
+/// Reads plans, runs them on nodes in threads, and prints the trace of the run as one line of JSON, or why there is none: `gate shut`,
+/// `unfinished` with a node and a worker whose history was full, or `unpaired`.
+pub fn threads<T: Threads + Wait + Sync, R: Read, W: Write>(
+    rt: &T,
+    alloc: Global,
+    input: &mut Source<R>,
+    output: &mut W,
+) -> Ending
+    ensures prints { Prints IsThreading (R.remaining input.old.reader) (W.contents output.old) (W.contents output.new) result }
+    ensures reads { input.old.left ≤ input.new.left + 16777216 }
+{
+    let outcome = match read_source(alloc, input) {
+        Ok(bytes) => run_text(rt, alloc, &bytes).map_err(Trouble::from),
+        Err(trouble) => Err(trouble),
+    };
+    print(output, outcome)
+}
+
+/// What `threads` prints for an input.
+fn run_text<T: Threads + Wait + Sync>(
+    rt: &T,
+    alloc: Global,
+    input: &[u8],
+) -> Result<Printout, AllocError>
+    ensures { IfOk result (λ printout. IsThreading input.now (outcome_of printout)) }
+{
+    match read_plans(alloc, input) {
+        Ok(setup) => run(rt, alloc, &setup),
+        Err(LineFault::BadLine(number)) => bad_line(alloc, number),
+        Err(LineFault::NoMemory) => Err(AllocError),
+    }
+}
+
+/// What is printed for plans that were read.
+fn run<T: Threads + Wait + Sync>(
+    rt: &T,
+    alloc: Global,
+    setup: &Setup,
+) -> Result<Printout, AllocError>
+    requires { CanRun setup.now.size setup.now.plans.items }
+    ensures { IfOk result (λ printout. TellsRun setup.now.size setup.now.plans.items (outcome_of printout)) }
+{
+    match run_threads(rt, alloc, setup.size, &setup.plans, &Open) {
+        Ok(run) => tell(alloc, &run),
+        Err(ThreadsFault::NoMemory) => Err(AllocError),
+        Err(fault) => refuse(alloc, fault),
+    }
+}
+
+/// The line of the trace of a run.
+fn tell(alloc: Global, run: &Gathered) -> Result<Printout, AllocError>
+    requires { vec_len run.now.histories ≤ NODES }
+    ensures { IfOk result (λ printout. outcome_of printout ≡ told run.now.histories.items) }
+{
+    let trace = trace_of(alloc, run)?;
+    let mut text = write(alloc, &trace)?;
+    push_text(&mut text, "\n")?;
+    Ok(Printout { text, good: true })
+}
+
+/// The line that says why there is no trace.
+fn refuse(alloc: Global, fault: ThreadsFault) -> Result<Printout, AllocError>
+    ensures { IfOk result (λ printout. outcome_of printout ≡ refused (fault_text fault)) }
+{
+    let mut text = Vec::new(alloc);
+    match fault {
+        ThreadsFault::GateShut => push_text(&mut text, "gate shut")?,
+        ThreadsFault::Unfinished(node, worker) => push_unfinished(&mut text, node, worker)?,
+        ThreadsFault::NoMemory => push_text(&mut text, "no memory")?,
+        ThreadsFault::Unpaired => push_text(&mut text, "unpaired")?,
+    }
+    push_text(&mut text, "\n")?;
+    Ok(Printout { text, good: false })
+}
+
+fn push_unfinished(text: &mut Vec<u8>, node: NodeId, worker: Worker) -> Result<(), AllocError>
+    ensures { OnOk result (text.new.items ≡ text.old.items ++ (codes "unfinished " ++ decimal node ++ codes " " ++ worker_name worker)) }
+{
+    push_text(text, "unfinished ")?;
+    push_number(text, u64::from(node.number()))?;
+    push_text(text, " ")?;
+    push_worker(text, worker)
+}
+
+fn push_worker(text: &mut Vec<u8>, worker: Worker) -> Result<(), AllocError>
+    ensures { OnOk result (text.new.items ≡ text.old.items ++ worker_name worker) }
+{
+    match worker {
+        Worker::Intake => push_text(text, "intake"),
+        Worker::Clock => push_text(text, "clock"),
+        Worker::Operator => push_text(text, "operator"),
+    }
+}
