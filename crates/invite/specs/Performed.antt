@@ -10,8 +10,9 @@ use Rattle.store_console.specs.Session.{IsSession}
 use Rattle.store_console.specs.Reasons.{session_flaw}
 use Rattle.trace_console.specs.Judged.{IsJudged}
 use Rattle.run_trace.specs.Recorded.{IsRecording}
+use Rattle.trace_draw.specs.Drawn.{IsDrawn}
 use Rattle.invite.specs.declared.task.Batch.{Batch}
-use Rattle.invite.specs.declared.task.Batch.TheVariants.{Answer, Show, Sim, Store, Trace, Record}
+use Rattle.invite.specs.declared.task.Batch.TheVariants.{Answer, Show, Sim, Store, Trace, Record, Draw}
 
 -- the outcome is what the command prints for these bytes
 abbrev pub IsOutcomeOf : Batch → List ℕ → Outcome → Type 0
@@ -21,6 +22,7 @@ IsOutcomeOf (Sim telling) = IsSimulation telling
 IsOutcomeOf (Store path) = IsSession
 IsOutcomeOf Trace = IsJudged
 IsOutcomeOf Record = IsRecording
+IsOutcomeOf Draw = IsDrawn
 
 -- this is what is wrong with the input; what is wrong with a trace, and which line of a schedule to be recorded, is printed, and not said again
 abbrev pub IsWhyOf : Batch → Option (List ℕ) → Ending → List ℕ → Type 0
@@ -30,3 +32,4 @@ IsWhyOf (Sim telling) = IsWhy schedule_flaw
 IsWhyOf (Store path) = IsWhy session_flaw
 IsWhyOf Trace = λ input ending why. why ≡ []
 IsWhyOf Record = λ input ending why. why ≡ []
+IsWhyOf Draw = λ input ending why. why ≡ []

@@ -24,7 +24,8 @@ pub fn command<'a>(alloc: Global) -> Result<Command<'a>, AllocError> {
         .subcommand(format_command(alloc)?)?
         .subcommand(node_command(alloc)?)?
         .subcommand(trace_command(alloc))?
-        .subcommand(record_command(alloc))
+        .subcommand(record_command(alloc))?
+        .subcommand(draw_command(alloc))
 }
 
 fn answer_command<'a>(alloc: Global) -> Result<Command<'a>, AllocError> {
@@ -124,6 +125,14 @@ fn record_command<'a>(alloc: Global) -> Command<'a> {
         .about("Reads a schedule, runs it on a simulated cluster, and prints its trace")
         .after_help(
             "The trace is what trace reads: the nodes' histories as JSON, in one line (docs/TRACES.md).\n\nExample: invite record < schedules/partition_heals.txt",
+        )
+}
+
+fn draw_command<'a>(alloc: Global) -> Command<'a> {
+    Command::new(alloc, "draw")
+        .about("Reads a trace, and prints a picture of its run")
+        .after_help(
+            "The picture is an SVG: a line for each node, a dot for each entry, an arrow for each message that came (docs/TRACES.md).\n\nExample: invite record < schedules/partition_heals.txt | invite draw > run.svg",
         )
 }
 

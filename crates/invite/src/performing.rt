@@ -60,5 +60,9 @@ fn carry_out<R: Read, W: Write>(
             ending: run_trace::record(alloc, input, output),
             why: Vec::new(alloc),
         },
+        Batch::Draw => Ended {
+            ending: trace_draw::draw(alloc, input, output),
+            why: Vec::new(alloc),
+        },
     }
 }

@@ -27,6 +27,7 @@ pub enum Batch {
     Store(String),
     Trace,
     Record,
+    Draw,
 }
 
 /// What a file is made for.
