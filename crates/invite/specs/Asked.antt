@@ -6,7 +6,7 @@ use Rattle.line_words.specs.Words.{number_of}
 use Rattle.invite.specs.declared.task.Place.{Place}
 use Rattle.invite.specs.declared.task.Making.{Making}
 use Rattle.invite.specs.declared.task.Batch.{Batch}
-use Rattle.invite.specs.declared.task.Batch.TheVariants.{Answer, Show, Sim, Store, Trace, Record, Threads}
+use Rattle.invite.specs.declared.task.Batch.TheVariants.{Answer, Show, Sim, Store, Trace, Record, Threads, Draw}
 use Rattle.invite.specs.declared.task.Task.{Task}
 use Rattle.invite.specs.declared.task.Task.TheVariants as task
 
@@ -25,6 +25,7 @@ pub data Asked : Type 0 where
   traces : Asked
   records : Asked
   runs_threads : Asked
+  draws : Asked
   makes : List ℕ → Made → Asked
   serves : List ℕ → ℕ × ℕ → Asked
 
@@ -42,6 +43,7 @@ asked_batch (Store path) = stores (string_bytes path)
 asked_batch Trace = traces
 asked_batch Record = records
 asked_batch Threads = runs_threads
+asked_batch Draw = draws
 
 abbrev pub asked : Task → Asked
 asked (task.Batch batch) = asked_batch batch
@@ -107,5 +109,6 @@ asked_by name arguments =
     if bytes_eq name (codes "trace") then Some traces else
     if bytes_eq name (codes "record") then Some records else
     if bytes_eq name (codes "threads") then Some runs_threads else
+    if bytes_eq name (codes "draw") then Some draws else
     if bytes_eq name (codes "format") then format_of arguments else
     if bytes_eq name (codes "node") then serves_by (arguments (codes "FILE")) (place_of arguments) else None

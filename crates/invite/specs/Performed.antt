@@ -11,8 +11,9 @@ use Rattle.store_console.specs.Reasons.{session_flaw}
 use Rattle.trace_console.specs.Judged.{IsJudged}
 use Rattle.invite_console.specs.Recorded.{IsRecording}
 use Rattle.threads_console.specs.Printed.{IsThreading}
+use Rattle.trace_draw.specs.Drawn.{IsDrawn}
 use Rattle.invite.specs.declared.task.Batch.{Batch}
-use Rattle.invite.specs.declared.task.Batch.TheVariants.{Answer, Show, Sim, Store, Trace, Record, Threads}
+use Rattle.invite.specs.declared.task.Batch.TheVariants.{Answer, Show, Sim, Store, Trace, Record, Threads, Draw}
 
 -- the outcome is what the command prints for these bytes
 abbrev pub IsOutcomeOf : Batch → List ℕ → Outcome → Type 0
@@ -23,6 +24,7 @@ IsOutcomeOf (Store path) = IsSession
 IsOutcomeOf Trace = IsJudged
 IsOutcomeOf Record = IsRecording
 IsOutcomeOf Threads = IsThreading
+IsOutcomeOf Draw = IsDrawn
 
 -- this is what is wrong with the input; what is wrong with a trace, and which line of plans, is printed, and not said again
 abbrev pub IsWhyOf : Batch → Option (List ℕ) → Ending → List ℕ → Type 0
@@ -33,3 +35,4 @@ IsWhyOf (Store path) = IsWhy session_flaw
 IsWhyOf Trace = λ input ending why. why ≡ []
 IsWhyOf Record = IsWhy schedule_flaw
 IsWhyOf Threads = λ input ending why. why ≡ []
+IsWhyOf Draw = λ input ending why. why ≡ []

@@ -29,6 +29,8 @@ pub fn task(alloc: Global, name: &str, words: &ArgMatches<'_>) -> Result<Option<
         Ok(Some(Task::Batch(Batch::Record)))
     } else if is(name, "threads") {
         Ok(Some(Task::Batch(Batch::Threads)))
+    } else if is(name, "draw") {
+        Ok(Some(Task::Batch(Batch::Draw)))
     } else if is(name, "format") {
         format(alloc, words)
     } else if is(name, "node") {

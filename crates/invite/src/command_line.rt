@@ -25,7 +25,8 @@ pub fn command<'a>(alloc: Global) -> Result<Command<'a>, AllocError> {
         .subcommand(node_command(alloc)?)?
         .subcommand(trace_command(alloc))?
         .subcommand(record_command(alloc))?
-        .subcommand(threads_command(alloc))
+        .subcommand(threads_command(alloc))?
+        .subcommand(draw_command(alloc))
 }
 
 fn answer_command<'a>(alloc: Global) -> Result<Command<'a>, AllocError> {
@@ -133,6 +134,14 @@ fn threads_command<'a>(alloc: Global) -> Command<'a> {
         .about("Reads plans, runs them on nodes in threads, and prints the trace of that run")
         .after_help(
             "The first line is cluster NODES SLOTS, the second links CAPACITY, each other one a turn of a worker, such as 0 clock check, 1 intake 0 or 0 operator crash (docs/THREADS.md). The trace is what trace reads, in one line.\n\nExample: invite threads < plans/question.txt",
+        )
+}
+
+fn draw_command<'a>(alloc: Global) -> Command<'a> {
+    Command::new(alloc, "draw")
+        .about("Reads a trace, and prints a picture of its run")
+        .after_help(
+            "The picture is an SVG: a line for each node, a dot for each entry, an arrow for each message that came (docs/TRACES.md).\n\nExample: echo '{\"nodes\":1,\"histories\":[[{\"do\":\"check\",\"sent\":[]}]]}' | invite draw",
         )
 }
 

@@ -65,5 +65,9 @@ fn carry_out<T: Threads + Wait + Sync, R: Read, W: Write>(
             ending: threads_console::threads(threads, alloc, input, output),
             why: Vec::new(alloc),
         },
+        Batch::Draw => Ended {
+            ending: trace_draw::draw(alloc, input, output),
+            why: Vec::new(alloc),
+        },
     }
 }

@@ -28,6 +28,7 @@ pub enum Batch {
     Trace,
     Record,
     Threads,
+    Draw,
 }
 
 /// What a file is made for.

@@ -41,7 +41,8 @@ fn judge(alloc: Global, trace: &Trace) -> Result<Printout, AllocError>
     tell_verdict(alloc, &verdict)
 }
 
-fn tell_verdict(alloc: Global, verdict: &Verdict) -> Result<Printout, AllocError>
+/// What is printed for a verdict.
+pub fn tell_verdict(alloc: Global, verdict: &Verdict) -> Result<Printout, AllocError>
     ensures { IfOk result (λ printout. outcome_of printout ≡ verdict_printed verdict.now) }
 {
     let mut text = Vec::new(alloc);
@@ -61,7 +62,8 @@ fn tell_verdict(alloc: Global, verdict: &Verdict) -> Result<Printout, AllocError
     }
 }
 
-fn tell_bad(alloc: Global, spot: Option<Spot>) -> Result<Printout, AllocError>
+/// What is printed for a text that is no trace.
+pub fn tell_bad(alloc: Global, spot: Option<Spot>) -> Result<Printout, AllocError>
     ensures { IfOk result (λ printout. outcome_of printout ≡ refused (bad_trace spot)) }
 {
     let mut text = Vec::new(alloc);

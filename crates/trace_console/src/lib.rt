@@ -3,7 +3,7 @@
 
 mod judging;
 
-pub use judging::trace;
+pub use judging::{tell_bad, tell_verdict, trace};
 
 #[cfg(test)]
 mod tests;

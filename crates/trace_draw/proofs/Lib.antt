@@ -1,0 +1,5 @@
+mod Lines
+mod Orders
+mod Senders
+mod Seats
+mod Texts

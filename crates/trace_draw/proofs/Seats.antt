@@ -1,0 +1,100 @@
+-- The nodes after one turn more.
+use Rattle.std.proofs.Common.{◌≡◌, ◌≢◌, ◌<◌, ◌==◌, ◌⊎◌, ℕ, zero, suc, ◌+◌, true, List, [], ◌∷◌, ◌++◌, length, slice_get, slice_set, slice_index_or, Some, inl, inr, refl, sym, ap, ◌∙◌, subst, arith}
+use Rattle.std.proofs.lemmas.Bool.{cases_Bool, cases_lt, eqb-true}
+use Rattle.std.proofs.lemmas.Bool.Decides.{nat_tests}
+use Rattle.std.proofs.lemmas.Option.{same_Some, slice_get_read}
+use Rattle.histories.specs.NodeState.{opening}
+use Rattle.trace_check.specs.Claims.{Claim, after_claim}
+use Rattle.trace_check.specs.Orders.{history, taken, state_of, MayTake}
+use Rattle.trace_check.specs.Twins.{Twin}
+use Rattle.trace_check.proofs.Desks.{twin_in}
+use Rattle.trace_check.proofs.Turning.{turns}
+use Rattle.trace_check.proofs.Turns.{none_past}
+use Rattle.trace_draw.specs.declared.turns.Seat.{Seat}
+use Rattle.trace_draw.specs.declared.turn.Turn.{Turn}
+use Rattle.trace_draw.specs.Turns.{AreSeats, AreFirst, IsTurn, seat_at}
+
+-- ---- lists
+
+set_length : (xs : List Seat) (i : ℕ) (v : Seat) → length (slice_set xs i v) ≡ length xs
+set_length [] i v = refl
+set_length (x ∷ xs) zero v = refl
+set_length (x ∷ xs) (suc i) v = ap suc (set_length xs i v)
+
+-- the element that was set, or another one
+set_at : (xs : List Seat) (i : ℕ) (v : Seat) (k : ℕ) (t : Seat) → slice_get (slice_set xs i v) k ≡ Some t → ((k ≡ i) × (t ≡ v)) ⊎ ((k ≢ i) × (slice_get xs k ≡ Some t))
+set_at [] i v k t at = absurd cc
+set_at (x ∷ xs) zero v zero t at = inl (refl, sym (same_Some v t at))
+set_at (x ∷ xs) zero v (suc k) t at = inr (λ same. absurd cc, at)
+set_at (x ∷ xs) (suc i) v zero t at = inr (λ same. absurd cc, at)
+set_at (x ∷ xs) (suc i) v (suc k) t at = elim (set_at xs i v k t at) [ inl here ↦ inl (ap suc here.0, here.1) | inr other ↦ inr (λ same. other.0 (omega (arith, same)), other.1) ]
+
+last_or_before : {A : Type 0} (xs : List A) (v t : A) (n : ℕ) → slice_get (xs ++ v ∷ []) n ≡ Some t → (slice_get xs n ≡ Some t) ⊎ ((n ≡ length xs) × (t ≡ v))
+last_or_before [] v t zero at = inr (refl, sym (same_Some v t at))
+last_or_before [] v t (suc n) at = absurd cc
+last_or_before (x ∷ xs) v t zero at = inl at
+last_or_before (x ∷ xs) v t (suc n) at = elim (last_or_before xs v t n at) [ inl before ↦ inl before | inr now ↦ inr (ap suc now.0, now.1) ]
+
+-- ---- turns
+
+pub turns_more : (hs : List (List Claim)) (order : List ℕ) (ts : List Turn) (t : Turn) → AreFirst hs order ts → IsTurn hs order (length ts) t → AreFirst hs order (ts ++ t ∷ [])
+turns_more hs order ts t each is k u at = elim (last_or_before ts t u k at) [
+  | inl early ↦ each k u early
+  | inr now ↦ subst (λ (v : Turn). IsTurn hs order k v) (sym now.1) (subst (λ (j : ℕ). IsTurn hs order j t) (sym now.0) is)
+]
+
+-- ---- nodes
+
+pub taken_same : (n : ℕ) (past : List ℕ) → taken n (n ∷ past) ≡ taken n past + 1
+taken_same n past = let same : (n == n) ≡ true = grind (arith, nat_tests) in rw same refl
+
+taken_other : (k n : ℕ) (past : List ℕ) → k ≢ n → taken k (n ∷ past) ≡ taken k past
+taken_other k n past other = elim (cases_Bool (n == k)) [ inl same ↦ absurd (other (sym (eqb-true n k same))) | inr apart ↦ rw apart refl ]
+
+-- a node after its turn
+pub seat_more : (hs : List (List Claim)) (past : List ℕ) (n : ℕ) (c : Claim) (t : Twin) → slice_get (history hs n) (taken n past) ≡ Some c → t.id ≡ n → t.nodes ≡ length hs
+    → t.node ≡ after_claim n (length hs) (state_of hs n (taken n past)) c → record { replica = t; index = taken n past + 1 } ≡ seat_at hs (n ∷ past) n
+seat_more hs past n c t at id nodes node =
+    (λ i. record { replica = record { id = id i; nodes = nodes i; node = (node ∙ sym (turns hs past n c at).state) i }; index = taken n past + 1 })
+    ∙ ap (λ (k : ℕ). record { replica = twin_in n (length hs) (state_of hs n k); index = k }) (sym (taken_same n past))
+
+pub seat_after : (hs : List (List Claim)) (past : List ℕ) (n : ℕ) (c : Claim) (s : Seat) (t : Twin) → s ≡ seat_at hs past n → slice_get (history hs n) s.index ≡ Some c → t.id ≡ s.replica.id → t.nodes ≡ s.replica.nodes
+    → t.node ≡ after_claim s.replica.id s.replica.nodes s.replica.node c → record { replica = t; index = s.index + 1 } ≡ seat_at hs (n ∷ past) n
+seat_after hs past n c s t is at id nodes node =
+    ap (λ (x : Seat). record { replica = t; index = x.index + 1 }) is
+    ∙ seat_more hs past n c t (ap (λ (x : Seat). slice_get (history hs n) x.index) (sym is) ∙ at) (id ∙ ap (λ (x : Seat). x.replica.id) is) (nodes ∙ ap (λ (x : Seat). x.replica.nodes) is)
+    (node ∙ ap (λ (x : Seat). after_claim x.replica.id x.replica.nodes x.replica.node c) is)
+
+pub seats_more : (hs : List (List Claim)) (past : List ℕ) (n : ℕ) (seats : List Seat) (s : Seat) → AreSeats hs past seats → s ≡ seat_at hs (n ∷ past) n → AreSeats hs (n ∷ past) (slice_set seats n s)
+seats_more hs past n seats s are is = (
+  set_length seats n s ∙ are.0,
+  λ k t at. elim (set_at seats n s k t at) [
+    | inl here ↦ here.1 ∙ is ∙ ap (λ (j : ℕ). seat_at hs (n ∷ past) j) (sym here.0)
+    | inr other ↦ are.1 k t other.1 ∙ ap (λ (p : ℕ). record { replica = twin_in k (length hs) (state_of hs k p); index = p }) (sym (taken_other k n past other.0))
+  ],
+)
+
+-- ---- the opening
+
+abbrev pub AreOpen : ℕ → List Seat → Type 0
+AreOpen nodes seats = (n : ℕ) (s : Seat) → slice_get seats n ≡ Some s → s ≡ record { replica = record { id = n; nodes = nodes; node = opening n }; index = 0 }
+
+pub open_more : (nodes : ℕ) (seats : List Seat) (s : Seat) → AreOpen nodes seats → s ≡ record { replica = record { id = length seats; nodes = nodes; node = opening (length seats) }; index = 0 } → AreOpen nodes (seats ++ s ∷ [])
+open_more nodes seats s each is n t at = elim (last_or_before seats s t n at) [
+  | inl early ↦ each n t early
+  | inr now ↦ now.1 ∙ is ∙ ap (λ (k : ℕ). record { replica = record { id = k; nodes = nodes; node = opening k }; index = 0 }) (sym now.0)
+]
+
+pub opened : (hs : List (List Claim)) (seats : List Seat) → length seats ≡ length hs → AreOpen (length hs) seats → AreSeats hs [] seats
+opened hs seats count each = (count, each)
+
+-- ---- which node is next
+
+pub node_within : (hs : List (List Claim)) (past : List ℕ) (n : ℕ) → MayTake hs past n → n < length hs
+node_within hs past n may = elim (cases_lt n (length hs)) [
+  | inl less ↦ less
+  | inr outside ↦ (let none : slice_get [] (taken n past) ≡ Some may.claim = subst (λ (h : List Claim). slice_get h (taken n past) ≡ Some may.claim) (none_past hs n outside) may.next in absurd cc)
+]
+
+pub seat_here : (seats : List Seat) (k n : ℕ) (s : Seat) → k ≡ n → k < length seats → s ≡ slice_index_or seats k s → slice_get seats n ≡ Some s
+seat_here seats k n s is within at = subst (λ (j : ℕ). slice_get seats j ≡ Some s) is (slice_get_read seats (length seats) k s refl within at)
