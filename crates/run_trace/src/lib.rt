@@ -7,8 +7,6 @@
 mod bringing;
 mod recording;
 mod telling;
-#[cfg(test)]
-mod tests;
 mod tracing;
 
 pub use recording::record;

@@ -1,5 +1,5 @@
-use super::record;
 use console_text::Source;
+use run_trace::record;
 use std::alloc::Global;
 use std::process::Abort;
 use std::test::Fail;
