@@ -53,23 +53,6 @@ fn device_calls(rt: HostRuntime) -> Result<(), Fail> {
     Ok(())
 }
 
-#[test]
-fn body_is_read_back_while_sealed(rt: HostRuntime) -> Result<(), Fail> {
-    let mut disk = MemDisk::new(rt.alloc(), 6)?;
-    for (call, found) in [
-        (Call::Look, None),
-        (Call::Fill, None),
-        (Call::Seal, Some([0x37; 512])),
-        (Call::Unseal, None),
-        (Call::Seal, Some([0x37; 512])),
-        (Call::Store { sealed: true }, Some([0x37; 512])),
-    ] {
-        make(&rt, &mut disk, call)?;
-        assert_eq!(rt; make(&rt, &mut disk, Call::Look)?, found, "after {call:?}");
-    }
-    Ok(())
-}
-
 // Only the first byte of a gate is looked at, and it is 0xA5 where the slot is sealed.
 #[test]
 fn gates(rt: HostRuntime) -> Result<(), Fail> {

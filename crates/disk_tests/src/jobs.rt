@@ -45,50 +45,6 @@ fn check_pending(rt: &impl Abort, table: &JobTable, want: &[(u64, u8, &[u8])]) {
     }
 }
 
-fn check_equal(rt: &impl Abort, one: &[u8], other: &[u8], want: bool) {
-    if let (Some(one), Some(other)) = (Payload::new(one), Payload::new(other)) {
-        assert_eq!(rt; one == other, want);
-    } else {
-        assert!(rt; false, "no payload");
-    }
-}
-
-#[test]
-fn payload_limit(rt: HostRuntime) {
-    let bytes = [0x61; 401];
-    for (len, fits) in [(0, true), (1, true), (400, true), (401, false)] {
-        assert_eq!(rt;
-            Payload::new(&bytes[..len]).is_some(),
-            fits,
-            "at {len} bytes"
-        );
-    }
-}
-
-#[test]
-fn payload_bytes(rt: HostRuntime) {
-    for bytes in [b"hi".as_slice(), b"hi\0", b""] {
-        if let Some(payload) = Payload::new(bytes) {
-            assert_eq!(rt; payload.len(), bytes.len());
-            assert_eq!(rt; payload.is_empty(), bytes.is_empty());
-            assert!(rt; payload.as_slice() == bytes);
-        } else {
-            assert!(rt; false, "no payload");
-        }
-    }
-    check_equal(&rt, b"hi", b"hi", true);
-    check_equal(&rt, b"hi", b"ho", false);
-    check_equal(&rt, b"hi", b"hi\0", false);
-    check_equal(&rt, b"", b"\0", false);
-}
-
-#[test]
-fn queue_limit(rt: HostRuntime) {
-    for (number, there) in [(0, true), (15, true), (16, false), (255, false)] {
-        assert_eq!(rt; Queue::new(number).is_some(), there, "queue {number}");
-    }
-}
-
 #[test]
 fn commands_in_turn(rt: HostRuntime) -> Result<(), AllocError> {
     let mut table = JobTable::with_room(rt.alloc(), 2)?;
@@ -120,20 +76,6 @@ fn kept_jobs_in_order(rt: HostRuntime) -> Result<(), AllocError> {
     Ok(())
 }
 
-// Where the greatest id was given, jobs that were kept still find room.
-#[test]
-fn kept_where_no_id_is_left(rt: HostRuntime) -> Result<(), AllocError> {
-    let mut table = JobTable::with_room(rt.alloc(), 1)?;
-    table.restart(u64::MAX);
-    assert_eq!(rt;
-        job(3, 0, b"a").map(|job| keep(&mut table, job)),
-        Some(true)
-    );
-    assert!(rt; !table.has_room());
-    check_pending(&rt, &table, &[(3, 0, b"a")]);
-    Ok(())
-}
-
 // Four jobs have eight places: jobs come and go at the front, in the middle and at the end until each place was used
 // several times.
 #[test]
@@ -161,14 +103,5 @@ fn places_used_again(rt: HostRuntime) -> Result<(), AllocError> {
         assert_eq!(rt; applied(&mut table, Command::Done(id)), Some(id));
         assert_eq!(rt; table.pending().len(), left);
     }
-    Ok(())
-}
-
-#[test]
-fn greatest_id(rt: HostRuntime) -> Result<(), AllocError> {
-    let mut table = JobTable::with_room(rt.alloc(), 2)?;
-    table.restart(u64::MAX - 1);
-    assert_eq!(rt; put(&mut table, 0, b"a"), Some(18446744073709551614));
-    assert_eq!(rt; put(&mut table, 0, b"a"), None, "no id is left");
     Ok(())
 }

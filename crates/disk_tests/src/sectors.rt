@@ -4,8 +4,6 @@ use std::test::Fail;
 
 const DEVICE: Result<(), DiskFault> = Err(DiskFault::Device);
 
-const OUT_OF_RANGE: Result<(), DiskFault> = Err(DiskFault::OutOfRange);
-
 // Writes a sector of one byte, over and over.
 fn put(disk: &mut MemDisk, at: u64, byte: u8) -> Result<(), DiskFault> {
     disk.write(at, &[byte; 512])
@@ -24,48 +22,6 @@ fn two_parts(first: u8, count: usize, other: u8) -> Sector {
         sector[at] = first;
     }
     sector
-}
-
-#[test]
-fn zeros_when_made(rt: HostRuntime) -> Result<(), Fail> {
-    let mut disk = MemDisk::new(rt.alloc(), 24)?;
-    assert_eq!(rt; disk.sectors(), 24);
-    assert_eq!(rt; disk.failures(), 0);
-    for at in 0..24 {
-        check_sector(&rt, &mut disk, at, &[0; 512]);
-    }
-    assert_eq!(rt; MemDisk::new(rt.alloc(), 0)?.sectors(), 0);
-    Ok(())
-}
-
-#[test]
-fn armed_calls_pass_and_later_ones_fail(rt: HostRuntime) -> Result<(), Fail> {
-    for calls in 0..6 {
-        let mut disk = MemDisk::new(rt.alloc(), 3)?;
-        disk.arm(calls);
-        for call in 0..6 {
-            // A call out of range isn't counted, whether the disk still passes calls or not.
-            assert_eq!(rt; put(&mut disk, 3, 1), OUT_OF_RANGE);
-            assert_eq!(rt; disk.read(u64::MAX, &mut [0; 512]), OUT_OF_RANGE);
-            let answer = match call % 3 {
-                0 => put(&mut disk, 2, 0x11),
-                1 => disk.sync(),
-                _ => disk.read(2, &mut [0; 512]),
-            };
-            let want = if call < calls { Ok(()) } else { DEVICE };
-            assert_eq!(rt; answer, want, "call {call} of {calls}");
-        }
-        assert_eq!(rt; disk.failures(), 6 - calls);
-
-        // Arming it anew lets calls pass again, and a crash lets all pass.
-        disk.arm(1);
-        assert_eq!(rt; disk.sync(), Ok(()));
-        assert_eq!(rt; disk.sync(), DEVICE);
-        disk.crash(&[]);
-        assert_eq!(rt; disk.sync(), Ok(()));
-        assert_eq!(rt; disk.failures(), 7 - calls);
-    }
-    Ok(())
 }
 
 // The greatest disk that a store uses: each of its sectors is written twice, with a sync after each round, and read.
@@ -95,44 +51,6 @@ fn every_call_of_a_great_disk_passes(rt: HostRuntime) -> Result<(), Fail> {
     assert_eq!(rt; disk.armed(), None);
     check_sector(&rt, &mut disk, sectors - 1, &[0x37; 512]);
     check_sector(&rt, &mut disk, sectors - 2, &[92; 512]);
-    Ok(())
-}
-
-#[test]
-fn failing_write_is_unsynced(rt: HostRuntime) -> Result<(), Fail> {
-    let mut disk = MemDisk::new(rt.alloc(), 3)?;
-    assert_eq!(rt; put(&mut disk, 1, 0x11), Ok(()));
-    assert_eq!(rt; disk.sync(), Ok(()));
-    disk.arm(0);
-    assert_eq!(rt; put(&mut disk, 1, 0x22), DEVICE);
-    disk.arm(1);
-    check_sector(&rt, &mut disk, 1, &[0x11; 512]);
-    disk.crash(&[0x37; 512]);
-    check_sector(&rt, &mut disk, 0, &[0; 512]);
-    check_sector(&rt, &mut disk, 1, &[0x37; 512]);
-    check_sector(&rt, &mut disk, 2, &[0; 512]);
-    Ok(())
-}
-
-#[test]
-fn sync_settles(rt: HostRuntime) -> Result<(), Fail> {
-    let mut disk = MemDisk::new(rt.alloc(), 3)?;
-
-    // Also a sector that only a failed write took.
-    assert_eq!(rt; put(&mut disk, 0, 0x11), Ok(()));
-    disk.arm(0);
-    assert_eq!(rt; put(&mut disk, 2, 0x22), DEVICE);
-    disk.arm(1);
-    assert_eq!(rt; disk.sync(), Ok(()));
-
-    // A sync that fails settles nothing.
-    disk.arm(1);
-    assert_eq!(rt; put(&mut disk, 1, 0x33), Ok(()));
-    assert_eq!(rt; disk.sync(), DEVICE);
-    disk.crash(&[0x37; 2048]);
-    check_sector(&rt, &mut disk, 0, &[0x11; 512]);
-    check_sector(&rt, &mut disk, 1, &[0x37; 512]);
-    check_sector(&rt, &mut disk, 2, &[0; 512]);
     Ok(())
 }
 

@@ -19,6 +19,3 @@ pub use setting::Setting;
 pub use sight::Sight;
 pub use timer::Timer;
 pub use waiting::Waiting;
-
-#[cfg(test)]
-mod tests;

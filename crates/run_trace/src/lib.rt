@@ -6,8 +6,6 @@
 
 mod bringing;
 mod telling;
-#[cfg(test)]
-mod tests;
 mod tracing;
 
 pub use tracing::trace_of;

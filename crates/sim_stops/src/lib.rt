@@ -4,8 +4,6 @@
 mod copying;
 mod expected;
 mod stopping;
-#[cfg(test)]
-mod tests;
 
 pub use expected::Expected;
 pub use stopping::{count_stops, is_kept, stops};

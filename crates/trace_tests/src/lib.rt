@@ -1,5 +1,6 @@
-//! Tests of what no clause says of traces, through public calls: verdicts of whole traces, and texts that are read and written. The
-//! crate has no code beside its tests. They stand apart from the crates that they try, each of which would else be proved twice.
+//! Tests of what no clause says of traces, through public calls: verdicts of whole traces, and texts that are read and
+//! written. The crate has no code beside its tests. They stand apart from the crates that they try, each of which would else be
+//! proved twice.
 #![tactic(auto)]
 
 #[cfg(test)]

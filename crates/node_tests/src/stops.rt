@@ -1,9 +1,9 @@
-use super::*;
 use cluster_sim::{Marked, Mounted};
 use group_task::NodeId;
 use histories::Command;
 use job_model::{Job, Payload, Queue, Work};
 use schedule::read_schedule;
+use sim_stops::{Expected, count_stops};
 use std::alloc::Global;
 use std::process::Abort;
 use std::test::Fail;

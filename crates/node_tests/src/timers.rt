@@ -1,6 +1,6 @@
-use crate::{Pace, Setting, Sight, Timer};
 use group_task::{GroupNo, Members, NODES, NodeId};
 use node_core::{Event, NodeCore, Phase};
+use pace::{Pace, Setting, Sight, Timer};
 use std::process::Abort;
 
 /// A coordinator that is Normal, with these members.

@@ -1,5 +1,5 @@
-use super::record;
 use console_text::Source;
+use invite_console::record;
 use std::alloc::Global;
 use std::process::Abort;
 use std::test::Fail;
@@ -29,9 +29,9 @@ const RECORDED: [(&str, &str); 4] = [
 // Expects this text for a schedule, and status 0 exactly where it is a trace.
 fn expect(rt: &impl Abort, alloc: Global, schedule: &[u8], want: &[u8]) {
     let mut output = Vec::new(alloc);
-    let ending = record(alloc, &mut Source::new(schedule), &mut output);
+    let ended = record(alloc, &mut Source::new(schedule), &mut output);
     assert_eq!(rt; output.as_slice().strip_suffix(b"\n"), Some(want));
-    assert_eq!(rt; ending.status() == 0, want.starts_with(b"{"));
+    assert_eq!(rt; ended.ending.status() == 0, want.starts_with(b"{"));
 }
 
 #[test]
