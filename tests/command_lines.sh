@@ -131,8 +131,9 @@ refused store a b
 refused trace 1
 refused record 1
 refused threads 1
+refused draw 1
 refused --version
-for command in answer show sim store format node trace record threads; do
+for command in answer show sim store format node trace record threads draw; do
     problem=''
     start '' "$room/out" --help
     grep -q "^  $command " "$room/out" || problem="the help doesn't name $command"
@@ -231,6 +232,8 @@ prints 1 '' 'bad trace\n' trace
 prints 0 'cluster 2 8\ncheck 0\ndeliver 0\n' '{"histories":[[{"do":"check","sent":["010100010000"]}],[{"do":"deliver","msg":"010100010000","sent":["01020100000101"]}]],"nodes":2}\n' record
 says 'line 2: no such act: chek'
 prints 1 'cluster 2 8\nchek 0\n' 'bad line 2\n' record
+prints 1 '{"nodes":2,"histories":[[],[{"do":"deliver","msg":"010100010000","sent":["01020100000101"]}]]}\n' 'NotARun 1 0\n' draw
+prints 1 '{"nodes":1,"histories":[[{"do":"none","sent":[]},{"do":"none"}]]}\n' 'bad trace 0 1\n' draw
 prints 0 'cluster 1 4\nlinks 1\n0 clock check\n0 clock merge\n' '{"histories":[[{"do":"check","sent":[]},{"do":"merge","sent":[]}]],"nodes":1}\n' threads
 prints 1 'cluster 1 4\nlinks 1\n0 clock chek\n' 'bad line 3\n' threads
 
@@ -243,6 +246,7 @@ full 'cluster 1 4\n' sim
 full '' trace
 full 'cluster 1 4\n' record
 full 'cluster 1 4\nlinks 1\n' threads
+full '' draw
 full 'mount\n' store "$file"
 
 folder answer 0 3
@@ -250,6 +254,7 @@ folder show
 folder sim
 folder trace
 folder threads
+folder draw
 folder store "$file"
 
 echo "$passed passed, $failed failed"

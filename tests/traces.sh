@@ -94,5 +94,20 @@ unread 2 'cluster 2 8\nlinks 0\n'
 unread 5 'cluster 2 8\nlinks 8\n\n0 clock check\n0 intake 0\n1 intake 7\n'
 unread 4 'cluster 2 8\nlinks 8\n1 operator crash\n1 operator crash 0\n'
 
+# The picture in docs/ is the one that is drawn of its schedule; each picture of a schedule is well-formed, with a dot for each entry.
+problem=''
+"$program" draw <"$room/record-partition_heals.json" | cmp -s - docs/partition_heals.svg || problem='docs/partition_heals.svg is another picture'
+tell "$problem" 'the picture in docs'
+if command -v python3 >/dev/null; then
+    for schedule in schedules/*.txt; do
+        name=$(basename "$schedule" .txt)
+        problem=''
+        "$program" draw <"$room/record-$name.json" >"$room/picture" || problem='it is not drawn'
+        dots=$(python3 -c 'import sys, xml.etree.ElementTree as tree; print(sum(e.tag.endswith("circle") for e in tree.parse(sys.argv[1]).iter()))' "$room/picture")
+        [ "$dots" = "$(grep -o '"do":' "$room/record-$name.json" | wc -l)" ] || problem="$dots dots"
+        tell "$problem" "picture of $name"
+    done
+fi
+
 echo "$passed passed, $failed failed"
 [ "$failed" -eq 0 ] && [ "$passed" -gt 0 ]
