@@ -1,5 +1,5 @@
 -- The text of the command `threads`.
-use Rattle.std.specs.Prelude.{◌≡◌, ◌⊎◌, ℕ, List, ◌++◌, codes, decimal, Result, Ok, Err, true}
+use Rattle.std.specs.Prelude.{◌≡◌, ◌⊎◌, ℕ, List, ◌++◌, codes, decimal, Bool, false, true, Result, Ok, Err}
 use Rattle.serde_json.specs.Written.{compact_text}
 use Rattle.console_text.specs.Ends.{Outcome, line, refused}
 use Rattle.link_ring.specs.declared.gathering.LinkEnd.{LinkEnd}
@@ -10,6 +10,7 @@ use Rattle.node_lock.specs.Planned.{Planned}
 use Rattle.node_threads.specs.declared.fault.ThreadsFault.{ThreadsFault}
 use Rattle.node_threads.specs.declared.fault.ThreadsFault.TheVariants.{GateShut, Unfinished, NoMemory, Unpaired}
 use Rattle.node_threads.specs.declared.size.Size.{Size}
+use Rattle.node_threads.specs.Reasons.{IsReason}
 use Rattle.node_threads.specs.Whole.{IsWhole}
 use Rattle.trace_text.specs.Written.{trace_data}
 use Rattle.threads_console.specs.Planning.{ArePlanned}
@@ -38,9 +39,18 @@ pub record TellsWhole (size : Size) (plans : List Planned) (outcome : Outcome) :
   pub whole : IsWhole size plans histories links
   pub printed : outcome ≡ told histories
 
--- or why no run of them was gathered
+-- the gate that lets all pass
+abbrev pub never_shut : ℕ → Worker → Bool
+never_shut node worker = false
+
+-- or why no run of them was gathered, which has its reason in the plans
+pub record TellsFault (plans : List Planned) (outcome : Outcome) : Type 0 where
+  pub fault : ThreadsFault
+  pub reason : IsReason never_shut plans fault
+  pub printed : outcome ≡ refused (fault_text fault)
+
 abbrev pub TellsRun : Size → List Planned → Outcome → Type 0
-TellsRun size plans outcome = TellsWhole size plans outcome ⊎ ((fault : ThreadsFault) × (outcome ≡ refused (fault_text fault)))
+TellsRun size plans outcome = TellsWhole size plans outcome ⊎ TellsFault plans outcome
 
 abbrev pub TellsScript : Result Script ℕ → Outcome → Type 0
 TellsScript (Err n) outcome = outcome ≡ refused (codes "bad line " ++ decimal n)

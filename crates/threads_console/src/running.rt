@@ -1,6 +1,6 @@
 //! The command `threads`.
 
-ghost use Rattle.std.specs.Prelude.{◌≡◌, ◌≤◌, ◌+◌, ◌++◌, IfOk, OnOk, codes, decimal, vec_len};
+ghost use Rattle.std.specs.Prelude.{◌≡◌, ◌≤◌, ◌+◌, ◌++◌, IfOk, OnOk, codes, decimal, false, vec_len};
 ghost use Rattle.group_task.specs.declared.node.TheConstants.{NODES};
 ghost use Rattle.console_text.specs.Ends.{outcome_of, refused, Prints};
 ghost use Rattle.threads_console.specs.Printed.{IsThreading, TellsRun, fault_text, told, worker_name};
@@ -26,6 +26,8 @@ use trace_text::write;
 struct Open;
 
 impl Gate for Open {
+    ghost may_shut = { λ _ _. false };
+
     fn reach(&self, _node: NodeId, _worker: Worker) -> bool {
         true
     }
@@ -35,8 +37,8 @@ impl Gate for Open {
     }
 }
 
-/// Reads plans, runs them on nodes in threads, and prints the trace of the run as one line of JSON, or why there is none: `gate shut`,
-/// `unfinished` with a node and a worker whose history was full, or `unpaired`.
+/// Reads plans, runs them on nodes in threads, and prints the trace of the run as one line of JSON, or why there is none: `unfinished`, with the
+/// first node whose workers have more than 65,536 turns and one that has some, or `unpaired`. Its gate lets all pass, so `gate shut` never comes.
 pub fn threads<T: Threads + Wait + Sync, R: Read, W: Write>(
     rt: &T,
     alloc: Global,
