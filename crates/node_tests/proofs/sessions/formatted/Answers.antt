@@ -1,8 +1,10 @@
 use Rattle.std.proofs.Common.{sym, subst, refl}
-use Rattle.sector_disk.specs.Memory.{state_of}
+use Rattle.sector_disk.specs.Memory.{Memory, state_of}
 use Rattle.job_journal.specs.Journal.{IsSound}
 use Rattle.node_store.specs.Store.{slots_for}
 use Rattle.node_tests.proofs.sessions.formatted.Goals as goal
 
 pub returns : goal.returns
-returns c = subst (λ n. IsSound (slots_for n) (state_of c.format.new.disk)) (sym c.format.ensures.counts.sectors) (c.in_ok-format.ensures.sound refl refl)
+returns c =
+    subst (λ (m : Memory). IsSound (slots_for (state_of m).sectors) (state_of m)) (sym c.arm.ensures)
+    (subst (λ n. IsSound (slots_for n) (state_of c.format.new.disk)) (sym c.format.ensures.counts.sectors) (c.in_ok-format.ensures.sound refl refl))
