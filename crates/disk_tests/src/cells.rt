@@ -114,6 +114,18 @@ fn raise_stopped_at_each_call(rt: HostRuntime) -> Result<(), Fail> {
     Ok(())
 }
 
+#[test]
+fn greatest_count(rt: HostRuntime) -> Result<(), Fail> {
+    let mut disk = raised(&rt, rt.alloc(), 0)?;
+    let mut greatest = [0; 512];
+    greatest[..8].fill(0xff);
+    seal_over(&rt, &mut disk, 6, &greatest)?;
+    assert_eq!(rt; mounted_value(&rt, &mut disk), Ok(18446744073709551615));
+    assert_eq!(rt; raise_within(&rt, &mut disk, 0), Err(CellFault::Exhausted));
+    assert_eq!(rt; disk.failures(), 0);
+    Ok(())
+}
+
 // The first raise stops when slot A is unsealed and its body is written, and a crash leaves that
 // body torn. The second stops at its first call, which is the write of that body and not of the
 // gate: so the crash can't seal the slot.

@@ -3,7 +3,7 @@
 ghost use Rattle.std.specs.Prelude.{◌<◌};
 
 use job_journal::{JournalFault, format, mount};
-use job_model::{Command, Job, Payload, Queue, Work};
+use job_model::{Command, Job, Payload, Queue, Record, Work};
 use sector_disk::{MemDisk, Sector, SectorDisk};
 use std::alloc::Global;
 use std::process::Abort;
@@ -31,6 +31,12 @@ fn job(id: u64) -> Result<Job, Fail> {
 fn put() -> Result<Command, Fail> {
     let job = job(0)?;
     Ok(Command::Put(job.work))
+}
+
+fn seal_over(rt: &impl Abort, disk: &mut MemDisk, slot: u64, record: &Record) -> Result<(), Fail>
+    requires { slot < 23 }
+{
+    seal_body(rt, disk, slot, &record.to_sector())
 }
 
 fn seal_body(rt: &impl Abort, disk: &mut MemDisk, slot: u64, body: &Sector) -> Result<(), Fail>
@@ -121,6 +127,15 @@ fn compact_within(
     journal.compact(disk)
 }
 
+fn seal_greatest_area(rt: &impl Abort, disk: &mut MemDisk) -> Result<(), Fail> {
+    disk.arm(u64::MAX);
+    assert!(rt; disk.sectors() == 24);
+    let mut greatest = [0; 512];
+    greatest[..8].copy_from_slice(&[0xff; 8]);
+    slot_gate::store(disk, 6, false, &greatest)?;
+    Ok(())
+}
+
 // The body is written and synced, and then the gate: a crash after the gate's write, done or failed, keeps the job
 // where it leaves 0xA5 there.
 #[test]
@@ -141,6 +156,52 @@ fn append_stopped_at_each_call(rt: HostRuntime) -> Result<(), Fail> {
             assert_eq!(rt; pending as u64, jobs, "{k} calls");
         }
     }
+    Ok(())
+}
+
+#[test]
+fn put_with_another_id(rt: HostRuntime) -> Result<(), Fail> {
+    let mut disk = formatted(&rt, rt.alloc())?;
+    seal_over(&rt, &mut disk, 8, &Record::Put(job(1)?))?;
+    assert_eq!(rt;
+        mounted_within(&rt, rt.alloc(), &mut disk, u64::MAX),
+        Err(JournalFault::Damaged(8))
+    );
+    Ok(())
+}
+
+// The journal of area 0 begins with the greatest next id there is, and one job was kept.
+#[test]
+fn no_id_left(rt: HostRuntime) -> Result<(), Fail> {
+    let mut disk = formatted(&rt, rt.alloc())?;
+    seal_over(&rt, &mut disk, 8, &Record::Base(18446744073709551615))?;
+    seal_over(&rt, &mut disk, 10, &Record::Keep(job(7)?))?;
+    assert_eq!(rt;
+        append_within(&rt, rt.alloc(), &mut disk, put()?, 0),
+        Err(JournalFault::Exhausted)
+    );
+    assert_eq!(rt; disk.failures(), 0);
+    assert_eq!(rt;
+        append_within(&rt, rt.alloc(), &mut disk, Command::Done(7), 4),
+        Ok(7)
+    );
+    Ok(())
+}
+
+// Two jobs are pending: a Base, three jobs and a Done wouldn't fit into four slots.
+#[test]
+fn full_journal(rt: HostRuntime) -> Result<(), Fail> {
+    let mut disk = formatted(&rt, rt.alloc())?;
+    for id in 0..2 {
+        assert_eq!(rt;
+            append_within(&rt, rt.alloc(), &mut disk, put()?, 4),
+            Ok(id)
+        );
+    }
+    assert_eq!(rt;
+        append_within(&rt, rt.alloc(), &mut disk, put()?, 0),
+        Err(JournalFault::Full)
+    );
     Ok(())
 }
 
@@ -253,6 +314,57 @@ fn old_among_new(rt: HostRuntime) -> Result<(), Fail> {
         &[5, 0, 0, 0, 0, 0, 0, 0, 2, 1, 7, 0, 2, 0x68, 0x69],
     )?;
     check_jobs(&rt, rt.alloc(), &mut disk, 3, &[old_job()?, job(2)?])
+}
+
+// Compactions by turns into either area; over a sealed slot of the area cell a raise takes six calls.
+#[test]
+fn compaction_repeated(rt: HostRuntime) -> Result<(), Fail> {
+    let mut disk = with_no_free_slot(&rt, rt.alloc())?;
+    compact_within(&rt, rt.alloc(), &mut disk, 24)?;
+    for _ in 0..9 {
+        compact_within(&rt, rt.alloc(), &mut disk, 26)?;
+    }
+    disk.crash(&[]);
+    assert_eq!(rt;
+        mounted_within(&rt, rt.alloc(), &mut disk, u64::MAX),
+        Ok((3, 2))
+    );
+    Ok(())
+}
+
+// Slot B of the area cell has the greatest value there is, which is odd: no compaction any more.
+#[test]
+fn no_compaction_left(rt: HostRuntime) -> Result<(), Fail> {
+    let mut disk = with_no_free_slot(&rt, rt.alloc())?;
+    seal_greatest_area(&rt, &mut disk)?;
+    assert_eq!(rt;
+        append_within(&rt, rt.alloc(), &mut disk, put()?, 0),
+        Err(JournalFault::Full)
+    );
+    assert_eq!(rt;
+        append_within(&rt, rt.alloc(), &mut disk, Command::Done(1), 0),
+        Err(JournalFault::Exhausted)
+    );
+    assert_eq!(rt;
+        compact_within(&rt, rt.alloc(), &mut disk, 0),
+        Err(JournalFault::Exhausted)
+    );
+    Ok(())
+}
+
+// The area cell is raised to 2: the first slot of area 1 is in sector 16.
+#[test]
+fn second_area(rt: HostRuntime) -> Result<(), Fail> {
+    let mut disk = formatted(&rt, rt.alloc())?;
+    assert!(rt; disk.sectors() == 24);
+    safe_cell::mount(&mut disk, 4)?.raise(&mut disk)?;
+    seal_over(&rt, &mut disk, 16, &Record::Base(3))?;
+    assert_eq!(rt; append_within(&rt, rt.alloc(), &mut disk, put()?, 4), Ok(3));
+    assert_eq!(rt;
+        mounted_within(&rt, rt.alloc(), &mut disk, u64::MAX),
+        Ok((4, 1))
+    );
+    Ok(())
 }
 
 // Sectors 5, 4 and 7, and the gate in sector 9. Of a disk of zeros the area cell isn't sealed.

@@ -58,11 +58,33 @@ fn put(store: &mut NodeStore<MemDisk>) -> Option<Result<u64, StoreFault>>
     }))
 }
 
+fn done(store: &mut NodeStore<MemDisk>, id: u64) -> Result<u64, StoreFault>
+    requires { IsSound store.old.journal.slots (state_of store.old.disk) }
+    ensures { IsSound store.new.journal.slots (state_of store.new.disk) }
+{
+    store.done(id)
+}
+
 fn compact(store: &mut NodeStore<MemDisk>) -> Result<(), StoreFault>
     requires { IsSound store.old.journal.slots (state_of store.old.disk) }
     ensures { IsSound store.new.journal.slots (state_of store.new.disk) }
 {
     store.compact()
+}
+
+// Of 24 sectors an area has four slots: two jobs, a Base and a Done fit.
+#[test]
+fn smallest_disk(rt: HostRuntime) -> Result<(), Fail> {
+    let mut small = MemDisk::new(rt.alloc(), 23)?;
+    assert_eq!(rt; format(&mut small), Err(StoreFault::TooSmall));
+    assert_eq!(rt; refusal(rt.alloc(), small), Some(StoreFault::TooSmall));
+    let zeros = MemDisk::new(rt.alloc(), 24)?;
+    assert_eq!(rt; refusal(rt.alloc(), zeros), Some(StoreFault::NotFormatted));
+    let mut store = opened(rt.alloc())?;
+    assert_eq!(rt; put(&mut store), Some(Ok(0)));
+    assert_eq!(rt; put(&mut store), Some(Ok(1)));
+    assert_eq!(rt; put(&mut store), Some(Err(StoreFault::Full)));
+    Ok(())
 }
 
 // What a disk mounts as: its counter and how many jobs are pending, or why not.
@@ -149,6 +171,48 @@ fn greatest_disk(rt: HostRuntime) -> Result<(), Fail> {
     Ok(())
 }
 
+// Five commands for four slots: the last of them finds no free slot, and compacts.
+#[test]
+fn full_journal(rt: HostRuntime) -> Result<(), Fail> {
+    let mut store = opened(rt.alloc())?;
+    assert_eq!(rt; put(&mut store), Some(Ok(0)));
+    assert_eq!(rt; put(&mut store), Some(Ok(1)));
+    assert_eq!(rt; put(&mut store), Some(Err(StoreFault::Full)));
+    assert_eq!(rt; done(&mut store, 0), Ok(0));
+    assert_eq!(rt; put(&mut store), Some(Ok(2)));
+    assert_eq!(rt; done(&mut store, 1), Ok(1));
+    assert_eq!(rt; store.table().pending().len(), 1);
+    Ok(())
+}
+
+#[test]
+fn compacted_again_and_again(rt: HostRuntime) -> Result<(), Fail> {
+    let mut store = opened(rt.alloc())?;
+    compact(&mut store)?;
+    compact(&mut store)?;
+    compact(&mut store)?;
+    assert_eq!(rt; put(&mut store), Some(Ok(0)));
+    Ok(())
+}
+
+#[test]
+fn commands_are_mounted_again(rt: HostRuntime) -> Result<(), Fail> {
+    let mut store = opened(rt.alloc())?;
+    assert_eq!(rt; put(&mut store), Some(Ok(0)));
+    assert_eq!(rt; put(&mut store), Some(Ok(1)));
+    assert_eq!(rt; store.done(0), Ok(0));
+    assert_eq!(rt; store.raise(), Ok(1));
+    let mut disk = store.into_disk();
+    disk.crash(&[0xff; 512]);
+    let Ok(store) = NodeStore::mount(rt.alloc(), disk) else {
+        return Err(Fail::new("not mounted"));
+    };
+    assert_eq!(rt; store.counter(), 1);
+    assert_eq!(rt; store.table().next(), 2);
+    assert_eq!(rt; store.table().pending().len(), 1);
+    Ok(())
+}
+
 // A sync; sectors 1, 0, 3 and 2 of the counter; 5, 4 and 7 of the area cell; and the gate in sector 9.
 #[test]
 fn mounting_fails_at_each_call(rt: HostRuntime) -> Result<(), Fail> {
@@ -171,6 +235,19 @@ fn mounting_fails_at_each_call(rt: HostRuntime) -> Result<(), Fail> {
         disk.arm(9);
         assert_eq!(rt; refusal(rt.alloc(), disk), None, "after {k} calls");
     }
+    Ok(())
+}
+
+// The mounting takes eight calls, since the second slot of the counter isn't sealed, and the raise fails in its second.
+#[test]
+fn broken_after_a_device_fault(rt: HostRuntime) -> Result<(), Fail> {
+    let mut disk = opened(rt.alloc())?.into_disk();
+    disk.arm(9);
+    let Ok(mut store) = NodeStore::mount(rt.alloc(), disk) else {
+        return Err(Fail::new("not mounted"));
+    };
+    assert_eq!(rt; store.raise(), Err(StoreFault::Device));
+    assert_eq!(rt; store.raise(), Err(StoreFault::Broken));
     Ok(())
 }
 
