@@ -1,4 +1,4 @@
-"""Which lines can be read, from docs/SCHEDULES.md, docs/STORE.md and docs/NODE.md."""
+"""Which lines can be read, from docs/SCHEDULES.md, docs/THREADS.md, docs/STORE.md and docs/NODE.md."""
 import re
 from spelling import HAS_PRIORITIES
 from wire import Malformed, decode
@@ -67,6 +67,23 @@ def is_read(line, grammar):
     return any(len(kinds) == len(fields) and all(kind(word) for kind, word in zip(kinds, fields)) for kinds in grammar.get(verb, []))
 
 
+OPERATOR = {
+    b"submit": job, b"finish": rows(node, number), b"arm": rows(number), b"crash": [(), (is_hex,)], b"recover": rows(),
+}
+
+
+def is_turn(line, nodes):
+    """Whether a line of plans is a turn, in a cluster of so many nodes."""
+    own, worker, *fields = line.split(b" ") + [b""] * (2 - len(line.split(b" ")))
+    if not is_number(own, nodes - 1):
+        return False
+    if worker == b"intake":
+        return len(fields) == 1 and is_number(fields[0], nodes - 1) and fields[0] != own
+    if worker == b"clock":
+        return len(fields) == 1 and fields[0] in [timer.encode() for timer in TIMERS]
+    return worker == b"operator" and is_read(b" ".join(fields), OPERATOR)
+
+
 def lines_in(data):
     """The lines of an input, numbered from 1."""
     lines = data.split(b"\n")
@@ -89,6 +106,26 @@ def bad_in_schedule(data):
         if acts > MOST_ACTS or not is_read(line, SIM):
             return at
     return len(lines) + 1 if acts is None else None
+
+
+def bad_in_plans(data):
+    """The number of the line of plans that can't be read, or None."""
+    lines, nodes, capacity = lines_in(data), None, None
+    for at, line in lines:
+        if not line:
+            continue
+        words = line.split(b" ")
+        if nodes is None:
+            if len(words) != 3 or words[0] != b"cluster" or not is_number(words[1], 128, 1) or not is_number(words[2], 4096, 4):
+                return at
+            nodes = int(words[1])
+        elif capacity is None:
+            if len(words) != 2 or words[0] != b"links" or not is_number(words[1], 65_536, 1):
+                return at
+            capacity = int(words[1])
+        elif not is_turn(line, nodes):
+            return at
+    return len(lines) + 1 if capacity is None else None
 
 
 def bad_in_store(data):

@@ -69,6 +69,9 @@ def try_sim(tried):
     for line in at_most(bad, tried, 250) + longs:
         fed = b"\ncluster 3 4\ncheck 0\n\n" + line + b"\nzz\n"
         named(tried, ["sim"], fed, bad_in_schedule(fed), note="sim")
+    for line in at_most(bad, tried, 50) if not tried.is_long else bad[::10]:
+        fed = b"\ncluster 3 4\ncheck 0\n\n" + line + b"\nzz\n"
+        named(tried, ["record"], fed, bad_in_schedule(fed), note="record")
     for line in at_most(without_doubles(list(spoiled("cluster 3 4"))), tried, 60):
         for fed in (line, b"\n" + line + b"\ncheck 0\n"):
             named(tried, ["sim"], fed, bad_in_schedule(fed), note="cluster")

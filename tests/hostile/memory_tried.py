@@ -202,6 +202,9 @@ def try_memory(tried):
         for name, text in rows.TRACES.items():
             if tried.is_long or name in ("run", "all kinds"):
                 try_batches(refusing, ["trace"], text.encode(), 0 if name in ("run", "all kinds") else 1, name)
+        try_batches(refusing, ["draw"], rows.TRACES["run"].encode(), 0, "draw")
+        try_batches(refusing, ["record"], b"cluster 2 8\ncheck 0\ndeliver 0\n", 0, "record")
+        try_batches(refusing, ["threads"], b"cluster 1 4\nlinks 1\n0 clock check\n0 clock accept\n", 0, "threads")
         try_store(refusing, folder)
         try_node(refusing, folder)
         try_format(refusing, folder)

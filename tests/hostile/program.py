@@ -1,10 +1,10 @@
 """Runs the program, and counts what was tried. Whatever it is fed, it ends by itself, with a status that the texts allow, without a signal
-and where it ends badly with one line on standard error that says why. What is wrong with a trace is printed alone."""
+and where it ends badly with one line on standard error that says why. What is wrong with a trace, or with plans, is printed alone."""
 import os, re, subprocess, sys
 
 SECONDS = 20
 ERRORS = re.compile(rb"(invite: [ -~]+\n)?")
-STATUSES = {"answer": {0, 1}, "show": {0, 1}, "sim": {0, 1}, "trace": {0, 1}, "store": {0, 1}, "format": {0, 1, 2, 3, 4, 5}, "node": {0, 1, 3, 4, 5}}
+STATUSES = {"answer": {0, 1}, "show": {0, 1}, "sim": {0, 1}, "trace": {0, 1}, "record": {0, 1}, "threads": {0, 1}, "draw": {0, 1}, "store": {0, 1}, "format": {0, 1, 2, 3, 4, 5}, "node": {0, 1, 3, 4, 5}}
 
 
 class Tried:
@@ -45,7 +45,7 @@ class Tried:
             return f"standard error {self.error[:200]!r}"
         if status == 0 and self.error:
             return f"{words[0]} writes to standard error, and ends well"
-        if status == 1 and not self.error and words[0] != "trace":
+        if status == 1 and not self.error and words[0] not in ("trace", "draw", "threads"):
             return f"{words[0]} ends badly and doesn't say why on standard error"
         return ""
 

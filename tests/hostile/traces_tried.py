@@ -1,5 +1,6 @@
 """Traces with each byte replaced, cut at each byte, with each field missing, of another type or out of its range, and nested too deep."""
 import json
+from xml.etree import ElementTree
 import rows, traces
 from node_model import Search
 
@@ -21,6 +22,20 @@ def judged(tried, data, note):
     status, text = verdict(data)
     tried.count("bad traces" if text.startswith("bad") else "no runs" if status else "runs")
     tried.expect(["trace"], data, status, text.encode(), note)
+    if tried.is_long or tried.passed % 5 == 0:
+        drawn(tried, data, status, text, note)
+
+
+def drawn(tried, data, status, text, note):
+    """Where there is no run, `draw` prints what `trace` does; else a picture with a dot for each entry."""
+    if status:
+        tried.expect(["draw"], data, status, text.encode(), ("draw", note))
+        return
+    got, out, trouble = tried.run(["draw"], data)
+    if not trouble and got == 0:
+        dots = sum(part.tag.endswith("circle") for part in ElementTree.fromstring(out).iter())
+        trouble = "" if dots == len(text.split()) - 1 else f"{dots} dots for {text[:100]!r}"
+    tried.tell(trouble or ("" if got == 0 else f"status {got}"), ("draw", note, data[:300]))
 
 
 def try_each_byte(tried):
