@@ -235,9 +235,56 @@ prints 1 'cluster 2 8\nchek 0\n' 'bad line 2\n' record
 prints 1 '{"nodes":2,"histories":[[],[{"do":"deliver","msg":"010100010000","sent":["01020100000101"]}]]}\n' 'NotARun 1 0\n' draw
 prints 1 '{"nodes":1,"histories":[[{"do":"none","sent":[]},{"do":"none"}]]}\n' 'bad trace 0 1\n' draw
 prints 0 'cluster 1 4\nlinks 1\n0 clock check\n0 clock merge\n' '{"histories":[[{"do":"check","sent":[]},{"do":"merge","sent":[]}]],"nodes":1}\n' threads
-prints 1 'cluster 1 4\nlinks 1\n0 clock chek\n' 'bad line 3\n' threads
 
-# A history has 65,536 turns at most.
+# Plans that can't be read.
+says 'line 1: there is no line cluster NODES SLOTS'
+prints 1 '' 'bad line 1\n' threads
+says 'line 2: there is no line cluster NODES SLOTS'
+prints 1 '\n' 'bad line 2\n' threads
+says 'line 2: not of the form cluster NODES SLOTS'
+prints 1 '\ncluster 0 4\n' 'bad line 2\n' threads
+says 'line 1: not of the form cluster NODES SLOTS'
+prints 1 'links 1\ncluster 1 4\n' 'bad line 1\n' threads
+says 'line 2: there is no line links CAPACITY'
+prints 1 'cluster 1 4\n' 'bad line 2\n' threads
+says 'line 2: not of the form links CAPACITY'
+prints 1 'cluster 1 4\nlinks 0\n' 'bad line 2\n' threads
+says 'line 4: not of the form links CAPACITY'
+prints 1 'cluster 1 4\n\n\n0 clock check\n' 'bad line 4\n' threads
+says 'line 3: no such node: 2'
+prints 1 'cluster 2 4\nlinks 1\n2 clock check\n' 'bad line 3\n' threads
+says 'line 3: no such node: links'
+prints 1 'cluster 2 4\nlinks 1\nlinks 1\n' 'bad line 3\n' threads
+says 'line 4: no node is named'
+prints 1 'cluster 1 4\nlinks 1\n0 clock check\n 0 clock check\n' 'bad line 4\n' threads
+says 'line 3: no worker is named'
+prints 1 'cluster 1 4\nlinks 1\n0\n' 'bad line 3\n' threads
+says 'line 3: no such worker: clok'
+prints 1 'cluster 1 4\nlinks 1\n0 clok check\n' 'bad line 3\n' threads
+says 'line 3: no such worker: \x1b[31m'
+prints 1 'cluster 1 4\nlinks 1\n0 \033[31m check\n' 'bad line 3\n' threads
+says 'line 3: not of the form N intake J, where J is another node'
+prints 1 'cluster 2 4\nlinks 1\n0 intake 0\n' 'bad line 3\n' threads
+says 'line 3: no timer is named'
+prints 1 'cluster 1 4\nlinks 1\n0 clock\n' 'bad line 3\n' threads
+says 'line 3: no such timer: chek'
+prints 1 'cluster 1 4\nlinks 1\n0 clock chek\n' 'bad line 3\n' threads
+says 'line 3: not of the form N clock TIMER'
+prints 1 'cluster 1 4\nlinks 1\n0 clock check 1\n' 'bad line 3\n' threads
+says 'line 3: no such order: check'
+prints 1 'cluster 1 4\nlinks 1\n0 operator check\n' 'bad line 3\n' threads
+says 'line 3: not of the form N operator submit QUEUE HEX [P]'
+prints 1 'cluster 1 4\nlinks 1\n0 operator submit 16 -\n' 'bad line 3\n' threads
+says 'line 3: not of the form N operator finish ORIGIN ID'
+prints 1 'cluster 1 4\nlinks 1\n0 operator finish 0\n' 'bad line 3\n' threads
+says 'line 3: not of the form N operator arm K'
+prints 1 'cluster 1 4\nlinks 1\n0 operator arm\n' 'bad line 3\n' threads
+says 'line 3: not of the form N operator crash [HEX]'
+prints 1 'cluster 1 4\nlinks 1\n0 operator crash 0 a5\n' 'bad line 3\n' threads
+says 'line 3: not of the form N operator recover'
+prints 1 'cluster 1 4\nlinks 1\n0 operator recover 0\n' 'bad line 3\n' threads
+
+# A history has 65,536 turns at most; that a run is unfinished is no flaw of a line, and is printed alone.
 prints 1 "cluster 1 4\nlinks 1\n$(printf '0 clock accept\\n%.0s' {1..65537})" 'unfinished 0 clock\n' threads
 
 full '010102000000\n' answer 0 3

@@ -84,8 +84,9 @@ has "$((300 * 8 * 9))" storm
 # unread NUMBER TEXT: the line of this number can't be read
 unread() {
     local problem=''
-    printf "$2" | "$program" threads >"$room/out" && problem='it ends well'
+    printf "$2" | "$program" threads >"$room/out" 2>"$room/err" && problem='it ends well'
     [ "$(cat "$room/out")" = "bad line $1" ] || problem="it prints $(head -c 200 "$room/out") in place of bad line $1"
+    grep -q "^invite: line $1: " "$room/err" || problem="it says $(head -c 200 "$room/err") of line $1"
     tell "$problem" "bad line $1"
 }
 unread 1 ''

@@ -60,6 +60,9 @@ def try_bytes(tried):
     for text in OTHERS:
         data = bytes.fromhex(text + "0" * (len(text) % 2))
         both(tried, data, places_of(data, tried), note="no message")
+    # a node outside of the cluster
+    for text in ("020140000000", "010103000000", "010501000009030000000000000002", "01070001000d00000000000000000203000103"):
+        both(tried, bytes.fromhex(text), {(0, 3), (1, 3)}, note="a stranger")
     step = 1 if tried.is_long else 13
     one_stream(tried, 0, 1, 3, step)
     one_stream(tried, 64, 2, 128, step)

@@ -1,202 +1,29 @@
 #!/usr/bin/env python3
-"""Feeds the commands with what comes of spoiling vectors, schedules, recorded sessions and traces of random runs, and compares what they print with
-what is worked out here.
+"""Feeds the commands with what comes of spoiling vectors, schedules, plans, recorded sessions and traces of random runs, and compares what they print
+with what is worked out here.
 
-    fuzz.py PROGRAM SECONDS SEED [COMMAND..]
+    fuzz.py PROGRAM SECONDS SEED [--each] [COMMAND..]
 
-The same seed tries the same inputs. The last line counts the runs; an input that went wrong is left in a file that is named."""
-import itertools, os, random, re, sys, tempfile, time
+The same seed tries the same inputs. With --each every command is tried in a process of its own, side by side, and told by itself. Some minutes apart
+the counts are told; the last line counts the runs. An input that went wrong is left in a file that is named."""
+import itertools, os, random, re, resource, sys, tempfile, time
+from concurrent.futures import ProcessPoolExecutor
 
 sys.dont_write_bytecode = True
 sys.path.insert(0, os.path.dirname(os.path.abspath(__file__)))
-import grammar, rows, shim, tables, wire
+import grammar, pictures, recorded, shim, tables, traces, wire
 from files_tried import Model
+from inputs import SESSIONS, STORES, WORDS, Inputs
+from layout import Refused, mounted
 from memory_tried import trouble_in_faulted
 from node_model import Cluster
 from program import Tried
 from session_model import Session
-from spelling import HAS_PRIORITIES
-from traces_tried import VALUES, verdict
-from vectors import MESSAGES, OTHERS, stream_to
+from traces_tried import verdict
 
-TOP = os.path.join(os.path.dirname(os.path.abspath(__file__)), "..", "..")
-WORDS = [b"0", b"1", b"2", b"3", b"7", b"15", b"16", b"63", b"64", b"127", b"128", b"255", b"256", b"00", b"-1", b"-", b"", b"a5", b"ff", b"f", b"4", b"5", b"4096",
-         b"18446744073709551615", b"18446744073709551616", b"a5" * 400, b"a5" * 401, b"6869"]
-SESSIONS = ["recover;check;deliver 010101000000;deliver 01020100000101;merge;deliver 010601000009000000000000000002;accept;deliver 010801000009000000000000000002;submit 1 6869;submit 0 -;state;jobs;coord",
-            "recover;submit 3 6869;dispatch;jobs;finish 0 0;submit 0 -;compact;recover;jobs;submit 1 61;finish 0 2;lost 1;lost 2;tick 0;tick 400;tick 900;tick 9000;state",
-            "recover;deliver 010501000009010000000000000002;deliver 01070100000c010000000000000002020001;tick 5;deliver 010901000014010000000000000002000000000000000000000000;jobs;finish 1 0;coord;coord;state;lost 1;recover"]
-STORES = ["format 4;mount;raise;put 1 6869;put 2 -;done 0;compact;put 3 61;list;mount;list", "raise;format 5;mount;put 0 61;put 0 62;put 0 63;put 0 64;done 1;done 1;raise;raise;mount;list;format 4;list;mount;list"]
-
-
-class Inputs:
-    """What is fed: a corpus, and what is made of it by chance."""
-
-    def __init__(self, chance):
-        self.chance = chance
-        self.pieces = [bytes.fromhex(text + "0" * (len(text) % 2)) for text in (*MESSAGES, *OTHERS)] + [stream_to(0, 1), stream_to(2, 64), stream_to(64, 2)]
-        self.schedules = [rows.lines(text) for text in rows.SCHEDULES.values()]
-        folder = os.path.join(TOP, "schedules")
-        for name in sorted(os.listdir(folder)) if os.path.isdir(folder) else []:
-            if name.endswith(".txt"):
-                with open(os.path.join(folder, name), "rb") as file:
-                    self.schedules.append(file.read())
-        self.traces = [text.encode() for text in rows.TRACES.values()]
-
-    def flipped(self, data):
-        """Some bytes are others, are left out, come twice, or come from elsewhere in the data."""
-        chance, data = self.chance, bytearray(data)
-        for _ in range(chance.choice((1, 1, 1, 2, 4))):
-            at = chance.randrange(len(data) + 1)
-            kind = chance.randrange(6)
-            if kind == 0 and at < len(data):
-                data[at] = chance.choice((0, 0x40, 0x80, 0xFF, 10, 32, chance.randrange(256)))
-            elif kind == 1 and at < len(data):
-                data[at] ^= 1 << chance.randrange(8)
-            elif kind == 2:
-                del data[at:at + chance.choice((1, 1, 2, 9))]
-            elif kind == 3:
-                data[at:at] = data[at:at + chance.choice((1, 2, 9, 40))]
-            elif kind == 4:
-                begin = chance.randrange(len(data) + 1)
-                data[at:at + chance.choice((0, 1, 9))] = data[begin:begin + chance.choice((1, 4, 30))]
-            else:
-                del data[at:]
-        return bytes(data)
-
-    def line_changed(self, line):
-        chance, words = self.chance, line.split(b" ")
-        at = chance.randrange(len(words))
-        kind = chance.randrange(5)
-        if kind < 3:
-            words[at] = chance.choice(WORDS)
-        elif kind == 3:
-            words[at:at] = [chance.choice(WORDS)]
-        else:
-            del words[at]
-        return b" ".join(words)
-
-    def lines_changed(self, data, others):
-        """Some lines are left out, come twice, change places, come from another input, or have another word."""
-        chance, lines = self.chance, data.split(b"\n")
-        for _ in range(chance.choice((0, 1, 1, 2, 5))):
-            at = chance.randrange(len(lines))
-            kind = chance.randrange(6)
-            if kind == 0 and len(lines) > 1:
-                del lines[at]
-            elif kind == 1:
-                lines[at:at] = [lines[at]] * chance.choice((1, 1, 3))
-            elif kind == 2:
-                other = chance.randrange(len(lines))
-                lines[at], lines[other] = lines[other], lines[at]
-            elif kind == 3:
-                other = chance.choice(others).split(b"\n")
-                begin = chance.randrange(len(other))
-                lines[at:at] = other[begin:begin + chance.choice((1, 3, 9))]
-            elif kind == 4 and lines[at]:
-                # mostly a word that leaves the line readable
-                for _ in range(chance.choice((1, 8, 8, 8))):
-                    changed = self.line_changed(lines[at])
-                    if grammar.is_read(changed, grammar.SIM) or grammar.is_read(changed, grammar.NODE) or grammar.is_read(changed, grammar.STORE):
-                        break
-                lines[at] = changed
-        data = b"\n".join(lines)
-        return self.flipped(data) if chance.random() < 0.15 else data
-
-    def schedule(self, acts=None, with_faults=None):
-        """A schedule whose acts come by chance, most of them where they do something; and its cluster, where no disk is armed."""
-        chance = self.chance
-        nodes, slots = chance.choice((1, 2, 2, 3, 3, 4, 5, 70, 128)), chance.choice((4, 4, 5, 8))
-        few = [n for n in (0, 1, 2, 64, nodes - 1, nodes - 2) if 0 <= n < nodes]
-        with_faults = chance.random() < 0.4 if with_faults is None else with_faults
-        cluster, lines, text = Cluster(nodes, slots), [f"cluster {nodes} {slots}"], ""
-        for _ in range(acts or chance.choice((5, 20, 60, 200))):
-            line = self.act(cluster, few, with_faults)
-            lines.append(line)
-            text += cluster.act(line) if not line.startswith("arm") else ""
-        return ("\n".join(lines) + "\n").encode(), cluster
-
-    def act(self, cluster, few, with_faults):
-        chance, node, sent = self.chance, str(self.chance.choice(few)), len(cluster.sent)
-        kind = chance.random()
-        if sent and kind < 0.55:
-            # the newest messages come most often
-            return f"deliver {max(0, sent - 1 - int(chance.expovariate(0.25)))}"
-        if kind < 0.75:
-            return chance.choice(("check", "merge", "accept", "ready", "coord", "dispatch")) + " " + node
-        if kind < 0.85:
-            return f"submit {node} {chance.randrange(16)} {chance.choice(('-', '61', '6869', 'ff' * 400))}" + (f" {chance.randrange(1, 256)}" if HAS_PRIORITIES and chance.random() < 0.4 else "")
-        if kind < 0.91:
-            return f"finish {node} {chance.choice(few)} {chance.randrange(4)}"
-        if kind < 0.93:
-            return f"lose {chance.randrange(sent + 1)}"
-        if kind < 0.95:
-            return f"{chance.choice(('cut', 'mend'))} {node} {chance.choice(few)}"
-        if with_faults and kind < 0.98:
-            return f"arm {node} {chance.randrange(30)}"
-        fill = chance.choice(("", " -", " a5", " " + "37" * 512, " " + "ff" * 512, " " + "a5" * 1024, " 01" + "00" * 600))
-        return chance.choice((f"crash {node}{fill}", f"recover {node}", f"recover {node}", f"compact {node}"))
-
-    def session(self):
-        """What node 0 of a random cluster was brought, and what its operator asked of it."""
-        _, cluster = self.schedule(self.chance.choice((20, 60, 200)), False)
-        lines = ["recover"]
-        for own, event, args, _ in cluster.taken:
-            if own == 0 and event != "crash":
-                words = {"deliver": lambda data: [data.hex()], "submit": lambda queue, payload, priority: [str(queue), payload.hex() or "-"] + ([str(priority)] if priority else []),
-                         "finish": lambda origin, job: [str(origin), str(job)]}.get(event, lambda: [])(*args)
-                lines.append(" ".join([event, *words]))
-        return "\n".join(lines).encode()
-
-    def trace(self):
-        """What a random run of a cluster did, with some of it spoiled."""
-        chance = self.chance
-        _, cluster = self.schedule(chance.choice((5, 20, 60)), False)
-        histories = [[] for _ in cluster.nodes]
-        is_down = [False] * len(histories)
-        for own, event, args, sent in cluster.taken:
-            entry = {"do": f'"{event}"', "sent": "[" + ",".join(f'"{message.hex()}"' for message in sent) + "]"}
-            if event == "deliver":
-                entry["msg"] = f'"{args[0].hex()}"'
-            if event == "submit":
-                entry.update(queue=str(args[0]), payload=f'"{args[1].hex()}"')
-                entry.update({"priority": str(args[2])} if args[2] else {})
-            if event == "finish":
-                entry.update(origin=str(args[0]), id=str(args[1]))
-            if event == "recover":
-                entry["kept"] = "false"
-            if event == "compact":
-                entry["do"] = '"none"'
-            histories[own].append(entry)
-        for _ in range(chance.choice((0, 0, 1, 1, 3))):
-            self.spoil(histories)
-        text = ",".join("[" + ",".join("{" + ",".join(f'"{key}":{value}' for key, value in entry.items()) + "}" for entry in history) + "]" for history in histories)
-        data = f'{{"nodes":{len(histories)},"histories":[{text}]}}'.encode()
-        return self.flipped(data) if chance.random() < 0.2 else data
-
-    def spoil(self, histories):
-        chance = self.chance
-        history = chance.choice([one for one in histories if one] or [[]])
-        if not history:
-            return
-        at = chance.randrange(len(history))
-        kind = chance.randrange(7)
-        if kind == 0:
-            del history[at]
-        elif kind == 1:
-            history.insert(at, dict(chance.choice(history)))
-        elif kind == 2:
-            other = chance.randrange(len(history))
-            history[at], history[other] = history[other], history[at]
-        elif kind == 3:
-            history[at]["fault"] = chance.choice(('"device"', '"mount"', '"raise"'))
-            history[at]["sent"] = "[]"
-            history.insert(at + 1, {"do": '"recover"', "sent": "[]", "kept": chance.choice(("true", "false"))})
-        elif kind == 4:
-            history[at][chance.choice(list(history[at]))] = chance.choice(VALUES)
-        elif kind == 5:
-            history.insert(at, {"do": '"recover"', "sent": "[]", "kept": chance.choice(("true", "false")), **chance.choice(({}, {"fault": '"raise"'}, {"fault": '"mount"'}))})
-        else:
-            history.insert(at, {"do": '"crash"', "sent": "[]"})
+# A run under load may take long; one that takes so long is made again with five times as much.
+SECONDS = 120
+TOLD_EVERY = 120
 
 
 def one_piece(fuzz):
@@ -216,14 +43,16 @@ def one_piece(fuzz):
     return words, fed, wire.show(data) if words == ["show"] else wire.answer(own, nodes, data)
 
 
-def one_schedule(fuzz):
+def schedule_of(fuzz):
     inputs, chance = fuzz.inputs, fuzz.chance
     if chance.random() < 0.5:
         fed = inputs.schedule()[0]
-        if chance.random() < 0.3:
-            fed = inputs.lines_changed(fed, inputs.schedules)
-    else:
-        fed = inputs.lines_changed(chance.choice(inputs.schedules), inputs.schedules)
+        return inputs.lines_changed(fed, inputs.schedules) if chance.random() < 0.3 else fed
+    return inputs.lines_changed(chance.choice(inputs.schedules), inputs.schedules)
+
+
+def one_schedule(fuzz):
+    fed = schedule_of(fuzz)
     bad = grammar.bad_in_schedule(fed)
     if bad is not None:
         return ["sim"], fed, (1, b"bad line %d\n" % bad)
@@ -237,18 +66,72 @@ def one_schedule(fuzz):
     return ["sim"], fed, lambda status, out: f"status {status}" if status != 0 else unlike(out, text.encode()) or tables.problem_in(text, acts)
 
 
+def one_record(fuzz):
+    """The trace of a schedule's run. Where disks fail, what `sim` tells of the same schedule says what has to stand in it."""
+    fed = schedule_of(fuzz)
+    bad = grammar.bad_in_schedule(fed)
+    if bad is not None:
+        return ["record"], fed, (1, b"bad line %d\n" % bad)
+    head, *acts = [line.decode() for line in fed.split(b"\n") if line]
+    nodes, slots = map(int, head.split(" ")[1:])
+    if not any(act.startswith("arm") for act in acts):
+        fuzz.tried.count("schedules without faults")
+        cluster = Cluster(nodes, slots)
+        return ["record"], fed, (0, recorded.recorded_text(nodes, acts, [cluster.act(act)[:-1] for act in acts]))
+    fuzz.tried.count("schedules with faults")
+    _, told, trouble = fuzz.tried.run(["sim"], fed)
+    told = told.decode().split("\n")[:len(acts)]
+    return ["record"], fed, lambda status, out: trouble or (f"status {status}" if status != 0 else recorded.problem_in_recorded(out, nodes, acts, told))
+
+
+def one_run_of_plans(fuzz):
+    """Nodes in threads: what comes first is up to them, so the trace has to have the plans, and to be that of a run."""
+    inputs, chance = fuzz.inputs, fuzz.chance
+    fed = inputs.some_plans() if chance.random() < 0.6 else chance.choice(inputs.plans)
+    fed = inputs.lines_changed(fed, inputs.plans) if chance.random() < 0.5 else fed
+    # many links of many messages take their room
+    fed = re.sub(rb"(?m)^links [1-9][0-9]{2,}$", b"links 99", fed)
+    fed = re.sub(rb"(?m)^cluster (?=[0-9]{2})[0-9]+ [0-9]+$", b"cluster 12 8", fed)
+    bad = grammar.bad_in_plans(fed)
+    if bad is not None:
+        return ["threads"], fed, (1, b"bad line %d\n" % bad)
+    fuzz.tried.count("plans that were run")
+    head, _, *turns = [line.decode() for line in fed.split(b"\n") if line]
+    words = [line.split(" ") for line in turns]
+    return ["threads"], fed, lambda status, out: f"status {status}" if status != 0 else recorded.problem_in_threads(out, int(head.split(" ")[1]), words)
+
+
 def unlike(out, text):
     if out == text:
         return ""
     return next((f"it prints {a!r} in place of {b!r}" for a, b in zip(out.split(b"\n"), text.split(b"\n")) if a != b), "it ends elsewhere")
 
 
-def one_trace(fuzz):
+def trace_of(fuzz):
     inputs, chance = fuzz.inputs, fuzz.chance
-    fed = inputs.trace() if chance.random() < 0.7 else inputs.flipped(chance.choice(inputs.traces))
+    return inputs.trace() if chance.random() < 0.7 else inputs.flipped(chance.choice(inputs.traces))
+
+
+def one_trace(fuzz):
+    fed = trace_of(fuzz)
     status, text = verdict(fed)
     fuzz.tried.count("bad traces" if text.startswith("bad") else "no runs" if status else "runs")
     return ["trace"], fed, (status, text.encode())
+
+
+def one_picture(fuzz):
+    """The picture of a run; of no run what `trace` prints."""
+    fed = trace_of(fuzz)
+    try:
+        nodes, histories = traces.read(fed)
+    except traces.Bad as bad:
+        return ["draw"], fed, (1, f"{bad}\n".encode())
+    search = pictures.Watched(nodes, histories)
+    status, text = search.verdict()
+    if status:
+        return ["draw"], fed, (status, text.encode())
+    fuzz.tried.count("pictures")
+    return ["draw"], fed, lambda status, out: f"status {status}" if status != 0 else pictures.problem_in_picture(out, nodes, search.turns)
 
 
 class Stores:
@@ -284,6 +167,51 @@ def one_store(fuzz):
         return ["store", path], fed, (1, b"bad line %d\n" % bad)
     stores = Stores()
     return ["store", path], fed, (0, "".join(stores.answer(line.decode()) for _, line in grammar.lines_in(fed) if line).encode())
+
+
+def one_format(fuzz):
+    """The file of a node: made just where the words can be read and nothing is there, and then as the pages say."""
+    chance, path = fuzz.chance, os.path.join(fuzz.folder, "made")
+    if os.path.exists(path):
+        os.remove(path)
+    words = [chance.choice(some) for some in ((b"4", b"5", b"16", b"64"), (b"0", b"1", b"2"), (b"3", b"128"), (b"0", b"7", b"1764000000000", b"18446744073709551615"))][:chance.choice((4, 4, 4, 3))]
+    for _ in range(chance.choice((0, 0, 1, 1, 2))):
+        words[chance.randrange(len(words))] = chance.choice(WORDS)
+    if chance.random() < 0.1:
+        words = chance.choice((words[:-1], words + [chance.choice(WORDS)], words + words))
+    fits = grammar.is_making(words)
+    there = chance.random() < 0.2 and chance.choice((b"", b"a5", bytes(12304)))
+    if there is not False:
+        with open(path, "wb") as file:
+            file.write(there)
+    where = path if there is not False or chance.random() < 0.9 else os.path.join(fuzz.folder, "none", "made")
+    want = (2,) if not fits else (1,) if there is not False else (0,) if where == path else (3, 5)
+    return ["format", where, *words], b"unread", lambda status, out: problem_in_made(fuzz, path, words, there, status, want)
+
+
+def problem_in_made(fuzz, path, words, there, status, want):
+    if status not in want:
+        return f"status {status} in place of {want}"
+    if status != 0:
+        kept = there if there is not False else None
+        found = None
+        if os.path.exists(path):
+            with open(path, "rb") as file:
+                found = file.read()
+        return "" if found == kept else "the file is made, or is another"
+    fuzz.tried.count("files that were made")
+    slots, own, nodes, first = [int(word) for word in (*words, b"0")[:4]]
+    with open(path, "rb") as file:
+        data = file.read()
+    try:
+        found = mounted(data)
+    except Refused as refused:
+        return f"the layout finds {refused}"
+    if len(data) != (8 + 4 * slots) * 512 + 16 or data[-16:] != b"dumgerok" + bytes([1, own, nodes, 0, 0, 0, 0, 0]) or found != (first, 0, {}):
+        return f"the file has {len(data)} bytes, ends with {data[-16:]!r}, and is mounted as {found}"
+    text = f"group Normal {own} {own}:{first + 1} {own}\nkeeps {first + 1} 0 0\nok 1\n" if first < grammar.GREATEST else "refused 1 Exhausted\n"
+    got, out, trouble = fuzz.tried.run(["node", path, str(own), str(nodes)], b"recover\n")
+    return trouble or (f"status {got} of its node" if got else unlike(out, text.encode()))
 
 
 def one_node(fuzz):
@@ -377,7 +305,7 @@ class Seen:
 def one_refusal(fuzz):
     """One of the commands that read their whole input, with one allocation refused by chance, behind those of the command line."""
     chance, tried = fuzz.chance, fuzz.tried
-    words, fed, _ = chance.choice((one_piece, one_schedule, one_schedule, one_trace, one_store))(fuzz)
+    words, fed, _ = chance.choice((one_piece, one_schedule, one_schedule, one_trace, one_store, one_record, one_picture))(fuzz)
     begin = lambda: os.path.exists(words[-1]) and os.remove(words[-1]) if words[0] == "store" else None
     begin()
     status, whole, trouble = tried.run(words, fed, shim.environment(fuzz.library, fuzz.told))
@@ -391,47 +319,96 @@ def one_refusal(fuzz):
     begin()
     if not trouble and (got, out) not in ((status, whole), (1, b"no memory\n")):
         acts = [line.decode() for line in fed.split(b"\n") if line][1:]
-        is_sim = words == ["sim"] and got == 0 == status
-        trouble = trouble_in_faulted(out.decode(), whole.decode(), acts) if is_sim else f"status {got}, it prints {out[:200]!r}"
-        tried.count("disks that found no memory")
+        trouble = f"status {got}, it prints {out[:200]!r}"
+        if got == 0 == status and words[0] in ("sim", "record"):
+            trouble = trouble_in_faulted(out.decode(), whole.decode(), acts) if words[0] == "sim" else recorded.no_run(out)
+            tried.count("disks that found no memory")
     return words, fed, lambda *_: f"allocation {at} of {total}: {trouble}" if trouble else ""
 
 
-COMMANDS = {"pieces": one_piece, "sim": one_schedule, "trace": one_trace, "store": one_store, "node": one_node, "refusals": one_refusal}
+COMMANDS = {"pieces": one_piece, "sim": one_schedule, "record": one_record, "threads": one_run_of_plans, "trace": one_trace, "draw": one_picture, "store": one_store,
+            "format": one_format, "node": one_node, "refusals": one_refusal}
+
+
+class Patient(Tried):
+    """A run that takes too long is made again with more time, since other work may have kept it waiting."""
+
+    def run(self, words, fed, env=None, seconds=SECONDS, limit=None):
+        status, out, trouble = super().run(words, fed, env, seconds, limit)
+        if status is not None:
+            return status, out, trouble
+        self.count(f"runs that took more than {seconds} s")
+        return super().run(words, fed, env, 5 * seconds, limit)
 
 
 class Fuzz:
     def __init__(self, program, seed, names, folder):
-        self.tried, self.folder, self.names, self.seed = Tried(program, f"fuzz {seed}"), folder, names, seed
+        self.name = " ".join(names) if len(names) < len(COMMANDS) else f"fuzz {seed}"
+        self.tried, self.folder, self.names, self.seed = Patient(program, self.name), folder, names, seed
         self.chance = random.Random(seed)
         self.inputs = Inputs(self.chance)
         self.library, self.told = shim.built(folder), os.path.join(folder, "told")
         if self.library is None:
             self.names = [name for name in names if name != "refusals"]
+        self.begun = time.monotonic()
 
     def turn(self):
         name = self.chance.choice(self.names)
         words, fed, want = COMMANDS[name](self)
         status, out, trouble = self.tried.run(words, fed)
-        if not trouble:
-            trouble = want(status, out) if callable(want) else f"status {status} in place of {want[0]}" if status != want[0] else unlike(out, want[1])
+        if not trouble and callable(want):
+            trouble = self.judged(want, status, out)
+        elif not trouble:
+            trouble = f"status {status} in place of {want[0]}" if status != want[0] else unlike(out, want[1])
         self.tried.count(name)
         if trouble:
-            kept = os.path.join(tempfile.gettempdir(), f"fuzz-{self.seed}-{self.tried.failed}")
+            kept = os.path.join(tempfile.gettempdir(), f"fuzz-{self.seed}-{name}-{self.tried.failed}")
             with open(kept, "wb") as file:
                 file.write(fed)
             trouble += f" (the input is {kept})"
         self.tried.tell(trouble, (name, words, fed[:200]))
 
+    def judged(self, want, status, out):
+        """What is wrong with an output; one that can't be read as what it should be is wrong too."""
+        try:
+            return want(status, out)
+        except Exception as error:
+            return f"{error!r} at {out[:200]!r}"
+
+    def until(self, end):
+        told = time.monotonic()
+        while time.monotonic() < end and self.tried.failed < 20 and self.names:
+            self.turn()
+            if time.monotonic() - told > TOLD_EVERY:
+                told = time.monotonic()
+                self.tell()
+
+    def tell(self):
+        own, program = (sum(resource.getrusage(who)[:2]) for who in (resource.RUSAGE_SELF, resource.RUSAGE_CHILDREN))
+        seconds = time.monotonic() - self.begun
+        print(f"{self.name}: {self.tried.passed} runs and {self.tried.failed} wrong in {seconds:.0f} s, with {own + program:.0f} s of a processor, {program:.0f} of them the program's", flush=True)
+
+
+def fuzzed(program, seconds, seed, names):
+    """How many runs were right, and how many weren't."""
+    end = time.monotonic() + seconds
+    with tempfile.TemporaryDirectory(dir="/dev/shm" if os.access("/dev/shm", os.W_OK) else None) as folder:
+        fuzz = Fuzz(program, seed, names, folder)
+        fuzz.until(end)
+    fuzz.tell()
+    return fuzz.tried.close()
+
 
 def main():
-    program, seconds, seed, *names = sys.argv[1:]
-    end = time.monotonic() + float(seconds)
-    with tempfile.TemporaryDirectory() as folder:
-        fuzz = Fuzz(program, int(seed), names or list(COMMANDS), folder)
-        while time.monotonic() < end and fuzz.tried.failed < 20:
-            fuzz.turn()
-    passed, failed = fuzz.tried.close()
+    program, seconds, seed, *words = sys.argv[1:]
+    names = [word for word in words if word != "--each"] or list(COMMANDS)
+    groups = [[name] for name in names] if "--each" in words else [names]
+    if len(groups) == 1:
+        counted = [fuzzed(program, float(seconds), int(seed), groups[0])]
+    else:
+        with ProcessPoolExecutor(len(groups)) as pool:
+            counted = [one.result() for one in [pool.submit(fuzzed, program, float(seconds), int(seed), group) for group in groups]]
+    passed, failed = map(sum, zip(*counted))
     print(f"{passed} passed, {failed} failed")
     return failed > 0
 

@@ -84,6 +84,13 @@ def is_turn(line, nodes):
     return worker == b"operator" and is_read(b" ".join(fields), OPERATOR)
 
 
+def is_making(words):
+    """Whether these words behind its path make the file of a node."""
+    if len(words) not in (3, 4) or not is_number(words[0], 4096, 4) or not is_node(words[1]) or not is_number(words[2], 128, 1):
+        return False
+    return int(words[1]) < int(words[2]) and all(map(is_number, words[3:]))
+
+
 def lines_in(data):
     """The lines of an input, numbered from 1."""
     lines = data.split(b"\n")

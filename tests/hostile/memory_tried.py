@@ -173,8 +173,10 @@ def try_little_room(tried, folder):
     limited(["sim"], b"cluster 128 4\n" + b"check 0\n" * 20_000, 80, 1, none)
     limited(["sim"], two + jobs + b"dispatch 0\n" * 100, 40, 1, none)
     limited(["sim"], b"cluster 128 4096\n", 100, 1, none)
-    limited(["trace"], b'{"nodes":1,"histories":[[' + entries + b"]]}", 80, 1, none)
-    limited(["trace"], b'{"nodes":1,"histories":[[' + entries + b"]]}", 20, 1, none)
+    for megabytes in (24, 20):
+        limited(["trace"], b'{"nodes":1,"histories":[[' + entries + b"]]}", megabytes, 1, none)
+    # one that isn't a trace is read once more, by a tree
+    limited(["trace"], b'{"nodes":1,"histories":[[' + entries + b',{"do":1}]]}', 80, 1, none)
     limited(["show"], b"a" * (40 * MEGABYTE), 20, 1, none)
     limited(["answer", "0", "3"], b"010101000000\n" * MEGABYTE, 20, 1, none)
     limited(["store", store], b"format 4\nmount\n" + b"list\n" * MEGABYTE, 20, 1, none)
@@ -192,15 +194,15 @@ def try_memory(tried):
             print("there is no C compiler cc, so no allocation was refused")
             return
         refusing = Refusing(tried, library, folder)
-        try_batches(refusing, ["answer", "0", "3"], b"010102000000\n", 0, "answer")
-        try_batches(refusing, ["answer", "0", "3"], b"01010200000100\n", 1, "answer, malformed")
-        try_batches(refusing, ["answer", "0", "3"], b"010501000009010000000000000002\n", 0, "answer, an invitation")
-        try_batches(refusing, ["show"], b"01070001000c000000000000000002020001\n010102\n", 0, "show")
+        for text, status in (("010102000000", 0), ("010102000001", 0), ("01010200000100", 1), ("010501000009010000000000000002", 0)):
+            try_batches(refusing, ["answer", "0", "3"], text.encode() + b"\n", status, ("answer", text))
+        for text, status in (("01070001000c000000000000000002020001\n010102", 0), ("01070001000c000000000000000002020100", 1)):
+            try_batches(refusing, ["show"], text.encode() + b"\n", status, ("show", text))
         for name, text in rows.SCHEDULES.items():
-            if tried.is_long or name in ("join", "work", "full", "torn"):
+            if tried.is_long or name != "cut":
                 try_batches(refusing, ["sim"], rows.lines(text), 0, name)
         for name, text in rows.TRACES.items():
-            if tried.is_long or name in ("run", "all kinds"):
+            if tried.is_long or name != "circle":
                 try_batches(refusing, ["trace"], text.encode(), 0 if name in ("run", "all kinds") else 1, name)
         try_batches(refusing, ["draw"], rows.TRACES["run"].encode(), 0, "draw")
         try_batches(refusing, ["record"], b"cluster 2 8\ncheck 0\ndeliver 0\n", 0, "record")

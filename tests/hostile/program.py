@@ -1,5 +1,5 @@
 """Runs the program, and counts what was tried. Whatever it is fed, it ends by itself, with a status that the texts allow, without a signal
-and where it ends badly with one line on standard error that says why. What is wrong with a trace, or with plans, is printed alone."""
+and where it ends badly with one line on standard error that says why. What is wrong with a trace, and that a run is unfinished, is printed alone."""
 import os, re, subprocess, sys
 
 SECONDS = 20
@@ -36,16 +36,17 @@ class Tried:
         except subprocess.TimeoutExpired:
             return None, b"", f"no end within {seconds} s"
         self.error = ended.stderr
-        return ended.returncode, ended.stdout, self.trouble_in(words, ended.returncode)
+        return ended.returncode, ended.stdout, self.trouble_in(words, ended.returncode, ended.stdout)
 
-    def trouble_in(self, words, status):
+    def trouble_in(self, words, status, out):
         if status not in STATUSES[words[0]]:
             return f"status {status}"
         if not ERRORS.fullmatch(self.error):
             return f"standard error {self.error[:200]!r}"
         if status == 0 and self.error:
             return f"{words[0]} writes to standard error, and ends well"
-        if status == 1 and not self.error and words[0] not in ("trace", "draw", "threads"):
+        is_printed_alone = words[0] in ("trace", "draw") or (words[0] == "threads" and out.startswith(b"unfinished "))
+        if status == 1 and not self.error and not is_printed_alone:
             return f"{words[0]} ends badly and doesn't say why on standard error"
         return ""
 
@@ -66,7 +67,7 @@ class Tried:
                 pass
             out += child.stdout.read()
             self.error = child.stderr.read()
-        return child.returncode, out, self.trouble_in(words, child.returncode)
+        return child.returncode, out, self.trouble_in(words, child.returncode, out)
 
     def expect(self, words, fed, status, text, note="", seconds=SECONDS):
         """The program prints this text and ends with this status."""

@@ -1,8 +1,7 @@
 """Traces with each byte replaced, cut at each byte, with each field missing, of another type or out of its range, and nested too deep."""
 import json
-from xml.etree import ElementTree
 import rows, traces
-from node_model import Search
+from pictures import Watched, problem_in_picture
 
 VALUES = ["null", "true", "false", "0", "-0", "1", "-1", "00", "01", "1.0", "1e0", "1E2", "0.5", "15", "16", "63", "64", "127", "128", "255", "256", "65536",
           "18446744073709551615", "18446744073709551616", "1e400", "1e-400", '""', '"0"', '"-"', '"f"', '"zz"', '"FF"', '"device"', '"mount"', '"raise"', '"Device"', '"check"', '"none"',
@@ -10,32 +9,40 @@ VALUES = ["null", "true", "false", "0", "-0", "1", "-1", "00", "01", "1.0", "1e0
           '{"do":"none","sent":[]}', "nan", "Infinity", "'a'", "", "[1,]", "{,}", "tru", '"' + "a5" * 400 + '"', '"' + "a5" * 401 + '"']
 
 
-def verdict(data):
-    """The status and the text of a trace."""
+# One of each type, and what no field has.
+TYPES = ["null", "true", "0", '""', "[]", "{}", "18446744073709551616", '"zz"']
+
+
+def searched(data):
+    """The status and the text of a trace, and the search that found an order of it."""
     try:
-        return Search(*traces.read(data)).verdict()
+        search = Watched(*traces.read(data))
     except traces.Bad as bad:
-        return 1, f"{bad}\n"
+        return 1, f"{bad}\n", None
+    return (*search.verdict(), search)
+
+
+def verdict(data):
+    return searched(data)[:2]
 
 
 def judged(tried, data, note):
-    status, text = verdict(data)
+    status, text, search = searched(data)
     tried.count("bad traces" if text.startswith("bad") else "no runs" if status else "runs")
     tried.expect(["trace"], data, status, text.encode(), note)
     if tried.is_long or tried.passed % 5 == 0:
-        drawn(tried, data, status, text, note)
+        drawn(tried, data, status, text, search, note)
 
 
-def drawn(tried, data, status, text, note):
-    """Where there is no run, `draw` prints what `trace` does; else a picture with a dot for each entry."""
+def drawn(tried, data, status, text, search, note):
+    """Where there is no run, `draw` prints what `trace` does; else the picture of the run."""
     if status:
         tried.expect(["draw"], data, status, text.encode(), ("draw", note))
         return
     got, out, trouble = tried.run(["draw"], data)
-    if not trouble and got == 0:
-        dots = sum(part.tag.endswith("circle") for part in ElementTree.fromstring(out).iter())
-        trouble = "" if dots == len(text.split()) - 1 else f"{dots} dots for {text[:100]!r}"
-    tried.tell(trouble or ("" if got == 0 else f"status {got}"), ("draw", note, data[:300]))
+    if not trouble:
+        trouble = f"status {got}" if got else problem_in_picture(out, len(search.nodes), search.turns)
+    tried.tell(trouble, ("draw", note, data[:300]))
 
 
 def try_each_byte(tried):
@@ -66,12 +73,12 @@ def try_fields(tried):
     """Behind an entry that is good, in the second history."""
     for one in entries_of_all_kinds():
         pairs = [(key, json.dumps(value)) for key, value in one.items()]
-        others = [pairs[:at] + pairs[at + 1:] for at in range(len(pairs))]
-        others += [pairs[:at] + [(pairs[at][0], value)] + pairs[at + 1:] for at in range(len(pairs)) for value in VALUES]
+        named = [pairs[:at] + pairs[at + 1:] for at in range(len(pairs))]
+        named += [pairs[:at] + [(pairs[at][0], value)] + pairs[at + 1:] for at in range(len(pairs)) for value in TYPES]
+        others = [pairs[:at] + [(pairs[at][0], value)] + pairs[at + 1:] for at in range(len(pairs)) for value in VALUES]
         others += [pairs + [(pairs[at][0], value)] for at in range(len(pairs)) for value in VALUES[::9]]
         others += [pairs + [(key, value)] for key in ("fault", "priority", "kept", "strange") for value in VALUES[::1 if tried.is_long else 5]]
-        others = others if tried.is_long else others[::3]
-        for other in others:
+        for other in named + (others if tried.is_long else others[::3]):
             judged(tried, ('{"nodes":2,"histories":[[],[{"do":"none","sent":[]},' + written(other) + "]]}").encode(), "fields")
 
 

@@ -56,11 +56,11 @@ some_of None is = absurd cc
 pub slots_of_size : (slots : ℕ) → slots ≤ 4096 → slots_for (8 + 4 * slots) ≡ slots
 slots_of_size slots most = grind (arith)
 
-pub same_by : {A : Type 0} (old new : Node Memory) (result : Result A NodeFault) → IsSome old.disk → new.id ≡ old.id → new.nodes ≡ old.nodes → CountsOf state_of old.disk new.disk result → IsSame old new
-same_by old new result has id nodes counts = record {
+pub same_by : {A : Type 0} (old new : Node Memory) (result : Result A NodeFault) → new.id ≡ old.id → new.nodes ≡ old.nodes → CountsOf state_of old.disk new.disk result → IsSame old new
+same_by old new result id nodes counts = record {
   id = id;
   nodes = nodes;
-  size = λ slots was_size now at. let was = some_of old.disk has in (counts was.0 now was.1 at).sectors ∙ was_size was.0 was.1;
+  size = λ slots was_size now at. let was = some_of old.disk counts.was_there in (counts.counts was.0 now was.1 at).sectors ∙ was_size was.0 was.1;
 }
 
 pub comes_by : (event : Event) (old new : Node Memory) (net net' : Network) (came : Came) (deed : Deed) → IsSome old.disk → Steps state_of old new event came
@@ -107,28 +107,28 @@ stuck_untouched old new event node.TooSmall s has stuck stands = absurd (strange
 
 counted_as : (old new : Option Memory) (came : Came) (first : ℕ) (fault : Option NodeFault) → CountsOf state_of old new (told_as came fault) → IsCounted old new (came_told fault first came)
 counted_as old new came first None counts was now before after =
-    let c = counts was now before after in
+    let c = counts.counts was now before after in
     record { sectors = c.sectors; honest = c.honest; later = c.later; unchanged = λ _. c.unchanged (λ bad. cc); cause = λ is. absurd (let bad = is in cc) }
 counted_as old new came first (Some node.Device) counts was now before after =
-    let c = counts was now before after in
+    let c = counts.counts was now before after in
     record { sectors = c.sectors; honest = c.honest; later = c.later; unchanged = λ not. absurd (not refl); cause = λ _. c.cause refl }
 counted_as old new came first (Some (node.Core f)) counts was now before after =
-    let c = counts was now before after in
+    let c = counts.counts was now before after in
     record { sectors = c.sectors; honest = c.honest; later = c.later; unchanged = λ _. c.unchanged (λ bad. cc); cause = λ is. absurd (let bad = is in cc) }
 counted_as old new came first (Some node.Full) counts was now before after =
-    let c = counts was now before after in
+    let c = counts.counts was now before after in
     record { sectors = c.sectors; honest = c.honest; later = c.later; unchanged = λ _. c.unchanged (λ bad. cc); cause = λ is. absurd (let bad = is in cc) }
 counted_as old new came first (Some node.Exhausted) counts was now before after =
-    let c = counts was now before after in
+    let c = counts.counts was now before after in
     record { sectors = c.sectors; honest = c.honest; later = c.later; unchanged = λ _. c.unchanged (λ bad. cc); cause = λ is. absurd (let bad = is in cc) }
 counted_as old new came first (Some node.NotFormatted) counts was now before after =
-    let c = counts was now before after in
+    let c = counts.counts was now before after in
     record { sectors = c.sectors; honest = c.honest; later = c.later; unchanged = λ _. c.unchanged (λ bad. cc); cause = λ is. absurd (let bad = is in cc) }
 counted_as old new came first (Some (node.Damaged sector)) counts was now before after =
-    let c = counts was now before after in
+    let c = counts.counts was now before after in
     record { sectors = c.sectors; honest = c.honest; later = c.later; unchanged = λ _. c.unchanged (λ bad. cc); cause = λ is. absurd (let bad = is in cc) }
 counted_as old new came first (Some node.TooSmall) counts was now before after =
-    let c = counts was now before after in
+    let c = counts.counts was now before after in
     record { sectors = c.sectors; honest = c.honest; later = c.later; unchanged = λ _. c.unchanged (λ bad. cc); cause = λ is. absurd (let bad = is in cc) }
 
 pub came_counted : (old new : Option Memory) (came : Came) (first : ℕ) (o : Outcome) → o ≡ came_told (fault_of came.fate) first came → CountsOf state_of old new (answered (Ok came)) → IsCounted old new o

@@ -123,11 +123,11 @@ nothing_found old new (Err fault) moved fallen refused = elim (is_device fault) 
 ]
 
 pub compact_counted : {A : Type 0} (old new : Option Memory) (first : ℕ) (result : Result A NodeFault) (o : Outcome) → IsCompactionTold first result o → CountsOf state_of old new result → IsCounted old new o
-compact_counted old new first (Ok a) o is counts = λ was now before after. (let c = counts was now before after in
+compact_counted old new first (Ok a) o is counts = λ was now before after. (let c = counts.counts was now before after in
     record { sectors = c.sectors; honest = c.honest; later = c.later; unchanged = λ _. c.unchanged (λ bad. cc); cause = λ faulted. absurd (not_faulted o _ is (λ bad. cc) faulted) })
 compact_counted old new first (Err fault) o is counts = λ was now before after. elim is [
-  | inl failed ↦ (let c = counts was now before after in
+  | inl failed ↦ (let c = counts.counts was now before after in
       record { sectors = c.sectors; honest = c.honest; later = c.later; unchanged = λ not. absurd (not failed.1); cause = λ _. c.cause (let it = failed.0 in cc) })
-  | inr other ↦ (let c = counts was now before after in
+  | inr other ↦ (let c = counts.counts was now before after in
       record { sectors = c.sectors; honest = c.honest; later = c.later; unchanged = λ _. c.unchanged (λ device. other.0 (let it = device in cc)); cause = λ faulted. absurd (not_faulted o _ other.1 (λ bad. cc) faulted) })
 ]

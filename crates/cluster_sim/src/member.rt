@@ -5,7 +5,7 @@ ghost use Rattle.sim_net.specs.Network.{after_all_sent};
 ghost use Rattle.durable_node.specs.Arming.{armed_disk};
 ghost use Rattle.durable_node.specs.Node.{Stands};
 ghost use Rattle.histories.specs.NodeState.{NodeState};
-ghost use Rattle.durable_node.specs.Stepping.{CameOf, most_by};
+ghost use Rattle.durable_node.specs.Stepping.{CameOf};
 ghost use Rattle.histories.specs.Fates.{what_of};
 ghost use Rattle.histories.specs.declared.what.What.TheVariants.{Rests, Crashed};
 ghost use Rattle.histories.specs.declared.what.Rest.TheVariants.{Nothing};
@@ -30,10 +30,8 @@ use wire_msg::Message;
 pub(crate) fn handle(
     node: &mut DurableNode<MemDisk>,
     net: &mut Net,
-    nodes: usize,
     event: &Event,
 ) -> Result<Deed, AllocError>
-    requires { node.old.nodes ≡ nodes }
     ensures same { IsSame node.old node.new }
     ensures came { (slots : ℕ) (s : NodeState) → slots ≤ 4096 → IsOfSize slots node.old.disk → Stands state_of node.old s
         → IfOk result (λ deed. CameAt slots node.old.id node.old.nodes (CameOf event.now) s deed node.new net.old.network net.new.network) }
@@ -41,9 +39,7 @@ pub(crate) fn handle(
     ensures unsent { OnErr result (net.new.network ≡ net.old.network) }
     ensures counted { IfOk result (λ deed. IsCounted node.old.disk node.new.disk deed.outcome) }
 {
-    node.has_disk();
-    let most = most_messages(node, nodes);
-    if net.reserve(most).is_err() {
+    if net.reserve(node.most()).is_err() {
         return Err(AllocError);
     }
     let first = net.sent().len() as u64;
@@ -85,17 +81,6 @@ fn outcome_of(came: &Came, first: u64) -> Outcome
     }
 }
 
-/// How many messages one event of a node may send at most.
-fn most_messages(node: &DurableNode<MemDisk>, nodes: usize) -> usize
-    requires { node.now.nodes ≡ nodes }
-    ensures { result ≡ most_by node.now.nodes node.now.kept }
-{
-    match node.durable() {
-        Some((_, table)) => nodes.saturating_sub(1).max(table.pending().len()),
-        None => 0,
-    }
-}
-
 /// Sends messages in the room that is there.
 fn send_all(net: &mut Net, messages: &[Message])
     requires { length messages.now ≤ net.old.room }
@@ -129,7 +114,6 @@ pub(crate) fn crash(node: &mut DurableNode<MemDisk>, net: &Net, fill: &Fill) -> 
     ensures counted { IsCounted node.old.disk node.new.disk result }
     ensures left { IsLeftWith fill.now node.old.disk node.new.disk }
 {
-    node.has_disk();
     node.crash(fill.as_slice());
     nothing_sent(net)
 }
@@ -141,7 +125,6 @@ pub(crate) fn compact(node: &mut DurableNode<MemDisk>, net: &Net) -> Outcome
         → Comes slots node.old.id node.old.nodes (CompactedAs result) s (bare_outcome (length net.now.network.sent) result) node.new net.now.network net.now.network }
     ensures counted { IsCounted node.old.disk node.new.disk result }
 {
-    node.has_disk();
     let answer = node.compact();
     compaction_told(net, answer)
 }

@@ -152,9 +152,8 @@ impl Simulation {
         ensures untouched { (w : World) → StandsFor self.old w → OnErr result (IsUntouched self.old self.new) }
         ensures faults { IfOk result (λ deed. FaultsAt (node_or_first (length self.old.nodes) id) self.old self.new deed.outcome) }
     {
-        let count = self.nodes.len();
         let place = usize::from(id.number());
-        if place >= count {
+        if place >= self.nodes.len() {
             return Ok(Deed {
                 outcome: Outcome::Refused(Refusal::Stranger),
                 tried: None,
@@ -162,7 +161,7 @@ impl Simulation {
                 mounted: false,
             });
         }
-        handle(&mut self.nodes[place], &mut self.net, count, event)
+        handle(&mut self.nodes[place], &mut self.net, event)
     }
 
     /// Delivers the message of this number at its receiver.

@@ -14,6 +14,8 @@ mod messages;
 #[cfg(test)]
 mod networks;
 #[cfg(test)]
+mod refused;
+#[cfg(test)]
 mod rows;
 #[cfg(test)]
 mod texts;

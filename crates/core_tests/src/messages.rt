@@ -1,6 +1,6 @@
 use group_task::{GroupNo, Members, NODES, NodeId, share};
 use job_model::{Payload, Queue, Work};
-use std::alloc::Global;
+use std::alloc::{AllocError, Global};
 use std::process::Abort;
 use std::test::Fail;
 use wire_msg::*;
@@ -60,7 +60,7 @@ fn work(group: GroupNo, id: u64, priority: u8, payload: &[u8]) -> Option<Body> {
 }
 
 /// The spelling of each of these messages.
-fn spelling(place: usize) -> &'static [u8] {
+pub(crate) fn spelling(place: usize) -> &'static [u8] {
     match place {
         0 => b"\x01\x01\x02\x00\x00\x00".as_slice(),
         1 => b"\x01\x02\x00\x02\x00\x01\x01".as_slice(),
@@ -197,7 +197,7 @@ fn longest_work(rt: HostRuntime) -> Result<(), Fail> {
 }
 
 /// All of the spellings, one behind the other.
-fn all_spellings(alloc: Global) -> Result<Vec<u8>, Fail> {
+pub(crate) fn all_spellings(alloc: Global) -> Result<Vec<u8>, AllocError> {
     let mut bytes = Vec::new(alloc);
     for place in 0..MESSAGES {
         bytes.extend_from_slice(spelling(place))?;
@@ -221,7 +221,7 @@ fn task_of_all_nodes(rt: HostRuntime) -> Result<(), Fail> {
     Ok(())
 }
 
-fn expect_all(rt: &impl Abort, out: &[Message]) -> Result<(), Fail> {
+pub(crate) fn expect_all(rt: &impl Abort, out: &[Message]) -> Result<(), Fail> {
     assert_eq!(rt; out.len(), MESSAGES);
     for (place, given) in out.iter().enumerate() {
         assert!(rt; Some(*given) == message(place), "{place}");

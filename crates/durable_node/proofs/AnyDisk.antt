@@ -13,7 +13,9 @@ use Rattle.durable_node.specs.declared.fault.NodeFault.{NodeFault}
 use Rattle.durable_node.specs.declared.fault.NodeFault.TheVariants as node
 use Rattle.durable_node.specs.declared.came.Came.{Came}
 use Rattle.durable_node.specs.Faults.{fault_for}
-use Rattle.durable_node.specs.Node.{found_in, node_with}
+use Rattle.durable_node.specs.declared.node_disk.NodeDisk.{NodeDisk}
+use Rattle.durable_node.specs.declared.node_disk.NodeDisk.TheVariants.{Bare, Mounted}
+use Rattle.durable_node.specs.Node.{store_in, found_in, node_with}
 use Rattle.durable_node.specs.Remounting.{IsRisen, IsRiseFailed, IsRiseRefused, IsUnmounted, Remounted}
 use Rattle.durable_node.proofs.Remounts.{found_risen, found_still}
 use Rattle.durable_node.proofs.Serves.{is_device, up_kept}
@@ -29,16 +31,16 @@ told_by by_store.NoSuchJob is = ⊎_elim (λ e. absurd cc) (λ m. ⊎_elim (λ e
 told_by by_store.NoMemory is = refl
 told_by by_store.TooSmall is = tt
 
-pub unmounted_at : {Disk : Type 0} (id nodes : ℕ) (core : Core) (disk : Option Disk) (store gone : Option (StoreState Disk)) (back : Disk) (doubt : Option (Wanted × ℕ)) (before found : Option ℕ) (fault : StoreFault) (told : NodeFault)
+pub unmounted_at : {Disk : Type 0} (id nodes : ℕ) (core : Core) (disk : NodeDisk Disk) (back : Disk) (doubt : Option (Wanted × ℕ)) (before found : Option ℕ) (fault : StoreFault) (told : NodeFault)
     → found ≡ None → told ≡ fault_for fault → IsMountFault fault
-    → Remounted (node_with id nodes core disk store doubt before) (node_with id nodes core (Some back) gone doubt found) (Err told) (found_in found gone)
-unmounted_at id nodes core disk store gone back doubt before found fault told none is of_mount =
-    subst (λ (f : Option ℕ). Remounted (node_with id nodes core disk store doubt before) (node_with id nodes core (Some back) gone doubt f) (Err told) (found_in f gone)) (sym none)
+    → Remounted (node_with id nodes core disk doubt before) (node_with id nodes core (Bare back) doubt found) (Err told) (found_in found (store_in (Bare back)))
+unmounted_at id nodes core disk back doubt before found fault told none is of_mount =
+    subst (λ (f : Option ℕ). Remounted (node_with id nodes core disk doubt before) (node_with id nodes core (Bare back) doubt f) (Err told) (found_in f (store_in (Bare back)))) (sym none)
     (subst (λ (f : NodeFault). IsUnmounted f) (sym is) (told_by fault of_mount), refl, refl)
 
-module _ {Disk : Type 0} (id nodes : ℕ) (core core' : Core) (disk gone : Option Disk) (store : Option (StoreState Disk)) (mid end : StoreState Disk) (doubt doubt' : Option (Wanted × ℕ)) (before : Option ℕ) where
+module _ {Disk : Type 0} (id nodes : ℕ) (core core' : Core) (disk : NodeDisk Disk) (mid end : StoreState Disk) (doubt doubt' : Option (Wanted × ℕ)) (before : Option ℕ) where
   abbrev Left : Result Came NodeFault → Option Durable → Type 0
-  Left result found = Remounted (node_with id nodes core disk store doubt before) (node_with id nodes core' gone (Some end) doubt' (Some (durable_of mid).counter)) result found
+  Left result found = Remounted (node_with id nodes core disk doubt before) (node_with id nodes core' (Mounted end) doubt' (Some (durable_of mid).counter)) result found
 
   failed_with : (fault : NodeFault) → (fault ≡ node.Device) ⊎ (fault ≢ node.Device)
       → (fault ≡ node.Device → IsRiseFailed (durable_of mid) (durable_of end) core core' doubt')

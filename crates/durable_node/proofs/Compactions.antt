@@ -18,12 +18,14 @@ use Rattle.histories.specs.NodeState.{NodeState}
 use Rattle.histories.specs.declared.what.What.TheVariants.{Rests, Crashed}
 use Rattle.histories.specs.declared.what.Rest.TheVariants.{Compacted, CompactDown, CompactWorn}
 use Rattle.histories.specs.After.{after}
-use Rattle.durable_node.specs.Node.{Area, IsPlaced, IsLeft, IsNode, Stands, disk_in, kept_in, area_in, area_of, node_with}
+use Rattle.durable_node.specs.declared.node_disk.NodeDisk.{NodeDisk}
+use Rattle.durable_node.specs.declared.node_disk.NodeDisk.TheVariants.{Mounted}
+use Rattle.durable_node.specs.Node.{Area, IsLeft, IsNode, Stands, kept_in, area_in, area_of, node_with}
 use Rattle.durable_node.specs.Refusing.{AnswersTo, compaction_refusal, is_last}
 use Rattle.durable_node.specs.Compacting.{Compacts, StaysKept, IsMovedNode, IsFallenNode, IsRewrittenCore, moved}
 use Rattle.durable_node.proofs.Ignores.{not_up}
 use Rattle.durable_node.proofs.Mounts.{was_honest, left_by}
-use Rattle.durable_node.proofs.Nodes.{clash, placed_still, under, store_of, same_node}
+use Rattle.durable_node.proofs.Nodes.{clash, is_some, store_of, same_node}
 use Rattle.durable_node.proofs.Serves.{kept_up, up_kept}
 
 -- how a compaction ends
@@ -50,27 +52,27 @@ up_area true store up = absurd cc
 up_area false store up = refl
 
 -- a node that is down refuses it
-pub compact_down : {Disk A : Type 0} (disks : Disk → DiskState) (id nodes : ℕ) (core : Core) (disk : Option Disk) (store : Option (StoreState Disk)) (doubt : Option (Wanted × ℕ)) (was : Option ℕ) (result : Result A NodeFault)
-    → is_down core.state.phase ≡ true → result ≡ Err (node.Core Down) → Compacts disks (node_with id nodes core disk store doubt was) (node_with id nodes core disk store doubt None) result
-compact_down disks id nodes core disk store doubt was result fallen is on s at stands =
+pub compact_down : {Disk A : Type 0} (disks : Disk → DiskState) (id nodes : ℕ) (core : Core) (disk : NodeDisk Disk) (doubt : Option (Wanted × ℕ)) (was : Option ℕ) (result : Result A NodeFault)
+    → is_down core.state.phase ≡ true → result ≡ Err (node.Core Down) → Compacts disks (node_with id nodes core disk doubt was) (node_with id nodes core disk doubt None) result
+compact_down disks id nodes core disk doubt was result fallen is on s at stands =
     (Rests CompactDown, is, subst (λ (v : State). is_down v.phase ≡ true) stands.state fallen, record { state = stands.state; doubt = stands.doubt; up = stands.up; disk = stands.disk })
 
-module _ {Disk A : Type 0} (disks : Disk → DiskState) (id nodes : ℕ) (core core' : Core) (disk : Option Disk) (store store' : StoreState Disk) (doubt : Option (Wanted × ℕ)) (was : Option ℕ) (result : Result A NodeFault) where
+module _ {Disk A : Type 0} (disks : Disk → DiskState) (id nodes : ℕ) (core core' : Core) (store store' : StoreState Disk) (doubt : Option (Wanted × ℕ)) (was : Option ℕ) (result : Result A NodeFault) where
   still_up : is_down core.state.phase ≡ false → core'.state ≡ core.state → is_down core'.state.phase ≡ false
   still_up up same = ap (λ (s : State). is_down s.phase) same ∙ up
 
-  pub node_rewritten : IsNode disks id nodes core disk (Some store) → is_down core.state.phase ≡ false → IsRewrittenCore id nodes core core' result
+  pub node_rewritten : IsNode disks id nodes core (Mounted store) → is_down core.state.phase ≡ false → IsRewrittenCore id nodes core core' result
       → AnswersTo (compaction_refusal (Some (area_of store))) result
       → (IsOk result → IsFalse store'.broken × (area_of store' ≡ moved (durable_of store) (area_of store)))
       → IfErr result (λ fault. fault ≢ node.Device → store' ≡ store)
       → store'.journal.slots ≡ store.journal.slots → (disks store'.disk).sectors ≡ (disks store.disk).sectors → IsSound store.journal.slots (disks store'.disk)
-      → IsNode disks id nodes core' disk (Some store')
+      → IsNode disks id nodes core' (Mounted store')
   node_rewritten is up left answers done refused same sectors sound = record {
     core_id = left.id;
     core_nodes = left.nodes_is;
     within = is.within;
     most = is.most;
-    placed = placed_still disk store store' is.placed;
+    there = refl;
     up = λ now. elim (ends_as (is_last (area_of store)) result answers) [
       | inl ok ↦ (done ok).0
       | inr (inl device) ↦ absurd (not_up id core'.state (left.falls device) now)
@@ -82,7 +84,7 @@ module _ {Disk A : Type 0} (disks : Disk → DiskState) (id nodes : ℕ) (core c
       | inr (inr worn) ↦ absurd (clash (is_down core'.state.phase) now (still_up up (left.stays (worn_is_none result worn))))
     ];
     slots = store_of disks id nodes core core' store' store.journal.slots same at;
-    sound = λ now e. subst (λ (x : Disk). IsSound (slots_for (disks x).sectors) (disks x)) (under disk store' now (placed_still disk store store' is.placed) e)
+    sound = λ now e. subst (λ (x : Disk). IsSound (slots_for (disks x).sectors) (disks x)) (is_some store'.disk now e)
         (subst (λ (n : ℕ). IsSound (slots_for n) (disks store'.disk)) (sym sectors) (subst (λ (n : ℕ). IsSound n (disks store'.disk)) (is.slots store refl) sound));
   }
     where
@@ -100,13 +102,13 @@ module _ {Disk A : Type 0} (disks : Disk → DiskState) (id nodes : ℕ) (core c
       ap (λ (n : ℕ). stands_for n image) (sym at) ∙ each before image ((run before).ends image im) ∙ ap (λ (d : Durable). Some d) (kept ∙ sym same)))
       (subst (λ (n : ℕ). IsSound n (disks store'.disk)) at sound)
 
-  pub compacts : IsPlaced disk (Some store) → is_down core.state.phase ≡ false → store.journal.slots ≡ slots_for (disks store.disk).sectors → IsRewrittenCore id nodes core core' result
+  pub compacts : is_down core.state.phase ≡ false → store.journal.slots ≡ slots_for (disks store.disk).sectors → IsRewrittenCore id nodes core core' result
       → AnswersTo (compaction_refusal (Some (area_of store))) result → durable_of store' ≡ durable_of store
       → (disks store'.disk).sectors ≡ (disks store.disk).sectors → (disks store'.disk).honest ≡ (disks store.disk).honest → IsSound store.journal.slots (disks store'.disk)
       → (IsTrue (disks store.disk).honest → Run (InStore store.journal.slots) (disks store.disk) (disks store'.disk))
       → (IsTrue (disks store.disk).honest → Each (disks store.disk) (disks store'.disk) (StaysAs store))
-      → Compacts disks (node_with id nodes core disk (Some store) doubt was) (node_with id nodes core' disk (Some store') doubt None) result
-  compacts placed up slots left answers same_kept sectors honest sound run each on s at stands =
+      → Compacts disks (node_with id nodes core (Mounted store) doubt was) (node_with id nodes core' (Mounted store') doubt None) result
+  compacts up slots left answers same_kept sectors honest sound run each on s at stands =
       elim (ends_as (is_last (area_of store)) result answers) [
         | inl ok ↦ (Rests Compacted, ok, up_at, stays (left.stays (ok_is_none result node.Device ok)))
         | inr (inl device) ↦ (
@@ -133,13 +135,13 @@ module _ {Disk A : Type 0} (disks : Disk → DiskState) (id nodes : ℕ) (core c
       was_left = stands.disk on at
 
       enough : 24 ≤ (disks store.disk).sectors
-      enough = subst (λ (d : Disk). 24 ≤ (disks d).sectors) (sym (under disk store on placed at)) was_left.sectors
+      enough = subst (λ (d : Disk). 24 ≤ (disks d).sectors) (sym (is_some store.disk on at)) was_left.sectors
 
-      ends : (t : NodeState) → t.durable ≡ s.durable → (now : Disk) → disk_in disk (Some store') ≡ Some now → IsLeft (disks now) t
-      ends t same now e = subst (λ (d : Disk). IsLeft (disks d) t) (under disk store' now (placed_still disk store store' placed) e)
+      ends : (t : NodeState) → t.durable ≡ s.durable → (now : Disk) → Some store'.disk ≡ Some now → IsLeft (disks now) t
+      ends t same now e = subst (λ (d : Disk). IsLeft (disks d) t) (is_some store'.disk now e)
           (left_after s t same kept enough slots sectors honest sound run each)
 
-      stays : core'.state ≡ core.state → Stands disks (node_with id nodes core' disk (Some store') doubt None) s
+      stays : core'.state ≡ core.state → Stands disks (node_with id nodes core' (Mounted store') doubt None) s
       stays same = record {
         state = same ∙ stands.state;
         doubt = stands.doubt;
@@ -148,13 +150,13 @@ module _ {Disk A : Type 0} (disks : Disk → DiskState) (id nodes : ℕ) (core c
       }
 
   pub moves_node : is_down core.state.phase ≡ false → core'.state ≡ core.state → durable_of store' ≡ durable_of store → area_of store' ≡ moved (durable_of store) (area_of store)
-      → IsMovedNode (node_with id nodes core disk (Some store) doubt was) (node_with id nodes core' disk (Some store') doubt None)
+      → IsMovedNode (node_with id nodes core (Mounted store) doubt was) (node_with id nodes core' (Mounted store') doubt None)
   moves_node up same kept area = record {
     is = (λ i. record {
       id = id;
       nodes = nodes;
       state = same i;
-      disk = disk_in disk (Some store');
+      disk = Some store'.disk;
       kept = (up_kept _ store' (still_up up same) ∙ ap (λ (d : Durable). Some d) kept ∙ sym (up_kept _ store up)) i;
       area = area_in (is_down core'.state.phase) (Some store');
       doubt = doubt;
@@ -165,12 +167,12 @@ module _ {Disk A : Type 0} (disks : Disk → DiskState) (id nodes : ℕ) (core c
         up_area _ store' (still_up up same) ∙ ap (λ (x : Area). Some x) (area ∙ ap (λ (x : Durable). moved x (area_of store)) of_d ∙ ap (λ (x : Area). moved d x) of_a));
   }
 
-  pub fallen_node : core'.state ≡ down id → IsFallenNode (node_with id nodes core disk (Some store) doubt was) (node_with id nodes core' disk (Some store') doubt None)
+  pub fallen_node : core'.state ≡ down id → IsFallenNode (node_with id nodes core (Mounted store) doubt was) (node_with id nodes core' (Mounted store') doubt None)
   fallen_node fallen = (λ i. record {
     id = id;
     nodes = nodes;
     state = fallen i;
-    disk = disk_in disk (Some store');
+    disk = Some store'.disk;
     kept = kept_in (is_down (fallen i).phase) (Some store');
     area = area_in (is_down (fallen i).phase) (Some store');
     doubt = doubt;
@@ -178,21 +180,21 @@ module _ {Disk A : Type 0} (disks : Disk → DiskState) (id nodes : ℕ) (core c
   })
 
   pub refused_node : IsRewrittenCore id nodes core core' result → IfErr result (λ fault. fault ≢ node.Device → store' ≡ store)
-      → IfErr result (λ fault. fault ≢ node.Device → node_with id nodes core' disk (Some store') doubt None ≡ node_with id nodes core disk (Some store) doubt None)
+      → IfErr result (λ fault. fault ≢ node.Device → node_with id nodes core' (Mounted store') doubt None ≡ node_with id nodes core (Mounted store) doubt None)
   refused_node left refused = by_result result left.stays refused
     where
       by_result : (r : Result A NodeFault) → ((r ≡ Err node.Device → ⊥) → core'.state ≡ core.state) → IfErr r (λ fault. fault ≢ node.Device → store' ≡ store)
-          → IfErr r (λ fault. fault ≢ node.Device → node_with id nodes core' disk (Some store') doubt None ≡ node_with id nodes core disk (Some store) doubt None)
+          → IfErr r (λ fault. fault ≢ node.Device → node_with id nodes core' (Mounted store') doubt None ≡ node_with id nodes core (Mounted store) doubt None)
       by_result (Ok a) stays refused = tt
-      by_result (Err fault) stays refused = λ other. same_node id nodes core core' disk (Some store) (Some store') doubt doubt (stays (λ e. other (let same : fault ≡ node.Device = cc in same)))
-          (ap (λ (st : StoreState Disk). Some st) (refused other)) refl
+      by_result (Err fault) stays refused = λ other. same_node id nodes core core' (Mounted store) (Mounted store') doubt doubt (stays (λ e. other (let same : fault ≡ node.Device = cc in same)))
+          (ap (λ (st : StoreState Disk). Mounted st) (refused other)) refl
 
-  pub stays_kept : IsPlaced disk (Some store) → is_down core.state.phase ≡ false → store.journal.slots ≡ slots_for (disks store.disk).sectors
+  pub stays_kept : is_down core.state.phase ≡ false → store.journal.slots ≡ slots_for (disks store.disk).sectors
       → (IsTrue (disks store.disk).honest → Each (disks store.disk) (disks store'.disk) (StaysAs store))
-      → StaysKept disks (node_with id nodes core disk (Some store) doubt was) (node_with id nodes core' disk (Some store') doubt None)
-  stays_kept placed up slots each before now d old new kept honest image since =
-      let of_before = under disk store before placed old in
-      let of_now = under disk store' now (placed_still disk store store' placed) new in
+      → StaysKept disks (node_with id nodes core (Mounted store) doubt was) (node_with id nodes core' (Mounted store') doubt None)
+  stays_kept up slots each before now d old new kept honest image since =
+      let of_before = is_some store.disk before old in
+      let of_now = is_some store'.disk now new in
       let of_d = kept_up (is_down core.state.phase) store d up kept in
       ap (λ (x : Disk). stands_for (slots_for (disks x).sectors) image) (sym of_before) ∙ ap (λ (n : ℕ). stands_for n image) (sym slots)
       ∙ each (subst (λ (x : Disk). IsTrue (disks x).honest) (sym of_before) honest) image

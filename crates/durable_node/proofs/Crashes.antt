@@ -9,10 +9,12 @@ use Rattle.node_core.specs.declared.durable.Durable.{Durable as Wanted}
 use Rattle.node_core.specs.Core.{Core}
 use Rattle.node_core.specs.Start.{down}
 use Rattle.node_core.specs.State.{is_down}
-use Rattle.node_store.specs.Store.{StoreState, slots_for, stands_for}
+use Rattle.node_store.specs.Store.{slots_for, stands_for}
 use Rattle.histories.specs.After.{after}
-use Rattle.durable_node.specs.Arming.{armed_disk, armed_store}
-use Rattle.durable_node.specs.Node.{IsPlaced, IsNode, IsLeft, Stands, Node, disk_in, kept_in, area_in, node_with}
+use Rattle.durable_node.specs.Arming.{armed_disk, armed_in}
+use Rattle.durable_node.specs.declared.node_disk.NodeDisk.{NodeDisk}
+use Rattle.durable_node.specs.declared.node_disk.NodeDisk.TheVariants.{Bare, Mounted, Taken}
+use Rattle.durable_node.specs.Node.{IsNode, IsLeft, Stands, Node, disk_in, store_in, kept_in, area_in, node_with}
 use Rattle.histories.specs.NodeState.{NodeState, settled}
 use Rattle.histories.specs.declared.what.What.TheVariants.{Crashed}
 use Rattle.durable_node.proofs.Ignores.{not_up}
@@ -51,63 +53,61 @@ left_after id nodes was now s left anew is = record {
 }
 
 -- a node that crashed
-pub crashes : (id nodes : ℕ) (core core' : Core) (disk : Option Memory) (store gone : Option (StoreState Memory)) (was now : Memory) (doubt : Option (Wanted × ℕ)) (found : Option ℕ) (s : NodeState)
-    → disk_in disk store ≡ Some was → gone ≡ None → core'.state ≡ down id → IsImage (state_of was) now.contents → now ≡ all_synced now.contents was.failures
-    → Stands state_of (node_with id nodes core disk store doubt found) s → Stands state_of (node_with id nodes core' (Some now) gone doubt None) (after id nodes s Crashed)
-crashes id nodes core core' disk store gone was now doubt found s placed none fallen left anew stands = record {
+pub crashes : (id nodes : ℕ) (core core' : Core) (disk : NodeDisk Memory) (was now : Memory) (doubt : Option (Wanted × ℕ)) (found : Option ℕ) (s : NodeState)
+    → disk_in disk ≡ Some was → core'.state ≡ down id → IsImage (state_of was) now.contents → now ≡ all_synced now.contents was.failures
+    → Stands state_of (node_with id nodes core disk doubt found) s → Stands state_of (node_with id nodes core' (Bare now) doubt None) (after id nodes s Crashed)
+crashes id nodes core core' disk was now doubt found s there fallen left anew stands = record {
   state = fallen;
   doubt = stands.doubt;
   up = λ up. absurd (not_up id core'.state fallen up);
-  disk = λ d e. subst (λ (m : Memory). IsLeft (state_of m) (after id nodes s Crashed)) (is_some now d e) (left_after id nodes was now s left anew (stands.disk was placed));
+  disk = λ d e. subst (λ (m : Memory). IsLeft (state_of m) (after id nodes s Crashed)) (is_some now d e) (left_after id nodes was now s left anew (stands.disk was there));
 }
 
-pub node_crashed : (id nodes : ℕ) (core core' : Core) (disk : Option Memory) (store gone : Option (StoreState Memory)) (was now : Memory) → IsNode state_of id nodes core disk store
-    → disk_in disk store ≡ Some was → gone ≡ None → core'.id ≡ id → core'.nodes ≡ nodes → core'.state ≡ down id → IsImage (state_of was) now.contents → now ≡ all_synced now.contents was.failures
-    → IsNode state_of id nodes core' (Some now) gone
-node_crashed id nodes core core' disk store gone was now is placed none same_id same_nodes fallen left anew =
-    subst (λ (st : Option (StoreState Memory)). IsNode state_of id nodes core' (Some now) st) (sym none) (record {
-      core_id = same_id;
-      core_nodes = same_nodes;
-      within = is.within;
-      most = is.most;
-      placed = tt;
-      up = λ up. absurd (not_up id core'.state fallen up);
-      fallen = λ _. fallen;
-      slots = λ st e. absurd cc;
-      sound = λ d e. subst (λ (m : Memory). IsSound (slots_for (length m.contents)) (state_of m)) (is_some now d e) (sound_left was now left anew (is.sound was placed));
-    })
+pub node_crashed : (id nodes : ℕ) (core core' : Core) (disk : NodeDisk Memory) (was now : Memory) → IsNode state_of id nodes core disk
+    → disk_in disk ≡ Some was → core'.id ≡ id → core'.nodes ≡ nodes → core'.state ≡ down id → IsImage (state_of was) now.contents → now ≡ all_synced now.contents was.failures
+    → IsNode state_of id nodes core' (Bare now)
+node_crashed id nodes core core' disk was now is there same_id same_nodes fallen left anew = record {
+  core_id = same_id;
+  core_nodes = same_nodes;
+  within = is.within;
+  most = is.most;
+  there = refl;
+  up = λ up. absurd (not_up id core'.state fallen up);
+  fallen = λ _. fallen;
+  slots = λ st e. absurd cc;
+  sound = λ d e. subst (λ (m : Memory). IsSound (slots_for (length m.contents)) (state_of m)) (is_some now d e) (sound_left was now left anew (is.sound was there));
+}
 
 -- ---- an arming
 
-pub disk_armed : (calls : ℕ) (disk : Option Memory) (store : Option (StoreState Memory)) → IsPlaced disk store → disk_in (armed_disk calls disk) (armed_store calls store) ≡ armed_disk calls (disk_in disk store)
-disk_armed calls (Some d) None placed = refl
-disk_armed calls None (Some st) placed = refl
-disk_armed calls (Some d) (Some st) placed = absurd placed
-disk_armed calls None None placed = absurd placed
+disk_armed : (calls : ℕ) (disk : NodeDisk Memory) → disk_in (armed_in calls disk) ≡ armed_disk calls (disk_in disk)
+disk_armed calls (Bare d) = refl
+disk_armed calls (Mounted st) = refl
+disk_armed calls Taken = refl
 
-kept_armed : (calls : ℕ) (down : Bool) (store : Option (StoreState Memory)) → kept_in down (armed_store calls store) ≡ kept_in down store
-kept_armed calls true store = refl
-kept_armed calls false None = refl
-kept_armed calls false (Some st) = refl
+kept_armed : (calls : ℕ) (down : Bool) (disk : NodeDisk Memory) → kept_in down (store_in (armed_in calls disk)) ≡ kept_in down (store_in disk)
+kept_armed calls true disk = refl
+kept_armed calls false (Bare d) = refl
+kept_armed calls false (Mounted st) = refl
+kept_armed calls false Taken = refl
 
-area_armed : (calls : ℕ) (down : Bool) (store : Option (StoreState Memory)) → area_in down (armed_store calls store) ≡ area_in down store
-area_armed calls true store = refl
-area_armed calls false None = refl
-area_armed calls false (Some st) = refl
+area_armed : (calls : ℕ) (down : Bool) (disk : NodeDisk Memory) → area_in down (store_in (armed_in calls disk)) ≡ area_in down (store_in disk)
+area_armed calls true disk = refl
+area_armed calls false (Bare d) = refl
+area_armed calls false (Mounted st) = refl
+area_armed calls false Taken = refl
 
-pub node_is_armed : (id nodes calls : ℕ) (core : Core) (disk disk' : Option Memory) (store store' : Option (StoreState Memory)) (doubt : Option (Wanted × ℕ)) (found : Option ℕ) → IsPlaced disk store
-    → disk' ≡ armed_disk calls disk → store' ≡ armed_store calls store
-    → node_with id nodes core disk' store' doubt None ≡ record (node_with id nodes core disk store doubt found) { disk = armed_disk calls (disk_in disk store); found = None }
-node_is_armed id nodes calls core disk disk' store store' doubt found placed of_disk of_store =
-    ap (λ (d : Option Memory). node_with id nodes core d store' doubt None) of_disk
-    ∙ ap (λ (st : Option (StoreState Memory)). node_with id nodes core (armed_disk calls disk) st doubt None) of_store
+pub node_is_armed : (id nodes calls : ℕ) (core : Core) (disk disk' : NodeDisk Memory) (doubt : Option (Wanted × ℕ)) (found : Option ℕ) → disk' ≡ armed_in calls disk
+    → node_with id nodes core disk' doubt None ≡ record (node_with id nodes core disk doubt found) { disk = armed_disk calls (disk_in disk); found = None }
+node_is_armed id nodes calls core disk disk' doubt found is =
+    ap (λ (d : NodeDisk Memory). node_with id nodes core d doubt None) is
     ∙ (λ i. record {
       id = id;
       nodes = nodes;
       state = core.state;
-      disk = disk_armed calls disk store placed i;
-      kept = kept_armed calls (is_down core.state.phase) store i;
-      area = area_armed calls (is_down core.state.phase) store i;
+      disk = disk_armed calls disk i;
+      kept = kept_armed calls (is_down core.state.phase) disk i;
+      area = area_armed calls (is_down core.state.phase) disk i;
       doubt = doubt;
       found = None;
     })

@@ -14,7 +14,7 @@ use Rattle.node_core.specs.NodeStep.{IsSpent, FitsSlots, Handled}
 use Rattle.node_core.specs.Refusals.{refusal_of}
 use Rattle.node_core.specs.Start.{down}
 use Rattle.node_core.specs.State.{State, is_down}
-use Rattle.node_store.specs.Store.{StoreState, slots_for}
+use Rattle.node_store.specs.Store.{slots_for}
 use Rattle.durable_node.specs.declared.fault.NodeFault.{NodeFault}
 use Rattle.durable_node.specs.declared.fault.NodeFault.TheVariants as node
 use Rattle.durable_node.specs.declared.came.Came.{Came}
@@ -26,6 +26,7 @@ use Rattle.histories.specs.declared.what.Refusal.TheVariants as refusal
 use Rattle.histories.specs.Fates.{IsTriedAt, what_of}
 use Rattle.histories.specs.After.{after}
 use Rattle.histories.specs.Possible.{IsForNode}
+use Rattle.durable_node.specs.declared.node_disk.NodeDisk.{NodeDisk}
 use Rattle.durable_node.specs.Node.{node_with, Stands}
 use Rattle.durable_node.specs.Stepping.{Does, IsIgnored, IsSilent, Steps}
 use Rattle.durable_node.specs.Faults.{fault_of, told, told_as}
@@ -49,8 +50,8 @@ for_other s Recover other = absurd (other refl)
 pub not_up : (id : ℕ) (s : State) → s ≡ down id → is_down s.phase ≡ false → ⊥
 not_up id s is up = (let bad : is_down (down id).phase ≡ false = subst (λ (v : State). is_down v.phase ≡ false) is up in cc)
 
-module _ {Disk : Type 0} (disks : Disk → DiskState) (id nodes : ℕ) (core core' : Core) (disk : Option Disk) (store : Option (StoreState Disk)) (doubt : Option (Wanted × ℕ)) (was : Option ℕ) (event : Event) where
-  still : (s : NodeState) → core.state ≡ down id → core'.state ≡ core.state → Stands disks (node_with id nodes core disk store doubt was) s → Stands disks (node_with id nodes core' disk store doubt None) s
+module _ {Disk : Type 0} (disks : Disk → DiskState) (id nodes : ℕ) (core core' : Core) (disk : NodeDisk Disk) (doubt : Option (Wanted × ℕ)) (was : Option ℕ) (event : Event) where
+  still : (s : NodeState) → core.state ≡ down id → core'.state ≡ core.state → Stands disks (node_with id nodes core disk doubt was) s → Stands disks (node_with id nodes core' disk doubt None) s
   still s is same stands = record {
     state = same ∙ stands.state;
     doubt = stands.doubt;
@@ -60,9 +61,9 @@ module _ {Disk : Type 0} (disks : Disk → DiskState) (id nodes : ℕ) (core cor
 
   abbrev Ends : ℕ → NodeState → Came → Fate → Type 0
   Ends slots s came what =
-      Does slots id nodes s event came None (what_of event what) × Stands disks (node_with id nodes core' disk store doubt None) (after id nodes s (what_of event what))
+      Does slots id nodes s event came None (what_of event what) × Stands disks (node_with id nodes core' disk doubt None) (after id nodes s (what_of event what))
 
-  by_fate : (slots : ℕ) (s : NodeState) → core.state ≡ down id → core'.state ≡ core.state → event ≢ Recover → Stands disks (node_with id nodes core disk store doubt was) s
+  by_fate : (slots : ℕ) (s : NodeState) → core.state ≡ down id → core'.state ≡ core.state → event ≢ Recover → Stands disks (node_with id nodes core disk doubt was) s
       → (came : Came) (end : Fate) → IsIgnored (refusal_of nodes id event core.state) came end → came.tried ≡ None → Ends slots s came end
   by_fate slots s is same other stands came fate.Done done tried =
       let at : s.state ≡ down id = sym stands.state ∙ is in
@@ -82,7 +83,7 @@ module _ {Disk : Type 0} (disks : Disk → DiskState) (id nodes : ℕ) (core cor
           sent = done.1.0 ∙ sym stays.sent;
           mounted = refl;
         },
-        subst (λ (t : NodeState). Stands disks (node_with id nodes core' disk store doubt None) t) kept (still s is same stands),
+        subst (λ (t : NodeState). Stands disks (node_with id nodes core' disk doubt None) t) kept (still s is same stands),
       )
   by_fate slots s is same other stands came (fate.Refused (refusal.Core why)) done tried = (
     record {
@@ -107,7 +108,7 @@ module _ {Disk : Type 0} (disks : Disk → DiskState) (id nodes : ℕ) (core cor
 
   pub ignores : core.state ≡ down id → core'.state ≡ core.state → event ≢ Recover → (result : Result Came NodeFault)
       → IfOk result (λ came. IsIgnored (refusal_of nodes id event core.state) came came.fate) → IfOk result (λ came. came.tried ≡ None)
-      → IfOk result (Steps disks (node_with id nodes core disk store doubt was) (node_with id nodes core' disk store doubt None) event)
+      → IfOk result (Steps disks (node_with id nodes core disk doubt was) (node_with id nodes core' disk doubt None) event)
   ignores is same other (Ok came) done tried = λ at s on stands mounting. by_fate (slots_for (disks at).sectors) s is same other stands came came.fate done tried
   ignores is same other (Err fault) done tried = tt
 

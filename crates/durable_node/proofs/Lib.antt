@@ -9,6 +9,5 @@ pub mod Crashes
 pub mod Opens
 pub mod AnyDisk
 pub mod Readings
-pub mod Placed
 pub mod Compactions
 pub mod Carries

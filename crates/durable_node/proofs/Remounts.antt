@@ -32,7 +32,9 @@ use Rattle.histories.specs.After.{after}
 use Rattle.histories.specs.Possible.{IsSettling}
 use Rattle.durable_node.specs.Faults.{fault_for, fault_of, told, told_as}
 use Rattle.durable_node.specs.Carrying.{BeforeOrAfter}
-use Rattle.durable_node.specs.Node.{Node, told_doubt, disk_in, kept_in, area_in, found_in, node_with, IsLeft, Stands}
+use Rattle.durable_node.specs.declared.node_disk.NodeDisk.{NodeDisk}
+use Rattle.durable_node.specs.declared.node_disk.NodeDisk.TheVariants.{Bare, Mounted}
+use Rattle.durable_node.specs.Node.{Node, told_doubt, disk_in, store_in, kept_in, area_in, found_in, node_with, IsLeft, Stands}
 use Rattle.durable_node.specs.Stepping.{Does, IsSilent, IsUnmountable, Steps, Stuck}
 use Rattle.durable_node.specs.Remounting.{HasRisen, IsFoundBy, IsKeptIn, IsRisen, IsRiseFailed, IsRiseRefused, raise_by}
 use Rattle.durable_node.proofs.Mounts.{left_quiet, settles, left_by, left_in_doubt}
@@ -54,24 +56,24 @@ area_none : {Disk : Type 0} (b : Bool) (one two : Option (StoreState Disk)) → 
 area_none true one two down = refl
 area_none false one two down = absurd cc
 
-module _ {Disk : Type 0} (disks : Disk → DiskState) (id nodes : ℕ) (core : Core) (disk : Option Disk) (store gone : Option (StoreState Disk)) (was back : Disk) (doubt : Option (Wanted × ℕ)) (before found : Option ℕ) where
+module _ {Disk : Type 0} (disks : Disk → DiskState) (id nodes : ℕ) (core : Core) (disk : NodeDisk Disk) (was back : Disk) (doubt : Option (Wanted × ℕ)) (before found : Option ℕ) where
   abbrev old_node : Node Disk
-  old_node = node_with id nodes core disk store doubt before
+  old_node = node_with id nodes core disk doubt before
 
   abbrev new_node : Node Disk
-  new_node = node_with id nodes core (Some back) gone doubt found
+  new_node = node_with id nodes core (Bare back) doubt found
 
-  nothing_found : found ≡ None → found_in found gone ≡ None
-  nothing_found none = ap (λ (f : Option ℕ). found_in f gone) none
+  nothing_found : found ≡ None → found_in found (store_in (Bare back)) ≡ None
+  nothing_found none = ap (λ (f : Option ℕ). found_in f (store_in (Bare back))) none
 
   -- the device failed in the mounting
-  fails_as : disk_in disk store ≡ Some was → core.state ≡ down id → found ≡ None → (disks back).sectors ≡ (disks was).sectors → (disks back).honest ≡ (disks was).honest
+  fails_as : disk_in disk ≡ Some was → core.state ≡ down id → found ≡ None → (disks back).sectors ≡ (disks was).sectors → (disks back).honest ≡ (disks was).honest
       → (IsTrue (disks was).honest → Run nothing (disks was) (disks back))
       → (came : Came) (end : Fate) → end ≡ fate.MountFailed → IsSilent came → came.tried ≡ None → (now : Disk) (s : NodeState) → Stands disks old_node s
-      → Does (slots_for (disks now).sectors) id nodes s Recover came (found_in found gone) (what_of Recover end) × Stands disks new_node (after id nodes s (what_of Recover end))
-  fails_as placed is none sectors same run came end failed silent tried now s stands =
-      let left : IsLeft (disks was) s = stands.disk was placed in
-      subst (λ (e : Fate). Does (slots_for (disks now).sectors) id nodes s Recover came (found_in found gone) (what_of Recover e) × Stands disks new_node (after id nodes s (what_of Recover e))) (sym failed) (
+      → Does (slots_for (disks now).sectors) id nodes s Recover came (found_in found (store_in (Bare back))) (what_of Recover end) × Stands disks new_node (after id nodes s (what_of Recover end))
+  fails_as there is none sectors same run came end failed silent tried now s stands =
+      let left : IsLeft (disks was) s = stands.disk was there in
+      subst (λ (e : Fate). Does (slots_for (disks now).sectors) id nodes s Recover came (found_in found (store_in (Bare back))) (what_of Recover e) × Stands disks new_node (after id nodes s (what_of Recover e))) (sym failed) (
         record {
           of = refl;
           possible = down_phase id s.state (sym stands.state ∙ is);
@@ -89,13 +91,13 @@ module _ {Disk : Type 0} (disks : Disk → DiskState) (id nodes : ℕ) (core : C
         },
       )
 
-  pub mount_fails : disk_in disk store ≡ Some was → core.state ≡ down id → found ≡ None → (disks back).sectors ≡ (disks was).sectors → (disks back).honest ≡ (disks was).honest
+  pub mount_fails : disk_in disk ≡ Some was → core.state ≡ down id → found ≡ None → (disks back).sectors ≡ (disks was).sectors → (disks back).honest ≡ (disks was).honest
       → (IsTrue (disks was).honest → Run nothing (disks was) (disks back))
       → (told : NodeFault) (result : Result Came NodeFault) → IfOk result (λ came. (came.fate ≡ fate.MountFailed) × (told ≡ node.Device)) → IfOk result IsSilent → IfOk result (λ came. came.tried ≡ None)
       → IfOk result (Steps disks old_node new_node Recover)
-  mount_fails placed is none sectors same run told (Ok came) end silent tried = λ now s at stands mounting.
-      fails_as placed is none sectors same run came came.fate end.0 silent tried now s stands
-  mount_fails placed is none sectors same run told (Err fault) end silent tried = tt
+  mount_fails there is none sectors same run told (Ok came) end silent tried = λ now s at stands mounting.
+      fails_as there is none sectors same run came came.fate end.0 silent tried now s stands
+  mount_fails there is none sectors same run told (Err fault) end silent tried = tt
 
   -- what is refused leaves all but the disk
   same_but : is_down core.state.phase ≡ true → found ≡ None → new_node ≡ record old_node { disk = Some back; found = None }
@@ -104,8 +106,8 @@ module _ {Disk : Type 0} (disks : Disk → DiskState) (id nodes : ℕ) (core : C
     nodes = nodes;
     state = core.state;
     disk = Some back;
-    kept = kept_none (is_down core.state.phase) gone store fallen i;
-    area = area_none (is_down core.state.phase) gone store fallen i;
+    kept = kept_none (is_down core.state.phase) (store_in (Bare back)) (store_in disk) fallen i;
+    area = area_none (is_down core.state.phase) (store_in (Bare back)) (store_in disk) fallen i;
     doubt = doubt;
     found = nothing_found none i;
   })
@@ -116,39 +118,39 @@ module _ {Disk : Type 0} (disks : Disk → DiskState) (id nodes : ℕ) (core : C
       → ((image : Image) → IsImage (disks was) image → (state : Durable) × (stands_for (slots_for (disks was).sectors) image ≡ Some state))
       → (fault ≡ by_store.Device) ⊎ (fault ≡ by_store.NoMemory)
 
-  unmountable : disk_in disk store ≡ Some was → is_down core.state.phase ≡ true → found ≡ None → (fault : StoreFault) → Mounts fault → (fault ≡ by_store.Device → ⊥) → (fault ≡ by_store.NoMemory → ⊥)
+  unmountable : disk_in disk ≡ Some was → is_down core.state.phase ≡ true → found ≡ None → (fault : StoreFault) → Mounts fault → (fault ≡ by_store.Device → ⊥) → (fault ≡ by_store.NoMemory → ⊥)
       → IsUnmountable disks old_node new_node Recover
-  unmountable placed fallen none fault mounts not_device not_memory = record {
+  unmountable there fallen none fault mounts not_device not_memory = record {
     mounting = (fallen, refl);
-    strange = λ now s at stands honest. (let on : was ≡ now = some_is was now (sym placed ∙ at) in
-        let left : IsLeft (disks was) s = stands.disk was placed in
+    strange = λ now s at stands honest. (let on : was ≡ now = some_is was now (sym there ∙ at) in
+        let left : IsLeft (disks was) s = stands.disk was there in
         let so : IsTrue (disks was).honest = subst (λ (d : Disk). IsTrue (disks d).honest) (sym on) honest in
         ⊎_elim not_device not_memory (mounts so left.sectors (λ image im. (let f = left.images so image im in (settled f.0 s, f.2)))));
     same = same_but fallen none;
   }
 
-  by_fault : disk_in disk store ≡ Some was → is_down core.state.phase ≡ true → found ≡ None → (fault : StoreFault) → IsMountFault fault → Mounts fault → (fault ≡ by_store.NoMemory → back ≡ was)
+  by_fault : disk_in disk ≡ Some was → is_down core.state.phase ≡ true → found ≡ None → (fault : StoreFault) → IsMountFault fault → Mounts fault → (fault ≡ by_store.NoMemory → back ≡ was)
       → fault_for fault ≢ node.Device → Stuck disks old_node new_node Recover (fault_for fault)
-  by_fault placed fallen none by_store.Device is mounts untouched other = absurd (other refl)
-  by_fault placed fallen none by_store.Broken is mounts untouched other = absurd (other refl)
-  by_fault placed fallen none by_store.Exhausted is mounts untouched other = absurd (⊎_elim (λ e. absurd cc) (λ m. ⊎_elim (λ e. absurd cc) (λ no. no) m) is)
-  by_fault placed fallen none by_store.NotFormatted is mounts untouched other = unmountable placed fallen none by_store.NotFormatted mounts (λ e. absurd cc) (λ e. absurd cc)
-  by_fault placed fallen none (by_store.Damaged sector) is mounts untouched other = unmountable placed fallen none (by_store.Damaged sector) mounts (λ e. absurd cc) (λ e. absurd cc)
-  by_fault placed fallen none by_store.Full is mounts untouched other = absurd (⊎_elim (λ e. absurd cc) (λ m. ⊎_elim (λ e. absurd cc) (λ no. no) m) is)
-  by_fault placed fallen none by_store.NoSuchJob is mounts untouched other = absurd (⊎_elim (λ e. absurd cc) (λ m. ⊎_elim (λ e. absurd cc) (λ no. absurd no) m) is)
-  by_fault placed fallen none by_store.NoMemory is mounts untouched other =
-      (refl, same_but fallen none ∙ (λ i. record old_node { disk = (ap (λ (d : Disk). Some d) (untouched refl) ∙ sym placed) i; found = None }))
-  by_fault placed fallen none by_store.TooSmall is mounts untouched other = unmountable placed fallen none by_store.TooSmall mounts (λ e. absurd cc) (λ e. absurd cc)
+  by_fault there fallen none by_store.Device is mounts untouched other = absurd (other refl)
+  by_fault there fallen none by_store.Broken is mounts untouched other = absurd (other refl)
+  by_fault there fallen none by_store.Exhausted is mounts untouched other = absurd (⊎_elim (λ e. absurd cc) (λ m. ⊎_elim (λ e. absurd cc) (λ no. no) m) is)
+  by_fault there fallen none by_store.NotFormatted is mounts untouched other = unmountable there fallen none by_store.NotFormatted mounts (λ e. absurd cc) (λ e. absurd cc)
+  by_fault there fallen none (by_store.Damaged sector) is mounts untouched other = unmountable there fallen none (by_store.Damaged sector) mounts (λ e. absurd cc) (λ e. absurd cc)
+  by_fault there fallen none by_store.Full is mounts untouched other = absurd (⊎_elim (λ e. absurd cc) (λ m. ⊎_elim (λ e. absurd cc) (λ no. no) m) is)
+  by_fault there fallen none by_store.NoSuchJob is mounts untouched other = absurd (⊎_elim (λ e. absurd cc) (λ m. ⊎_elim (λ e. absurd cc) (λ no. absurd no) m) is)
+  by_fault there fallen none by_store.NoMemory is mounts untouched other =
+      (refl, same_but fallen none ∙ (λ i. record old_node { disk = (ap (λ (d : Disk). Some d) (untouched refl) ∙ sym there) i; found = None }))
+  by_fault there fallen none by_store.TooSmall is mounts untouched other = unmountable there fallen none by_store.TooSmall mounts (λ e. absurd cc) (λ e. absurd cc)
 
   -- the disk isn't mounted
-  pub stuck : disk_in disk store ≡ Some was → is_down core.state.phase ≡ true → found ≡ None → (fault : StoreFault) → IsMountFault fault → Mounts fault
+  pub stuck : disk_in disk ≡ Some was → is_down core.state.phase ≡ true → found ≡ None → (fault : StoreFault) → IsMountFault fault → Mounts fault
       → ((fault ≡ by_store.TooSmall) ⊎ (fault ≡ by_store.NoMemory) → back ≡ was)
       → (told : NodeFault) → told ≡ fault_for fault → (result : Result Came NodeFault) → IfErr result (λ why. (why ≡ told) × (told ≢ node.Device))
       → IfErr result (Stuck disks old_node new_node Recover)
-  stuck placed fallen none fault is mounts untouched told of_fault (Ok came) err = tt
-  stuck placed fallen none fault is mounts untouched told of_fault (Err why) err =
+  stuck there fallen none fault is mounts untouched told of_fault (Ok came) err = tt
+  stuck there fallen none fault is mounts untouched told of_fault (Err why) err =
       subst (λ (f : NodeFault). Stuck disks old_node new_node Recover f) (sym (err.0 ∙ of_fault))
-      (by_fault placed fallen none fault is mounts (λ e. untouched (inr e)) (subst (λ (f : NodeFault). f ≢ node.Device) of_fault err.1))
+      (by_fault there fallen none fault is mounts (λ e. untouched (inr e)) (subst (λ (f : NodeFault). f ≢ node.Device) of_fault err.1))
 
 -- what was mounted is still shown after the raise
 pub found_risen : {Disk : Type 0} (d : Durable) (store : StoreState Disk) → durable_of store ≡ after_command d Raise → found_in (Some d.counter) (Some store) ≡ Some d
@@ -157,10 +159,10 @@ found_risen d store is = (λ i. Some (record { counter = d.counter; next = ap (�
 pub found_still : {Disk : Type 0} (d : Durable) (store : StoreState Disk) → durable_of store ≡ d → found_in (Some d.counter) (Some store) ≡ Some d
 found_still d store is = (λ i. Some (record { counter = d.counter; next = ap (λ (e : Durable). e.next) is i; pending = ap (λ (e : Durable). e.pending) is i }))
 
-module _ {Disk : Type 0} (disks : Disk → DiskState) (id nodes slots : ℕ) (core core' : Core) (disk : Option Disk) (store : Option (StoreState Disk)) (was : Disk) (mid end : StoreState Disk) (doubt doubt' : Option (Wanted × ℕ)) (before : Option ℕ) where
+module _ {Disk : Type 0} (disks : Disk → DiskState) (id nodes slots : ℕ) (core core' : Core) (disk : NodeDisk Disk) (was : Disk) (mid end : StoreState Disk) (doubt doubt' : Option (Wanted × ℕ)) (before : Option ℕ) where
   abbrev Ended : NodeState → Came → What → Type 0
   Ended s came what = Does slots id nodes s Recover came (found_in (Some (durable_of mid).counter) (Some end)) what
-      × Stands disks (node_with id nodes core' None (Some end) doubt' (Some (durable_of mid).counter)) (after id nodes s what)
+      × Stands disks (node_with id nodes core' (Mounted end) doubt' (Some (durable_of mid).counter)) (after id nodes s what)
 
   recovered : (s : NodeState) → is_down s.state.phase ≡ true → (kept : Bool) → IsSettling kept s.doubt → durable_of mid ≡ settled kept s → slots ≡ slots_for (disks end.disk).sectors → 24 ≤ (disks end.disk).sectors
       → (came : Came) → IsRisen id (durable_of mid) (durable_of end) core' doubt' came → came.tried ≡ Some attempt.Raise
@@ -257,7 +259,7 @@ module _ {Disk : Type 0} (disks : Disk → DiskState) (id nodes slots : ℕ) (co
   by_fate s fallen stood in_doubt kept settling is at enough honest was_so left came fate.MountFailed risen tried run each all sound = absurd risen
 
   -- the disk is mounted, and the raise is tried
-  pub rises : disk_in disk store ≡ Some was → core.state ≡ down id → slots ≡ slots_for (disks was).sectors
+  pub rises : disk_in disk ≡ Some was → core.state ≡ down id → slots ≡ slots_for (disks was).sectors
       → (disks mid.disk).sectors ≡ (disks was).sectors → (disks mid.disk).honest ≡ (disks was).honest
       → (disks end.disk).sectors ≡ (disks mid.disk).sectors → (disks end.disk).honest ≡ (disks mid.disk).honest
       → (IsTrue (disks was).honest → Run nothing (disks was) (disks mid.disk))
@@ -268,19 +270,19 @@ module _ {Disk : Type 0} (disks : Disk → DiskState) (id nodes slots : ℕ) (co
       → (IsTrue (disks mid.disk).honest → AllStandFor slots (durable_of mid) (disks mid.disk) → Each (disks mid.disk) (disks end.disk) (BeforeOrAfter slots (durable_of mid) (Some Raise)))
       → (IsTrue (disks mid.disk).honest → AllStandFor slots (durable_of mid) (disks mid.disk) → IsOk (told (Ok came)) → AllStandFor slots (durable_of end) (disks end.disk))
       → IsSound slots (disks end.disk)
-      → Steps disks (node_with id nodes core disk store doubt before) (node_with id nodes core' None (Some end) doubt' (Some (durable_of mid).counter)) Recover came
-  rises placed fallen at sectors same sectors' same' quiet remains flag flagged came risen tried run each all sound now s found stands mounting =
-      let on : was ≡ now = some_is was now (sym placed ∙ found) in
+      → Steps disks (node_with id nodes core disk doubt before) (node_with id nodes core' (Mounted end) doubt' (Some (durable_of mid).counter)) Recover came
+  rises there fallen at sectors same sectors' same' quiet remains flag flagged came risen tried run each all sound now s found stands mounting =
+      let on : was ≡ now = some_is was now (sym there ∙ found) in
       let honest : IsTrue (disks was).honest = subst (λ (d : Disk). IsTrue (disks d).honest) (sym on) (mounting (down_phase id core.state fallen, refl)) in
       let honest_mid : IsTrue (disks mid.disk).honest = subst (λ (b : Bool). IsTrue b) (sym same) honest in
-      let left : IsLeft (disks was) s = stands.disk was placed in
+      let left : IsLeft (disks was) s = stands.disk was there in
       let kept = settles (disks was) (disks mid.disk) s (durable_of mid) honest (quiet honest) left
       (subst (λ (n : ℕ). AllStandFor n (durable_of mid) (disks mid.disk)) at (remains honest)) in
       let so = settled_so s (durable_of mid) flag kept.0 (subst (λ (o : Option (Wanted × ℕ)). IsKeptIn o (durable_of mid) flag) stands.doubt flagged) kept.1 kept.2 in
       let left_mid = left_quiet (disks was) (disks mid.disk) s sectors same quiet left in
       let at_end : slots ≡ slots_for (disks end.disk).sectors = at ∙ ap (λ (n : ℕ). slots_for n) (sym (sectors' ∙ sectors)) in
       subst (λ (n : ℕ). Does n id nodes s Recover came (found_in (Some (durable_of mid).counter) (Some end)) (what_of Recover came.fate)
-      × Stands disks (node_with id nodes core' None (Some end) doubt' (Some (durable_of mid).counter)) (after id nodes s (what_of Recover came.fate)))
+      × Stands disks (node_with id nodes core' (Mounted end) doubt' (Some (durable_of mid).counter)) (after id nodes s (what_of Recover came.fate)))
       (at ∙ ap (λ (d : Disk). slots_for (disks d).sectors) on)
       (by_fate s fallen stands.state stands.doubt flag so.0 so.1 at_end (omega (arith, left_mid.sectors, sectors')) same' honest_mid left_mid came came.fate risen tried run
       (λ h. each h (remains honest)) (λ h. all h (remains honest)) sound)

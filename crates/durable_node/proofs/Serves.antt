@@ -31,7 +31,8 @@ use Rattle.histories.proofs.Attempts.{tried_none, tried_wanted}
 use Rattle.histories.specs.After.{after}
 use Rattle.histories.specs.Possible.{IsForNode}
 use Rattle.durable_node.specs.Carrying.{BeforeOrAfter}
-use Rattle.durable_node.specs.Node.{told_doubt, kept_in, node_with, IsPlaced, IsLeft, Stands}
+use Rattle.durable_node.specs.declared.node_disk.NodeDisk.TheVariants.{Mounted}
+use Rattle.durable_node.specs.Node.{told_doubt, kept_in, node_with, IsLeft, Stands}
 use Rattle.durable_node.specs.Stepping.{IsDone, IsFailed, IsTurnedAway, IsServed, IsSilent, Does, Steps, command_by}
 use Rattle.durable_node.specs.Faults.{fault_of, shown, told, told_as}
 use Rattle.durable_node.proofs.Mounts.{stands_all, left_by, left_in_doubt}
@@ -84,7 +85,7 @@ module _ {Disk : Type 0} (disks : Disk → DiskState) (id nodes : ℕ) (core cor
   slots = slots_for (disks store.disk).sectors
 
   abbrev Ended : Came → What → Type 0
-  Ended came what = Does slots id nodes (up_at core store) event came None what × Stands disks (node_with id nodes core' None (Some store') doubt' None) (after id nodes (up_at core store) what)
+  Ended came what = Does slots id nodes (up_at core store) event came None what × Stands disks (node_with id nodes core' (Mounted store') doubt' None) (after id nodes (up_at core store) what)
 
   served_ok : is_down core.state.phase ≡ false → is_down core'.state.phase ≡ false → 24 ≤ (disks store'.disk).sectors → (disks store'.disk).sectors ≡ (disks store.disk).sectors
       → doubt ≡ None → doubt' ≡ doubt → (came : Came) → IsDone slots nodes id core.state (durable_of store) event core'.state (durable_of store') came → came.tried ≡ option_map attempt_of wants
@@ -197,7 +198,7 @@ module _ {Disk : Type 0} (disks : Disk → DiskState) (id nodes : ℕ) (core cor
       → (IsTrue (disks store.disk).honest → AllStandFor n (durable_of store) (disks store.disk) → IsOk (told (Ok came)) → AllStandFor n (durable_of store') (disks store'.disk))
       → IsSound n (disks store'.disk) → P
 
-  pub serves : (came : Came) → Facts slots came (Steps disks (node_with id nodes core None (Some store) doubt was) (node_with id nodes core' None (Some store') doubt' None) event came)
+  pub serves : (came : Came) → Facts slots came (Steps disks (node_with id nodes core (Mounted store) doubt was) (node_with id nodes core' (Mounted store') doubt' None) event came)
   serves came up up' sectors honest done tried whole fallen unchanged run each all sound disk s at stands mounting =
       let kept = stands.up up in
       let is : up_at core store ≡ s = (λ i. record { state = stands.state i; durable = kept_up (is_down core.state.phase) store s.durable up kept.0 i; doubt = sym kept.1 i }) in
@@ -206,23 +207,15 @@ module _ {Disk : Type 0} (disks : Disk → DiskState) (id nodes : ℕ) (core cor
       let stood = stands_all (disks store.disk) (up_at core store) refl left in
       let none : doubt ≡ None = subst (λ (t : NodeState). doubt ≡ told_doubt t.durable t.doubt) (sym is) stands.doubt in
       subst (λ (d : Disk). Does (slots_for (disks d).sectors) id nodes s event came None (what_of event came.fate)
-      × Stands disks (node_with id nodes core' None (Some store') doubt' None) (after id nodes s (what_of event came.fate))) on
+      × Stands disks (node_with id nodes core' (Mounted store') doubt' None) (after id nodes s (what_of event came.fate))) on
       (subst (λ (t : NodeState). Does slots id nodes t event came None (what_of event came.fate)
-      × Stands disks (node_with id nodes core' None (Some store') doubt' None) (after id nodes t (what_of event came.fate))) is
+      × Stands disks (node_with id nodes core' (Mounted store') doubt' None) (after id nodes t (what_of event came.fate))) is
       (by_fate up (omega (arith, left.sectors, sectors)) sectors honest none came came.fate done tried up' whole fallen unchanged run
       (λ h. each h (stood h)) (λ h. all h (stood h)) sound left))
 
--- the same, wherever the parts of the node say that its disk is
-pub serves_at : {Disk : Type 0} (disks : Disk → DiskState) (id nodes size : ℕ) (core core' : Core) (disk : Option Disk) (store store' : StoreState Disk) (doubt doubt' : Option (Wanted × ℕ)) (was : Option ℕ) (event : Event) (came : Came)
-    → IsPlaced disk (Some store) → size ≡ slots_for (disks store.disk).sectors
-    → Facts disks id nodes core core' store store' doubt doubt' was event size came (Steps disks (node_with id nodes core disk (Some store) doubt was) (node_with id nodes core' disk (Some store') doubt' None) event came)
-serves_at disks id nodes size core core' (Some d) store store' doubt doubt' was event came placed at = absurd placed
-serves_at {Disk} disks id nodes size core core' None store store' doubt doubt' was event came placed at =
-    subst (λ (n : ℕ). Facts disks id nodes core core' store store' doubt doubt' was event n came (Steps disks (node_with id nodes core None (Some store) doubt was) (node_with id nodes core' None (Some store') doubt' None) event came))
-    (sym at) (serves disks id nodes core core' store store' doubt doubt' was event came)
-
-pub all_served : {Disk : Type 0} (disks : Disk → DiskState) (id nodes size : ℕ) (core core' : Core) (disk : Option Disk) (store store' : StoreState Disk) (doubt doubt' : Option (Wanted × ℕ)) (was : Option ℕ) (event : Event) (result : Result Came NodeFault)
-    → IsPlaced disk (Some store) → size ≡ slots_for (disks store.disk).sectors
+-- the same, of as many slots as the store has
+pub all_served : {Disk : Type 0} (disks : Disk → DiskState) (id nodes size : ℕ) (core core' : Core) (store store' : StoreState Disk) (doubt doubt' : Option (Wanted × ℕ)) (was : Option ℕ) (event : Event) (result : Result Came NodeFault)
+    → size ≡ slots_for (disks store.disk).sectors
     → is_down core.state.phase ≡ false → (IsOk (told result) → is_down core'.state.phase ≡ false)
     → (disks store'.disk).sectors ≡ (disks store.disk).sectors → (disks store'.disk).honest ≡ (disks store.disk).honest
     → IfOk result (λ came. IsServed size nodes id core.state (durable_of store) event core'.state (durable_of store') came came.fate)
@@ -235,10 +228,11 @@ pub all_served : {Disk : Type 0} (disks : Disk → DiskState) (id nodes size : �
     → Each (disks store.disk) (disks store'.disk) (BeforeOrAfter size (durable_of store) (wants_of id (durable_of store).pending event core.state)))
     → (IsTrue (disks store.disk).honest → AllStandFor size (durable_of store) (disks store.disk) → IsOk (told result) → AllStandFor size (durable_of store') (disks store'.disk))
     → IsSound size (disks store'.disk)
-    → IfOk result (Steps disks (node_with id nodes core disk (Some store) doubt was) (node_with id nodes core' disk (Some store') doubt' None) event)
-all_served disks id nodes size core core' disk store store' doubt doubt' was event (Ok came) placed at up up' sectors honest is tried whole fallen unchanged run each all sound =
-    serves_at disks id nodes size core core' disk store store' doubt doubt' was event came placed at up up' sectors honest is tried whole fallen unchanged run each all sound
-all_served disks id nodes size core core' disk store store' doubt doubt' was event (Err fault) placed at up up' sectors honest is tried whole fallen unchanged run each all sound = tt
+    → IfOk result (Steps disks (node_with id nodes core (Mounted store) doubt was) (node_with id nodes core' (Mounted store') doubt' None) event)
+all_served {Disk} disks id nodes size core core' store store' doubt doubt' was event (Ok came) at =
+    subst (λ (n : ℕ). Facts disks id nodes core core' store store' doubt doubt' was event n came (Steps disks (node_with id nodes core (Mounted store) doubt was) (node_with id nodes core' (Mounted store') doubt' None) event came))
+    (sym at) (serves disks id nodes core core' store store' doubt doubt' was event came)
+all_served disks id nodes size core core' store store' doubt doubt' was event (Err fault) at = λ up up' sectors honest is tried whole fallen unchanged run each all sound. tt
 
 -- ---- what a caller is told of it
 

@@ -1,5 +1,5 @@
 -- What contracts see of a node over a disk, and what it stands for.
-use Rattle.std.specs.Prelude.{ℕ, ◌≡◌, ◌<◌, ◌≤◌, Bool, true, false, IsTrue, IsFalse, IsSomeAnd, Option, Some, None}
+use Rattle.std.specs.Prelude.{ℕ, ◌≡◌, ◌<◌, ◌≤◌, Bool, true, false, IsTrue, IsFalse, IsSome, IsSomeAnd, Option, Some, None}
 use Rattle.sector_disk.specs.Disk.{Image, DiskState, IsImage}
 use Rattle.job_model.specs.Command.{Command, Raise, Put, Done}
 use Rattle.job_model.specs.Durable.{Durable}
@@ -13,6 +13,8 @@ use Rattle.job_journal.specs.Journal.{IsSound}
 use Rattle.node_store.specs.Store.{StoreState, durable_of, slots_for, stands_for}
 use Rattle.histories.specs.NodeState.{NodeState, settled}
 use Rattle.histories.specs.Possible.{IsSettling}
+use Rattle.durable_node.specs.declared.node_disk.NodeDisk.{NodeDisk}
+use Rattle.durable_node.specs.declared.node_disk.NodeDisk.TheVariants.{Bare, Mounted, Taken}
 
 -- a command in doubt as the node tells it, with the count, or for a job the next id, from before it
 abbrev pub told_doubt : Durable → Option Command → Option (Wanted × ℕ)
@@ -32,7 +34,7 @@ pub record Node (Disk : Type 0) : Type 0 where
   pub id : ℕ
   pub nodes : ℕ
   pub state : State
-  -- the disk, mounted or not: there always is one
+  -- the disk, mounted or not: each call that may use it says that it is there
   pub disk : Option Disk
   -- what the disk keeps, where the node is up
   pub kept : Option Durable
@@ -43,11 +45,17 @@ pub record Node (Disk : Type 0) : Type 0 where
   -- what the last call mounted
   pub found : Option Durable
 
--- the disk, which stands by itself or under a store
-abbrev pub disk_in : {Disk : Type 0} → Option Disk → Option (StoreState Disk) → Option Disk
-disk_in (Some disk) store = Some disk
-disk_in None (Some store) = Some store.disk
-disk_in None None = None
+-- the disk, wherever it stands
+abbrev pub disk_in : {Disk : Type 0} → NodeDisk Disk → Option Disk
+disk_in (Bare disk) = Some disk
+disk_in (Mounted store) = Some store.disk
+disk_in Taken = None
+
+-- the store, where the disk is mounted
+abbrev pub store_in : {Disk : Type 0} → NodeDisk Disk → Option (StoreState Disk)
+store_in (Bare disk) = None
+store_in (Mounted store) = Some store
+store_in Taken = None
 
 abbrev pub kept_in : {Disk : Type 0} → Bool → Option (StoreState Disk) → Option Durable
 kept_in true store = None
@@ -68,24 +76,17 @@ found_in None store = None
 found_in (Some count) None = None
 found_in (Some count) (Some store) = Some (record { counter = count; next = store.journal.table.next; pending = store.journal.table.pending })
 
--- the disk stands by itself, or under a store
-abbrev pub IsPlaced : {Disk : Type 0} → Option Disk → Option (StoreState Disk) → Type 0
-IsPlaced (Some disk) None = Unit {0}
-IsPlaced None (Some store) = Unit {0}
-IsPlaced (Some disk) (Some store) = ⊥
-IsPlaced None None = ⊥
-
 -- a node of these parts
-abbrev pub node_with : {Disk : Type 0} → ℕ → ℕ → Core → Option Disk → Option (StoreState Disk) → Option (Wanted × ℕ) → Option ℕ → Node Disk
-node_with id nodes core disk store doubt found = record {
+abbrev pub node_with : {Disk : Type 0} → ℕ → ℕ → Core → NodeDisk Disk → Option (Wanted × ℕ) → Option ℕ → Node Disk
+node_with id nodes core disk doubt found = record {
   id = id;
   nodes = nodes;
   state = core.state;
-  disk = disk_in disk store;
-  kept = kept_in (is_down core.state.phase) store;
-  area = area_in (is_down core.state.phase) store;
+  disk = disk_in disk;
+  kept = kept_in (is_down core.state.phase) (store_in disk);
+  area = area_in (is_down core.state.phase) (store_in disk);
   doubt = doubt;
-  found = found_in found store;
+  found = found_in found (store_in disk);
 }
 
 -- Each image that a crash now may leave stands for what is kept, with or without the command in doubt.
@@ -101,14 +102,14 @@ pub record Stands {Disk : Type 0} (disks : Disk → DiskState) (n : Node Disk) (
   pub up : is_down n.state.phase ≡ false → (n.kept ≡ Some s.durable) × (s.doubt ≡ None)
   pub disk : (disk : Disk) → n.disk ≡ Some disk → IsLeft (disks disk) s
 
--- What is true of every node: it is up on a store that isn't broken, or it is down in the one state of a node that is down.
-pub record IsNode {Disk : Type 0} (disks : Disk → DiskState) (id nodes : ℕ) (core : Core) (disk : Option Disk) (store : Option (StoreState Disk)) : Type 0 where
+-- What is true of every node: it has its disk, and it is up on a store that isn't broken, or down in the one state of a node that is down.
+pub record IsNode {Disk : Type 0} (disks : Disk → DiskState) (id nodes : ℕ) (core : Core) (disk : NodeDisk Disk) : Type 0 where
   pub core_id : core.id ≡ id
   pub core_nodes : core.nodes ≡ nodes
   pub within : id < nodes
   pub most : nodes ≤ NODES
-  pub placed : IsPlaced disk store
-  pub up : is_down core.state.phase ≡ false → IsSomeAnd store (λ (st : StoreState Disk). IsFalse st.broken)
+  pub there : IsSome (disk_in disk)
+  pub up : is_down core.state.phase ≡ false → IsSomeAnd (store_in disk) (λ (store : StoreState Disk). IsFalse store.broken)
   pub fallen : is_down core.state.phase ≡ true → core.state ≡ down id
-  pub slots : (st : StoreState Disk) → store ≡ Some st → st.journal.slots ≡ slots_for (disks st.disk).sectors
-  pub sound : (now : Disk) → disk_in disk store ≡ Some now → IsSound (slots_for (disks now).sectors) (disks now)
+  pub slots : (store : StoreState Disk) → store_in disk ≡ Some store → store.journal.slots ≡ slots_for (disks store.disk).sectors
+  pub sound : (now : Disk) → disk_in disk ≡ Some now → IsSound (slots_for (disks now).sectors) (disks now)

@@ -1,5 +1,5 @@
 -- What a call of a node does, and how it is told.
-use Rattle.std.specs.Prelude.{ℕ, ◌≡◌, ◌+◌, Bool, true, false, IsTrue, IsErrOf, [], Option, Some, None, Result}
+use Rattle.std.specs.Prelude.{ℕ, ◌≡◌, ◌+◌, Bool, true, false, IsTrue, IsSome, IsErrOf, [], Option, Some, None, Result}
 use Rattle.sector_disk.specs.Disk.{DiskState, Counts}
 use Rattle.job_model.specs.Durable.{Durable}
 use Rattle.node_core.specs.declared.event.Event.{Event}
@@ -140,11 +140,12 @@ Stuck disks old new event node.NotFormatted = IsUnmountable disks old new event
 Stuck disks old new event (node.Damaged sector) = IsUnmountable disks old new event
 Stuck disks old new event node.TooSmall = IsUnmountable disks old new event
 
--- the count of the device's failures: every answer but `Device` leaves it as it is, and `Device` is told only where it rose, or
--- stands at its greatest value
-abbrev pub CountsOf : {Disk A : Type 0} → (Disk → DiskState) → Option Disk → Option Disk → Result A NodeFault → Type 0
-CountsOf {Disk} disks old new result =
-    (was now : Disk) → old ≡ Some was → new ≡ Some now → Counts (disks was) (disks now) (IsErrOf result node.Device) (IsErrOf result node.Device → ⊥)
+-- The disk before a call and after it is there, and so is its count of failures: every answer but `Device` leaves that as it is, and
+-- `Device` is told only where it rose, or stands at its greatest value.
+pub record CountsOf {Disk A : Type 0} (disks : Disk → DiskState) (old new : Option Disk) (result : Result A NodeFault) : Type 0 where
+  pub was_there : IsSome old
+  pub is_there : IsSome new
+  pub counts : (was now : Disk) → old ≡ Some was → new ≡ Some now → Counts (disks was) (disks now) (IsErrOf result node.Device) (IsErrOf result node.Device → ⊥)
 
 -- how many messages a call may hand out at most: none where the node is down
 abbrev pub most_by : ℕ → Option Durable → ℕ

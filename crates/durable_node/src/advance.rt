@@ -2,7 +2,7 @@ ghost use Rattle.std.specs.Prelude.{◌≡◌, ◌≢◌, ◌≤◌, Option, ℕ
 ghost use Rattle.node_core.specs.declared.event.Event.TheVariants as on;
 ghost use Rattle.node_core.specs.State.{is_down};
 ghost use Rattle.durable_node.specs.Faults.{told};
-ghost use Rattle.durable_node.specs.Node.{disk_in, kept_in, found_in, IsNode, node_with};
+ghost use Rattle.durable_node.specs.Node.{disk_in, store_in, kept_in, found_in, IsNode, node_with};
 ghost use Rattle.durable_node.specs.Refusing.{Answers};
 ghost use Rattle.durable_node.specs.Reading.{ReadsDisk};
 ghost use Rattle.durable_node.specs.Remounting.{IsFoundBy, Remounted};
@@ -12,10 +12,10 @@ use crate::came::Came;
 use crate::fault::NodeFault;
 use crate::handle::handle;
 use crate::ignore::ignore;
+use crate::node_disk::NodeDisk;
 use crate::remount::remount;
 use group_task::NodeId;
 use node_core::{Durable, Event, NodeCore, Phase};
-use node_store::NodeStore;
 use sector_disk::SectorDisk;
 use std::alloc::Global;
 
@@ -25,34 +25,32 @@ pub(crate) fn advance<D: SectorDisk + Drop>(
     id: NodeId,
     nodes: u8,
     core: &mut NodeCore,
-    disk: &mut Option<D>,
-    store: &mut Option<NodeStore<D>>,
+    disk: &mut NodeDisk<D>,
     doubt: &mut Option<(Durable, u64)>,
     found: &mut Option<u64>,
     event: &Event,
 ) -> Result<Came, NodeFault>
-    requires node { IsNode D.state id nodes core.old disk.old store.old }
-    ensures node { IsNode D.state id nodes core.new disk.new store.new }
-    ensures step { IfOk result (Steps D.state (node_with id nodes core.old disk.old store.old doubt.old found.old) (node_with id nodes core.new disk.new store.new doubt.new found.new) event.now) }
-    ensures stuck { IfErr result (Stuck D.state (node_with id nodes core.old disk.old store.old doubt.old found.old) (node_with id nodes core.new disk.new store.new doubt.new found.new) event.now) }
-    ensures answers { Answers (node_with id nodes core.old disk.old store.old doubt.old found.old) event.now (told result) }
-    ensures counts { CountsOf D.state (disk_in disk.old store.old) (disk_in disk.new store.new) (told result) }
+    requires node { IsNode D.state id nodes core.old disk.old }
+    ensures node { IsNode D.state id nodes core.new disk.new }
+    ensures step { IfOk result (Steps D.state (node_with id nodes core.old disk.old doubt.old found.old) (node_with id nodes core.new disk.new doubt.new found.new) event.now) }
+    ensures stuck { IfErr result (Stuck D.state (node_with id nodes core.old disk.old doubt.old found.old) (node_with id nodes core.new disk.new doubt.new found.new) event.now) }
+    ensures answers { Answers (node_with id nodes core.old disk.old doubt.old found.old) event.now (told result) }
+    ensures counts { CountsOf D.state (disk_in disk.old) (disk_in disk.new) (told result) }
     ensures mounting { is_down core.old.state.phase ≡ true → event.now ≡ Event.Recover
-        → Remounted (node_with id nodes core.old disk.old store.old doubt.old found.old) (node_with id nodes core.new disk.new store.new doubt.new found.new) (told result) (found_in found.new store.new) }
-    ensures kept { is_down core.old.state.phase ≡ true → event.now ≡ Event.Recover → IfOk result (λ came. IsFoundBy doubt.old came.fate (found_in found.new store.new)) }
-    ensures reads { is_down core.old.state.phase ≡ true → event.now ≡ Event.Recover → ReadsDisk D.state (disk_in disk.old store.old) (disk_in disk.new store.new) (told result) (found_in found.new store.new) }
-    ensures few { IfOk result (λ came. length came.sent.items ≤ most_by nodes (kept_in (is_down core.old.state.phase) store.old)) }
+        → Remounted (node_with id nodes core.old disk.old doubt.old found.old) (node_with id nodes core.new disk.new doubt.new found.new) (told result) (found_in found.new (store_in disk.new)) }
+    ensures kept { is_down core.old.state.phase ≡ true → event.now ≡ Event.Recover → IfOk result (λ came. IsFoundBy doubt.old came.fate (found_in found.new (store_in disk.new))) }
+    ensures reads { is_down core.old.state.phase ≡ true → event.now ≡ Event.Recover → ReadsDisk D.state (disk_in disk.old) (disk_in disk.new) (told result) (found_in found.new (store_in disk.new)) }
+    ensures few { IfOk result (λ came. length came.sent.items ≤ most_by nodes (kept_in (is_down core.old.state.phase) (store_in disk.old))) }
 {
     *found = None;
-    if is_down(core) {
-        return match event {
-            Event::Recover => remount(alloc, id, nodes, core, disk, store, doubt, found),
-            _ => ignore(alloc, core, store, event),
-        };
-    }
-    match store {
-        Some(store) => handle(alloc, id, nodes, core, store, doubt, event),
-        None => unreachable!(),
+    match disk {
+        NodeDisk::Mounted(store) if !is_down(core) => {
+            handle(alloc, id, nodes, core, store, doubt, event)
+        }
+        _ => match event {
+            Event::Recover => remount(alloc, id, nodes, core, disk, doubt, found),
+            _ => ignore(alloc, core, disk, event),
+        },
     }
 }
 

@@ -7,12 +7,13 @@ ghost use Rattle.job_journal.specs.Journal.{IsSound};
 ghost use Rattle.node_core.specs.State.{is_down};
 ghost use Rattle.node_store.specs.Store.{durable_of, InStore, StaysAs};
 ghost use Rattle.durable_node.specs.Compacting.{Compacts, StaysKept, IsMovedNode, IsFallenNode, IsRewrittenCore, moved};
-ghost use Rattle.durable_node.specs.Node.{disk_in, area_in, area_of, IsNode, node_with};
+ghost use Rattle.durable_node.specs.Node.{disk_in, store_in, area_in, area_of, IsNode, node_with};
 ghost use Rattle.durable_node.specs.Refusing.{AnswersTo, compaction_refusal};
 ghost use Rattle.durable_node.specs.Stepping.{CountsOf};
 
 use crate::advance::is_down;
 use crate::fault::{NodeFault, node_fault};
+use crate::node_disk::NodeDisk;
 use group_task::NodeId;
 use node_core::{CoreFault, Durable, NodeCore};
 use node_store::NodeStore;
@@ -25,29 +26,25 @@ pub(crate) fn compact<D: SectorDisk>(
     id: NodeId,
     nodes: u8,
     core: &mut NodeCore,
-    disk: &Option<D>,
-    store: &mut Option<NodeStore<D>>,
+    disk: &mut NodeDisk<D>,
     doubt: &Option<(Durable, u64)>,
     found: &mut Option<u64>,
 ) -> Result<(), NodeFault>
-    requires node { IsNode D.state id nodes core.old disk.now store.old }
-    ensures node { IsNode D.state id nodes core.new disk.now store.new }
-    ensures answers { AnswersTo (compaction_refusal (area_in (is_down core.old.state.phase) store.old)) result }
-    ensures step { Compacts D.state (node_with id nodes core.old disk.now store.old doubt.now found.old) (node_with id nodes core.new disk.now store.new doubt.now found.new) result }
-    ensures moved { IsOk result → IsMovedNode (node_with id nodes core.old disk.now store.old doubt.now found.old) (node_with id nodes core.new disk.now store.new doubt.now found.new) }
-    ensures fallen { IsErrOf result NodeFault.Device → IsFallenNode (node_with id nodes core.old disk.now store.old doubt.now found.old) (node_with id nodes core.new disk.now store.new doubt.now found.new) }
+    requires node { IsNode D.state id nodes core.old disk.old }
+    ensures node { IsNode D.state id nodes core.new disk.new }
+    ensures answers { AnswersTo (compaction_refusal (area_in (is_down core.old.state.phase) (store_in disk.old))) result }
+    ensures step { Compacts D.state (node_with id nodes core.old disk.old doubt.now found.old) (node_with id nodes core.new disk.new doubt.now found.new) result }
+    ensures moved { IsOk result → IsMovedNode (node_with id nodes core.old disk.old doubt.now found.old) (node_with id nodes core.new disk.new doubt.now found.new) }
+    ensures fallen { IsErrOf result NodeFault.Device → IsFallenNode (node_with id nodes core.old disk.old doubt.now found.old) (node_with id nodes core.new disk.new doubt.now found.new) }
     ensures refused { IfErr result (λ fault. fault ≢ NodeFault.Device
-        → node_with id nodes core.new disk.now store.new doubt.now found.new ≡ node_with id nodes core.old disk.now store.old doubt.now None) }
-    ensures images { StaysKept D.state (node_with id nodes core.old disk.now store.old doubt.now found.old) (node_with id nodes core.new disk.now store.new doubt.now found.new) }
-    ensures counts { CountsOf D.state (disk_in disk.now store.old) (disk_in disk.now store.new) result }
+        → node_with id nodes core.new disk.new doubt.now found.new ≡ node_with id nodes core.old disk.old doubt.now None) }
+    ensures images { StaysKept D.state (node_with id nodes core.old disk.old doubt.now found.old) (node_with id nodes core.new disk.new doubt.now found.new) }
+    ensures counts { CountsOf D.state (disk_in disk.old) (disk_in disk.new) result }
 {
     *found = None;
-    if is_down(core) {
-        return Err(NodeFault::Core(CoreFault::Down));
-    }
-    match store {
-        Some(store) => rewrite(alloc, id, nodes, core, store),
-        None => unreachable!(),
+    match disk {
+        NodeDisk::Mounted(store) if !is_down(core) => rewrite(alloc, id, nodes, core, store),
+        _ => Err(NodeFault::Core(CoreFault::Down)),
     }
 }
 

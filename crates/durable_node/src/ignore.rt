@@ -5,10 +5,10 @@ ghost use Rattle.durable_node.specs.Stepping.{IsIgnored};
 
 use crate::came::Came;
 use crate::fault::NodeFault;
+use crate::node_disk::NodeDisk;
 use histories::{Fate, Refusal};
 use job_model::JobTable;
 use node_core::{CoreFault, Event, NodeCore};
-use node_store::NodeStore;
 use sector_disk::SectorDisk;
 use std::alloc::Global;
 
@@ -16,7 +16,7 @@ use std::alloc::Global;
 pub(crate) fn ignore<D: SectorDisk>(
     alloc: Global,
     core: &mut NodeCore,
-    store: &Option<NodeStore<D>>,
+    disk: &NodeDisk<D>,
     event: &Event,
 ) -> Result<Came, NodeFault>
     ensures kept { core.new.state ≡ core.old.state }
@@ -26,7 +26,7 @@ pub(crate) fn ignore<D: SectorDisk>(
     ensures tried { IfOk result (λ came. came.tried ≡ None) }
     ensures stuck { IfErr result (λ fault. fault ≡ NodeFault.Core NoMemory) }
 {
-    let fate = match plan_over(alloc, core, store, event) {
+    let fate = match plan_over(alloc, core, disk, event) {
         Ok(()) => Fate::Done,
         Err(CoreFault::NoMemory) => return Err(NodeFault::Core(CoreFault::NoMemory)),
         Err(fault) => Fate::Refused(Refusal::Core(fault)),
@@ -39,11 +39,11 @@ pub(crate) fn ignore<D: SectorDisk>(
     })
 }
 
-/// Plans the event, over the jobs of the store if there is one, and drops the plan.
+/// Plans the event, over the jobs of the disk if it is mounted, and drops the plan.
 fn plan_over<D: SectorDisk>(
     alloc: Global,
     core: &mut NodeCore,
-    store: &Option<NodeStore<D>>,
+    disk: &NodeDisk<D>,
     event: &Event,
 ) -> Result<(), CoreFault>
     ensures kept { core.new.state ≡ core.old.state }
@@ -52,11 +52,11 @@ fn plan_over<D: SectorDisk>(
     ensures done { IfOk result (λ _. refusal_of core.old.nodes core.old.id event.now core.old.state ≡ None) }
     ensures refused { IfErr result (λ fault. fault ≢ NoMemory → refusal_of core.old.nodes core.old.id event.now core.old.state ≡ Some fault) }
 {
-    match store {
-        Some(store) => {
+    match disk {
+        NodeDisk::Mounted(store) => {
             core.plan_step(event, store.table())?;
         }
-        None => {
+        _ => {
             let table = JobTable::with_room(alloc, 0)?;
             core.plan_step(event, &table)?;
         }

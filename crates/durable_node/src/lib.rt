@@ -14,7 +14,7 @@ mod handle;
 mod ignore;
 mod memory;
 mod node;
-mod place;
+mod node_disk;
 mod remount;
 
 pub use came::Came;

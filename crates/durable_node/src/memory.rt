@@ -1,20 +1,20 @@
 // A node over a disk in memory: how it opens, and how it crashes.
-ghost use Rattle.std.specs.Prelude.{◌≡◌, ◌≤◌, ◌<◌, ◌+◌, ◌*◌, IfOk, Some, None};
+ghost use Rattle.std.specs.Prelude.{◌≡◌, ◌≤◌, ◌<◌, ◌+◌, ◌*◌, IfOk, IsSome, Some, None};
 ghost use Rattle.group_task.specs.declared.node.TheConstants.{NODES};
 ghost use Rattle.sector_disk.specs.Memory.{Memory, state_of, all_synced};
 ghost use Rattle.sector_disk.specs.Crash.{IsCrashed};
 ghost use Rattle.node_core.specs.Start.{down};
 ghost use Rattle.histories.specs.After.{after};
-ghost use Rattle.durable_node.specs.Arming.{armed_disk, armed_store};
-ghost use Rattle.durable_node.specs.Node.{IsPlaced, Stands};
+ghost use Rattle.durable_node.specs.Arming.{armed_disk};
+ghost use Rattle.durable_node.specs.Node.{Stands};
 ghost use Rattle.histories.specs.NodeState.{NodeState, opening};
 ghost use Rattle.histories.specs.declared.what.What.TheVariants.{Crashed};
 
 use crate::node::DurableNode;
-use crate::remount::take_disk;
+use crate::node_disk::NodeDisk;
 use group_task::NodeId;
 use node_core::NodeCore;
-use node_store::{NodeStore, format};
+use node_store::format;
 use sector_disk::MemDisk;
 use std::alloc::{AllocError, Global};
 
@@ -56,37 +56,23 @@ impl DurableNode<MemDisk> {
         ensures armed { self.new ≡ record self.old { disk = armed_disk calls self.old.disk; found = None } }
         ensures stands { (s : NodeState) → Stands state_of self.old s → Stands state_of self.new s }
     {
-        arm_disk(&mut self.disk, &mut self.store, calls);
+        self.disk.arm(calls);
         self.found = None;
     }
 
     /// Stops the node here. It is Down, and its disk has the bytes of `fill` in the sectors that weren't synced, as
     /// [`MemDisk::crash`] says. What is in doubt stays in doubt.
     pub fn crash(&mut self, fill: &[u8])
+        ensures there { IsSome self.old.disk }
         ensures down { self.new ≡ record self.old { state = down self.old.id; disk = self.new.disk; kept = None; area = None; found = None } }
         ensures disk { (was now : Memory) → self.old.disk ≡ Some was → self.new.disk ≡ Some now
             → IsCrashed was fill.now now.contents × (now ≡ all_synced now.contents was.failures) }
         ensures stands { (s : NodeState) → Stands state_of self.old s → Stands state_of self.new (after self.old.id self.old.nodes s Crashed) }
     {
-        let mut disk = take_disk(&mut self.disk, &mut self.store);
+        let mut disk = self.disk.take();
         disk.crash(fill);
-        self.disk = Some(disk);
+        self.disk = NodeDisk::Bare(disk);
         self.core = NodeCore::down(self.alloc, self.id, self.nodes);
         self.found = None;
-    }
-}
-
-/// Arms the disk where it is.
-fn arm_disk(disk: &mut Option<MemDisk>, store: &mut Option<NodeStore<MemDisk>>, calls: u64)
-    requires placed { IsPlaced disk.old store.old }
-    ensures disk { disk.new ≡ armed_disk calls disk.old }
-    ensures store { store.new ≡ armed_store calls store.old }
-{
-    match disk {
-        Some(disk) => disk.arm(calls),
-        None => match store {
-            Some(store) => store.arm(calls),
-            None => unreachable!(),
-        },
     }
 }

@@ -17,10 +17,10 @@ use crate::advance::{advance, is_down};
 use crate::came::Came;
 use crate::compacting::compact;
 use crate::fault::NodeFault;
+use crate::node_disk::NodeDisk;
 use group_task::NodeId;
 use job_model::JobTable;
 use node_core::{Durable, Event, NodeCore, Vector};
-use node_store::NodeStore;
 use sector_disk::SectorDisk;
 use std::alloc::Global;
 use std::marker::Model;
@@ -41,9 +41,7 @@ pub struct DurableNode<D: SectorDisk> {
     pub(crate) id: NodeId,
     pub(crate) nodes: u8,
     pub(crate) core: NodeCore,
-    // The disk stands here until it is mounted, and then under the store, also while the node is Down again.
-    pub(crate) disk: Option<D>,
-    pub(crate) store: Option<NodeStore<D>>,
+    pub(crate) disk: NodeDisk<D>,
     pub(crate) doubt: Option<(Durable, u64)>,
     // The counter that the last call found by mounting.
     pub(crate) found: Option<u64>,
@@ -54,9 +52,9 @@ impl<D: SectorDisk> Model for DurableNode<D> {
 
     ghost Value = { Node D };
 
-    ghost view = { λ a. node_with a.id a.nodes a.core a.disk a.store a.doubt a.found };
+    ghost view = { λ a. node_with a.id a.nodes a.core a.disk a.doubt a.found };
 
-    ghost invariant = { λ a. IsNode D.state a.id a.nodes a.core a.disk a.store };
+    ghost invariant = { λ a. IsNode D.state a.id a.nodes a.core a.disk };
 }
 
 impl<D: SectorDisk> DurableNode<D> {
@@ -72,11 +70,17 @@ impl<D: SectorDisk> DurableNode<D> {
             id,
             nodes,
             core: NodeCore::down(alloc, id, nodes),
-            disk: Some(disk),
-            store: None,
+            disk: NodeDisk::Bare(disk),
             doubt: None,
             found: None,
         }
+    }
+
+    /// A node that is Down is in the one state of a node that is down.
+    pub fn is_fallen(&self)
+        ensures { is_down self.now.state.phase ≡ true → self.now.state ≡ down self.now.id }
+    {
+        let _ = &self.core;
     }
 
     /// What the node knows.
@@ -94,9 +98,9 @@ impl<D: SectorDisk> DurableNode<D> {
         if is_down(&self.core) {
             return None;
         }
-        match &self.store {
-            Some(store) => Some((store.counter(), store.table())),
-            None => None,
+        match &self.disk {
+            NodeDisk::Mounted(store) => Some((store.counter(), store.table())),
+            _ => None,
         }
     }
 
@@ -106,9 +110,20 @@ impl<D: SectorDisk> DurableNode<D> {
         ensures some { IfSome result (λ shown. self.now.found ≡ Some (durable_of shown.0 shown.1.now)) }
         ensures none { IsNone result → self.now.found ≡ None }
     {
-        match (self.found, &self.store) {
-            (Some(count), Some(store)) => Some((count, store.table())),
+        match (self.found, &self.disk) {
+            (Some(count), NodeDisk::Mounted(store)) => Some((count, store.table())),
             _ => None,
+        }
+    }
+
+    /// How many messages an event sends at most: one to each other node, or one for each pending job; none where the node is
+    /// Down. A caller that makes room for so many before a [`DurableNode::step`] needs no more.
+    pub fn most(&self) -> usize
+        ensures { result ≡ most_by self.now.nodes self.now.kept }
+    {
+        match self.durable() {
+            Some((_, table)) => self.core.most(table),
+            None => 0,
         }
     }
 
@@ -152,7 +167,6 @@ impl<D: SectorDisk + Drop> DurableNode<D> {
             self.nodes,
             &mut self.core,
             &mut self.disk,
-            &mut self.store,
             &mut self.doubt,
             &mut self.found,
             event,
@@ -197,8 +211,7 @@ impl<D: SectorDisk + Drop> DurableNode<D> {
             self.id,
             self.nodes,
             &mut self.core,
-            &self.disk,
-            &mut self.store,
+            &mut self.disk,
             &self.doubt,
             &mut self.found,
         )
@@ -208,13 +221,7 @@ impl<D: SectorDisk + Drop> DurableNode<D> {
     pub fn into_disk(self) -> D
         ensures { self.disk ≡ Some result }
     {
-        let DurableNode { disk, store, .. } = self;
-        match disk {
-            Some(disk) => disk,
-            None => match store {
-                Some(store) => store.into_disk(),
-                None => unreachable!(),
-            },
-        }
+        let DurableNode { disk, .. } = self;
+        disk.into_disk()
     }
 }

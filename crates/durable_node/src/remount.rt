@@ -11,7 +11,7 @@ ghost use Rattle.histories.specs.Fates.{attempt_of};
 ghost use Rattle.durable_node.specs.Faults.{told};
 ghost use Rattle.node_store.specs.Store.{durable_of, InStore, AllStandFor};
 ghost use Rattle.durable_node.specs.Carrying.{BeforeOrAfter};
-ghost use Rattle.durable_node.specs.Node.{disk_in, found_in, IsPlaced, IsNode, node_with};
+ghost use Rattle.durable_node.specs.Node.{disk_in, store_in, found_in, IsNode, node_with};
 ghost use Rattle.durable_node.specs.Reading.{ReadsDisk};
 ghost use Rattle.durable_node.specs.Remounting.{HasRisen, IsFoundBy, IsKeptIn, Remounted, raise_by};
 ghost use Rattle.durable_node.specs.Stepping.{CountsOf, IsSilent, Steps, Stuck};
@@ -19,6 +19,7 @@ ghost use Rattle.durable_node.specs.Stepping.{CountsOf, IsSilent, Steps, Stuck};
 use crate::came::Came;
 use crate::carry::carry;
 use crate::fault::{NodeFault, node_fault};
+use crate::node_disk::NodeDisk;
 use group_task::NodeId;
 use histories::{Attempt, Fate};
 use node_core::{Durable, NodeCore};
@@ -32,37 +33,36 @@ pub(crate) fn remount<D: SectorDisk + Drop>(
     id: NodeId,
     nodes: u8,
     core: &mut NodeCore,
-    disk: &mut Option<D>,
-    store: &mut Option<NodeStore<D>>,
+    disk: &mut NodeDisk<D>,
     doubt: &mut Option<(Durable, u64)>,
     found: &mut Option<u64>,
 ) -> Result<Came, NodeFault>
-    requires node { IsNode D.state id nodes core.old disk.old store.old }
+    requires node { IsNode D.state id nodes core.old disk.old }
     requires down { is_down core.old.state.phase ≡ true }
     requires found { found.old ≡ None }
-    ensures node { IsNode D.state id nodes core.new disk.new store.new }
+    ensures node { IsNode D.state id nodes core.new disk.new }
     ensures step { (was : Option ℕ)
-        → IfOk result (Steps D.state (node_with id nodes core.old disk.old store.old doubt.old was) (node_with id nodes core.new disk.new store.new doubt.new found.new) Recover) }
+        → IfOk result (Steps D.state (node_with id nodes core.old disk.old doubt.old was) (node_with id nodes core.new disk.new doubt.new found.new) Recover) }
     ensures stuck { (was : Option ℕ)
-        → IfErr result (Stuck D.state (node_with id nodes core.old disk.old store.old doubt.old was) (node_with id nodes core.new disk.new store.new doubt.new found.new) Recover) }
-    ensures counts { CountsOf D.state (disk_in disk.old store.old) (disk_in disk.new store.new) (told result) }
+        → IfErr result (Stuck D.state (node_with id nodes core.old disk.old doubt.old was) (node_with id nodes core.new disk.new doubt.new found.new) Recover) }
+    ensures counts { CountsOf D.state (disk_in disk.old) (disk_in disk.new) (told result) }
     ensures mounting { (was : Option ℕ)
-        → Remounted (node_with id nodes core.old disk.old store.old doubt.old was) (node_with id nodes core.new disk.new store.new doubt.new found.new) (told result) (found_in found.new store.new) }
-    ensures kept { IfOk result (λ came. IsFoundBy doubt.old came.fate (found_in found.new store.new)) }
-    ensures reads { ReadsDisk D.state (disk_in disk.old store.old) (disk_in disk.new store.new) (told result) (found_in found.new store.new) }
+        → Remounted (node_with id nodes core.old disk.old doubt.old was) (node_with id nodes core.new disk.new doubt.new found.new) (told result) (found_in found.new (store_in disk.new)) }
+    ensures kept { IfOk result (λ came. IsFoundBy doubt.old came.fate (found_in found.new (store_in disk.new))) }
+    ensures reads { ReadsDisk D.state (disk_in disk.old) (disk_in disk.new) (told result) (found_in found.new (store_in disk.new)) }
     ensures quiet { IfOk result (λ came. came.sent.items ≡ []) }
 {
-    let mut mounted = match NodeStore::mount(alloc, take_disk(disk, store)) {
+    let mut mounted = match NodeStore::mount(alloc, disk.take()) {
         Ok(mounted) => mounted,
         Err(refused) => {
-            *disk = Some(refused.disk);
+            *disk = NodeDisk::Bare(refused.disk);
             return unmounted(alloc, node_fault(refused.fault));
         }
     };
     *found = Some(mounted.counter());
     let kept = is_in(doubt, &mounted);
     let came = rise(alloc, id, nodes, core, &mut mounted, doubt, kept);
-    *store = Some(mounted);
+    *disk = NodeDisk::Mounted(mounted);
     Ok(came)
 }
 
@@ -94,22 +94,6 @@ fn is_in<D: SectorDisk>(doubt: &Option<(Durable, u64)>, mounted: &NodeStore<D>) 
         Some((Durable::Put(_), next)) => mounted.table().next() != *next,
         Some((Durable::Done(id), _)) => !mounted.table().contains(*id),
         Some((Durable::None, _)) | None => false,
-    }
-}
-
-/// The disk, out of where it is.
-pub(crate) fn take_disk<D: SectorDisk>(disk: &mut Option<D>, store: &mut Option<NodeStore<D>>) -> D
-    requires placed { IsPlaced disk.old store.old }
-    ensures taken { disk_in disk.old store.old ≡ Some result }
-    ensures disk { disk.new ≡ None }
-    ensures store { store.new ≡ None }
-{
-    match disk.take() {
-        Some(disk) => disk,
-        None => match store.take() {
-            Some(store) => store.into_disk(),
-            None => unreachable!(),
-        },
     }
 }
 

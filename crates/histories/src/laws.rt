@@ -16,7 +16,7 @@ pub fn one_book()
     ensures { OneBook }
 {}
 
-/// Any two moments in one group have one coordinator, and any two at which the node works there have one task. The
+/// Any two moments in Reorganization or Normal in one group have one coordinator, and any two in Normal one task. The
 /// moments may be of one node or of two, at any times, in different lives too.
 pub fn one_coordinator_and_task()
     ensures coordinator { OneCoordinator }

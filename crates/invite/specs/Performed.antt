@@ -11,6 +11,7 @@ use Rattle.store_console.specs.Reasons.{session_flaw}
 use Rattle.trace_console.specs.Judged.{IsJudged}
 use Rattle.invite_console.specs.Recorded.{IsRecording}
 use Rattle.threads_console.specs.Printed.{IsThreading}
+use Rattle.threads_console.specs.Reasons.{plans_flaw}
 use Rattle.trace_draw.specs.Drawn.{IsDrawn}
 use Rattle.invite.specs.declared.task.Batch.{Batch}
 use Rattle.invite.specs.declared.task.Batch.TheVariants.{Answer, Show, Sim, Store, Trace, Record, Threads, Draw}
@@ -26,7 +27,7 @@ IsOutcomeOf Record = IsRecording
 IsOutcomeOf Threads = IsThreading
 IsOutcomeOf Draw = IsDrawn
 
--- this is what is wrong with the input; what is wrong with a trace, and which line of plans, is printed, and not said again
+-- this is what is wrong with the input; what is wrong with a trace is printed, and not said again
 abbrev pub IsWhyOf : Batch → Option (List ℕ) → Ending → List ℕ → Type 0
 IsWhyOf (Answer place) = IsWhy (answer_flaw place.id place.nodes)
 IsWhyOf Show = IsWhy show_flaw
@@ -34,5 +35,5 @@ IsWhyOf (Sim telling) = IsWhy schedule_flaw
 IsWhyOf (Store path) = IsWhy session_flaw
 IsWhyOf Trace = λ input ending why. why ≡ []
 IsWhyOf Record = IsWhy schedule_flaw
-IsWhyOf Threads = λ input ending why. why ≡ []
+IsWhyOf Threads = IsWhy plans_flaw
 IsWhyOf Draw = λ input ending why. why ≡ []

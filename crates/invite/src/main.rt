@@ -1,5 +1,5 @@
 //! The program `invite`: its command line. The commands themselves are those of `invite_console`, `store_console`, `node_console`,
-//! `trace_console`, `run_trace` and `threads_console`, over standard input and output.
+//! `trace_console`, `trace_draw` and `threads_console`, over standard input and output.
 #![tactic(auto)]
 
 mod asking;
@@ -171,7 +171,10 @@ fn hint(rt: &HostRuntime, words: &[String]) -> io::Result<()> {
         return Ok(());
     }
     let name = words[1].as_str();
-    if matches!(name, "show" | "sim" | "trace" | "record" | "threads") {
+    if matches!(
+        name,
+        "show" | "sim" | "trace" | "record" | "threads" | "draw"
+    ) {
         println!(rt; "\n{name} reads standard input, as in: invite {name} < FILE")?;
     }
     Ok(())

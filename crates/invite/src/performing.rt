@@ -61,10 +61,7 @@ fn carry_out<T: Threads + Wait + Sync, R: Read, W: Write>(
             why: Vec::new(alloc),
         },
         Batch::Record => invite_console::record(alloc, input, output),
-        Batch::Threads => Ended {
-            ending: threads_console::threads(threads, alloc, input, output),
-            why: Vec::new(alloc),
-        },
+        Batch::Threads => threads_console::threads(threads, alloc, input, output),
         Batch::Draw => Ended {
             ending: trace_draw::draw(alloc, input, output),
             why: Vec::new(alloc),

@@ -1,4 +1,4 @@
-//! The commands of the program `invite`, each a function over a reader and a writer.
+//! The commands `answer`, `show`, `sim` and `record` of the program `invite`, each a function over a reader and a writer.
 //!
 //! A command reads its whole input first, then works out what to print, and then prints it in one go: what is written is a
 //! stated function of what was read, and an input that can't be read, or for which memory runs out, prints nothing else.

@@ -13,7 +13,7 @@ pub enum Status {
     Device,
     /// Another process has the file open as a disk.
     Locked,
-    /// The file is another node's, or was never formatted.
+    /// The file is another node's, was never formatted, isn't there, or is no file.
     Foreign,
 }
 
@@ -41,7 +41,7 @@ impl Status {
                 "reading or writing failed, there was no memory, or the file is there already",
             Status::Device => "the device failed",
             Status::Locked => "the file is locked by another process",
-            Status::Foreign => "the file is another node's, or was never formatted",
+            Status::Foreign => "the file is another node's, was never formatted, or isn't there",
         }
     }
 }

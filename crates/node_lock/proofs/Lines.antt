@@ -1,65 +1,98 @@
 -- A turn that was kept is that turn again, and stays so whatever is kept after it.
-use Rattle.std.proofs.Common.{◌≡◌, ℕ, zero, suc, ◌+◌, ◌-◌, ◌<◌, ◌≤◌, List, [], ◌∷◌, ◌++◌, length, take, drop, map, All, slice_get, None, refl, sym, ap, ◌∙◌, subst, arith}
-use Rattle.std.proofs.lemmas.List.{map-append, length-append, take-append-le, drop-append-le, length-drop, length-take, length-take-le}
+use Rattle.std.proofs.Common.{◌≡◌, ℕ, zero, suc, ◌+◌, ◌-◌, ◌<◌, ◌≤◌, List, [], ◌∷◌, ◌++◌, length, take, drop, map, All, slice_get, Option, None, refl, sym, ap, ◌∙◌, subst, arith}
+use Rattle.std.proofs.lemmas.List.{map-append, length-append, length-drop, length-take, length-take-le}
 use Rattle.std.proofs.Math.Nat.{min-le_left}
 use Rattle.std.proofs.lemmas.Option.{slice_get_past}
-use Rattle.std.proofs.Math.Seq.{drop-append_seam}
 use Rattle.std.proofs.lemmas.List.Elements.{All-head, All-tail, All-push, All-weaker}
 use Rattle.wire_msg.specs.Envelope.{Envelope}
+use Rattle.node_core.specs.declared.event.Event.{Event}
+use Rattle.histories.specs.declared.fate.Fate.{Fate}
 use Rattle.histories.specs.declared.what.What.{What}
+use Rattle.histories.specs.Fates.{what_of}
 use Rattle.node_lock.specs.declared.worker.Worker.{Worker}
+use Rattle.node_lock.specs.declared.line.Quiet.{Quiet}
+use Rattle.node_lock.specs.declared.line.Told.{Told}
+use Rattle.node_lock.specs.declared.line.Told.TheVariants as told
+use Rattle.node_lock.specs.declared.line.Line.{Line}
 use Rattle.node_lock.specs.History.{Turn}
-use Rattle.node_lock.specs.Kept.{KeptTurn, part, turn_in, LineStands}
+use Rattle.node_lock.specs.Kept.{what_quiet, what_came, what_in, part, turn_in, ToldStands, LineStands}
+use Rattle.node_lock.proofs.Events.{get_same, get_again, part_same, part_again}
 
-part_same : (xs more : List Envelope) (start len : ℕ) → start + len ≤ length xs → take len (drop start (xs ++ more)) ≡ take len (drop start xs)
-part_same xs more start len within =
-    ap (λ (ys : List Envelope). take len ys) (drop-append-le start xs more (omega (arith, within)))
-    ∙ take-append-le len (drop start xs) more (omega (arith, within, length-drop start xs))
+abbrev pub line_by : Worker → ℕ → Told → ℕ → ℕ → Line
+line_by worker index t start end = record { worker = worker; index = index; told = t; start = start; end = end }
 
-abbrev with_sent : KeptTurn → List Envelope → Turn
-with_sent l sent = record { worker = l.worker; index = l.index; entry = record { what = l.what; sent = sent } }
+abbrev pub turn_by : Worker → ℕ → What → List Envelope → Turn
+turn_by worker index w sent = record { worker = worker; index = index; entry = record { what = w; sent = sent } }
 
-line_same : (ms more : List Envelope) (l : KeptTurn) → LineStands (length ms) l → turn_in (ms ++ more) l ≡ turn_in ms l
-line_same ms more l h =
-    ap (λ (xs : List Envelope). with_sent l xs) (part_same ms more l.start (l.end - l.start) (let front = h.0 in let back = h.1 in omega (arith, front, back)))
+-- ---- more is kept, and a line says what it said
 
-lines_same : (ms more : List Envelope) (ls : List KeptTurn) → All (LineStands (length ms)) ls → map (turn_in (ms ++ more)) ls ≡ map (turn_in ms) ls
-lines_same ms more [] h = refl
-lines_same ms more (l ∷ ls) h =
-    ap (λ (t : Turn). t ∷ map (turn_in (ms ++ more)) ls) (line_same ms more l (All-head (LineStands (length ms)) l ls h))
-    ∙ ap (λ (ts : List Turn). turn_in ms l ∷ ts) (lines_same ms more ls (All-tail (LineStands (length ms)) l ls h))
+told_same : (es more : List Event) (t : Told) → ToldStands (length es) t → what_in (es ++ more) t ≡ what_in es t
+told_same es more (told.Came place fate) h = ap (λ (o : Option Event). what_came o fate) (get_same es more place h)
+told_same es more (told.Quiet q) h = refl
 
-take_whole : (xs : List Envelope) → take (length xs) xs ≡ xs
-take_whole [] = refl
-take_whole (x ∷ xs) = ap (λ (ys : List Envelope). x ∷ ys) (take_whole xs)
+line_same : (ms sent : List Envelope) (es more : List Event) (l : Line) → LineStands (length ms) (length es) l → turn_in (ms ++ sent) (es ++ more) l ≡ turn_in ms es l
+line_same ms sent es more l h =
+    ap (λ (w : What). turn_by l.worker l.index w (part l.start l.end (ms ++ sent))) (told_same es more l.told h.told)
+    ∙ ap (λ (xs : List Envelope). turn_by l.worker l.index (what_in es l.told) xs) (part_same ms sent l.start (l.end - l.start) (let front = h.sent.0 in let back = h.sent.1 in omega (arith, front, back)))
 
-part_again : (xs ys : List Envelope) → part (length xs) (length xs + length ys) (xs ++ ys) ≡ ys
-part_again xs ys =
-    ap (λ (k : ℕ). take k (drop (length xs) (xs ++ ys))) (let many : length xs + length ys - length xs ≡ length ys = omega arith in many)
-    ∙ (ap (λ (zs : List Envelope). take (length ys) zs) (drop-append_seam xs ys) ∙ take_whole ys)
+lines_same : (ms sent : List Envelope) (es more : List Event) (ls : List Line) → All (LineStands (length ms) (length es)) ls → map (turn_in (ms ++ sent) (es ++ more)) ls ≡ map (turn_in ms es) ls
+lines_same ms sent es more [] h = refl
+lines_same ms sent es more (l ∷ ls) h =
+    ap (λ (t : Turn). t ∷ map (turn_in (ms ++ sent) (es ++ more)) ls) (line_same ms sent es more l (All-head (LineStands (length ms) (length es)) l ls h))
+    ∙ ap (λ (ts : List Turn). turn_in ms es l ∷ ts) (lines_same ms sent es more ls (All-tail (LineStands (length ms) (length es)) l ls h))
 
-abbrev pub line_for : Worker → ℕ → What → ℕ → List Envelope → KeptTurn
-line_for worker index what messages sent = record { worker = worker; index = index; what = what; start = messages; end = messages + length sent }
+-- ---- a turn with an event
+
+-- its line, behind so many messages and events
+abbrev pub line_for : Worker → ℕ → Fate → List Envelope → ℕ → ℕ → Line
+line_for worker index fate sent messages events = line_by worker index (told.Came events fate) messages (messages + length sent)
+
+line_again : (ms : List Envelope) (es : List Event) (worker : Worker) (index : ℕ) (e : Event) (fate : Fate) (sent : List Envelope)
+    → turn_in (ms ++ sent) (es ++ e ∷ []) (line_for worker index fate sent (length ms) (length es)) ≡ turn_by worker index (what_of e fate) sent
+line_again ms es worker index e fate sent =
+    ap (λ (o : Option Event). turn_by worker index (what_came o fate) (part (length ms) (length ms + length sent) (ms ++ sent))) (get_again es e)
+    ∙ ap (λ (xs : List Envelope). turn_by worker index (what_of e fate) xs)
+    (ap (λ (k : ℕ). take k (drop (length ms) (ms ++ sent))) (let many : length ms + length sent - length ms ≡ length sent = omega arith in many) ∙ part_again ms sent)
 
 -- the line that was kept last says its turn, and the lines before say what they said
-pub turns_more : (ls : List KeptTurn) (ms : List Envelope) (worker : Worker) (index : ℕ) (what : What) (sent : List Envelope) → All (LineStands (length ms)) ls
-    → map (turn_in (ms ++ sent)) (ls ++ line_for worker index what (length ms) sent ∷ []) ≡ map (turn_in ms) ls ++ (record { worker = worker; index = index; entry = record { what = what; sent = sent } }) ∷ []
-turns_more ls ms worker index what sent h =
-    let l = line_for worker index what (length ms) sent in
-    map-append (turn_in (ms ++ sent)) ls (l ∷ [])
-    ∙ (ap (λ (ts : List Turn). ts ++ turn_in (ms ++ sent) l ∷ []) (lines_same ms sent ls h)
-    ∙ ap (λ (xs : List Envelope). map (turn_in ms) ls ++ with_sent l xs ∷ []) (part_again ms sent))
+pub turns_more : (ls : List Line) (ms : List Envelope) (es : List Event) (worker : Worker) (index : ℕ) (e : Event) (fate : Fate) (sent : List Envelope) → All (LineStands (length ms) (length es)) ls
+    → map (turn_in (ms ++ sent) (es ++ e ∷ [])) (ls ++ line_for worker index fate sent (length ms) (length es) ∷ []) ≡ map (turn_in ms es) ls ++ turn_by worker index (what_of e fate) sent ∷ []
+turns_more ls ms es worker index e fate sent h =
+    let f = turn_in (ms ++ sent) (es ++ e ∷ []) in
+    let l = line_for worker index fate sent (length ms) (length es) in
+    map-append f ls (l ∷ [])
+    ∙ (ap (λ (ts : List Turn). ts ++ f l ∷ []) (lines_same ms sent es (e ∷ []) ls h)
+    ∙ ap (λ (t : Turn). map (turn_in ms es) ls ++ t ∷ []) (line_again ms es worker index e fate sent))
 
-longer : (n m : ℕ) → n ≤ m → (l : KeptTurn) → LineStands n l → LineStands m l
-longer n m le l h = (h.0, let back = h.1 in omega (arith, back, le))
+told_longer : (n m : ℕ) → n ≤ m → (t : Told) → ToldStands n t → ToldStands m t
+told_longer n m le (told.Came place fate) h = omega (arith, h, le)
+told_longer n m le (told.Quiet q) h = tt
 
-pub all_stand_more : (ls : List KeptTurn) (ms : List Envelope) (worker : Worker) (index : ℕ) (what : What) (sent : List Envelope) → All (LineStands (length ms)) ls
-    → All (LineStands (length (ms ++ sent))) (ls ++ line_for worker index what (length ms) sent ∷ [])
-all_stand_more ls ms worker index what sent h =
-    let more = length-append ms sent in
-    All-push (LineStands (length (ms ++ sent))) ls (line_for worker index what (length ms) sent)
-    (All-weaker (LineStands (length ms)) (LineStands (length (ms ++ sent))) (longer (length ms) (length (ms ++ sent)) (omega (arith, more))) ls h)
-    (omega arith, omega (arith, more))
+longer : (n n' m m' : ℕ) → n ≤ n' → m ≤ m' → (l : Line) → LineStands n m l → LineStands n' m' l
+longer n n' m m' le more l h = record { sent = (h.sent.0, let back = h.sent.1 in omega (arith, back, le)); told = told_longer m m' more l.told h.told }
+
+pub all_stand_more : (ls : List Line) (ms : List Envelope) (es : List Event) (worker : Worker) (index : ℕ) (e : Event) (fate : Fate) (sent : List Envelope) → All (LineStands (length ms) (length es)) ls
+    → All (LineStands (length (ms ++ sent)) (length (es ++ e ∷ []))) (ls ++ line_for worker index fate sent (length ms) (length es) ∷ [])
+all_stand_more ls ms es worker index e fate sent h =
+    let messages = length-append ms sent in
+    let events = length-append es (e ∷ []) in
+    let n = length (ms ++ sent) in
+    let m = length (es ++ e ∷ []) in
+    All-push (LineStands n m) ls (line_for worker index fate sent (length ms) (length es))
+    (All-weaker (LineStands (length ms) (length es)) (LineStands n m) (longer (length ms) n (length es) m (omega (arith, messages)) (omega (arith, events))) ls h)
+    (record { sent = (omega arith, omega (arith, messages)); told = omega (arith, events) })
+
+-- ---- a turn with no event
+
+abbrev pub quiet_line : Worker → ℕ → Quiet → Line
+quiet_line worker index q = line_by worker index (told.Quiet q) 0 0
+
+pub turns_quiet : (ls : List Line) (ms : List Envelope) (es : List Event) (worker : Worker) (index : ℕ) (q : Quiet)
+    → map (turn_in ms es) (ls ++ quiet_line worker index q ∷ []) ≡ map (turn_in ms es) ls ++ turn_by worker index (what_quiet q) [] ∷ []
+turns_quiet ls ms es worker index q = map-append (turn_in ms es) ls (quiet_line worker index q ∷ [])
+
+pub all_stand_quiet : (n m : ℕ) (ls : List Line) (worker : Worker) (index : ℕ) (q : Quiet) → All (LineStands n m) ls → All (LineStands n m) (ls ++ quiet_line worker index q ∷ [])
+all_stand_quiet n m ls worker index q h = All-push (LineStands n m) ls (quiet_line worker index q) h (record { sent = (omega arith, omega arith); told = tt })
 
 -- ---- the messages of a turn, by their place
 

@@ -18,7 +18,7 @@ use Rattle.node_lock.specs.Sending.{PutsSome, addressed_to, HasRoomFor, SameSide
 use Rattle.node_lock.specs.History.{Turn, IsReplay, FollowsPlans, PlanStep, entries_of, polled, from_link, listed}
 
 -- the node and its disk, the ends of its links, the plans and the turns that were taken of them, and what came of these; a
--- message that was taken from a link and not yet handed to the node; and for how many more turns and messages there is room
+-- message that was taken from a link and not yet handed to the node; and for how many more turns, messages and events there is room
 pub record HeldView : Type 0 where
   pub node : Node Memory
   pub run : Run
@@ -30,6 +30,7 @@ pub record HeldView : Type 0 where
   pub waiting : Option Envelope
   pub room : ℕ
   pub sends : ℕ
+  pub events : ℕ
 
 -- the other nodes' numbers, in rising order
 abbrev pub IsOther : ℕ → ℕ → ℕ → Type 0
@@ -119,7 +120,7 @@ pub record Unserved (old new : HeldView) : Type 0 where
 
 -- the room that one turn takes outside the node
 pub record HasRoom (h : HeldView) : Type 0 where
-  pub history : 0 < h.room
+  pub history : (0 < h.room) × (0 < h.events)
   pub sends : most_by h.node.nodes h.node.kept ≤ h.sends
   pub puts : HasRoomFor (most_by h.node.nodes h.node.kept) h.puts
   pub takes : HasRoomFor 1 h.takes

@@ -1,32 +1,55 @@
--- How the turns of a history are kept: the messages that they sent stand in one list.
-use Rattle.std.specs.Prelude.{ℕ, ◌-◌, ◌≤◌, List, take, drop}
+-- How the turns of a history are kept: a short line for each, and the events and the messages that they sent in lists beside.
+use Rattle.std.specs.Prelude.{ℕ, ◌-◌, ◌<◌, ◌≤◌, ⊤, List, take, drop, Option, Some, None, slice_get}
 use Rattle.wire_msg.specs.Envelope.{Envelope}
+use Rattle.node_core.specs.declared.event.Event.{Event}
+use Rattle.histories.specs.declared.fate.Fate.{Fate}
 use Rattle.histories.specs.declared.what.What.{What}
-use Rattle.node_lock.specs.declared.worker.Worker.{Worker}
+use Rattle.histories.specs.declared.what.What.TheVariants as what
+use Rattle.histories.specs.declared.what.Rest.TheVariants.{Nothing}
+use Rattle.histories.specs.Fates.{what_of}
+use Rattle.node_lock.specs.declared.line.Quiet.{Quiet}
+use Rattle.node_lock.specs.declared.line.Quiet.TheVariants as quiet
+use Rattle.node_lock.specs.declared.line.Told.{Told}
+use Rattle.node_lock.specs.declared.line.Told.TheVariants as told
+use Rattle.node_lock.specs.declared.line.Line.{Line}
 use Rattle.node_lock.specs.History.{Turn}
 
--- the turns, for how many more there is room, and for how many more messages
+-- the turns; for how many more of them there is room, for how many more messages, and for how many more events
 pub record Log : Type 0 where
   pub turns : List Turn
   pub room : ℕ
   pub sends : ℕ
+  pub events : ℕ
 
--- a turn as it is kept: what it sent stands in the list of messages from start up to end
-pub record KeptTurn : Type 0 where
-  pub worker : Worker
-  pub index : ℕ
-  pub what : What
-  pub start : ℕ
-  pub end : ℕ
+-- what came of a turn that handed no event to its node
+abbrev pub what_quiet : Quiet → What
+what_quiet quiet.Rested = what.Rests Nothing
+what_quiet quiet.Crashed = what.Crashed
+
+-- what came of an event, where there is one
+abbrev pub what_came : Option Event → Fate → What
+what_came None fate = what.Rests Nothing
+what_came (Some event) fate = what_of event fate
+
+-- what came of a turn, by the list of events
+abbrev pub what_in : List Event → Told → What
+what_in events (told.Came place fate) = what_came (slice_get events place) fate
+what_in events (told.Quiet q) = what_quiet q
 
 -- the part from start up to end
 abbrev pub part : ℕ → ℕ → List Envelope → List Envelope
 part start end ms = take (end - start) (drop start ms)
 
--- the turn that a line says, by the list of messages
-abbrev pub turn_in : List Envelope → KeptTurn → Turn
-turn_in ms l = record { worker = l.worker; index = l.index; entry = record { what = l.what; sent = part l.start l.end ms } }
+-- the turn that a line says, by the list of messages and that of events
+abbrev pub turn_in : List Envelope → List Event → Line → Turn
+turn_in ms events l = record { worker = l.worker; index = l.index; entry = record { what = what_in events l.told; sent = part l.start l.end ms } }
 
--- the messages of a line are among so many
-abbrev pub LineStands : ℕ → KeptTurn → Type 0
-LineStands messages l = (l.start ≤ l.end) × (l.end ≤ messages)
+-- the event of a line is among so many
+abbrev pub ToldStands : ℕ → Told → Type 0
+ToldStands events (told.Came place fate) = place < events
+ToldStands events (told.Quiet q) = ⊤
+
+-- the messages of a line are among so many, and so is its event
+pub record LineStands (messages events : ℕ) (l : Line) : Type 0 where
+  pub sent : (l.start ≤ l.end) × (l.end ≤ messages)
+  pub told : ToldStands events l.told

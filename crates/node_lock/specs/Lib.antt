@@ -4,6 +4,9 @@ pub mod Sending
 pub mod Asking
 pub mod Doing
 pub mod History
+pub mod Events
+pub mod Rooms
 pub mod Kept
+pub mod Taking
 pub mod Seen
 pub mod HeldView

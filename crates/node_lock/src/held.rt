@@ -1,7 +1,6 @@
 // What one lock holds.
 ghost use Rattle.std.specs.Prelude.{◌≡◌, ◌≢◌, ◌<◌, ◌≤◌, ◌+◌, ◌↔◌, [], length, IfOk, OnOk, OnErr, IfErr, vec_len, vec_capacity, slice_index_or, ℕ, Ok, Err, true, false, Some, None, IsTrue};
 ghost use Rattle.group_task.specs.declared.node.TheConstants.{NODES};
-ghost use Rattle.durable_node.specs.Stepping.{most_by};
 ghost use Rattle.node_lock.specs.HeldView.{HeldView, Kept, IsOther, IsPolled, Takes, SameRun, Unchanged, Unserved, HasRoom};
 ghost use Rattle.node_lock.specs.History.{Turn};
 ghost use Rattle.node_lock.specs.Planned.{no_turns, plan_len, turns_of};
@@ -10,10 +9,10 @@ ghost use Rattle.node_lock.specs.declared.held.HeldFault.TheVariants.{HistoryFul
 ghost use Rattle.node_lock.specs.declared.worker.Worker.TheVariants.{Intake, Clock, Operator};
 
 use crate::history::History;
-use crate::links::{reserve_puts, reserve_takes, send_all};
+use crate::links::{reserve_puts, reserve_takes};
 use crate::plans::Plans;
 use crate::run::Run;
-use crate::turn::{fetch, fire, operate, receive};
+use crate::turn::{event_for, fetch, hand, operate, receive};
 use crate::worker::{Turns, Worker};
 use durable_node::DurableNode;
 use group_task::NodeId;
@@ -46,7 +45,6 @@ pub struct Held {
     turns: Turns,
     history: History,
     waiting: Option<Message>,
-    alloc: Global,
 }
 
 impl Model for Held {
@@ -54,9 +52,9 @@ impl Model for Held {
 
     ghost Value = { HeldView };
 
-    ghost view = { λ h. record { node = h.node; run = h.run; puts = h.puts.items; takes = h.takes.items; plans = h.plans; turns = h.turns; history = h.history.turns; waiting = h.waiting; room = h.history.room; sends = h.history.sends } };
+    ghost view = { λ h. record { node = h.node; run = h.run; puts = h.puts.items; takes = h.takes.items; plans = h.plans; turns = h.turns; history = h.history.turns; waiting = h.waiting; room = h.history.room; sends = h.history.sends; events = h.history.events } };
 
-    ghost invariant = { λ h. Kept (record { node = h.node; run = h.run; puts = h.puts.items; takes = h.takes.items; plans = h.plans; turns = h.turns; history = h.history.turns; waiting = h.waiting; room = h.history.room; sends = h.history.sends }) };
+    ghost invariant = { λ h. Kept (record { node = h.node; run = h.run; puts = h.puts.items; takes = h.takes.items; plans = h.plans; turns = h.turns; history = h.history.turns; waiting = h.waiting; room = h.history.room; sends = h.history.sends; events = h.history.events }) };
 }
 
 /// What is left of a node when its workers have ended.
@@ -104,7 +102,6 @@ impl Held {
             },
             history: History::new(alloc),
             waiting: None,
-            alloc,
         })
     }
 
@@ -139,7 +136,7 @@ impl Held {
         ensures same { Unchanged self.old self.new }
         ensures room { OnOk result (HasRoom self.new) }
     {
-        let most = most_messages(&self.node, usize::from(self.run.nodes));
+        let most = self.node.most();
         self.history.reserve(most)?;
         reserve_puts(&mut self.puts, most)?;
         reserve_takes(&mut self.takes, 1)
@@ -156,21 +153,17 @@ impl Held {
         let index = self.turns.intake;
         let from = self.plans.intake()[index];
         let place = place_of(self.run.node, from);
-        let found = fetch(&mut self.takes, *&self.waiting, place);
-        let copy = *&found;
-        match receive(self.alloc, &mut self.node, found) {
-            Ok((what, sent)) => {
-                send_all(&mut self.puts, &sent);
-                self.history.push(Worker::Intake, index as u64, what, &sent);
-                self.turns.intake += 1;
-                self.waiting = None;
-                Ok(true)
-            }
-            Err(fault) => {
-                self.waiting = copy;
-                Err(fault)
-            }
-        }
+        fetch(&mut self.takes, &mut self.waiting, place);
+        receive(
+            &mut self.node,
+            &mut self.puts,
+            &mut self.history,
+            index as u64,
+            &self.waiting,
+        )?;
+        self.turns.intake += 1;
+        self.waiting = None;
+        Ok(true)
     }
 
     fn next_clock(&mut self) -> Result<bool, HeldFault>
@@ -182,10 +175,15 @@ impl Held {
         ensures memory { IfErr result (λ f. (f ≡ NoMemory) × Unserved self.old self.new) }
     {
         let index = self.turns.clock;
-        let timer = self.plans.clock()[index];
-        let (what, sent) = fire(&mut self.node, timer)?;
-        send_all(&mut self.puts, &sent);
-        self.history.push(Worker::Clock, index as u64, what, &sent);
+        let event = event_for(self.plans.clock()[index]);
+        hand(
+            &mut self.node,
+            &mut self.puts,
+            &mut self.history,
+            Worker::Clock,
+            index as u64,
+            &event,
+        )?;
         self.turns.clock += 1;
         Ok(true)
     }
@@ -199,10 +197,13 @@ impl Held {
         ensures memory { IfErr result (λ f. (f ≡ NoMemory) × Unserved self.old self.new) }
     {
         let index = self.turns.operator;
-        let (what, sent) = operate(self.alloc, &mut self.node, &self.plans.operator()[index])?;
-        send_all(&mut self.puts, &sent);
-        self.history
-            .push(Worker::Operator, index as u64, what, &sent);
+        operate(
+            &mut self.node,
+            &mut self.puts,
+            &mut self.history,
+            index as u64,
+            &self.plans.operator()[index],
+        )?;
         self.turns.operator += 1;
         Ok(true)
     }
@@ -250,7 +251,6 @@ impl Held {
             turns: _,
             history,
             waiting,
-            alloc: _,
         } = self;
         Parts {
             run,
@@ -260,17 +260,6 @@ impl Held {
             takes,
             waiting,
         }
-    }
-}
-
-/// How many messages one turn sends at most.
-fn most_messages(node: &DurableNode<MemDisk>, nodes: usize) -> usize
-    requires { node.now.nodes ≡ nodes }
-    ensures { result ≡ most_by node.now.nodes node.now.kept }
-{
-    match node.durable() {
-        Some((_, table)) => nodes.saturating_sub(1).max(table.pending().len()),
-        None => 0,
     }
 }
 

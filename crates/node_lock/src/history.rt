@@ -1,12 +1,16 @@
 //! The history of a node: what came of the turns of its workers.
 
 ghost use Rattle.std.specs.Prelude.{◌≡◌, ◌≤◌, ◌<◌, ◌+◌, ◌↔◌, [], ◌∷◌, ◌++◌, length, slice_get, None, Some, IfSome, IsNone, IsTrue, OnOk};
+ghost use Rattle.histories.specs.Fates.{what_of};
+ghost use Rattle.node_lock.specs.Kept.{ToldStands, what_in, what_quiet};
 ghost use Rattle.node_lock.specs.Seen.{turn_seen};
 
-use crate::line::Line;
+use crate::event_list::EventList;
+use crate::line::{Line, Quiet, Told};
 use crate::worker::Worker;
-use histories::What;
+use histories::{Fate, Rest, What};
 use message_list::MessageList;
+use node_core::Event;
 use std::alloc::{AllocError, Global};
 use std::marker::Model;
 use wire_msg::Message;
@@ -14,12 +18,13 @@ use wire_msg::Message;
 /// The turns that were taken at a node, in their order. A poll that found nothing, an event that was refused and an order that
 /// arms the disk are turns too.
 ///
-/// A turn takes about 520 bytes, and 16 for most messages that it sent: 65,536 turns at a node that sends to 63 others at each of
-/// them would take about 100 megabytes, reckoned by these sizes and not measured.
+/// A turn takes 56 bytes, with an event 24 more; a message that was delivered or sent takes 16 for most, and a new job the bytes
+/// of its payload.
 #[derive(Drop)]
 pub struct History {
     lines: Vec<Line>,
-    messages: MessageList,
+    sent: MessageList,
+    events: EventList,
 }
 
 impl Model for History {
@@ -28,9 +33,9 @@ impl Model for History {
 
     ghost Value = { Log };
 
-    ghost view = { λ a. record { turns = map (turn_in a.messages.messages) a.lines.items; room = vec_capacity a.lines - vec_len a.lines; sends = a.messages.room } };
+    ghost view = { λ a. record { turns = map (turn_in a.sent.messages a.events.events) a.lines.items; room = vec_capacity a.lines - vec_len a.lines; sends = a.sent.room; events = a.events.room } };
 
-    ghost invariant = { λ a. All (LineStands (length a.messages.messages)) a.lines.items };
+    ghost invariant = { λ a. All (LineStands (length a.sent.messages) (length a.events.events)) a.lines.items };
 }
 
 impl History {
@@ -40,7 +45,8 @@ impl History {
     {
         History {
             lines: Vec::new(alloc),
-            messages: MessageList::new(alloc),
+            sent: MessageList::new(alloc),
+            events: EventList::new(alloc),
         }
     }
 
@@ -56,22 +62,52 @@ impl History {
         ensures turns { self.new.turns ≡ self.old.turns }
         ensures room { OnOk result (0 < self.new.room) }
         ensures sends { OnOk result (messages ≤ self.new.sends) }
+        ensures events { OnOk result (0 < self.new.events) }
     {
         self.lines.reserve(1)?;
-        self.messages.reserve(messages)
+        self.events.reserve(1)?;
+        self.sent.reserve(messages)
     }
 
-    /// Adds a turn, in the room that is there.
-    pub(crate) fn push(&mut self, worker: Worker, index: u64, what: What, sent: &[Message])
+    /// Adds a turn that handed an event to its node, in the room that is there.
+    pub(crate) fn push(
+        &mut self,
+        worker: Worker,
+        index: u64,
+        event: &Event,
+        fate: Fate,
+        sent: &[Message],
+    )
         requires room { 0 < self.old.room }
         requires sends { length sent.now ≤ self.old.sends }
-        ensures { self.new.turns ≡ self.old.turns ++ (record { worker = worker; index = index; entry = record { what = what; sent = sent.now } }) ∷ [] }
+        requires events { 0 < self.old.events }
+        ensures { self.new.turns ≡ self.old.turns ++ (record { worker = worker; index = index; entry = record { what = what_of event.now fate; sent = sent.now } }) ∷ [] }
     {
-        let start = self.messages.len();
-        keep_messages(&mut self.messages, sent);
-        let end = self.messages.len();
-        self.lines
-            .push_reserved(Line::new(worker, index, what, start, end));
+        let place = self.events.len();
+        self.events.push(event);
+        let start = self.sent.len();
+        keep_messages(&mut self.sent, sent);
+        self.lines.push_reserved(Line {
+            worker,
+            index,
+            told: Told::Came(place, fate),
+            start,
+            end: self.sent.len(),
+        });
+    }
+
+    /// Adds a turn that handed no event to its node, in the room that is there.
+    pub(crate) fn push_quiet(&mut self, worker: Worker, index: u64, quiet: Quiet)
+        requires { 0 < self.old.room }
+        ensures { self.new.turns ≡ self.old.turns ++ (record { worker = worker; index = index; entry = record { what = what_quiet quiet; sent = [] } }) ∷ [] }
+    {
+        self.lines.push_reserved(Line {
+            worker,
+            index,
+            told: Told::Quiet(quiet),
+            start: 0,
+            end: 0,
+        });
     }
 
     /// The turn at this place.
@@ -81,13 +117,13 @@ impl History {
     {
         let line = self.lines.get(place)?;
         Some(Entry {
-            worker: line.worker(),
-            index: line.index(),
-            what: line.what(),
+            worker: line.worker,
+            index: line.index,
+            what: what_in(&self.events, line.told),
             sent: Sent {
-                messages: &self.messages,
-                start: line.start(),
-                end: line.end(),
+                messages: &self.sent,
+                start: line.start,
+                end: line.end,
             },
         })
     }
@@ -100,6 +136,21 @@ fn keep_messages(messages: &mut MessageList, sent: &[Message])
 {
     for message in sent {
         messages.push(message);
+    }
+}
+
+/// What came of a turn, by its event.
+fn what_in(events: &EventList, told: Told) -> What
+    requires { ToldStands (length events.now.events) told }
+    ensures { result ≡ what_in events.now.events told }
+{
+    match told {
+        Told::Came(place, fate) => match events.get(place) {
+            Some(event) => fate.what(&event),
+            None => unreachable!(),
+        },
+        Told::Quiet(Quiet::Rested) => What::Rests(Rest::Nothing),
+        Told::Quiet(Quiet::Crashed) => What::Crashed,
     }
 }
 

@@ -5,6 +5,7 @@
 //! for.
 #![tactic(auto)]
 
+mod event_list;
 mod held;
 mod history;
 mod laws;

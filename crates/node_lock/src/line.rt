@@ -1,69 +1,35 @@
 //! A turn as its history keeps it.
 
-ghost use Rattle.std.specs.Prelude.{◌≡◌};
-
 use crate::worker::Worker;
-use histories::What;
-use std::marker::Model;
+use histories::Fate;
+use std::mem::size_of;
+
+/// What came of a turn that handed no event to its node.
+#[derive(Clone, Copy)]
+pub enum Quiet {
+    /// A poll found nothing, or the disk was armed.
+    Rested,
+    /// The node crashed.
+    Crashed,
+}
+
+/// What came of a turn, as it is kept.
+#[derive(Clone, Copy)]
+pub enum Told {
+    /// What came of the event that stands at this place of the list of events.
+    Came(usize, Fate),
+    Quiet(Quiet),
+}
 
 /// A turn as it is kept. What it sent stands in a list of messages from start up to end.
-#[derive(Drop)]
+#[derive(Clone, Copy)]
 pub struct Line {
-    worker: Worker,
-    index: u64,
-    what: What,
-    start: usize,
-    end: usize,
+    pub worker: Worker,
+    pub index: u64,
+    pub told: Told,
+    pub start: usize,
+    pub end: usize,
 }
 
-impl Model for Line {
-    ghost use Rattle.node_lock.specs.Kept.{KeptTurn};
-
-    ghost Value = { KeptTurn };
-
-    ghost view = { λ a. record { worker = a.worker; index = a.index; what = a.what; start = a.start; end = a.end } };
-}
-
-impl Line {
-    pub fn new(worker: Worker, index: u64, what: What, start: usize, end: usize) -> Line
-        ensures { result ≡ record { worker = worker; index = index; what = what; start = start; end = end } }
-    {
-        Line {
-            worker,
-            index,
-            what,
-            start,
-            end,
-        }
-    }
-
-    pub fn worker(&self) -> Worker
-        ensures { result ≡ self.now.worker }
-    {
-        self.worker
-    }
-
-    pub fn index(&self) -> u64
-        ensures { result ≡ self.now.index }
-    {
-        self.index
-    }
-
-    pub fn what(&self) -> What
-        ensures { result ≡ self.now.what }
-    {
-        self.what
-    }
-
-    pub fn start(&self) -> usize
-        ensures { result ≡ self.now.start }
-    {
-        self.start
-    }
-
-    pub fn end(&self) -> usize
-        ensures { result ≡ self.now.end }
-    {
-        self.end
-    }
-}
+// a history has a line for each turn, and most turns are polls that find nothing
+const _: () = prove!(size_of::<Line>() <= 56);

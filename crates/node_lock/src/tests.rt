@@ -10,8 +10,10 @@ use job_model::{Payload, Queue, Work};
 use link_ring::{PutEnd, TakeEnd, link};
 use node_core::{CoreFault, Event};
 use std::alloc::{AllocError, Global};
+use std::io::Print;
 use std::process::Abort;
 use std::test::Fail;
+use wire_msg::{Body, Message};
 
 /// The only node of a run.
 fn alone(alloc: Global, clock: Vec<Timer>, operator: Vec<Order>) -> Result<Held, AllocError> {
@@ -58,12 +60,38 @@ fn paired(
     Held::new(alloc, run, one(alloc, put)?, one(alloc, take)?, plans)
 }
 
+/// What node 1 asks node 0.
+fn question() -> Message {
+    Message::between(
+        NodeId::numbered(1),
+        NodeId::numbered(0),
+        Body::AreYouCoordinator,
+    )
+}
+
+/// The first of two nodes, which polls the other once, and then its clock fires Check. The question of the other lies in the ring.
+fn asked(alloc: Global) -> Result<Held, AllocError> {
+    let (put, _) = link(alloc, NodeId::numbered(0), NodeId::numbered(1), 2)?;
+    let (mut asking, take) = link(alloc, NodeId::numbered(1), NodeId::numbered(0), 2)?;
+    asking.reserve(1)?;
+    let _ = asking.put(question());
+    paired(alloc, 0, 1, 2, put, take)
+}
+
+/// What node 0 tells node 1.
+fn from_first(body: Body) -> Message {
+    Message::between(NodeId::numbered(0), NodeId::numbered(1), body)
+}
+
 /// Takes so many turns of a worker. One that is refused for want of memory is made again, and then it is taken.
-fn take(rt: &impl Abort, held: &mut Held, worker: Worker, turns: usize) {
+fn take<R: Abort + Print>(rt: &R, held: &mut Held, worker: Worker, turns: usize) {
     for _ in 0..turns {
+        let before = held.turns(worker);
         let mut taken = held.next(worker);
         for _ in 0..9 {
             if taken == Err(HeldFault::NoMemory) {
+                let _ = println!(rt; "refused");
+                assert_eq!(rt; held.turns(worker), before);
                 taken = held.next(worker);
             }
         }
@@ -237,5 +265,35 @@ fn gate_shuts(rt: HostRuntime) -> Result<(), Fail> {
     // not asked where the plan is used up
     assert!(rt; lock.turn(&rt, Worker::Clock, &shut) == Ok(false));
     assert_eq!(rt; lock.into_held().into_parts().history.len(), 2);
+    Ok(())
+}
+
+/// In a run of this test by itself no turn is refused; `tests/hostile/refused_tried.py` runs it again and again, and each time refuses one
+/// allocation more.
+#[test]
+fn refused_next(rt: HostRuntime) -> Result<(), Fail> {
+    let mut held = match asked(rt.alloc()) {
+        Ok(held) => held,
+        Err(_) => asked(rt.alloc())?,
+    };
+    take(&rt, &mut held, Worker::Intake, 1);
+    take(&rt, &mut held, Worker::Clock, 1);
+    let parts = held.into_parts();
+    assert_eq!(rt; parts.history.len(), 2);
+    let polled = came(&parts.history, 0, Worker::Intake, 0);
+    assert!(rt; polled == Some(What::Did(Event::Deliver(question()))));
+    let checked = came(&parts.history, 1, Worker::Clock, 0);
+    assert!(rt; checked == Some(What::Did(Event::CheckTimer)));
+    assert!(rt; parts.waiting.is_none());
+    // the message was taken from its ring once, and what is answered and asked is put once
+    for end in parts.takes.iter() {
+        assert_eq!(rt; end.messages().len(), 1);
+        assert!(rt; end.messages().get(0) == Some(question()));
+    }
+    for end in parts.puts.iter() {
+        assert_eq!(rt; end.messages().len(), 2);
+        assert!(rt; end.messages().get(0) == Some(from_first(Body::Coordinator(true))));
+        assert!(rt; end.messages().get(1) == Some(from_first(Body::AreYouCoordinator)));
+    }
     Ok(())
 }

@@ -1,39 +1,52 @@
 // One turn at a node.
-ghost use Rattle.std.specs.Prelude.{◌≡◌, ◌≤◌, ◌<◌, [], IfOk, IfErr, IfNone, IfSome, IsSome, vec_len, length, slice_index_or, None};
+ghost use Rattle.std.specs.Prelude.{◌≡◌, ◌≤◌, ◌<◌, [], OnOk, IfErr, IfNone, IfSome, IsSome, vec_len, slice_index_or, None};
+ghost use Rattle.histories.specs.What.{Entry};
 ghost use Rattle.durable_node.specs.Stepping.{most_by};
 ghost use Rattle.node_lock.specs.declared.held.HeldFault.TheVariants.{NoMemory};
+ghost use Rattle.node_lock.specs.declared.worker.Worker.TheVariants.{Intake, Operator};
 ghost use Rattle.node_lock.specs.Asking.{Hand, event_for, asked_in, asked_by};
-ghost use Rattle.node_lock.specs.Doing.{StandsForSome, TurnDid};
+ghost use Rattle.node_lock.specs.Doing.{StandsForSome};
+ghost use Rattle.node_lock.specs.Taking.{TookTurn, TookNone, site};
 ghost use Rattle.link_ring.specs.Sides.{Side};
 ghost use Rattle.node_lock.specs.Sending.{HasRoomFor, SameSides, Brings};
 
 use crate::held::HeldFault;
+use crate::history::History;
+use crate::line::Quiet;
+use crate::links::send_all;
 use crate::order::{Order, Timer};
 use crate::perform::perform;
+use crate::worker::Worker;
 use durable_node::DurableNode;
-use histories::{Rest, What};
-use link_ring::TakeEnd;
+use link_ring::{PutEnd, TakeEnd};
 use node_core::Event;
 use sector_disk::MemDisk;
-use std::alloc::Global;
 use wire_msg::Message;
 
-/// The clock's turn.
-pub(crate) fn fire(
+/// A turn that hands an event to the node, in the room that is there.
+pub(crate) fn hand(
     node: &mut DurableNode<MemDisk>,
-    timer: Timer,
-) -> Result<(What, Vec<Message>), HeldFault>
+    puts: &mut Vec<PutEnd>,
+    history: &mut History,
+    worker: Worker,
+    index: u64,
+    event: &Event,
+) -> Result<(), HeldFault>
     requires stands { StandsForSome node.old }
-    ensures id { node.new.id ≡ node.old.id }
-    ensures nodes { node.new.nodes ≡ node.old.nodes }
-    ensures did { IfOk result (λ r. TurnDid node.old (Hand (event_for timer)) r.0 r.1.items node.new) }
-    ensures few { IfOk result (λ r. length r.1.items ≤ most_by node.old.nodes node.old.kept) }
-    ensures memory { IfErr result (λ fault. (fault ≡ NoMemory) × (node.new ≡ record node.old { found = None })) }
+    requires room { (0 < history.old.room) × (0 < history.old.events) }
+    requires sends { most_by node.old.nodes node.old.kept ≤ history.old.sends }
+    requires puts { HasRoomFor (most_by node.old.nodes node.old.kept) puts.old.items }
+    ensures taken { OnOk result ((e : Entry) × TookTurn worker index (Hand event.now) e (site node.old puts.old.items history.old.turns) (site node.new puts.new.items history.new.turns)) }
+    ensures memory { IfErr result (λ fault. (fault ≡ NoMemory) × TookNone (site node.old puts.old.items history.old.turns) (site node.new puts.new.items history.new.turns)) }
 {
-    perform(node, event_for(timer))
+    let (fate, sent) = perform(node, event)?;
+    send_all(puts, &sent);
+    history.push(worker, index, event, fate, &sent);
+    Ok(())
 }
 
-fn event_for(timer: Timer) -> Event
+/// The event of a timer.
+pub(crate) fn event_for(timer: Timer) -> Event
     ensures { result ≡ event_for timer }
 {
     match timer {
@@ -48,65 +61,73 @@ fn event_for(timer: Timer) -> Event
 
 /// The operator's turn.
 pub(crate) fn operate(
-    alloc: Global,
     node: &mut DurableNode<MemDisk>,
+    puts: &mut Vec<PutEnd>,
+    history: &mut History,
+    index: u64,
     order: &Order,
-) -> Result<(What, Vec<Message>), HeldFault>
+) -> Result<(), HeldFault>
     requires stands { StandsForSome node.old }
-    ensures id { node.new.id ≡ node.old.id }
-    ensures nodes { node.new.nodes ≡ node.old.nodes }
-    ensures did { IfOk result (λ r. TurnDid node.old (asked_in order.now) r.0 r.1.items node.new) }
-    ensures few { IfOk result (λ r. length r.1.items ≤ most_by node.old.nodes node.old.kept) }
-    ensures memory { IfErr result (λ fault. (fault ≡ NoMemory) × (node.new ≡ record node.old { found = None })) }
+    requires room { (0 < history.old.room) × (0 < history.old.events) }
+    requires sends { most_by node.old.nodes node.old.kept ≤ history.old.sends }
+    requires puts { HasRoomFor (most_by node.old.nodes node.old.kept) puts.old.items }
+    ensures taken { OnOk result ((e : Entry) × TookTurn Operator index (asked_in order.now) e (site node.old puts.old.items history.old.turns) (site node.new puts.new.items history.new.turns)) }
+    ensures memory { IfErr result (λ fault. (fault ≡ NoMemory) × TookNone (site node.old puts.old.items history.old.turns) (site node.new puts.new.items history.new.turns)) }
 {
-    match order {
-        Order::Submit(work) => perform(node, Event::Submit(*work)),
-        Order::Finish(origin, id) => perform(node, Event::Finish(*origin, *id)),
+    let event = match order {
+        Order::Submit(work) => Event::Submit(*work),
+        Order::Finish(origin, id) => Event::Finish(*origin, *id),
+        Order::Recover => Event::Recover,
         Order::Arm(calls) => {
             node.arm(*calls);
-            Ok((What::Rests(Rest::Nothing), Vec::new(alloc)))
+            history.push_quiet(Worker::Operator, index, Quiet::Rested);
+            return Ok(());
         }
         Order::Crash(fill) => {
             node.crash(fill.as_slice());
-            Ok((What::Crashed, Vec::new(alloc)))
+            history.push_quiet(Worker::Operator, index, Quiet::Crashed);
+            return Ok(());
         }
-        Order::Recover => perform(node, Event::Recover),
-    }
+    };
+    hand(node, puts, history, Worker::Operator, index, &event)
 }
 
 /// The intake's turn: what a poll found is handed to the node.
 pub(crate) fn receive(
-    alloc: Global,
     node: &mut DurableNode<MemDisk>,
-    found: Option<Message>,
-) -> Result<(What, Vec<Message>), HeldFault>
+    puts: &mut Vec<PutEnd>,
+    history: &mut History,
+    index: u64,
+    found: &Option<Message>,
+) -> Result<(), HeldFault>
     requires stands { StandsForSome node.old }
-    ensures id { node.new.id ≡ node.old.id }
-    ensures nodes { node.new.nodes ≡ node.old.nodes }
-    ensures did { IfOk result (λ r. TurnDid node.old (asked_by found) r.0 r.1.items node.new) }
-    ensures few { IfOk result (λ r. length r.1.items ≤ most_by node.old.nodes node.old.kept) }
-    ensures memory { IfErr result (λ fault. (fault ≡ NoMemory) × (node.new ≡ record node.old { found = None }) × IsSome found) }
+    requires room { (0 < history.old.room) × (0 < history.old.events) }
+    requires sends { most_by node.old.nodes node.old.kept ≤ history.old.sends }
+    requires puts { HasRoomFor (most_by node.old.nodes node.old.kept) puts.old.items }
+    ensures taken { OnOk result ((e : Entry) × TookTurn Intake index (asked_by found.now) e (site node.old puts.old.items history.old.turns) (site node.new puts.new.items history.new.turns)) }
+    ensures memory { IfErr result (λ fault. (fault ≡ NoMemory) × TookNone (site node.old puts.old.items history.old.turns) (site node.new puts.new.items history.new.turns) × IsSome found.now) }
 {
     match found {
-        Some(message) => perform(node, Event::Deliver(message)),
-        None => Ok((What::Rests(Rest::Nothing), Vec::new(alloc))),
+        Some(message) => {
+            let event = Event::Deliver(*message);
+            hand(node, puts, history, Worker::Intake, index, &event)
+        }
+        None => {
+            history.push_quiet(Worker::Intake, index, Quiet::Rested);
+            Ok(())
+        }
     }
 }
 
-/// The message that waits, else the next of the link at this place.
-pub(crate) fn fetch(
-    takes: &mut Vec<TakeEnd>,
-    waiting: Option<Message>,
-    place: usize,
-) -> Option<Message>
+/// Where no message waits, the next of the link at this place waits from here on.
+pub(crate) fn fetch(takes: &mut Vec<TakeEnd>, waiting: &mut Option<Message>, place: usize)
     requires room { HasRoomFor 1 takes.old.items }
     requires place { place < vec_len takes.old }
-    ensures none { IfNone result ((waiting ≡ None) × SameSides takes.old.items takes.new.items) }
-    ensures empty { IfNone result ((d : Side) → (slice_index_or takes.old.items place d).seen ≡ []) }
-    ensures some { IfSome result (λ m. Brings place m waiting takes.old.items takes.new.items) }
+    ensures none { IfNone waiting.new ((waiting.old ≡ None) × SameSides takes.old.items takes.new.items) }
+    ensures empty { IfNone waiting.new ((d : Side) → (slice_index_or takes.old.items place d).seen ≡ []) }
+    ensures some { IfSome waiting.new (λ m. Brings place m waiting.old takes.old.items takes.new.items) }
 {
-    match waiting {
-        Some(message) => Some(message),
-        None => takes[place].take(),
+    if waiting.is_none() {
+        *waiting = takes[place].take();
     }
 }

@@ -203,13 +203,12 @@ some_is None is = absurd cc
 some_is (Some x) is = (x, refl)
 
 -- the node is over the disk that it was over
-same_node : {Disk A : Type 0} (disks : Disk → DiskState) (old new : Node Disk) (result : Result A NodeFault) → new.id ≡ old.id → new.nodes ≡ old.nodes → CountsOf disks old.disk new.disk result
-    → IsSome new.disk → IsNodeOf disks old new
-same_node disks old new result id nodes counts there = record {
+same_node : {Disk A : Type 0} (disks : Disk → DiskState) (old new : Node Disk) (result : Result A NodeFault) → new.id ≡ old.id → new.nodes ≡ old.nodes → CountsOf disks old.disk new.disk result → IsNodeOf disks old new
+same_node disks old new result id nodes counts = record {
   id = id;
   nodes = nodes;
-  disk = λ was is. (let now = some_is new.disk there in
-      let same = counts was now.0 is now.1 in
+  disk = λ was is. (let now = some_is new.disk counts.is_there in
+      let same = counts.counts was now.0 is now.1 in
       record { now = now.0; is = now.1; sectors = same.sectors; honest = same.honest });
 }
 
@@ -257,15 +256,15 @@ three_texts a b c d x y z first second third =
 pub event_turns : {Disk : Type 0} (disks : Disk → DiskState) (old : Progress Disk) (node' : Node Disk) (event : Event) (reply : Result Came NodeFault) (waits : Waits) (sent changed text : List ℕ)
     → node'.id ≡ old.node.id → node'.nodes ≡ old.node.nodes → IfOk reply (Steps disks old.node node' event) → IfErr reply (Stuck disks old.node node' event) → reply ≢ Err (node.Core NoMemory)
     → (is_down old.node.state.phase ≡ true → event ≡ on.Recover → Remounted old.node node' (told reply) node'.found) → (is_down old.node.state.phase ≡ true → old.node.state ≡ down_state old.node.id)
-    → CountsOf disks old.node.disk node'.disk (told reply) → IsSome node'.disk
+    → CountsOf disks old.node.disk node'.disk (told reply)
     → waits ≡ waits_behind (Some event) (sent_by (told reply)) node'.state old.waits
     → sent ≡ old.text ++ send_lines (sent_by (told reply)) → changed ≡ sent ++ changes (is_finish (Some event)) old.node.state node'.state → text ≡ changed ++ gone_told (Some event) (ended_by (told reply))
     → Turns disks old (record old { node = node'; text = text; waits = waits }) (MayComeOf old.node.id old.node.nodes event) (ended_by (told reply))
-event_turns {Disk} disks old node' event reply waits sent changed text id nodes steps stuck memory mounting fallen counts there waited first second third = record {
-  node = same_node disks old.node node' (told reply) id nodes counts there;
+event_turns {Disk} disks old node' event reply waits sent changed text id nodes steps stuck memory mounting fallen counts waited first second third = record {
+  node = same_node disks old.node node' (told reply) id nodes counts;
   same = refl;
   turned = λ was s is stands. (let h = happens disks old.node node' event reply was s steps stuck memory mounting fallen is stands
-      (λ d at. (let same = counts was d is at in (same.sectors, same.honest))) in
+      (λ d at. (let same = counts.counts was d is at in (same.sectors, same.honest))) in
       let self = old.node.id in
       let count = old.node.nodes in
       let t = after_turn self count s h.turn in
@@ -291,15 +290,15 @@ event_turns {Disk} disks old node' event reply waits sent changed text id nodes 
 pub turn_so : {Disk : Type 0} (disks : Disk → DiskState) (old here : Progress Disk) (node' : Node Disk) (event : Event) (reply : Result Came NodeFault) (ended : Ended) (finished : Bool) (seen : Sight) (before after behind : State)
     (waits : Waits) (sent changed text : List ℕ) → here ≡ old → node'.id ≡ here.node.id → node'.nodes ≡ here.node.nodes → IfOk reply (Steps disks here.node node' event) → IfErr reply (Stuck disks here.node node' event) → reply ≢ Err (node.Core NoMemory)
     → (is_down here.node.state.phase ≡ true → event ≡ on.Recover → Remounted here.node node' (told reply) node'.found) → (is_down here.node.state.phase ≡ true → here.node.state ≡ down_state here.node.id)
-    → CountsOf disks here.node.disk node'.disk (told reply) → IsSome node'.disk
+    → CountsOf disks here.node.disk node'.disk (told reply)
     → seen ≡ sight_of before → before ≡ here.node.state → after ≡ node'.state → finished ≡ is_finish (Some event) → ended ≡ ended_by (told reply)
     → behind ≡ node'.state → waits ≡ waits_behind (Some event) (sent_by (told reply)) behind here.waits
     → sent ≡ here.text ++ send_lines (sent_by (told reply)) → ((s : State) → seen ≡ sight_of s → changed ≡ sent ++ changes finished s after) → text ≡ changed ++ gone_told (Some event) ended
     → Turns disks old (record here { node = node'; text = text; waits = waits }) (MayComeOf old.node.id old.node.nodes event) ended
-turn_so {Disk} disks old here node' event reply ended finished seen before after behind waits sent changed text is id nodes steps stuck memory mounting fallen counts there sees was now finish ends_so then waited first second third =
+turn_so {Disk} disks old here node' event reply ended finished seen before after behind waits sent changed text is id nodes steps stuck memory mounting fallen counts sees was now finish ends_so then waited first second third =
     subst (λ (p : Progress Disk). Turns disks p (record here { node = node'; text = text; waits = waits }) (MayComeOf p.node.id p.node.nodes event) ended) is
     (subst (λ (e : Ended). Turns disks here (record here { node = node'; text = text; waits = waits }) (MayComeOf here.node.id here.node.nodes event) e) (sym ends_so)
-    (event_turns disks here node' event reply waits sent changed text id nodes steps stuck memory mounting fallen counts there
+    (event_turns disks here node' event reply waits sent changed text id nodes steps stuck memory mounting fallen counts
     (waited ∙ ap (λ (v : State). waits_behind (Some event) (sent_by (told reply)) v here.waits) then) first
     (second before sees ∙ (ap (λ (b : Bool). sent ++ changes b before after) finish ∙ (ap (λ (v : State). sent ++ changes (is_finish (Some event)) v after) was
     ∙ ap (λ (v : State). sent ++ changes (is_finish (Some event)) here.node.state v) now)))
@@ -338,11 +337,11 @@ silent_text x y (end.Done (Some id)) = sym (append-nil (changes false x y))
 silent_text x y (end.Denied fault) = sym (append-nil (changes false x y))
 
 pub compaction_turns : {Disk A : Type 0} (disks : Disk → DiskState) (old : Progress Disk) (node' : Node Disk) (result : Result A NodeFault) (waits : Waits) (text : List ℕ)
-    → node'.id ≡ old.node.id → node'.nodes ≡ old.node.nodes → Compacts disks old.node node' result → CountsOf disks old.node.disk node'.disk result → IsSome node'.disk
+    → node'.id ≡ old.node.id → node'.nodes ≡ old.node.nodes → Compacts disks old.node node' result → CountsOf disks old.node.disk node'.disk result
     → waits ≡ waits_behind None [] node'.state old.waits → text ≡ old.text ++ changes false old.node.state node'.state
     → Turns disks old (record old { node = node'; text = text; waits = waits }) (MayCompact old.node.id old.node.nodes) (compaction_end result)
-compaction_turns {Disk} disks old node' result waits text id nodes compacts counts there waited told = record {
-  node = same_node disks old.node node' result id nodes counts there;
+compaction_turns {Disk} disks old node' result waits text id nodes compacts counts waited told = record {
+  node = same_node disks old.node node' result id nodes counts;
   same = refl;
   turned = λ was s is stands. (let step = compacts was s is stands in
       let what = step.0 in
@@ -369,13 +368,13 @@ compaction_turns {Disk} disks old node' result waits text id nodes compacts coun
 }
 
 pub compaction_so : {Disk A : Type 0} (disks : Disk → DiskState) (old here : Progress Disk) (node' : Node Disk) (result : Result A NodeFault) (ended : Ended) (seen : Sight) (before after behind : State) (waits : Waits) (text : List ℕ)
-    → here ≡ old → node'.id ≡ here.node.id → node'.nodes ≡ here.node.nodes → Compacts disks here.node node' result → CountsOf disks here.node.disk node'.disk result → IsSome node'.disk
+    → here ≡ old → node'.id ≡ here.node.id → node'.nodes ≡ here.node.nodes → Compacts disks here.node node' result → CountsOf disks here.node.disk node'.disk result
     → seen ≡ sight_of before → before ≡ here.node.state → after ≡ node'.state → ended ≡ compaction_end result
     → behind ≡ node'.state → waits ≡ waits_behind None [] behind here.waits
     → ((s : State) → seen ≡ sight_of s → text ≡ here.text ++ changes false s after)
     → Turns disks old (record here { node = node'; text = text; waits = waits }) (MayCompact old.node.id old.node.nodes) ended
-compaction_so {Disk} disks old here node' result ended seen before after behind waits text is id nodes compacts counts there sees was now ends_so then waited told =
+compaction_so {Disk} disks old here node' result ended seen before after behind waits text is id nodes compacts counts sees was now ends_so then waited told =
     subst (λ (p : Progress Disk). Turns disks p (record here { node = node'; text = text; waits = waits }) (MayCompact p.node.id p.node.nodes) ended) is
     (subst (λ (e : Ended). Turns disks here (record here { node = node'; text = text; waits = waits }) (MayCompact here.node.id here.node.nodes) e) (sym ends_so)
-    (compaction_turns disks here node' result waits text id nodes compacts counts there (waited ∙ ap (λ (v : State). waits_behind None [] v here.waits) then)
+    (compaction_turns disks here node' result waits text id nodes compacts counts (waited ∙ ap (λ (v : State). waits_behind None [] v here.waits) then)
     (told before sees ∙ (ap (λ (v : State). here.text ++ changes false v after) was ∙ ap (λ (v : State). here.text ++ changes false here.node.state v) now))))

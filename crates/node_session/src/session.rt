@@ -340,10 +340,8 @@ impl<D: SectorDisk + Drop> Session<D> {
         ensures turn { IfOk result (λ ended. Turns D.state self.old self.new (MayComeOf self.old.node.id self.old.node.nodes event.now) ended) }
     {
         self.seen.look(self.node.vector())?;
-        self.node.has_disk();
         self.node.is_fallen();
         let reply = self.node.step(event);
-        self.node.has_disk();
         if ran_out(&reply) {
             return Err(AllocError);
         }
@@ -362,9 +360,7 @@ impl<D: SectorDisk + Drop> Session<D> {
         ensures turn { IfOk result (λ ended. Turns D.state self.old self.new (MayCompact self.old.node.id self.old.node.nodes) ended) }
     {
         self.seen.look(self.node.vector())?;
-        self.node.has_disk();
         let done = self.node.compact();
-        self.node.has_disk();
         self.waiting.forget(self.node.vector())?;
         self.seen
             .push_changes(&mut self.text, false, self.node.vector())?;

@@ -8,6 +8,8 @@ mod clusters;
 #[cfg(test)]
 mod nodes;
 #[cfg(test)]
+mod refused;
+#[cfg(test)]
 mod sessions;
 #[cfg(test)]
 mod stops;

@@ -1,7 +1,11 @@
 -- Places of lists.
-use Rattle.std.proofs.Common.{◌≡◌, ℕ, zero, suc, ◌<◌, Option, Some, None, List, [], ◌∷◌, ◌++◌, map, length, slice_get, slice_index_or, option_map, refl, sym, ◌∙◌, inl, inr, arith}
-use Rattle.std.proofs.lemmas.Option.{slice_get-map, same_Some}
+use Rattle.std.proofs.Common.{◌≡◌, ◌≢◌, ℕ, zero, suc, ◌<◌, Option, Some, None, List, [], ◌∷◌, ◌++◌, map, length, slice_get, slice_index_or, get_or, option_map, refl, ap, sym, ◌∙◌, subst, inl, inr, arith}
+use Rattle.std.proofs.lemmas.Option.{slice_get-map, slice_get-get_or, same_Some}
 use Rattle.histories.specs.Lists.{IsAmong}
+use Rattle.node_lock.specs.declared.run.Run.{Run}
+use Rattle.node_lock.specs.Planned.{Planned}
+use Rattle.node_threads.specs.declared.size.Size.{Size}
+use Rattle.node_threads.specs.Nodes.{PollOthers, run_at}
 
 -- the item at a place of the list
 pub place_of : {A : Type 0} (xs : List A) (n : ℕ) → n < length xs → (x : A) × (slice_get xs n ≡ Some x)
@@ -33,3 +37,11 @@ pub get_last : {A : Type 0} (xs : List A) (k : ℕ) (x : A) → k ≡ length xs 
 get_last [] k x is = rw is refl
 get_last (y ∷ xs) zero x is = absurd cc
 get_last (y ∷ xs) (suc k) x is = get_last xs k x (omega (arith, is))
+
+-- what a node's intake polls, by the plan that stands at its place
+pub polls_of : (size : Size) (plans : List Planned) (run : Run) (at node : ℕ) (own p : Planned) → PollOthers plans → length plans ≡ size.nodes → node < length plans → own ≡ get_or plans node own → p ≡ own → run ≡ run_at size at → at ≡ node
+    → (i d : ℕ) → i < length p.intake → (run.node ≢ slice_index_or p.intake i d) × (slice_index_or p.intake i d < run.nodes)
+polls_of size plans run at node own p polls len within is same runs places = λ i d lt.
+    let got : slice_get plans node ≡ Some p = slice_get-get_or plans node own within ∙ ap (λ (q : Planned). Some q) (sym is ∙ sym same) in
+    let other = polls node p got i (slice_index_or p.intake i d) (slice_get-get_or p.intake i d lt) in
+    subst (λ (r : Run). (r.node ≢ slice_index_or p.intake i d) × (slice_index_or p.intake i d < r.nodes)) (sym (runs ∙ ap (run_at size) places)) (other.0, subst (λ (n : ℕ). slice_index_or p.intake i d < n) len other.1)

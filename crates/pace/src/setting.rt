@@ -39,8 +39,8 @@ pub struct Setting {
 }
 
 impl Setting {
-    /// The setting that is measured, for a round trip of so many milliseconds and a link that sends a message again, one
-    /// round trip later and up to six times, until it is acknowledged.
+    /// The setting that is measured, for a round trip of so many milliseconds, with nodes that send again each round trip what they wait
+    /// for ([`Waiting`](crate::Waiting)) and a link that sends nothing again.
     pub fn measured(unit: u16) -> Setting
         ensures { result ≡ measured unit }
     {

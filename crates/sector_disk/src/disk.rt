@@ -17,7 +17,7 @@ pub trait SectorDisk {
     fn sectors(&self) -> u64
         ensures { result ≡ (state self.now).sectors };
 
-    /// How many calls have failed; it stays at its greatest value once it gets there.
+    /// How many calls have failed with `Device`; a call out of range isn't counted. It stays at its greatest value once it gets there.
     fn failures(&self) -> u64
         ensures { result ≡ (state self.now).failures };
 

@@ -2,5 +2,6 @@ pub mod Lines
 pub mod Turns
 pub mod Planning
 pub mod Scripts
+pub mod Reasons
 pub mod Told
 pub mod Printed

@@ -9,6 +9,7 @@ mod fields;
 mod lines;
 mod parsing;
 mod reading;
+mod reasons;
 mod running;
 mod telling;
 mod turn;

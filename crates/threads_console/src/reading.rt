@@ -78,7 +78,7 @@ fn read_links(cluster: ClusterSize, lines: &mut Lines<'_>) -> Result<u64, LineFa
 
 /// The size that the words of a line name.
 #[tactic(auto, using(crate::proofs::Counts::too_long))]
-fn cluster(line: &[u8]) -> Option<ClusterSize>
+pub(crate) fn cluster(line: &[u8]) -> Option<ClusterSize>
     ensures value { result ≡ size_of (words_of line.now) }
     ensures fits { IfSome result ClusterFits }
 {
@@ -105,7 +105,7 @@ fn named_cluster(name: &[u8], nodes: &[u8], slots: &[u8]) -> Option<ClusterSize>
 
 /// The room of a link that the words of a line name.
 #[tactic(auto, using(crate::proofs::Counts::two_numbers))]
-fn capacity(line: &[u8]) -> Option<u64>
+pub(crate) fn capacity(line: &[u8]) -> Option<u64>
     ensures { result ≡ capacity_of (words_of line.now) }
 {
     let (name, number) = cut_word(line)?;

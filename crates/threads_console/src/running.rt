@@ -2,14 +2,16 @@
 
 ghost use Rattle.std.specs.Prelude.{◌≡◌, ◌≤◌, ◌+◌, ◌++◌, IfOk, OnOk, codes, decimal, false, vec_len};
 ghost use Rattle.group_task.specs.declared.node.TheConstants.{NODES};
-ghost use Rattle.console_text.specs.Ends.{outcome_of, refused, Prints};
+ghost use Rattle.console_text.specs.Ends.{outcome_of, refused, IsWhy, Prints};
 ghost use Rattle.threads_console.specs.Printed.{IsThreading, TellsRun, fault_text, told, worker_name};
+ghost use Rattle.threads_console.specs.Reasons.{plans_flaw};
 ghost use Rattle.threads_console.specs.Scripts.{CanRun};
 
 use crate::reading::{Setup, read_plans};
+use crate::reasons::bad_plans;
 use crate::telling::trace_of;
 use console_text::{
-    Ending, Printout, Source, Trouble, bad_line, print, push_number, push_text, read_source,
+    Ended, Printout, Source, Told, Trouble, push_number, push_text, read_source, tell,
 };
 use group_task::NodeId;
 use line_words::LineFault;
@@ -44,28 +46,33 @@ pub fn threads<T: Threads + Wait + Sync, R: Read, W: Write>(
     alloc: Global,
     input: &mut Source<R>,
     output: &mut W,
-) -> Ending
-    ensures prints { Prints IsThreading (R.remaining input.old.reader) (W.contents output.old) (W.contents output.new) result }
+) -> Ended
+    ensures prints { Prints IsThreading (R.remaining input.old.reader) (W.contents output.old) (W.contents output.new) result.ending }
+    ensures why { IsWhy plans_flaw (R.remaining input.old.reader) result.ending result.why.items }
     ensures reads { input.old.left ≤ input.new.left + 16777216 }
 {
     let outcome = match read_source(alloc, input) {
         Ok(bytes) => run_text(rt, alloc, &bytes).map_err(Trouble::from),
         Err(trouble) => Err(trouble),
     };
-    print(output, outcome)
+    tell(alloc, output, outcome)
 }
 
-/// What `threads` prints for an input.
+/// What `threads` prints for an input, and what is wrong with it. A run that faults has nothing wrong with its input.
 fn run_text<T: Threads + Wait + Sync>(
     rt: &T,
     alloc: Global,
     input: &[u8],
-) -> Result<Printout, AllocError>
-    ensures { IfOk result (λ printout. IsThreading input.now (outcome_of printout)) }
+) -> Result<Told, AllocError>
+    ensures printed { IfOk result (λ told. IsThreading input.now (outcome_of told.printout)) }
+    ensures why { IfOk result (λ told. told.why.items ≡ plans_flaw input.now) }
 {
     match read_plans(alloc, input) {
-        Ok(setup) => run(rt, alloc, &setup),
-        Err(LineFault::BadLine(number)) => bad_line(alloc, number),
+        Ok(setup) => {
+            let printout = run(rt, alloc, &setup)?;
+            Ok(printout.without_why(alloc))
+        }
+        Err(LineFault::BadLine(number)) => bad_plans(alloc, input, number),
         Err(LineFault::NoMemory) => Err(AllocError),
     }
 }
@@ -80,14 +87,14 @@ fn run<T: Threads + Wait + Sync>(
     ensures { IfOk result (λ printout. TellsRun setup.now.size setup.now.plans.items (outcome_of printout)) }
 {
     match run_threads(rt, alloc, setup.size, &setup.plans, &Open) {
-        Ok(run) => tell(alloc, &run),
+        Ok(run) => tell_run(alloc, &run),
         Err(ThreadsFault::NoMemory) => Err(AllocError),
         Err(fault) => refuse(alloc, fault),
     }
 }
 
 /// The line of the trace of a run.
-fn tell(alloc: Global, run: &Gathered) -> Result<Printout, AllocError>
+fn tell_run(alloc: Global, run: &Gathered) -> Result<Printout, AllocError>
     requires { vec_len run.now.histories ≤ NODES }
     ensures { IfOk result (λ printout. outcome_of printout ≡ told run.now.histories.items) }
 {

@@ -9,12 +9,13 @@ use std::thread::Threads;
 use trace_check::{Verdict, check};
 use trace_text::read;
 
-/// Expects this line for plans, and status 0 exactly where it is a trace.
+/// Expects this line for plans, and status 0 and nothing wrong exactly where it is a trace.
 fn expect<R: Threads + Wait + Sync + Abort>(rt: &R, alloc: Global, plans: &[u8], want: &[u8]) {
     let mut output = Vec::new(alloc);
-    let ending = threads(rt, alloc, &mut Source::new(plans), &mut output);
+    let ended = threads(rt, alloc, &mut Source::new(plans), &mut output);
     assert_eq!(rt; output.as_slice().strip_suffix(b"\n"), Some(want));
-    assert_eq!(rt; ending.status() == 0, want.starts_with(b"{"));
+    assert_eq!(rt; ended.ending.status() == 0, want.starts_with(b"{"));
+    assert_eq!(rt; ended.why.is_empty(), want.starts_with(b"{"));
 }
 
 // Plans of which each turn is the only one that can come next, and the trace of every run of them.
@@ -100,8 +101,8 @@ fn a_question_is_a_run(rt: HostRuntime) -> Result<(), Fail> {
     let alloc = rt.alloc();
     let plans = b"cluster 2 8\nlinks 8\n0 clock check\n1 intake 0\n0 intake 1\n".as_slice();
     let mut output = Vec::new(alloc);
-    let ending = threads(&rt, alloc, &mut Source::new(plans), &mut output);
-    assert_eq!(rt; ending.status(), 0);
+    let ended = threads(&rt, alloc, &mut Source::new(plans), &mut output);
+    assert_eq!(rt; ended.ending.status(), 0);
     let trace = read(alloc, &output).or(Err("a trace"))?;
     assert_eq!(rt; trace.histories().len(), 2);
     assert_eq!(rt; trace.histories()[0].len(), 2);

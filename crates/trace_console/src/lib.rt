@@ -4,6 +4,3 @@
 mod judging;
 
 pub use judging::{tell_bad, tell_verdict, trace};
-
-#[cfg(test)]
-mod tests;

@@ -11,6 +11,3 @@ pub use drawing::draw;
 pub use svg::picture;
 pub use turn::{Point, Turn};
 pub use turns::plot;
-
-#[cfg(test)]
-mod tests;

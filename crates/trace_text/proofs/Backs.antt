@@ -1,10 +1,10 @@
 -- The JSON value that is written for a trace stands for that trace.
-use Rattle.std.proofs.Common.{◌≡◌, ◌<◌, ◌≤◌, ◌+◌, ◌^◌, ℕ, suc, Bool, true, false, List, [], ◌∷◌, ◌++◌, length, map, Option, Some, None, Result, Ok, Err, codes, refl, sym, ap, ◌∙◌, arith, lt-ltb, le-leb, eq-eqb}
-use Rattle.std.specs.Prelude.{if◌then◌else◌, ◌==◌, ◌&&◌, nat_lt, nat_le, option_map, option_and_then}
+use Rattle.std.proofs.Common.{◌≡◌, ◌<◌, ◌≤◌, ◌+◌, ◌^◌, ℕ, suc, Bool, true, false, List, [], ◌∷◌, length, map, Option, Some, None, Result, Ok, codes, refl, ap, ◌∙◌, arith, lt-ltb, le-leb, eq-eqb}
+use Rattle.std.specs.Prelude.{if◌then◌else◌, ◌==◌, option_map, option_and_then}
 use Rattle.hex.specs.Hex.{encode_lower, decode_of}
 use Rattle.hex.specs.declared.error.FromHexError.{FromHexError}
 use Rattle.hex.proofs.HexLemmas.{decode_of-encode_lower}
-use Rattle.serde_json.specs.Data.{Data, Items, Members, boolean, number, unsigned, string, array, object, no_items, item, no_members, member}
+use Rattle.serde_json.specs.Data.{Data, Members, number, unsigned, string, array, object, no_members, member}
 use Rattle.serde_json.specs.Find.{get, as_array}
 use Rattle.serde_json.specs.View.{items_of}
 use Rattle.group_task.specs.declared.node.TheConstants.{NODES}
@@ -24,10 +24,11 @@ use Rattle.trace_check.specs.declared.trace.Deed.TheVariants as deed
 use Rattle.trace_check.specs.declared.trace.RecoverFault.TheVariants as recover
 use Rattle.trace_check.specs.Claims.{Claim}
 use Rattle.trace_text.specs.declared.fault.Spot.{Spot}
-use Rattle.trace_text.specs.Entries.{good, message_in, with_first, messages_in, below, short, ranked, priority_in, submitted, done_in, deed_in, claim_in}
+use Rattle.trace_text.specs.Fields.{found_in}
+use Rattle.trace_text.specs.Entries.{good, message_in, with_first, messages_in, below, short, priority_in, submitted, done_in, deed_in, claim_in}
 use Rattle.trace_text.specs.Fits.{WorkFits, DeedFits, ClaimFits, TraceFits, HasName, IsTellable}
-use Rattle.trace_text.specs.Wholes.{first_entry, entries_from, first_history, history_in, histories_from, count_items, all_lists, is_shape, shape_in, in_shape}
-use Rattle.trace_text.specs.Written.{message_data, priority_members, event_members, event_name, deed_members, deed_name, entry_data, history_data, trace_data}
+use Rattle.trace_text.specs.Wholes.{first_entry, entries_from, first_history, histories_from, count_items, all_lists, shape_in, in_shape}
+use Rattle.trace_text.specs.Written.{message_data, entry_data, history_data, trace_data}
 
 -- ---- messages
 
@@ -76,7 +77,7 @@ parts_back : (failed : Bool) (w : Work) (queue priority : Option ℕ) (payload :
     → option_and_then (λ (event : Event). Some (done_in event failed)) (submitted queue priority payload) ≡ Some (done_in (on.Submit w) failed)
 parts_back failed w queue priority payload a b c = rw (a, b, c) refl
 
-submit_back : (failed b : Bool) (w : Work) (ms : List Envelope) → (w.priority == 0) ≡ b → WorkFits w → deed_in (object (work_members failed b w ms)) (codes "submit") ≡ Some (done_in (on.Submit w) failed)
+submit_back : (failed b : Bool) (w : Work) (ms : List Envelope) → (w.priority == 0) ≡ b → WorkFits w → deed_in (found_in (object (work_members failed b w ms))) ≡ Some (done_in (on.Submit w) failed)
 submit_back true true w ms is fits = parts_back true w _ _ _ (below_back QUEUES w.queue fits.queue) (priority_back true w.priority is fits.priority) (payload_back w.payload fits.payload fits.bytes)
 submit_back true false w ms is fits = parts_back true w _ _ _ (below_back QUEUES w.queue fits.queue) (priority_back false w.priority is fits.priority) (payload_back w.payload fits.payload fits.bytes)
 submit_back false true w ms is fits = parts_back false w _ _ _ (below_back QUEUES w.queue fits.queue) (priority_back true w.priority is fits.priority) (payload_back w.payload fits.payload fits.bytes)
@@ -93,7 +94,7 @@ finish_back failed origin id h = ap (λ (x : Option ℕ). option_and_then (λ (e
 abbrev pub claim_with : Deed → List Envelope → Claim
 claim_with d ms = record { deed = d; sent = ms }
 
-deed_back : (d : Deed) (ms : List Envelope) → DeedFits d → HasName d → deed_in (entry_data (claim_with d ms)) (deed_name d) ≡ Some d
+deed_back : (d : Deed) (ms : List Envelope) → DeedFits d → HasName d → deed_in (found_in (entry_data (claim_with d ms))) ≡ Some d
 deed_back deed.Nothing ms fits named = refl
 deed_back (deed.Done on.CheckTimer) ms fits named = refl
 deed_back (deed.Done on.MergeTimer) ms fits named = refl
@@ -156,7 +157,7 @@ sent_there (deed.NotRecovered kept fault) ms = refl
 
 claim_back : (c : Claim) → ClaimFits c → HasName c.deed → claim_in (entry_data c) ≡ Some c
 claim_back c fits named =
-    ap (λ (o : Option Data). option_and_then (λ (done : Deed). option_map (λ (sent : List Envelope). claim_with done sent) (option_and_then messages_in (option_and_then as_array o))) (deed_in (entry_data c) (deed_name c.deed))) (sent_there c.deed c.sent)
+    ap (λ (o : Option Data). option_and_then (λ (done : Deed). option_map (λ (sent : List Envelope). claim_with done sent) (option_and_then messages_in (option_and_then as_array o))) (deed_in (found_in (entry_data c)))) (sent_there c.deed c.sent)
     ∙ ap (λ (o : Option Deed). option_and_then (λ (done : Deed). option_map (λ (sent : List Envelope). claim_with done sent) (messages_in (items_of (map message_data c.sent)))) o) (deed_back c.deed c.sent fits.0 named)
     ∙ ap (λ (o : Option (List Envelope)). option_map (λ (sent : List Envelope). claim_with c.deed sent) o) (messages_back c.sent fits.1)
 

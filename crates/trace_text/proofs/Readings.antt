@@ -1,5 +1,5 @@
 -- The text that is written for a trace is read as the JSON value of that trace.
-use Rattle.std.proofs.Common.{◌≡◌, ◌<◌, ◌≤◌, ◌^◌, ℕ, suc, max, Bool, true, false, List, [], ◌∷◌, ◌++◌, length, map, Option, Some, None, Result, Ok, codes, decimal, refl, sym, ap, ◌∙◌, arith, append-nil}
+use Rattle.std.proofs.Common.{◌≡◌, ◌<◌, ◌≤◌, ◌^◌, ℕ, Bool, true, false, List, [], ◌∷◌, ◌++◌, length, map, Option, Some, Ok, codes, refl, sym, ap, ◌∙◌, arith, append-nil}
 use Rattle.std.specs.Prelude.{if◌then◌else◌, ◌==◌, option_map, option_and_then}
 use Rattle.std.specs.Str.{IsUtf8}
 use Rattle.json.specs.Lex.{tokens}
@@ -9,9 +9,9 @@ use Rattle.json.specs.Written.{Written}
 use Rattle.json.specs.Json as json
 use Rattle.json.specs.Tree as tree
 use Rattle.json.proofs.Printed.Trees.{value-json_tokens}
-use Rattle.serde_json.specs.Data.{Data, Items, Members, Num, boolean, number, unsigned, string, array, object, no_items, item, no_members, member, put}
+use Rattle.serde_json.specs.Data.{Data, Items, Members, number, unsigned, array, object, item, no_members, member}
 use Rattle.serde_json.specs.View.{items_of}
-use Rattle.serde_json.specs.Read.{of_json, of_items, of_members, number_of, read, max_depth}
+use Rattle.serde_json.specs.Read.{of_json, of_items, read, max_depth}
 use Rattle.serde_json.specs.Written.{outline, items_outline, members_outline}
 use Rattle.serde_json.proofs.Numbers.{number_of-decimal}
 use Rattle.group_task.specs.declared.node.TheConstants.{NODES}
@@ -27,7 +27,7 @@ use Rattle.trace_text.specs.Fits.{WorkFits, DeedFits, ClaimFits, TraceFits, IsTe
 use Rattle.trace_text.specs.Tokens.{Adds, trace_tokens}
 use Rattle.trace_text.specs.Wholes.{trace_of}
 use Rattle.trace_text.specs.Written.{message_data, event_members, deed_members, entry_data, history_data, trace_data}
-use Rattle.trace_text.proofs.Backs.{claim_with, ranked_members, sent_data, trace_back, work_members}
+use Rattle.trace_text.proofs.Backs.{claim_with, sent_data, trace_back, work_members}
 use Rattle.trace_text.proofs.Printing.{trace_tokens_of}
 use Rattle.trace_text.proofs.Texts.{good_text}
 

@@ -3,6 +3,7 @@ use Rattle.std.specs.Prelude.{ℕ, Bool, true, false, List, [], ◌∷◌, Optio
 use Rattle.std.specs.Str.{bytes_eq}
 use Rattle.serde_json.specs.Data.{Data, Items, no_items, item}
 use Rattle.serde_json.specs.Find.{get, as_str, as_bool, as_array, as_number, as_u64}
+use Rattle.trace_text.specs.Fields.{Found, found_in}
 use Rattle.hex.specs.Hex.{decode_of}
 use Rattle.group_task.specs.declared.node.TheConstants.{NODES}
 use Rattle.job_model.specs.declared.payload.TheConstants.{PAYLOAD_CAPACITY}
@@ -28,8 +29,12 @@ good (Err e) = None
 abbrev pub bytes_in : Option Data → Option (List ℕ)
 bytes_in d = option_and_then (λ (text : List ℕ). good (decode_of text)) (option_and_then as_str d)
 
+-- the message that a text of hex digits spells
+abbrev pub spelled_in : List ℕ → Option Envelope
+spelled_in text = option_and_then message_of (good (decode_of text))
+
 abbrev pub message_in : Option Data → Option Envelope
-message_in d = option_and_then message_of (bytes_in d)
+message_in d = option_and_then spelled_in (option_and_then as_str d)
 
 abbrev pub with_first : {A : Type 0} → Option A → Option (List A) → Option (List A)
 with_first None xs = None
@@ -66,25 +71,26 @@ submitted (Some queue) None payload = None
 submitted (Some queue) (Some priority) None = None
 submitted (Some queue) (Some priority) (Some payload) = Some (on.Submit (record { queue = queue; priority = priority; payload = payload }))
 
-abbrev pub submit_in : Data → Option Event
-submit_in d =
-    submitted (option_and_then (below QUEUES) (number_in (get (codes "queue") d))) (priority_in (get (codes "priority") d)) (option_and_then short (bytes_in (get (codes "payload") d)))
+abbrev pub deliver_in : Found → Option Event
+deliver_in f = option_map (λ (m : Envelope). on.Deliver m) (message_in f.message)
 
-abbrev pub finish_in : Data → Option Event
-finish_in d =
-    option_and_then (λ (origin : ℕ). option_map (λ (id : ℕ). on.Finish origin id) (number_in (get (codes "id") d))) (option_and_then (below NODES) (number_in (get (codes "origin") d)))
+abbrev pub submit_in : Found → Option Event
+submit_in f = submitted (option_and_then (below QUEUES) (number_in f.queue)) (priority_in f.priority) (option_and_then short (bytes_in f.payload))
 
-abbrev pub event_in : Data → List ℕ → Option Event
-event_in d name =
+abbrev pub finish_in : Found → Option Event
+finish_in f = option_and_then (λ (origin : ℕ). option_map (λ (id : ℕ). on.Finish origin id) (number_in f.id)) (option_and_then (below NODES) (number_in f.origin))
+
+abbrev pub event_in : Found → List ℕ → Option Event
+event_in f name =
     if bytes_eq name (codes "check") then Some on.CheckTimer else
     if bytes_eq name (codes "merge") then Some on.MergeTimer else
     if bytes_eq name (codes "accept") then Some on.AcceptTimer else
     if bytes_eq name (codes "ready") then Some on.ReadyTimer else
     if bytes_eq name (codes "coord") then Some on.CoordTimer else
     if bytes_eq name (codes "dispatch") then Some on.DispatchTimer else
-    if bytes_eq name (codes "deliver") then option_map (λ (m : Envelope). on.Deliver m) (message_in (get (codes "msg") d)) else
-    if bytes_eq name (codes "submit") then submit_in d else
-    if bytes_eq name (codes "finish") then finish_in d else None
+    if bytes_eq name (codes "deliver") then deliver_in f else
+    if bytes_eq name (codes "submit") then submit_in f else
+    if bytes_eq name (codes "finish") then finish_in f else None
 
 -- whether the device failed: left out where it didn't
 abbrev pub device_in : Option Data → Option Bool
@@ -105,18 +111,21 @@ abbrev pub recovered_in : Bool → Option Data → Option Deed
 recovered_in kept None = Some (deed.Recovered kept)
 recovered_in kept (Some d) = failed_in kept (as_str d)
 
-abbrev pub recover_in : Data → Option Deed
-recover_in d = option_and_then (λ (kept : Bool). recovered_in kept (get (codes "fault") d)) (option_and_then as_bool (get (codes "kept") d))
+abbrev pub recover_in : Found → Option Deed
+recover_in f = option_and_then (λ (kept : Bool). recovered_in kept f.fault) (option_and_then as_bool f.kept)
 
-abbrev pub deed_in : Data → List ℕ → Option Deed
-deed_in d name =
+abbrev pub deed_named : Found → List ℕ → Option Deed
+deed_named f name =
     if bytes_eq name (codes "none") then Some deed.Nothing else
     if bytes_eq name (codes "crash") then Some deed.Crashed else
-    if bytes_eq name (codes "recover") then recover_in d else
-    option_and_then (λ (event : Event). option_map (λ (failed : Bool). done_in event failed) (device_in (get (codes "fault") d))) (event_in d name)
+    if bytes_eq name (codes "recover") then recover_in f else
+    option_and_then (λ (event : Event). option_map (λ (failed : Bool). done_in event failed) (device_in f.fault)) (event_in f name)
+
+abbrev pub deed_in : Found → Option Deed
+deed_in f = option_and_then (deed_named f) (option_and_then as_str f.name)
 
 -- the entry; None where a field is missing or wrong
 abbrev pub claim_in : Data → Option Claim
 claim_in d =
     option_and_then (λ (done : Deed). option_map (λ (sent : List Envelope). record { deed = done; sent = sent }) (option_and_then messages_in (option_and_then as_array (get (codes "sent") d))))
-    (option_and_then (deed_in d) (option_and_then as_str (get (codes "do") d)))
+    (deed_in (found_in d))

@@ -1,5 +1,5 @@
 -- Which traces are read back as they were written.
-use Rattle.std.specs.Prelude.{ℕ, ◌<◌, ◌≤◌, ◌^◌, List, length, ⊤}
+use Rattle.std.specs.Prelude.{◌<◌, ◌≤◌, ◌^◌, List, length, ⊤}
 use Rattle.group_task.specs.declared.node.TheConstants.{NODES}
 use Rattle.job_model.specs.declared.payload.TheConstants.{PAYLOAD_CAPACITY}
 use Rattle.job_model.specs.declared.queue.TheConstants.{QUEUES}

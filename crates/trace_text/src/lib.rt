@@ -6,7 +6,9 @@
 #![tactic(auto)]
 
 mod fault;
+mod fields;
 mod reading;
+mod stream;
 mod whole;
 mod writing;
 

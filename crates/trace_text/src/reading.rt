@@ -1,14 +1,16 @@
-ghost use Rattle.std.specs.Prelude.{◌≡◌, IfOk, IfSome, option_map, option_and_then, codes, Some, None};
-ghost use Rattle.serde_json.specs.Find.{get, as_str, as_array};
+ghost use Rattle.std.specs.Prelude.{◌≡◌, map, codes, IfOk, option_map, option_and_then, Some, None, MatchBool};
+ghost use Rattle.serde_json.specs.Find.{as_str};
 ghost use Rattle.serde_json.specs.View.{view, items_view};
 ghost use Rattle.hex.specs.Hex.{decode_of};
 ghost use Rattle.wire_msg.specs.Reading.{message_of};
 ghost use Rattle.group_task.specs.declared.node.TheConstants.{NODES};
 ghost use Rattle.job_model.specs.declared.queue.TheConstants.{QUEUES};
-ghost use Rattle.trace_text.specs.Entries.{claim_of, good, below, bytes_in, message_in, messages_in, number_in, priority_in, submit_in, finish_in, event_in, device_in, recover_in, deed_in, claim_in};
+ghost use Rattle.trace_text.specs.Fields.{data_of, found_by};
+ghost use Rattle.trace_text.specs.Entries.{claim_of, good, below, bytes_in, spelled_in, messages_in, number_in, priority_in, deliver_in, submit_in, finish_in, event_in, device_in, recover_in, deed_named, deed_in, claim_in};
+ghost use Rattle.trace_text.specs.Streams.{messages_of, claim_with};
 
+use crate::fields::{Field, Fields};
 use group_task::{NODES, NodeId};
-use hex::FromHexError;
 use job_model::{Payload, QUEUES, Queue, Work};
 use node_core::Event;
 use serde_json::Value;
@@ -28,10 +30,7 @@ pub struct Entry {
 pub fn read_entry(alloc: Global, value: &Value) -> Result<Option<Entry>, AllocError>
     ensures { IfOk result (λ entry. option_map claim_of entry ≡ claim_in (view value.now)) }
 {
-    let Some(name) = text_at(value, "do") else {
-        return Ok(None);
-    };
-    let Some(deed) = read_deed(alloc, value, name)? else {
+    let Some(deed) = read_deed(alloc, &Fields::of_tree(value))? else {
         return Ok(None);
     };
     let Some(list) = value.get("sent") else {
@@ -46,48 +45,78 @@ pub fn read_entry(alloc: Global, value: &Value) -> Result<Option<Entry>, AllocEr
     Ok(Some(Entry { deed, sent }))
 }
 
-/// The text of a field.
-fn text_at<'a>(value: &'a Value, key: &str) -> Option<&'a str>
-    ensures { option_map (λ s. s.now) result ≡ option_and_then as_str (get key.now (view value.now)) }
+/// The entry of these fields, and of these texts of the messages that it sent.
+pub(crate) fn entry_of(
+    alloc: Global,
+    fields: &Fields<'_>,
+    texts: &[&str],
+) -> Result<Option<Entry>, AllocError>
+    ensures { IfOk result (λ entry. option_map claim_of entry ≡ claim_with (deed_in (found_by fields.now)) (messages_of (map (λ s. s.now) texts.now))) }
 {
-    value.get(key)?.as_str()
+    let Some(deed) = read_deed(alloc, fields)? else {
+        return Ok(None);
+    };
+    let Some(sent) = spelled_by(alloc, texts)? else {
+        return Ok(None);
+    };
+    Ok(Some(Entry { deed, sent }))
 }
 
-/// The bytes that a field has as hex digits.
-fn bytes_at(alloc: Global, value: &Value, key: &str) -> Result<Option<Vec<u8>>, AllocError>
-    ensures { IfOk result (λ bytes. option_map (λ b. b.items) bytes ≡ bytes_in (get key.now (view value.now))) }
+/// The messages of these texts.
+fn spelled_by(alloc: Global, texts: &[&str]) -> Result<Option<Vec<Message>>, AllocError>
+    ensures { IfOk result (λ messages. option_map (λ v. v.items) messages ≡ messages_of (map (λ s. s.now) texts.now)) }
 {
-    match text_at(value, key) {
-        Some(text) => read_bytes(alloc, text),
-        None => Ok(None),
+    let mut room = Vec::new(alloc);
+    let mut messages = Vec::new(alloc);
+    for text in texts {
+        let Some(message) = read_message(&mut room, text)? else {
+            return Ok(None);
+        };
+        messages.push(message)?;
     }
+    Ok(Some(messages))
+}
+
+/// The text of a field.
+fn text_of<'a>(field: Option<Field<'a>>) -> Option<&'a str>
+    ensures { option_map (λ s. s.now) result ≡ option_and_then as_str (option_map data_of field.entry) }
+{
+    field?.text()
 }
 
 /// A whole number of a field.
-pub(crate) fn number_at(value: &Value, key: &str) -> Option<u64>
-    ensures { result ≡ number_in (get key.now (view value.now)) }
+fn number_of(field: Option<Field<'_>>) -> Option<u64>
+    ensures { result ≡ number_in (option_map data_of field.entry) }
 {
-    value.get(key)?.as_u64()
+    field?.number()
 }
 
-/// The bytes of hex digits.
-fn read_bytes(alloc: Global, text: &str) -> Result<Option<Vec<u8>>, AllocError>
-    ensures { IfOk result (λ bytes. option_map (λ b. b.items) bytes ≡ good (decode_of text.now)) }
+/// The bytes that a field has as hex digits go to the room, if it has some.
+fn bytes_of(room: &mut Vec<u8>, field: Option<Field<'_>>) -> Result<bool, AllocError>
+    ensures { IfOk result (λ some. MatchBool some (bytes_in (option_map data_of field.entry) ≡ Some room.new.items) (bytes_in (option_map data_of field.entry) ≡ None)) }
 {
-    match hex::decode(alloc, text) {
-        Ok(bytes) => Ok(Some(bytes)),
-        Err(FromHexError::OutOfMemory) => Err(AllocError),
-        Err(_) => Ok(None),
+    match text_of(field) {
+        Some(text) => read_bytes(room, text),
+        None => Ok(false),
     }
 }
 
-/// The message of a field.
-fn message_at(alloc: Global, value: &Value, key: &str) -> Result<Option<Message>, AllocError>
-    ensures { IfOk result (λ message. message ≡ message_in (get key.now (view value.now))) }
+/// The bytes of hex digits go to the room, if it is some.
+fn read_bytes(room: &mut Vec<u8>, text: &str) -> Result<bool, AllocError>
+    ensures { IfOk result (λ some. MatchBool some (good (decode_of text.now) ≡ Some room.new.items) (good (decode_of text.now) ≡ None)) }
 {
-    match bytes_at(alloc, value, key)? {
-        Some(bytes) => Ok(spelled(&bytes)),
-        None => Ok(None),
+    room.resize(text.len() / 2, 0)?;
+    Ok(hex::decode_to_slice(text, room.as_mut_slice()).is_ok())
+}
+
+/// The message of a text of hex digits.
+fn read_message(room: &mut Vec<u8>, text: &str) -> Result<Option<Message>, AllocError>
+    ensures { IfOk result (λ message. message ≡ spelled_in text.now) }
+{
+    if read_bytes(room, text)? {
+        Ok(spelled(room))
+    } else {
+        Ok(None)
     }
 }
 
@@ -105,9 +134,13 @@ fn spelled(bytes: &[u8]) -> Option<Message>
 fn read_messages(alloc: Global, values: &[Value]) -> Result<Option<Vec<Message>>, AllocError>
     ensures { IfOk result (λ messages. option_map (λ v. v.items) messages ≡ messages_in (items_view values.now)) }
 {
+    let mut room = Vec::new(alloc);
     let mut messages = Vec::new(alloc);
     for value in values {
-        let Some(message) = read_message(alloc, value)? else {
+        let Some(text) = value.as_str() else {
+            return Ok(None);
+        };
+        let Some(message) = read_message(&mut room, text)? else {
             return Ok(None);
         };
         messages.push(message)?;
@@ -115,22 +148,24 @@ fn read_messages(alloc: Global, values: &[Value]) -> Result<Option<Vec<Message>>
     Ok(Some(messages))
 }
 
-/// The message of a text of hex digits.
-fn read_message(alloc: Global, value: &Value) -> Result<Option<Message>, AllocError>
-    ensures { IfOk result (λ message. message ≡ message_in (Some (view value.now))) }
+/// What was done.
+fn read_deed(alloc: Global, fields: &Fields<'_>) -> Result<Option<Deed>, AllocError>
+    ensures { IfOk result (λ deed. deed ≡ deed_in (found_by fields.now)) }
 {
-    let Some(text) = value.as_str() else {
-        return Ok(None);
-    };
-    match read_bytes(alloc, text)? {
-        Some(bytes) => Ok(spelled(&bytes)),
+    let mut room = Vec::new(alloc);
+    match text_of(fields.name) {
+        Some(name) => deed_named(&mut room, fields, name),
         None => Ok(None),
     }
 }
 
 /// What was done, by its name.
-fn read_deed(alloc: Global, value: &Value, name: &str) -> Result<Option<Deed>, AllocError>
-    ensures { IfOk result (λ deed. deed ≡ deed_in (view value.now) name.now) }
+fn deed_named(
+    room: &mut Vec<u8>,
+    fields: &Fields<'_>,
+    name: &str,
+) -> Result<Option<Deed>, AllocError>
+    ensures { IfOk result (λ deed. deed ≡ deed_named (found_by fields.now) name.now) }
 {
     if name == "none" {
         return Ok(Some(Deed::Nothing));
@@ -139,12 +174,12 @@ fn read_deed(alloc: Global, value: &Value, name: &str) -> Result<Option<Deed>, A
         return Ok(Some(Deed::Crashed));
     }
     if name == "recover" {
-        return Ok(read_recover(value));
+        return Ok(read_recover(fields));
     }
-    let Some(event) = read_event(alloc, value, name)? else {
+    let Some(event) = read_event(room, fields, name)? else {
         return Ok(None);
     };
-    match read_device(value) {
+    match read_device(fields.fault) {
         Some(true) => Ok(Some(Deed::Faulted(event))),
         Some(false) => Ok(Some(Deed::Done(event))),
         None => Ok(None),
@@ -152,13 +187,13 @@ fn read_deed(alloc: Global, value: &Value, name: &str) -> Result<Option<Deed>, A
 }
 
 /// Whether the device failed.
-fn read_device(value: &Value) -> Option<bool>
-    ensures { result ≡ device_in (get (codes "fault") (view value.now)) }
+fn read_device(fault: Option<Field<'_>>) -> Option<bool>
+    ensures { result ≡ device_in (option_map data_of fault.entry) }
 {
-    let Some(fault) = value.get("fault") else {
+    let Some(fault) = fault else {
         return Some(false);
     };
-    if fault.as_str()? == "device" {
+    if fault.text()? == "device" {
         Some(true)
     } else {
         None
@@ -166,14 +201,14 @@ fn read_device(value: &Value) -> Option<bool>
 }
 
 /// A recovery.
-fn read_recover(value: &Value) -> Option<Deed>
-    ensures { result ≡ recover_in (view value.now) }
+fn read_recover(fields: &Fields<'_>) -> Option<Deed>
+    ensures { result ≡ recover_in (found_by fields.now) }
 {
-    let kept = value.get("kept")?.as_bool()?;
-    let Some(fault) = value.get("fault") else {
+    let kept = fields.kept?.flag()?;
+    let Some(fault) = fields.fault else {
         return Some(Deed::Recovered(kept));
     };
-    let text = fault.as_str()?;
+    let text = fault.text()?;
     if text == "mount" {
         return Some(Deed::NotRecovered(kept, RecoverFault::Mount));
     }
@@ -184,8 +219,12 @@ fn read_recover(value: &Value) -> Option<Deed>
 }
 
 /// An event, by its name.
-fn read_event(alloc: Global, value: &Value, name: &str) -> Result<Option<Event>, AllocError>
-    ensures { IfOk result (λ event. event ≡ event_in (view value.now) name.now) }
+fn read_event(
+    room: &mut Vec<u8>,
+    fields: &Fields<'_>,
+    name: &str,
+) -> Result<Option<Event>, AllocError>
+    ensures { IfOk result (λ event. event ≡ event_in (found_by fields.now) name.now) }
 {
     if name == "check" {
         return Ok(Some(Event::CheckTimer));
@@ -206,33 +245,42 @@ fn read_event(alloc: Global, value: &Value, name: &str) -> Result<Option<Event>,
         return Ok(Some(Event::DispatchTimer));
     }
     if name == "deliver" {
-        return match message_at(alloc, value, "msg")? {
-            Some(message) => Ok(Some(Event::Deliver(message))),
-            None => Ok(None),
-        };
+        return read_deliver(room, fields);
     }
     if name == "submit" {
-        return read_submit(alloc, value);
+        return read_submit(room, fields);
     }
     if name == "finish" {
-        return Ok(read_finish(value));
+        return Ok(read_finish(fields));
     }
     Ok(None)
 }
 
-fn read_submit(alloc: Global, value: &Value) -> Result<Option<Event>, AllocError>
-    ensures { IfOk result (λ event. event ≡ submit_in (view value.now)) }
+fn read_deliver(room: &mut Vec<u8>, fields: &Fields<'_>) -> Result<Option<Event>, AllocError>
+    ensures { IfOk result (λ event. event ≡ deliver_in (found_by fields.now)) }
 {
-    let Some(queue) = queue_of(number_at(value, "queue")) else {
+    let Some(text) = text_of(fields.message) else {
         return Ok(None);
     };
-    let Some(priority) = priority_at(value) else {
+    match read_message(room, text)? {
+        Some(message) => Ok(Some(Event::Deliver(message))),
+        None => Ok(None),
+    }
+}
+
+fn read_submit(room: &mut Vec<u8>, fields: &Fields<'_>) -> Result<Option<Event>, AllocError>
+    ensures { IfOk result (λ event. event ≡ submit_in (found_by fields.now)) }
+{
+    let Some(queue) = queue_of(number_of(fields.queue)) else {
         return Ok(None);
     };
-    let Some(bytes) = bytes_at(alloc, value, "payload")? else {
+    let Some(priority) = priority_of(fields.priority) else {
         return Ok(None);
     };
-    match Payload::new(&bytes) {
+    if !bytes_of(room, fields.payload)? {
+        return Ok(None);
+    }
+    match Payload::new(room) {
         Some(payload) => Ok(Some(Event::Submit(Work {
             queue,
             priority,
@@ -243,13 +291,13 @@ fn read_submit(alloc: Global, value: &Value) -> Result<Option<Event>, AllocError
 }
 
 // A priority is left out where it is 0.
-fn priority_at(value: &Value) -> Option<u8>
-    ensures { result ≡ priority_in (get (codes "priority") (view value.now)) }
+fn priority_of(priority: Option<Field<'_>>) -> Option<u8>
+    ensures { result ≡ priority_in (option_map data_of priority.entry) }
 {
-    let Some(priority) = value.get("priority") else {
+    let Some(priority) = priority else {
         return Some(0);
     };
-    let number = priority.as_u64()?;
+    let number = priority.number()?;
     if 0 < number && number < 256 {
         Some(number as u8)
     } else {
@@ -257,11 +305,11 @@ fn priority_at(value: &Value) -> Option<u8>
     }
 }
 
-fn read_finish(value: &Value) -> Option<Event>
-    ensures { result ≡ finish_in (view value.now) }
+fn read_finish(fields: &Fields<'_>) -> Option<Event>
+    ensures { result ≡ finish_in (found_by fields.now) }
 {
-    let origin = node_of(number_at(value, "origin"))?;
-    let id = number_at(value, "id")?;
+    let origin = node_of(number_of(fields.origin))?;
+    let id = number_of(fields.id)?;
     Some(Event::Finish(origin, id))
 }
 

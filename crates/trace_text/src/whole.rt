@@ -5,7 +5,8 @@ ghost use Rattle.group_task.specs.declared.node.TheConstants.{NODES};
 ghost use Rattle.trace_text.specs.Wholes.{trace_of, in_shape, shape_in, is_shape, all_lists, history_in, histories_from, entries_from, IsFaultOf};
 
 use crate::fault::{Spot, TraceFault};
-use crate::reading::{number_at, read_entry};
+use crate::reading::read_entry;
+use crate::stream::{Halt, read_stream};
 use group_task::NODES;
 use serde_json::Value;
 use std::alloc::Global;
@@ -13,6 +14,19 @@ use trace_check::{History, Trace};
 
 /// The trace of a text.
 pub fn read(alloc: Global, text: &[u8]) -> Result<Trace, TraceFault>
+    ensures ok { IfOk result (λ trace. trace_of text.now ≡ Ok trace) }
+    ensures err { IfErr result (IsFaultOf (trace_of text.now)) }
+{
+    match read_stream(alloc, text) {
+        Ok(trace) => Ok(trace),
+        Err(Halt::NoMemory) => Err(TraceFault::NoMemory),
+        Err(Halt::Odd) => read_tree(alloc, text),
+    }
+}
+
+/// The trace of a text, by way of the tree of its JSON value. It takes far more time and memory than `read_stream`, and tells
+/// what is wrong, and where.
+fn read_tree(alloc: Global, text: &[u8]) -> Result<Trace, TraceFault>
     ensures ok { IfOk result (λ trace. trace_of text.now ≡ Ok trace) }
     ensures err { IfErr result (IsFaultOf (trace_of text.now)) }
 {
@@ -45,7 +59,7 @@ fn shape(value: &Value) -> Option<&Vec<Value>>
     ensures value { option_map (λ v. items_view v.now.items) result ≡ shape_in (view value.now) }
     ensures few { IfSome result (λ v. length v.now.items ≤ NODES) }
 {
-    let nodes = number_at(value, "nodes")?;
+    let nodes = value.get("nodes")?.as_u64()?;
     let lists = value.get("histories")?.as_array()?;
     if is_shape(nodes, lists) {
         Some(lists)

@@ -6,13 +6,13 @@ use Rattle.cluster_sim.proofs.member.compact.Goals as goal
 pub returns-clause-same : goal.returns-clause-same
 returns-clause-same c =
     let e = c.compact-answer.ensures in
-    same_by c.args.node.now c.compact-answer.new.self c.compact-answer.result c.has_disk.ensures e.id e.nodes e.counts
+    same_by c.args.node.now c.compact-answer.new.self c.compact-answer.result e.id e.nodes e.counts
 
 pub returns-clause-came : goal.returns-clause-came
 returns-clause-came c = λ slots s stands.
     let old = c.args.node.now in
     let e = c.compact-answer.ensures in
-    let was = some_of old.disk c.has_disk.ensures in
+    let was = some_of old.disk e.counts.was_there in
     let came = e.step was.0 s was.1 stands in
     compacted_comes slots old.id old.nodes s c.compaction_told.result c.compact-answer.new.self c.args.net.now.network came.0 c.compact-answer.result came.1 came.2 c.compaction_told.ensures
     (nothing_found old c.compact-answer.new.self c.compact-answer.result e.moved e.fallen e.refused) came.3

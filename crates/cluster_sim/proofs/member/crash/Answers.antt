@@ -6,7 +6,7 @@ use Rattle.cluster_sim.proofs.Quiet.{crash_same, crashed_comes, crash_counted}
 use Rattle.cluster_sim.proofs.member.crash.Goals as goal
 
 pub returns-clause-same : goal.returns-clause-same
-returns-clause-same c = crash_same c.as_slice.result.now c.args.node.now c.crash.new.self c.has_disk.ensures c.crash.ensures.down c.crash.ensures.disk
+returns-clause-same c = crash_same c.as_slice.result.now c.args.node.now c.crash.new.self c.crash.ensures.there c.crash.ensures.down c.crash.ensures.disk
 
 pub returns-clause-came : goal.returns-clause-came
 returns-clause-came c = λ slots s stands.

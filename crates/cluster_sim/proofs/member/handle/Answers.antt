@@ -7,20 +7,20 @@ use Rattle.cluster_sim.proofs.Coming.{same_by, comes_by, came_counted, stuck_unt
 use Rattle.cluster_sim.proofs.member.handle.Goals as goal
 
 pub returns-clause-same : goal.returns-clause-same
-returns-clause-same c = same_by c.args.node.now c.step.new.self (told c.step.result) c.has_disk.ensures c.step.ensures.id c.step.ensures.nodes c.step.ensures.counts
+returns-clause-same c = same_by c.args.node.now c.step.new.self (told c.step.result) c.step.ensures.id c.step.ensures.nodes c.step.ensures.counts
 
 pub returns-in-Err-clause-same : goal.returns-in-Err-clause-same
-returns-in-Err-clause-same c = same_by c.args.node.now c.step.new.self (told c.step.result) c.has_disk.ensures c.step.ensures.id c.step.ensures.nodes c.step.ensures.counts
+returns-in-Err-clause-same c = same_by c.args.node.now c.step.new.self (told c.step.result) c.step.ensures.id c.step.ensures.nodes c.step.ensures.counts
 
 pub returns-in-Err-clause-memory : goal.returns-in-Err-clause-memory
-returns-in-Err-clause-memory c = λ s stands. stuck_untouched c.args.node.now c.step.new.self c.args.event.now _ s c.has_disk.ensures c.in-Err.ensures.stuck stands
+returns-in-Err-clause-memory c = λ s stands. stuck_untouched c.args.node.now c.step.new.self c.args.event.now _ s c.step.ensures.counts.was_there c.in-Err.ensures.stuck stands
 
 pub returns-clause-came : goal.returns-clause-came
 returns-clause-came c =
     let net = c.args.net.now.network in
     let came = c.in-Ok.came in
     let first : c.len-first.result ≡ length net.sent = c.len-first.ensures ∙ ap (λ (ms : List Envelope). length ms) c.sent.ensures ∙ ap (λ (n : Network). length n.sent) c.reserve.ensures.network in
-    comes_by c.args.event.now c.args.node.now c.step.new.self net c.send_all.new.net.network came _ c.has_disk.ensures c.in-Ok.ensures.step refl refl (c.is_mounting.ensures c.args.event.now)
+    comes_by c.args.event.now c.args.node.now c.step.new.self net c.send_all.new.net.network came _ c.step.ensures.counts.was_there c.in-Ok.ensures.step refl refl (c.is_mounting.ensures c.args.event.now)
     (c.outcome_of.ensures ∙ ap (λ (n : ℕ). came_told (fault_of came.fate) n came) first)
     (c.send_all.ensures ∙ (λ i. after_all_sent (c.reserve.ensures.network i) (c.deref.ensures.value i)))
 

@@ -1,4 +1,4 @@
-use Rattle.std.proofs.Common.{◌≡◌, rules, sym, ap, ◌∙◌}
+use Rattle.std.proofs.Common.{rules, ◌∙◌}
 use Rattle.trace_text.proofs.Wholes.{history_more}
 use Rattle.trace_text.proofs.whole.read_histories.Goals as goal
 

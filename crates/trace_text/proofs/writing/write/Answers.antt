@@ -1,8 +1,4 @@
-use Rattle.std.proofs.Common.{◌≡◌, List, [], ◌++◌, sym, ap, ◌∙◌}
-use Rattle.std.specs.Str.{IsUtf8}
-use Rattle.json.specs.Lex.{tokens}
-use Rattle.json.specs.Print.{print}
-use Rattle.trace_text.specs.Tokens.{trace_tokens}
+use Rattle.std.proofs.Common.{◌∙◌}
 use Rattle.trace_text.proofs.Printing.{written_text}
 use Rattle.trace_text.proofs.Readings.{printed_back}
 use Rattle.trace_text.proofs.writing.write.Goals as goal

@@ -1,4 +1,4 @@
-use Rattle.std.proofs.Common.{◌≡◌, [], ◌∷◌, codes}
+use Rattle.std.proofs.Common.{[], ◌∷◌, codes}
 use Rattle.json.specs.Token.{begin_array, begin_object, key}
 use Rattle.trace_text.proofs.Printing.{ok_then}
 use Rattle.trace_text.proofs.writing.write_head.Goals as goal

@@ -1,4 +1,4 @@
-use Rattle.std.proofs.Common.{◌≡◌, sym, ◌∙◌}
+use Rattle.std.proofs.Common.{◌∙◌}
 use Rattle.trace_check.specs.Traces.{claim_seen}
 use Rattle.trace_text.specs.Fits.{ClaimFits}
 use Rattle.trace_text.proofs.Printing.{entries_more, each_more}

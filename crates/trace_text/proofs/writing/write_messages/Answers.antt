@@ -1,4 +1,4 @@
-use Rattle.std.proofs.Common.{◌≡◌, sym, ◌∙◌}
+use Rattle.std.proofs.Common.{sym, ◌∙◌}
 use Rattle.wire_msg.specs.Spelling.{IsMessage}
 use Rattle.trace_text.proofs.Printing.{messages_more, each_more}
 use Rattle.trace_text.proofs.writing.write_messages.Goals as goal

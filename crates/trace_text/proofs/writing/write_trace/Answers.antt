@@ -1,4 +1,4 @@
-use Rattle.std.proofs.Common.{◌≡◌, ℕ, List, [], ◌∷◌, ◌++◌, length, codes, decimal, subst}
+use Rattle.std.proofs.Common.{ℕ, List, [], ◌∷◌, ◌++◌, length, codes, decimal, subst}
 use Rattle.std.specs.Prelude.{OnOk}
 use Rattle.json.specs.Token.{begin_array, begin_object, end_array, end_object, key, number}
 use Rattle.trace_check.specs.Claims.{Claim}

@@ -10,32 +10,23 @@ use Rattle.cluster_sim.proofs.Doings.{brought_came}
 use Rattle.cluster_sim.proofs.Faulting.{faults_still, faults_if}
 use Rattle.cluster_sim.proofs.simulation.Simulation.take.Goals as goal
 
-pub returns-then-place-count-clause-acted : goal.returns-then-place-count-clause-acted
-returns-then-place-count-clause-acted c = λ w number stands brings goes.
+pub returns-then-place-len-clause-acted : goal.returns-then-place-len-clause-acted
+returns-then-place-len-clause-acted c = λ w number stands brings goes.
     let was = c.self.inside in
     let place : c.from-place.result ≡ c.args.id = c.from-place.ensures ∙ c.number.ensures.value in
-    let len : c.len-count.result ≡ length was.nodes.items = grind (arith) in
-    let past : c.len-count.result ≤ c.from-place.result = grind (arith) in
+    let len : c.len.result ≡ length was.nodes.items = grind (arith) in
+    let past : c.len.result ≤ c.from-place.result = grind (arith) in
     let same = ap (λ (m : Machine). length m.nodes) c.self.view_is in
     let beyond : length c.args.self.now.nodes ≤ c.args.id = omega (arith, place, len, past, same) in
     denied_deed w c.args.id number (CameOf c.args.event.now) c.args.self.now stands beyond
-
-pub handle-requires : goal.handle-requires
-handle-requires c =
-    let was = c.self.inside in
-    let place : c.from-place.result ≡ c.args.id = c.from-place.ensures ∙ c.number.ensures.value in
-    let len : c.len-count.result ≡ length was.nodes.items = grind (arith) in
-    let within : c.from-place.result < c.len-count.result = grind (arith) in
-    let at = place_at was.nodes.items c.len-count.result c.from-place.result c.args.id c.index_mut.result.now len within place c.index_mut.ensures.value in
-    (c.self.invariant.members c.args.id c.index_mut.result.now at).nodes_is ∙ sym len
 
 pub invariant_of-self : goal.invariant_of-self
 invariant_of-self c =
     let was = c.self.inside in
     let place : c.from-place.result ≡ c.args.id = c.from-place.ensures ∙ c.number.ensures.value in
-    let len : c.len-count.result ≡ length was.nodes.items = grind (arith) in
-    let within : c.from-place.result < c.len-count.result = grind (arith) in
-    let at = place_at was.nodes.items c.len-count.result c.from-place.result c.args.id c.index_mut.result.now len within place c.index_mut.ensures.value in
+    let len : c.len.result ≡ length was.nodes.items = grind (arith) in
+    let within : c.from-place.result < c.len.result = grind (arith) in
+    let at = place_at was.nodes.items c.len.result c.from-place.result c.args.id c.index_mut.result.now len within place c.index_mut.ensures.value in
     subst (λ (k : ℕ). IsCluster was.slots (slice_set was.nodes.items k c.handle.new.node)) (sym place)
     (still_cluster was.slots c.args.id was.nodes.items c.index_mut.result.now c.handle.new.node c.self.invariant at c.handle.ensures.same)
 
@@ -43,9 +34,9 @@ pub returns-clause-acted : goal.returns-clause-acted
 returns-clause-acted c = λ w number stands brings goes.
     let was = c.self.inside in
     let place : c.from-place.result ≡ c.args.id = c.from-place.ensures ∙ c.number.ensures.value in
-    let len : c.len-count.result ≡ length was.nodes.items = grind (arith) in
-    let within : c.from-place.result < c.len-count.result = grind (arith) in
-    let at = place_at was.nodes.items c.len-count.result c.from-place.result c.args.id c.index_mut.result.now len within place c.index_mut.ensures.value in
+    let len : c.len.result ≡ length was.nodes.items = grind (arith) in
+    let within : c.from-place.result < c.len.result = grind (arith) in
+    let at = place_at was.nodes.items c.len.result c.from-place.result c.args.id c.index_mut.result.now len within place c.index_mut.ensures.value in
     let before : StandsFor (record { slots = was.slots; nodes = was.nodes.items; net = was.net.network }) w = subst (λ (m : Machine). StandsFor m w) (sym c.self.view_is) stands in
     let member = c.self.invariant.members c.args.id c.index_mut.result.now at in
     subst (λ (k : ℕ). IfOk c.handle.result (λ (d : Deed). Made (λ step. At (nat_lt c.args.id (length w.states)) c.args.id number (CameOf c.args.event.now) step) w d
@@ -57,9 +48,9 @@ pub returns-clause-memory : goal.returns-clause-memory
 returns-clause-memory c = λ w stands.
     let was = c.self.inside in
     let place : c.from-place.result ≡ c.args.id = c.from-place.ensures ∙ c.number.ensures.value in
-    let len : c.len-count.result ≡ length was.nodes.items = grind (arith) in
-    let within : c.from-place.result < c.len-count.result = grind (arith) in
-    let at = place_at was.nodes.items c.len-count.result c.from-place.result c.args.id c.index_mut.result.now len within place c.index_mut.ensures.value in
+    let len : c.len.result ≡ length was.nodes.items = grind (arith) in
+    let within : c.from-place.result < c.len.result = grind (arith) in
+    let at = place_at was.nodes.items c.len.result c.from-place.result c.args.id c.index_mut.result.now len within place c.index_mut.ensures.value in
     let before : StandsFor (record { slots = was.slots; nodes = was.nodes.items; net = was.net.network }) w = subst (λ (m : Machine). StandsFor m w) (sym c.self.view_is) stands in
     subst (λ (k : ℕ). OnErr c.handle.result (StandsFor (record { slots = was.slots; nodes = slice_set was.nodes.items k c.handle.new.node; net = c.handle.new.net.network }) w)) (sym place)
     (rests_if was.slots c.args.id was.nodes.items c.index_mut.result.now c.handle.new.node was.net.network c.handle.new.net.network c.handle.result w at before c.handle.ensures.memory c.handle.ensures.unsent)
@@ -68,23 +59,23 @@ pub returns-clause-untouched : goal.returns-clause-untouched
 returns-clause-untouched c = λ w stands.
     let was = c.self.inside in
     let place : c.from-place.result ≡ c.args.id = c.from-place.ensures ∙ c.number.ensures.value in
-    let len : c.len-count.result ≡ length was.nodes.items = grind (arith) in
-    let within : c.from-place.result < c.len-count.result = grind (arith) in
-    let at = place_at was.nodes.items c.len-count.result c.from-place.result c.args.id c.index_mut.result.now len within place c.index_mut.ensures.value in
+    let len : c.len.result ≡ length was.nodes.items = grind (arith) in
+    let within : c.from-place.result < c.len.result = grind (arith) in
+    let at = place_at was.nodes.items c.len.result c.from-place.result c.args.id c.index_mut.result.now len within place c.index_mut.ensures.value in
     let before : StandsFor (record { slots = was.slots; nodes = was.nodes.items; net = was.net.network }) w = subst (λ (m : Machine). StandsFor m w) (sym c.self.view_is) stands in
     subst (λ (m : Machine). OnErr c.handle.result (IsUntouched m (record { slots = was.slots; nodes = slice_set was.nodes.items c.from-place.result c.handle.new.node; net = c.handle.new.net.network }))) c.self.view_is
     (subst (λ (k : ℕ). OnErr c.handle.result (IsUntouched (record { slots = was.slots; nodes = was.nodes.items; net = was.net.network }) (record { slots = was.slots; nodes = slice_set was.nodes.items k c.handle.new.node; net = c.handle.new.net.network }))) (sym place)
     (untouched_if was.slots c.args.id was.nodes.items c.index_mut.result.now c.handle.new.node was.net.network c.handle.new.net.network c.handle.result w at before c.handle.ensures.memory c.handle.ensures.unsent))
 
-pub returns-then-place-count-clause-faults : goal.returns-then-place-count-clause-faults
-returns-then-place-count-clause-faults c = faults_still (node_or_first (length c.args.self.now.nodes) c.args.id) c.args.self.now c.args.self.now _ refl (λ bad. cc)
+pub returns-then-place-len-clause-faults : goal.returns-then-place-len-clause-faults
+returns-then-place-len-clause-faults c = faults_still (node_or_first (length c.args.self.now.nodes) c.args.id) c.args.self.now c.args.self.now _ refl (λ bad. cc)
 
 pub returns-clause-faults : goal.returns-clause-faults
 returns-clause-faults c =
     let was = c.self.inside in
     let place : c.from-place.result ≡ c.args.id = c.from-place.ensures ∙ c.number.ensures.value in
-    let len : c.len-count.result ≡ length was.nodes.items = grind (arith) in
-    let within : c.from-place.result < c.len-count.result = grind (arith) in
-    let at = place_at was.nodes.items c.len-count.result c.from-place.result c.args.id c.index_mut.result.now len within place c.index_mut.ensures.value in
+    let len : c.len.result ≡ length was.nodes.items = grind (arith) in
+    let within : c.from-place.result < c.len.result = grind (arith) in
+    let at = place_at was.nodes.items c.len.result c.from-place.result c.args.id c.index_mut.result.now len within place c.index_mut.ensures.value in
     subst (λ (k : ℕ). IfOk c.handle.result (λ (d : Deed). FaultsAt (node_or_first (length c.args.self.now.nodes) c.args.id) c.args.self.now (record { slots = was.slots; nodes = slice_set was.nodes.items k c.handle.new.node; net = c.handle.new.net.network }) d.outcome)) (sym place)
     (faults_if was.slots c.args.id was.nodes.items c.index_mut.result.now c.handle.new.node was.net.network c.handle.new.net.network c.handle.result c.args.self.now c.self.view_is at c.handle.ensures.counted)

@@ -8,7 +8,6 @@ use Rattle.durable_node.proofs.memory.DurableNode+MemDisk.arm.Goals as goal
 pub returns-clause-stands : goal.returns-clause-stands
 returns-clause-stands c = λ s stands.
     let was = c.self.inside in
-    let e = c.arm_disk.ensures in
-    arms c.args.calls c.args.self.now (node_with was.id was.nodes was.core c.arm_disk.new.disk c.arm_disk.new.store was.doubt None) s
-    (node_is_armed was.id was.nodes c.args.calls was.core was.disk c.arm_disk.new.disk was.store c.arm_disk.new.store was.doubt was.found c.self.invariant.placed e.disk e.store
+    arms c.args.calls c.args.self.now (node_with was.id was.nodes was.core c.arm.new.self was.doubt None) s
+    (node_is_armed was.id was.nodes c.args.calls was.core was.disk c.arm.new.self was.doubt was.found c.arm.ensures
     ∙ ap (λ (n : Node Memory). record n { disk = armed_disk c.args.calls n.disk; found = None }) c.self.view_is) stands

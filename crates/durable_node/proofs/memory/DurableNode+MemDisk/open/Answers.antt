@@ -29,12 +29,12 @@ returns-clause-opens c =
 pub returns-clause-sectors : goal.returns-clause-sectors
 returns-clause-sectors c = λ disk at.
     let blank : length c.in_ok-disk.disk.contents ≡ 8 + 4 * c.args.slots = ap (λ (m : Memory). length m.contents) c.in_ok-disk.ensures ∙ length-replicate _ _ in
-    (c.recover.ensures.counts c.format.new.disk disk (ap (λ (n : Node Memory). n.disk) c.down-node.ensures) (ap (λ (n : Node Memory). n.disk) (sym c.node.view_is) ∙ at)).sectors
+    (c.recover.ensures.counts.counts c.format.new.disk disk (ap (λ (n : Node Memory). n.disk) c.down-node.ensures) (ap (λ (n : Node Memory). n.disk) (sym c.node.view_is) ∙ at)).sectors
     ∙ c.format.ensures.counts.sectors ∙ blank
 
 pub returns-clause-failures : goal.returns-clause-failures
 returns-clause-failures c = λ disk at.
     let done : fault_of c.in-Ok.came.fate ≡ None = sym c.fault.ensures ∙ is_none c.fault.result c.is_none.result c.is_none.ensures c.if-is_none.true in
     let ok = c.is_err.ensures.negation ∙ ap not c.if-is_err.false in
-    (c.in-Ok.ensures.counts c.format.new.disk disk (ap (λ (n : Node Memory). n.disk) c.down-node.ensures) (ap (λ (n : Node Memory). n.disk) (sym c.node.view_is) ∙ at)).unchanged (not_failed c.in-Ok.came done)
+    (c.in-Ok.ensures.counts.counts c.format.new.disk disk (ap (λ (n : Node Memory). n.disk) c.down-node.ensures) (ap (λ (n : Node Memory). n.disk) (sym c.node.view_is) ∙ at)).unchanged (not_failed c.in-Ok.came done)
     ∙ c.format.ensures.counts.unchanged (ok_not c.format.result _ ok) ∙ ap (λ (m : Memory). m.failures) c.in_ok-disk.ensures

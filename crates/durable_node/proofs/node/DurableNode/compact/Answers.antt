@@ -7,10 +7,10 @@ pub returns-clause-step : goal.returns-clause-step
 returns-clause-step g c =
     let i = c.self.inside in
     let n = c.compact.new in
-    subst (λ (old : Node _). Compacts g.D.SectorDisk.state old (node_with i.id i.nodes n.core i.disk n.store i.doubt n.found) c.compact.result) c.self.view_is c.compact.ensures.step
+    subst (λ (old : Node _). Compacts g.D.SectorDisk.state old (node_with i.id i.nodes n.core n.disk i.doubt n.found) c.compact.result) c.self.view_is c.compact.ensures.step
 
 pub returns-clause-images : goal.returns-clause-images
 returns-clause-images g c =
     let i = c.self.inside in
     let n = c.compact.new in
-    subst (λ (old : Node _). StaysKept g.D.SectorDisk.state old (node_with i.id i.nodes n.core i.disk n.store i.doubt n.found)) c.self.view_is c.compact.ensures.images
+    subst (λ (old : Node _). StaysKept g.D.SectorDisk.state old (node_with i.id i.nodes n.core n.disk i.doubt n.found)) c.self.view_is c.compact.ensures.images

@@ -1,39 +1,31 @@
-use Rattle.std.proofs.Common.{◌<◌, List, [], ◌∷◌, ◌++◌, Some, length, refl, ap, sym, ◌∙◌, subst, get_or}
+use Rattle.std.proofs.Common.{◌<◌, Some, length, refl, ap, sym, ◌∙◌, subst, get_or}
 use Rattle.std.proofs.lemmas.Option.{slice_get-get_or}
-use Rattle.wire_msg.specs.Envelope.{Envelope}
 use Rattle.node_lock.specs.declared.worker.Worker.TheVariants.{Operator}
 use Rattle.node_lock.specs.declared.held.TheConstants.{MOST_ENTRIES}
 use Rattle.node_lock.specs.Asking.{asked_in}
-use Rattle.node_lock.specs.Planned.{with_turn}
-use Rattle.node_lock.specs.Sending.{SentOn}
-use Rattle.node_lock.specs.History.{Turn, PlanStep}
 use Rattle.node_lock.specs.HeldView.{HeldView}
-use Rattle.node_lock.proofs.Keeping.{keeps_past, gives_in}
+use Rattle.node_lock.specs.Taking.{turn_of}
+use Rattle.node_lock.proofs.Keeping.{gives_in}
+use Rattle.node_lock.proofs.Taking.{takes_next, keeps_next_past}
 use Rattle.node_lock.proofs.Telling.{none_of_order}
 use Rattle.node_lock.proofs.held.Held.next_operator.Goals as goal
 
 pub invariant_of-self-2 : goal.invariant_of-self-2
 invariant_of-self-2 c =
     let h = c.self.inside in
-    let e : Turn = record { worker = Operator; index = h.turns.operator; entry = record { what = c.in_ok-what.what; sent = c.in_ok-what.sent.items } } in
     let more : h.turns.operator < length h.plans.operator = subst (λ (v : HeldView). v.turns.operator < length v.plans.operator) (sym c.self.view_is) c.requires.more in
     let few : length h.history.turns < MOST_ENTRIES = subst (λ (v : HeldView). length v.history < MOST_ENTRIES) (sym c.self.view_is) c.requires.few in
     let order = c.index-operator-index.result in
     let got = slice_get-get_or h.plans.operator h.turns.operator order more ∙ ap (λ o. Some o) (ap (λ l. get_or l h.turns.operator order) (sym c.operator.ensures) ∙ sym c.index-operator-index.is) in
-    let did = c.in_ok-what.ensures.did in
-    let added = c.push.ensures ∙ ap (λ (l : List Envelope). h.history.turns ++ (record { worker = Operator; index = h.turns.operator; entry = record { what = c.in_ok-what.what; sent = l } }) ∷ []) c.deref-2.ensures.value in
-    let plan : PlanStep h.plans h.turns e (with_turn h.turns Operator) = record { asked = asked_in order; asks = (order, got, refl); gives = gives_in _ (asked_in order) e _ c.self.invariant did; index = refl; turns = refl } in
-    let on = subst (λ (l : List Envelope). SentOn l h.puts.items c.send_all.new.puts.items) c.deref.ensures.value c.send_all.ensures in
-    keeps_past _ _ (asked_in order) e c.self.invariant refl refl added c.in_ok-what.ensures.id c.in_ok-what.ensures.nodes plan did on refl refl refl (none_of_order order e.entry.what plan.gives) few
+    let e = c.in_ok-operate.ensures.taken.0 in
+    let took = c.in_ok-operate.ensures.taken.1 in
+    let gives = gives_in _ (asked_in order) (turn_of Operator h.turns.operator e) _ c.self.invariant took.did in
+    keeps_next_past _ _ Operator (asked_in order) e c.self.invariant ((order, got, refl), took, refl) refl refl few refl refl refl (none_of_order order e.what gives)
 
 pub returns-clause-taken : goal.returns-clause-taken
 returns-clause-taken c =
     let h = c.self.inside in
-    let e : Turn = record { worker = Operator; index = h.turns.operator; entry = record { what = c.in_ok-what.what; sent = c.in_ok-what.sent.items } } in
     let more : h.turns.operator < length h.plans.operator = subst (λ (v : HeldView). v.turns.operator < length v.plans.operator) (sym c.self.view_is) c.requires.more in
     let order = c.index-operator-index.result in
     let got = slice_get-get_or h.plans.operator h.turns.operator order more ∙ ap (λ o. Some o) (ap (λ l. get_or l h.turns.operator order) (sym c.operator.ensures) ∙ sym c.index-operator-index.is) in
-    let did = c.in_ok-what.ensures.did in
-    let added = c.push.ensures ∙ ap (λ (l : List Envelope). h.history.turns ++ (record { worker = Operator; index = h.turns.operator; entry = record { what = c.in_ok-what.what; sent = l } }) ∷ []) c.deref-2.ensures.value in
-    let plan : PlanStep h.plans h.turns e (with_turn h.turns Operator) = record { asked = asked_in order; asks = (order, got, refl); gives = gives_in _ (asked_in order) e _ c.self.invariant did; index = refl; turns = refl } in
-    rw (← c.self.view_is) (refl, (e, record { history = added; worker = refl; plan = plan; did = did; polls = tt }))
+    rw (← c.self.view_is) (refl, takes_next _ _ Operator (asked_in order) c.in_ok-operate.ensures.taken.0 c.self.invariant ((order, got, refl), c.in_ok-operate.ensures.taken.1, refl) tt)

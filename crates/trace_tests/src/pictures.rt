@@ -1,8 +1,8 @@
-use super::draw;
 use console_text::Source;
 use std::alloc::Global;
 use std::process::Abort;
 use std::test::Fail;
+use trace_draw::draw;
 
 // What is drawn for a trace, and whether the status is 0.
 fn drawn(alloc: Global, trace: &[u8]) -> (Vec<u8>, bool) {

@@ -1,8 +1,8 @@
-use super::trace;
 use console_text::{Source, push_text};
 use std::alloc::{AllocError, Global};
 use std::process::Abort;
 use std::test::Fail;
+use trace_console::trace;
 
 // Expects this text for a trace, and that the status is 0 exactly where it is a Run.
 fn expect(rt: &impl Abort, alloc: Global, text: &[u8], want: &[u8]) {

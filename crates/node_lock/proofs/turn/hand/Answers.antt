@@ -1,0 +1,21 @@
+use Rattle.std.proofs.Common.{List, [], ◌∷◌, ◌++◌, ap, ◌∙◌, subst}
+use Rattle.wire_msg.specs.Envelope.{Envelope}
+use Rattle.histories.specs.What.{Entry}
+use Rattle.histories.specs.Fates.{what_of}
+use Rattle.node_lock.specs.Sending.{SentOn}
+use Rattle.node_lock.specs.Taking.{turn_of}
+use Rattle.node_lock.proofs.turn.hand.Goals as goal
+
+pub returns-clause-taken : goal.returns-clause-taken
+returns-clause-taken c =
+    let what = what_of c.args.event.now c.in_ok-fate.fate in
+    let e : Entry = record { what = what; sent = c.in_ok-fate.sent.items } in (
+      e,
+      record {
+        did = c.in_ok-fate.ensures.did;
+        id = c.in_ok-fate.ensures.id;
+        nodes = c.in_ok-fate.ensures.nodes;
+        sent = subst (λ (l : List Envelope). SentOn l c.args.puts.now.items c.send_all.new.puts.items) c.deref.ensures.value c.send_all.ensures;
+        turns = c.push.ensures ∙ ap (λ (l : List Envelope). c.args.history.now.turns ++ turn_of c.args.worker c.args.index (record { what = what; sent = l }) ∷ []) c.deref-2.ensures.value;
+      },
+    )

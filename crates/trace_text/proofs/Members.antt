@@ -1,0 +1,97 @@
+-- What is found of the members of an object, one after another.
+use Rattle.std.proofs.Common.{◌≡◌, ℕ, Bool, true, false, true≢false, List, Option, Some, option_and_then, codes, bytes_eq, refl, sym, ap, ap₂, ◌∙◌}
+use Rattle.std.specs.Prelude.{if◌then◌else◌}
+use Rattle.std.proofs.lemmas.Slice.Eq.{bytes_eq-Decides}
+use Rattle.serde_json.specs.Data.{Data, Members, put, object}
+use Rattle.serde_json.specs.Find.{get_member}
+use Rattle.serde_json.proofs.Views.{get_member-put, get_member-put_other}
+use Rattle.trace_text.specs.Fields.{Found, found_in, found_put}
+use Rattle.trace_text.specs.Entries.{number_in}
+use Rattle.trace_text.specs.Streams.{Drafted, drafted_put, texts_of, Parted, parted_put, histories_of}
+
+-- ---- one more member
+
+get_by : (q k : List ℕ) (d : Data) (ms : Members) (b : Bool) → bytes_eq k q ≡ b → get_member q (put k d ms) ≡ (if b then Some d else get_member q ms)
+get_by q k d ms true e = ap (λ (x : List ℕ). get_member x (put k d ms)) (sym ((bytes_eq-Decides k q).0 e)) ∙ get_member-put k d ms
+get_by q k d ms false e = get_member-put_other q k d ms (λ same. absurd (true≢false (sym ((bytes_eq-Decides k q).1 (sym same)) ∙ e)))
+
+get_put : (q k : List ℕ) (d : Data) (ms : Members) → get_member q (put k d ms) ≡ (if bytes_eq k q then Some d else get_member q ms)
+get_put q k d ms = get_by q k d ms (bytes_eq k q) refl
+
+by_key : {X : Type 0} (key name : List ℕ) (f : List ℕ → X) (a rest : X) (b : Bool) → bytes_eq key name ≡ b → f name ≡ a → (bytes_eq key name ≡ false → f key ≡ rest) → f key ≡ (if b then a else rest)
+by_key key name f a rest true e is other = ap f ((bytes_eq-Decides key name).0 e) ∙ is
+by_key key name f a rest false e is other = other e
+
+-- the key is this one, or another
+either : {X : Type 0} (key name : List ℕ) (f : List ℕ → X) (a rest : X) → f name ≡ a → (bytes_eq key name ≡ false → f key ≡ rest) → f key ≡ (if bytes_eq key name then a else rest)
+either key name f a rest is other = by_key key name f a rest (bytes_eq key name) refl is other
+
+-- ---- the fields of an entry
+
+abbrev seen : (List ℕ → Option Data) → Found
+seen g = record {
+  name = g (codes "do");
+  message = g (codes "msg");
+  fault = g (codes "fault");
+  kept = g (codes "kept");
+  queue = g (codes "queue");
+  priority = g (codes "priority");
+  payload = g (codes "payload");
+  origin = g (codes "origin");
+  id = g (codes "id");
+}
+
+same_seen : (g h : List ℕ → Option Data) → ((q : List ℕ) → g q ≡ h q) → seen g ≡ seen h
+same_seen g h e =
+    rw (e (codes "do"), e (codes "msg"), e (codes "fault"), e (codes "kept"), e (codes "queue"), e (codes "priority"), e (codes "payload"), e (codes "origin"), e (codes "id")) refl
+
+abbrev seen_put : Data → Members → List ℕ → Found
+seen_put d ms key = seen (λ (q : List ℕ). if bytes_eq key q then Some d else get_member q ms)
+
+module _ (key : List ℕ) (d : Data) (ms : Members) where
+  seen_is : seen_put d ms key ≡ found_put (found_in (object ms)) key d
+  seen_is =
+      either key (codes "do") (seen_put d ms) _ _ refl (λ a.
+      either key (codes "msg") (seen_put d ms) _ _ refl (λ b.
+      either key (codes "fault") (seen_put d ms) _ _ refl (λ c.
+      either key (codes "kept") (seen_put d ms) _ _ refl (λ e.
+      either key (codes "queue") (seen_put d ms) _ _ refl (λ f.
+      either key (codes "priority") (seen_put d ms) _ _ refl (λ g.
+      either key (codes "payload") (seen_put d ms) _ _ refl (λ h.
+      either key (codes "origin") (seen_put d ms) _ _ refl (λ i.
+      either key (codes "id") (seen_put d ms) _ _ refl (λ j.
+      rw (a, b, c, e, f, g, h, i, j) refl)))))))))
+
+  found_law : found_in (object (put key d ms)) ≡ found_put (found_in (object ms)) key d
+  found_law = same_seen (λ (q : List ℕ). get_member q (put key d ms)) (λ (q : List ℕ). if bytes_eq key q then Some d else get_member q ms) (λ q. get_put q key d ms) ∙ seen_is
+
+found_sent : (d : Data) (ms : Members) → found_in (object (put (codes "sent") d ms)) ≡ found_in (object ms)
+found_sent d ms = found_law (codes "sent") d ms
+
+abbrev pub drafted_in : Members → Drafted
+drafted_in ms = (found_in (object ms), option_and_then texts_of (get_member (codes "sent") ms))
+
+abbrev draft : Found → Option Data → Drafted
+draft f o = (f, option_and_then texts_of o)
+
+pub drafted_law : (key : List ℕ) (d : Data) (ms : Members) → drafted_in (put key d ms) ≡ drafted_put (drafted_in ms) key d
+drafted_law key d ms =
+    either key (codes "sent") (λ (x : List ℕ). drafted_in (put x d ms)) _ _
+    (ap₂ draft (found_sent d ms) (get_member-put (codes "sent") d ms))
+    (λ e. ap₂ draft (found_law key d ms) (get_by (codes "sent") key d ms false e))
+
+-- ---- the whole
+
+abbrev pub parted_in : Members → Parted
+parted_in ms = (number_in (get_member (codes "nodes") ms), option_and_then histories_of (get_member (codes "histories") ms))
+
+abbrev parts : Option Data → Option Data → Parted
+parts n hs = (number_in n, option_and_then histories_of hs)
+
+pub parted_law : (key : List ℕ) (d : Data) (ms : Members) → parted_in (put key d ms) ≡ parted_put (parted_in ms) key d
+parted_law key d ms =
+    either key (codes "nodes") (λ (x : List ℕ). parted_in (put x d ms)) _ _
+    (ap₂ parts (get_member-put (codes "nodes") d ms) (get_put (codes "histories") (codes "nodes") d ms))
+    (λ a. either key (codes "histories") (λ (x : List ℕ). parted_in (put x d ms)) _ _
+    (ap₂ parts (get_put (codes "nodes") (codes "histories") d ms) (get_member-put (codes "histories") d ms))
+    (λ b. ap₂ parts (get_by (codes "nodes") key d ms false a) (get_by (codes "histories") key d ms false b)))

@@ -1,0 +1,70 @@
+-- The fields of an entry: the value of each that is there.
+use Rattle.std.specs.Prelude.{ℕ, List, Option, Some, None, option_map, if◌then◌else◌, codes}
+use Rattle.std.specs.Str.{bytes_eq}
+use Rattle.serde_json.specs.Data.{Data, boolean, number, unsigned, string}
+use Rattle.serde_json.specs.Find.{get}
+use Rattle.serde_json.specs.View.{view}
+use Rattle.trace_text.specs.declared.fields.Field.{Field}
+use Rattle.trace_text.specs.declared.fields.Field.TheVariants as field
+use Rattle.trace_text.specs.declared.fields.Fields.{Fields}
+
+abbrev pub data_of : Field → Data
+data_of (field.Text s) = string s.now
+data_of (field.Number n) = number (unsigned n)
+data_of (field.Flag b) = boolean b
+data_of (field.Tree v) = view v.now
+
+-- what was found of the fields, wherever it lies in memory
+pub record Found : Type 0 where
+  pub name : Option Data
+  pub message : Option Data
+  pub fault : Option Data
+  pub kept : Option Data
+  pub queue : Option Data
+  pub priority : Option Data
+  pub payload : Option Data
+  pub origin : Option Data
+  pub id : Option Data
+
+abbrev pub nothing_found : Found
+nothing_found = record { name = None; message = None; fault = None; kept = None; queue = None; priority = None; payload = None; origin = None; id = None }
+
+abbrev pub found_by : Fields → Found
+found_by f = record {
+  name = option_map data_of f.name;
+  message = option_map data_of f.message;
+  fault = option_map data_of f.fault;
+  kept = option_map data_of f.kept;
+  queue = option_map data_of f.queue;
+  priority = option_map data_of f.priority;
+  payload = option_map data_of f.payload;
+  origin = option_map data_of f.origin;
+  id = option_map data_of f.id;
+}
+
+-- those of a JSON value
+abbrev pub found_in : Data → Found
+found_in d = record {
+  name = get (codes "do") d;
+  message = get (codes "msg") d;
+  fault = get (codes "fault") d;
+  kept = get (codes "kept") d;
+  queue = get (codes "queue") d;
+  priority = get (codes "priority") d;
+  payload = get (codes "payload") d;
+  origin = get (codes "origin") d;
+  id = get (codes "id") d;
+}
+
+-- one more member: of equal keys the last counts, and a key that isn't asked for is passed over
+abbrev pub found_put : Found → List ℕ → Data → Found
+found_put f key d =
+    if bytes_eq key (codes "do") then record f { name = Some d } else
+    if bytes_eq key (codes "msg") then record f { message = Some d } else
+    if bytes_eq key (codes "fault") then record f { fault = Some d } else
+    if bytes_eq key (codes "kept") then record f { kept = Some d } else
+    if bytes_eq key (codes "queue") then record f { queue = Some d } else
+    if bytes_eq key (codes "priority") then record f { priority = Some d } else
+    if bytes_eq key (codes "payload") then record f { payload = Some d } else
+    if bytes_eq key (codes "origin") then record f { origin = Some d } else
+    if bytes_eq key (codes "id") then record f { id = Some d } else f

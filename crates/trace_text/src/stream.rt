@@ -1,0 +1,331 @@
+//! Reading a trace entry by entry, with no tree of the whole text beside it.
+//!
+//! The reader goes on as long as all is as `write` writes it, in any order of keys and with any spaces. Where anything is wrong or
+//! rare it stops, and says nothing of the text: `read_tree` then tells what is in it.
+
+ghost use Rattle.std.specs.Prelude.{◌≡◌, ◌<◌, ◌≤◌, ◌∷◌, [], ◌++◌, ℕ, length, map, true, IfOk, OnOk, IfSome, option_map, Ok, Some, None};
+ghost use Rattle.json.specs.Json.{parse_map};
+ghost use Rattle.json.specs.Token.{begin_array, begin_object};
+ghost use Rattle.serde_json.specs.Data.{number, unsigned};
+ghost use Rattle.serde_json.specs.Find.{as_str};
+ghost use Rattle.serde_json.specs.Read.{converted, number_of};
+ghost use Rattle.trace_check.specs.Claims.{Claim};
+ghost use Rattle.group_task.specs.declared.node.TheConstants.{NODES};
+ghost use Rattle.trace_text.specs.Fields.{data_of, found_by};
+ghost use Rattle.trace_text.specs.Entries.{good, deed_in, claim_in};
+ghost use Rattle.trace_text.specs.Drafts.{drafted_by, parted_by};
+ghost use Rattle.trace_text.specs.Streams.{data_at, items_at, members_at, history_of, histories_of, texts_of, messages_of, claim_with, undrafted, drafted_put, unparted, parted_put};
+ghost use Rattle.trace_text.specs.Wholes.{trace_of, in_shape, shape_in};
+
+use crate::fields::{Field, Fields};
+use crate::reading::entry_of;
+use fast_float::Numeral;
+use group_task::NODES;
+use json::{Invalid, Reader, Scratch, Token};
+use std::alloc::{AllocError, Global};
+use std::str;
+use trace_check::{History, Trace};
+
+/// Why the reader stopped.
+#[derive(Clone, Copy, Debug)]
+pub(crate) enum Halt {
+    /// Something is wrong, or written in a rare way.
+    Odd,
+    NoMemory,
+}
+
+impl From<AllocError> for Halt {
+    fn from(_e: AllocError) -> Halt {
+        Halt::NoMemory
+    }
+}
+
+impl From<Invalid> for Halt {
+    fn from(_e: Invalid) -> Halt {
+        Halt::Odd
+    }
+}
+
+/// An entry whose text was read.
+#[derive(Drop)]
+pub struct Draft<'a> {
+    pub fields: Fields<'a>,
+    /// Whether it has a field `sent`.
+    pub has_sent: bool,
+    /// The messages of `sent`.
+    pub texts: Vec<&'a str>,
+}
+
+/// The whole, as far as it was read.
+#[derive(Drop)]
+pub struct Parts {
+    pub nodes: Option<u64>,
+    pub histories: Option<Vec<History>>,
+}
+
+/// The trace of a text.
+pub(crate) fn read_stream(alloc: Global, text: &[u8]) -> Result<Trace, Halt>
+    ensures { IfOk result (λ trace. trace_of text.now ≡ Ok trace) }
+{
+    let Ok(text) = str::from_utf8(text) else {
+        return Err(Halt::Odd);
+    };
+    let mut scratch = Scratch::new(alloc);
+    let mut reader = Reader::new(text, &mut scratch)?;
+    let histories = read_whole(alloc, &mut reader)?;
+    if reader.next().is_some() {
+        return Err(Halt::Odd);
+    }
+    Ok(Trace::new(histories))
+}
+
+/// The histories of a trace.
+fn read_whole(alloc: Global, reader: &mut Reader<'_>) -> Result<Vec<History>, Halt>
+    ensures whole { IfOk result (λ hs. converted (λ d. good (in_shape (shape_in d))) (data_at 127 reader.old) ≡ Some (hs.items, reader.new)) }
+    ensures few { IfOk result (λ hs. length hs.items ≤ NODES) }
+{
+    open_object(reader)?;
+    let mut parts = Parts {
+        nodes: None,
+        histories: None,
+    };
+    read_parts(alloc, reader, &mut parts)?;
+    let histories = shaped(parts)?;
+    Ok(histories)
+}
+
+/// The histories, if there is one for each node.
+fn shaped(parts: Parts) -> Result<Vec<History>, Halt>
+    ensures nodes { IfOk result (λ hs. parted_by parts ≡ (Some (length hs.items), Some hs.items)) }
+    ensures some { IfOk result (λ hs. 1 ≤ length hs.items) }
+    ensures few { IfOk result (λ hs. length hs.items ≤ NODES) }
+{
+    let nodes = parts.nodes.ok_or(Halt::Odd)?;
+    let histories = parts.histories.ok_or(Halt::Odd)?;
+    if nodes == 0 || nodes > u64::from(NODES) || histories.len() as u64 != nodes {
+        return Err(Halt::Odd);
+    }
+    Ok(histories)
+}
+
+/// The members of the whole, from behind its brace on.
+fn read_parts(alloc: Global, reader: &mut Reader<'_>, parts: &mut Parts) -> Result<(), Halt>
+    ensures { OnOk result (members_at parted_put 126 (length reader.old) (parted_by parts.old) reader.old ≡ Some (parted_by parts.new, reader.new)) }
+{
+    'parts: while let Some(key) = reader.next_key()? {
+        read_part(alloc, reader, key, parts)?;
+    }
+    Ok(())
+}
+
+#[tactic(auto, using(crate::proofs::Made::nodes_put, crate::proofs::Made::histories_put, crate::proofs::Made::other_put))]
+fn read_part(
+    alloc: Global,
+    reader: &mut Reader<'_>,
+    key: &str,
+    parts: &mut Parts,
+) -> Result<(), Halt>
+    ensures part { OnOk result (parse_map (parted_put (parted_by parts.old) key.now) (data_at 126 reader.old) ≡ Some (parted_by parts.new, reader.new)) }
+    ensures shorter { OnOk result (length reader.new < length reader.old) }
+{
+    if key == "nodes" {
+        let nodes = read_number(reader)?;
+        parts.nodes = Some(nodes);
+    } else if key == "histories" {
+        let histories = read_histories(alloc, reader)?;
+        parts.histories = Some(histories);
+    } else {
+        read_scalar(reader)?;
+    }
+    Ok(())
+}
+
+fn read_number(reader: &mut Reader<'_>) -> Result<u64, Halt>
+    ensures value { IfOk result (λ n. (depth : ℕ) → data_at depth reader.old ≡ Some (number (unsigned n), reader.new)) }
+    ensures shorter { OnOk result (length reader.new < length reader.old) }
+{
+    match read_scalar(reader)? {
+        Field::Number(number) => Ok(number),
+        _ => Err(Halt::Odd),
+    }
+}
+
+/// A list of histories.
+fn read_histories(alloc: Global, reader: &mut Reader<'_>) -> Result<Vec<History>, Halt>
+    ensures histories { IfOk result (λ hs. converted histories_of (data_at 126 reader.old) ≡ Some (hs.items, reader.new)) }
+    ensures shorter { OnOk result (length reader.new < length reader.old) }
+{
+    open_list(reader)?;
+    read_each_history(alloc, reader)
+}
+
+/// The histories from behind a bracket on.
+fn read_each_history(alloc: Global, reader: &mut Reader<'_>) -> Result<Vec<History>, Halt>
+    ensures histories { IfOk result (λ hs. items_at history_of 125 (length reader.old) reader.old ≡ Some (hs.items, reader.new)) }
+    ensures shorter { OnOk result (length reader.new ≤ length reader.old) }
+{
+    let mut histories = Vec::new(alloc);
+    let mut draft = Draft {
+        fields: Fields::new(),
+        has_sent: false,
+        texts: Vec::new(alloc),
+    };
+    'histories: while !reader.take_end_array() {
+        let history = read_history(alloc, reader, &mut draft)?;
+        histories.reserve(1)?;
+        histories.push_reserved(history);
+    }
+    Ok(histories)
+}
+
+/// A list of entries.
+fn read_history<'a>(
+    alloc: Global,
+    reader: &mut Reader<'a>,
+    draft: &mut Draft<'a>,
+) -> Result<History, Halt>
+    ensures history { IfOk result (λ h. converted history_of (data_at 125 reader.old) ≡ Some (h, reader.new)) }
+    ensures shorter { OnOk result (length reader.new < length reader.old) }
+{
+    open_list(reader)?;
+    read_entries(alloc, reader, draft)
+}
+
+/// The entries from behind a bracket on.
+fn read_entries<'a>(
+    alloc: Global,
+    reader: &mut Reader<'a>,
+    draft: &mut Draft<'a>,
+) -> Result<History, Halt>
+    ensures entries { IfOk result (λ h. items_at claim_in 124 (length reader.old) reader.old ≡ Some (h, reader.new)) }
+    ensures shorter { OnOk result (length reader.new ≤ length reader.old) }
+{
+    let mut history = History::new(alloc);
+    'entries: while !reader.take_end_array() {
+        history = read_entry(alloc, reader, draft, history)?;
+    }
+    Ok(history)
+}
+
+/// The history with the entry at the front.
+fn read_entry<'a>(
+    alloc: Global,
+    reader: &mut Reader<'a>,
+    draft: &mut Draft<'a>,
+    history: History,
+) -> Result<History, Halt>
+    ensures entry { IfOk result (λ h. parse_map (λ (c : Claim). history ++ c ∷ []) (converted claim_in (data_at 124 reader.old)) ≡ Some (h, reader.new)) }
+    ensures shorter { OnOk result (length reader.new < length reader.old) }
+{
+    open_object(reader)?;
+    draft.fields = Fields::new();
+    draft.has_sent = false;
+    read_members(reader, draft)?;
+    if !draft.has_sent {
+        return Err(Halt::Odd);
+    }
+    with_entry(alloc, &draft.fields, &draft.texts, history)
+}
+
+/// The history with the entry of these fields and texts.
+fn with_entry(
+    alloc: Global,
+    fields: &Fields<'_>,
+    texts: &[&str],
+    mut history: History,
+) -> Result<History, Halt>
+    ensures { IfOk result (λ h. option_map (λ (c : Claim). history ++ c ∷ []) (claim_with (deed_in (found_by fields.now)) (messages_of (map (λ s. s.now) texts.now))) ≡ Some h) }
+{
+    let Some(entry) = entry_of(alloc, fields, texts)? else {
+        return Err(Halt::Odd);
+    };
+    history.push(&entry.deed, &entry.sent)?;
+    Ok(history)
+}
+
+/// The members of an entry, from behind its brace on.
+fn read_members<'a>(reader: &mut Reader<'a>, draft: &mut Draft<'a>) -> Result<(), Halt>
+    ensures members { OnOk result (members_at drafted_put 123 (length reader.old) (drafted_by draft.old) reader.old ≡ Some (drafted_by draft.new, reader.new)) }
+    ensures shorter { OnOk result (length reader.new ≤ length reader.old) }
+{
+    'members: while let Some(key) = reader.next_key()? {
+        read_member(reader, key, draft)?;
+    }
+    Ok(())
+}
+
+fn read_member<'a>(reader: &mut Reader<'a>, key: &str, draft: &mut Draft<'a>) -> Result<(), Halt>
+    ensures member { OnOk result (parse_map (drafted_put (drafted_by draft.old) key.now) (data_at 123 reader.old) ≡ Some (drafted_by draft.new, reader.new)) }
+    ensures shorter { OnOk result (length reader.new < length reader.old) }
+{
+    if key == "sent" {
+        open_list(reader)?;
+        read_texts(reader, &mut draft.texts)?;
+        draft.has_sent = true;
+    } else {
+        let field = read_scalar(reader)?;
+        draft.fields.put(key, field);
+    }
+    Ok(())
+}
+
+/// The texts of a list, from behind its bracket on.
+fn read_texts<'a>(reader: &mut Reader<'a>, texts: &mut Vec<&'a str>) -> Result<(), Halt>
+    ensures texts { OnOk result (items_at as_str 122 (length reader.old) reader.old ≡ Some (map (λ s. s.now) texts.new.items, reader.new)) }
+    ensures shorter { OnOk result (length reader.new ≤ length reader.old) }
+{
+    texts.clear();
+    'texts: while !reader.take_end_array() {
+        let Field::Text(text) = read_scalar(reader)? else {
+            return Err(Halt::Odd);
+        };
+        texts.reserve(1)?;
+        texts.push_reserved(text);
+    }
+    Ok(())
+}
+
+/// A text, a number without sign, point or exponent, true or false.
+#[tactic(auto, using(crate::proofs::Streams::text_there, crate::proofs::Streams::flag_there, crate::proofs::Streams::number_there))]
+fn read_scalar<'a>(reader: &mut Reader<'a>) -> Result<Field<'a>, Halt>
+    ensures value { IfOk result (λ field. (depth : ℕ) → data_at depth reader.old ≡ Some (data_of field, reader.new)) }
+    ensures shorter { OnOk result (length reader.new < length reader.old) }
+{
+    match reader.next() {
+        Some(Token::String(text)) => Ok(Field::Text(text)),
+        Some(Token::Number(text)) => Ok(Field::Number(whole_number(text).ok_or(Halt::Odd)?)),
+        Some(Token::Bool(flag)) => Ok(Field::Flag(flag)),
+        _ => Err(Halt::Odd),
+    }
+}
+
+/// The number of these digits.
+fn whole_number(text: &str) -> Option<u64>
+    ensures { IfSome result (λ n. number_of text.now ≡ Some (unsigned n)) }
+{
+    let bytes = text.as_bytes();
+    if bytes.is_empty() || bytes[0] == b'-' {
+        return None;
+    }
+    Numeral::scan(bytes).to_u64()
+}
+
+/// Passes the bracket that begins a list.
+fn open_list(reader: &mut Reader<'_>) -> Result<(), Halt>
+    ensures { OnOk result (reader.old ≡ begin_array ∷ reader.new) }
+{
+    match reader.next() {
+        Some(Token::BeginArray) => Ok(()),
+        _ => Err(Halt::Odd),
+    }
+}
+
+/// Passes the brace that begins an object.
+fn open_object(reader: &mut Reader<'_>) -> Result<(), Halt>
+    ensures { OnOk result (reader.old ≡ begin_object ∷ reader.new) }
+{
+    match reader.next() {
+        Some(Token::BeginObject) => Ok(()),
+        _ => Err(Halt::Odd),
+    }
+}
