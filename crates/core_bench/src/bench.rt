@@ -116,7 +116,7 @@ impl Node {
 }
 
 /// A message from this node to node 0.
-fn letter(from: u8, body: Body) -> anyhow::Result<Message> {
+pub fn letter(from: u8, body: Body) -> anyhow::Result<Message> {
     let sender = NodeId::new(from).context("no id of a node")?;
     Message::new(sender, NodeId::numbered(0), body).context("no message")
 }
