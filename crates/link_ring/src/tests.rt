@@ -17,15 +17,32 @@ fn link_of(alloc: Global, capacity: usize) -> Result<(PutEnd, TakeEnd), Fail> {
     Ok(link(alloc, NodeId::numbered(0), NodeId::numbered(1), capacity)?)
 }
 
-/// Puts the message of this job, and answers what was handed back.
-fn put(end: &mut PutEnd, id: u64) -> Result<Option<Message>, Fail> {
+/// Puts the message of this job, and expects that the ring takes it.
+fn put(rt: &impl Abort, end: &mut PutEnd, id: u64) -> Result<(), AllocError> {
     end.reserve(1)?;
-    Ok(end.put(done(id)))
+    assert!(rt; end.put(done(id)).is_none(), "message {id}");
+    Ok(())
 }
 
-fn take(end: &mut TakeEnd) -> Result<Option<Message>, Fail> {
+/// Puts the message of this job, and expects it back.
+fn put_in_vain(rt: &impl Abort, end: &mut PutEnd, id: u64) -> Result<(), AllocError> {
     end.reserve(1)?;
-    Ok(end.take())
+    assert!(rt; end.put(done(id)) == Some(done(id)), "message {id}");
+    Ok(())
+}
+
+/// Expects the message of this job.
+fn take(rt: &impl Abort, end: &mut TakeEnd, id: u64) -> Result<(), AllocError> {
+    end.reserve(1)?;
+    assert!(rt; end.take() == Some(done(id)), "message {id}");
+    Ok(())
+}
+
+/// Expects no message.
+fn take_in_vain(rt: &impl Abort, end: &mut TakeEnd) -> Result<(), AllocError> {
+    end.reserve(1)?;
+    assert!(rt; end.take().is_none());
+    Ok(())
 }
 
 /// Expects the messages of these jobs, in this order.
@@ -39,28 +56,28 @@ fn expect_done(rt: &impl Abort, messages: &MessageList, ids: &[u64]) {
 #[test]
 fn taken_in_the_order_of_putting(rt: HostRuntime) -> Result<(), Fail> {
     let (mut put_end, mut take_end) = link_of(rt.alloc(), 3)?;
-    assert!(rt; take(&mut take_end)?.is_none());
+    take_in_vain(&rt, &mut take_end)?;
     for id in [5, 7, 5] {
-        assert!(rt; put(&mut put_end, id)?.is_none());
+        put(&rt, &mut put_end, id)?;
     }
     for id in [5, 7, 5] {
-        assert!(rt; take(&mut take_end)? == Some(done(id)));
+        take(&rt, &mut take_end, id)?;
     }
-    assert!(rt; take(&mut take_end)?.is_none());
+    take_in_vain(&rt, &mut take_end)?;
     Ok(())
 }
 
 #[test]
 fn full_link_hands_the_message_back(rt: HostRuntime) -> Result<(), Fail> {
     let (mut put_end, mut take_end) = link_of(rt.alloc(), 2)?;
-    assert!(rt; put(&mut put_end, 1)?.is_none());
-    assert!(rt; put(&mut put_end, 2)?.is_none());
-    assert!(rt; put(&mut put_end, 3)? == Some(done(3)));
+    put(&rt, &mut put_end, 1)?;
+    put(&rt, &mut put_end, 2)?;
+    put_in_vain(&rt, &mut put_end, 3)?;
     expect_done(&rt, put_end.messages(), &[1, 2]);
-    assert!(rt; take(&mut take_end)? == Some(done(1)));
-    assert!(rt; put(&mut put_end, 3)?.is_none());
-    assert!(rt; take(&mut take_end)? == Some(done(2)));
-    assert!(rt; take(&mut take_end)? == Some(done(3)));
+    take(&rt, &mut take_end, 1)?;
+    put(&rt, &mut put_end, 3)?;
+    take(&rt, &mut take_end, 2)?;
+    take(&rt, &mut take_end, 3)?;
     expect_done(&rt, put_end.messages(), &[1, 2, 3]);
     expect_done(&rt, take_end.messages(), &[1, 2, 3]);
     Ok(())
@@ -71,13 +88,13 @@ fn emptied_ring_takes_messages_again(rt: HostRuntime) -> Result<(), Fail> {
     let (mut put_end, mut take_end) = link_of(rt.alloc(), 3)?;
     for round in 0..1000 {
         for id in 3 * round..3 * round + 3 {
-            assert!(rt; put(&mut put_end, id)?.is_none(), "message {id}");
+            put(&rt, &mut put_end, id)?;
         }
-        assert!(rt; put(&mut put_end, 0)?.is_some());
+        put_in_vain(&rt, &mut put_end, 0)?;
         for id in 3 * round..3 * round + 3 {
-            assert!(rt; take(&mut take_end)? == Some(done(id)), "message {id}");
+            take(&rt, &mut take_end, id)?;
         }
-        assert!(rt; take(&mut take_end)?.is_none());
+        take_in_vain(&rt, &mut take_end)?;
     }
     assert_eq!(rt; put_end.messages().len(), 3000);
     Ok(())
@@ -87,9 +104,9 @@ fn emptied_ring_takes_messages_again(rt: HostRuntime) -> Result<(), Fail> {
 fn gathered_with_messages_in_the_ring(rt: HostRuntime) -> Result<(), Fail> {
     let (mut put_end, mut take_end) = link_of(rt.alloc(), 3)?;
     for id in 1..4 {
-        assert!(rt; put(&mut put_end, id)?.is_none());
+        put(&rt, &mut put_end, id)?;
     }
-    assert!(rt; take(&mut take_end)? == Some(done(1)));
+    take(&rt, &mut take_end, 1)?;
     let gathered = gather(put_end, take_end).ok().ok_or("a pair")?;
     assert_eq!(rt; gathered.sender.number(), 0);
     assert_eq!(rt; gathered.receiver.number(), 1);
@@ -102,9 +119,9 @@ fn gathered_with_messages_in_the_ring(rt: HostRuntime) -> Result<(), Fail> {
 fn ends_of_two_links(rt: HostRuntime) -> Result<(), Fail> {
     let (mut first_put, first_take) = link_of(rt.alloc(), 3)?;
     let (mut second_put, mut second_take) = link_of(rt.alloc(), 3)?;
-    assert!(rt; put(&mut first_put, 1)?.is_none());
-    assert!(rt; put(&mut second_put, 2)?.is_none());
-    assert!(rt; take(&mut second_take)? == Some(done(2)));
+    put(&rt, &mut first_put, 1)?;
+    put(&rt, &mut second_put, 2)?;
+    take(&rt, &mut second_take, 2)?;
     assert!(rt; gather(first_put, second_take).err() == Some(Unpaired));
     let gathered = gather(second_put, first_take)
         .ok()
@@ -181,11 +198,11 @@ fn want_of_memory_changes_nothing(rt: HostRuntime) -> Result<(), Fail> {
         .is_err()
     );
     let (mut put_end, mut take_end) = link_of(rt.alloc(), 2)?;
-    assert!(rt; put(&mut put_end, 1)?.is_none());
+    put(&rt, &mut put_end, 1)?;
     assert!(rt; put_end.reserve(usize::MAX).is_err());
     assert!(rt; take_end.reserve(usize::MAX).is_err());
-    assert!(rt; put(&mut put_end, 2)?.is_none());
-    assert!(rt; take(&mut take_end)? == Some(done(1)));
+    put(&rt, &mut put_end, 2)?;
+    take(&rt, &mut take_end, 1)?;
     expect_done(&rt, put_end.messages(), &[1, 2]);
     expect_done(&rt, take_end.messages(), &[1]);
     Ok(())
