@@ -92,7 +92,7 @@ has 'through a link' "$room/out" show input
 
 # never two at a time where there is one processor, and several where there are more
 anew
-call taskset -c 0 ./invite show
+call taskset -c "$(taskset -cp $$ | sed 's/.*: //; s/[,-].*//')" ./invite show
 has 'one at a time' <(awk '/^begin/ && ++n > 1 { print; exit } /^end/ { --n }' "$room/log")
 if [ "$(nproc)" -gt 2 ]; then
     anew
