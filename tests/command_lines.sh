@@ -5,8 +5,7 @@
 set -u
 program=$(readlink -f "$1")
 here=$(dirname "$(readlink -f "${BASH_SOURCE[0]}")")
-passed=0
-failed=0
+source "$here/tally.sh"
 
 if [ ! -x "$program" ]; then
     echo "command_lines.sh: there is no program $program"
@@ -15,18 +14,6 @@ if [ ! -x "$program" ]; then
 fi
 room=$(mktemp -d) || exit 1
 trap 'rm -rf "$room"' EXIT
-
-# tell PROBLEM WORDS..: counts a check, and prints the problem if there is one
-tell() {
-    local problem=$1
-    shift
-    if [ -z "$problem" ]; then
-        passed=$((passed + 1))
-    else
-        failed=$((failed + 1))
-        echo "$problem: invite $*"
-    fi
-}
 
 # start INPUT OUTPUT WORDS..: runs the program; its status is in $status, what it left unread in $room/left
 start() {
@@ -48,7 +35,7 @@ refused() {
     [ ! -s "$room/err" ] || problem='it writes to standard error'
     grep -qE '^(error: |Usage: invite |invite [0-9])' "$room/out" || problem='it says neither what is wrong nor how it is written'
     cmp -s "$room/in" "$room/left" || problem='it read its input'
-    tell "$problem" "$@"
+    tell "$problem" invite "$@"
 }
 
 # helps COMMAND: its help has an example, which runs at the top of the repository
@@ -61,7 +48,7 @@ helps() {
     example=${example//\/tmp\//$room/}
     (cd "$here/.." && eval "${example//invite $1/$program $1}") > "$room/out" 2> "$room/err" || problem="its example ends badly: $example"
     [ ! -s "$room/err" ] || problem='its example writes to standard error'
-    tell "$problem" "$1" --help
+    tell "$problem" invite "$1" --help
 }
 
 # says REASON: what the next run has to say on standard error, in one line
@@ -81,7 +68,7 @@ prints() {
     reason=''
     [ ! -s "$room/left" ] || problem='it left input unread'
     printf '%b' "$text" | cmp -s - "$room/out" || problem="it prints something else than $text"
-    tell "$problem" "$@"
+    tell "$problem" invite "$@"
 }
 
 # full INPUT WORDS..: where standard output is full, the program ends with status 1, and says so
@@ -90,7 +77,7 @@ full() {
     start "$1" /dev/full "${@:2}"
     [ "$status" -eq 1 ] || problem="status $status in place of 1, over a full output"
     grep -qx "invite: can't write: No space left on device.*" "$room/err" || problem="it says '$(cat "$room/err")' of a full output"
-    tell "$problem" "${@:2}"
+    tell "$problem" invite "${@:2}"
 }
 
 # folder WORDS..: where standard input can't be read, the program ends with status 1, prints nothing, and says so
@@ -101,7 +88,7 @@ folder() {
     [ "$status" -eq 1 ] || problem="status $status in place of 1, over a folder as input"
     [ ! -s "$room/out" ] || problem='it prints something'
     grep -qx "invite: can't read: Is a directory.*" "$room/err" || problem="it says '$(cat "$room/err")' of a folder as input"
-    tell "$problem" "$@"
+    tell "$problem" invite "$@"
 }
 
 refused
@@ -137,7 +124,7 @@ for command in answer show sim store format node trace record threads draw; do
     problem=''
     start '' "$room/out" --help
     grep -q "^  $command " "$room/out" || problem="the help doesn't name $command"
-    tell "$problem" --help
+    tell "$problem" invite --help
     helps "$command"
 done
 
@@ -304,5 +291,4 @@ folder threads
 folder draw
 folder store "$file"
 
-echo "$passed passed, $failed failed"
-[ "$failed" -eq 0 ]
+tally

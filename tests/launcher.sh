@@ -3,20 +3,9 @@
 # where one is refused, and what it leaves where it is interrupted. Its last line counts the checks.
 set -u
 top=$(readlink -f "$(dirname "${BASH_SOURCE[0]}")/..")
-passed=0
-failed=0
+source "$top/tests/tally.sh"
 room=$(mktemp -d) || exit 1
 trap 'rm -rf "$room"' EXIT
-
-# tell PROBLEM NAME: counts a check, and prints the problem if there is one
-tell() {
-    if [ -z "$1" ]; then
-        passed=$((passed + 1))
-    else
-        failed=$((failed + 1))
-        echo "$1: $2"
-    fi
-}
 
 # has NAME FILE [LINE..]: whether a file has just these lines
 has() {
@@ -128,5 +117,4 @@ for word in show --unproved; do
     fi
 done
 
-echo "$passed passed, $failed failed"
-[ "$failed" -eq 0 ]
+tally

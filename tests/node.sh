@@ -6,8 +6,7 @@
 set -u
 program=$1
 top=$(cd "$(dirname "${BASH_SOURCE[0]}")/.." && pwd)
-passed=0
-failed=0
+source "$top/tests/tally.sh"
 
 if [ ! -x "$program" ]; then
     echo "node.sh: there is no program $program"
@@ -17,16 +16,6 @@ fi
 room=$(mktemp -d) || exit 1
 trap 'rm -rf "$room"' EXIT
 file=$room/node
-
-# tell PROBLEM NAME: counts a check, and prints the problem if there is one
-tell() {
-    if [ -z "$1" ]; then
-        passed=$((passed + 1))
-    else
-        failed=$((failed + 1))
-        echo "$2: $1"
-    fi
-}
 
 # ends STATUS NAME WORDS..: the program ends so, with no input, and prints nothing to standard output
 ends() {
@@ -195,5 +184,4 @@ if command -v python3 >/dev/null; then
     fi
 fi
 
-echo "$passed passed, $failed failed"
-[ "$failed" -eq 0 ]
+tally

@@ -8,8 +8,7 @@ set -u
 program=$(readlink -f "$1")
 is_whole=${2-}
 here=$(cd "$(dirname "${BASH_SOURCE[0]}")" && pwd)
-passed=0
-failed=0
+source "$here/tally.sh"
 source "$here/store_model.sh"
 
 if ! command -v cc >/dev/null; then
@@ -37,15 +36,6 @@ with() {
 # found: what another process finds in the file, in $found
 found() {
     found=$(printf 'mount\nlist\n' | "$program" store "$file")
-}
-
-tell() {
-    if [ -z "$1" ]; then
-        passed=$((passed + 1))
-    else
-        failed=$((failed + 1))
-        echo "$1: $2"
-    fi
 }
 
 # What each line is answered where nothing fails, what is shown after it, and how many calls were made by its end.
@@ -187,5 +177,4 @@ for ((at = 1; at <= ends[-1]; at++)); do
     done
 done
 echo "$formatting calls of a format and ${ends[-1]} of a session were failed"
-echo "$passed passed, $failed failed"
-[ "$failed" -eq 0 ]
+tally

@@ -5,8 +5,7 @@
 set -u
 program=$(readlink -f "$1")
 cd "$(dirname "${BASH_SOURCE[0]}")/.." || exit 1
-passed=0
-failed=0
+source tests/tally.sh
 
 if [ ! -x "$program" ]; then
     echo "traces.sh: there is no program $program"
@@ -15,16 +14,6 @@ if [ ! -x "$program" ]; then
 fi
 room=$(mktemp -d) || exit 1
 trap 'rm -rf "$room"' EXIT
-
-# tell PROBLEM NAME: counts a check, and prints the problem if there is one
-tell() {
-    if [ -z "$1" ]; then
-        passed=$((passed + 1))
-    else
-        failed=$((failed + 1))
-        echo "$1: $2"
-    fi
-}
 
 # judge COMMAND INPUT NAME: what the command prints for this input is the trace of a run, and no run once a first message is one that nobody sent
 judge() {
@@ -110,5 +99,4 @@ if command -v python3 >/dev/null; then
     done
 fi
 
-echo "$passed passed, $failed failed"
-[ "$failed" -eq 0 ] && [ "$passed" -gt 0 ]
+tally
