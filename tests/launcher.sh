@@ -1,6 +1,6 @@
 #!/usr/bin/env bash
-# The script `invite`, over a command rt that proves nothing: which crates it has proved, in which order and how many at a time, what it says
-# where one is refused, and what it leaves where it is interrupted. Its last line counts the checks.
+# The script `invite`, over a command rt that proves nothing: what it asks of rt and when, what it says where a crate is refused, and what it leaves
+# where it is interrupted. Its last line counts the checks.
 set -u
 top=$(readlink -f "$(dirname "${BASH_SOURCE[0]}")/..")
 source "$top/tests/tally.sh"
@@ -15,27 +15,33 @@ has() {
     if [ "$found" = "$(IFS=$'\n' && echo "$*")" ]; then tell '' "$name"; else tell "it has '${found:0:300}'" "$name"; fi
 }
 
-# A repository of empty crates, and an rt that writes down what it is asked for. `rt lib` fails where some crate that this one stands on isn't built.
+# A repository of empty crates, and an rt that writes down what it is asked for and where, and says what rt says.
 mkdir -p "$room/bin" "$room/repo/crates"
 cp "$top/invite" "$top/crates.txt" "$room/repo"
 crates=$(grep -oE '^[a-z_]+' "$top/crates.txt")
 for crate in $crates; do mkdir "$room/repo/crates/$crate"; done
 cat >"$room/bin/rt" <<'RT'
 #!/usr/bin/env bash
-crate=$(basename "$PWD")
-echo "begin $crate $*" >>"$ROOM/log"
-for need in $(grep -E "^$crate[ :]" ../../crates.txt | cut -d: -f2); do
-    [ ! -d "../$need" ] || [ -e "../$need/built" ] || { echo "$crate comes before $need"; exit 1; }
-done
+echo "$(basename "$PWD"): $*" >>"$ROOM/log"
 sleep "${NAP-0.02}"
-[ "$crate" != "${REFUSED-}" ] || { echo "a goal of $crate is open"; exit 1; }
-touch built
 if [ "$1" = run ]; then
-    mkdir out
+    [ "${REFUSED-}" != program ] || { echo 'no such compiler'; exit 1; }
+    mkdir -p out
     printf '%s\n' '#!/usr/bin/env bash' 'echo "$@"; cat' >out/invite
     chmod +x out/invite
+    exit
 fi
-echo "end $crate" >>"$ROOM/log"
+[ "${REFUSED-}" != all ] || { echo 'a file that no check reads'; exit 2; }
+for crate in $(grep -oE '^[a-z_]+' ../crates.txt); do
+    echo "== $crate"
+    [ "$crate" != "${REFUSED-}" ] || echo "a goal of $crate is open"
+done
+echo '== summary'
+for crate in $(grep -oE '^[a-z_]+' ../crates.txt); do
+    if [ "$crate" = "${REFUSED-}" ]; then echo "$crate: failed (1)"; else echo "$crate: ok"; fi
+done
+[ -z "${REFUSED-}" ] || [ "$REFUSED" = program ] || exit 1
+echo end >>"$ROOM/log"
 RT
 chmod +x "$room/bin/rt"
 
@@ -46,9 +52,9 @@ call() {
     status=$?
 }
 
-# anew: nothing is built
+# anew: the program isn't built
 anew() {
-    rm -rf "$room"/repo/crates/*/{built,out}
+    rm -rf "$room/repo/crates/invite/out"
 }
 
 # expect NAME STATUS: the last call ended so
@@ -59,11 +65,9 @@ expect() {
 call ./invite answer 0 3
 expect 'the first call' 0
 has 'the first call prints' "$room/out" 'answer 0 3' input
-libraries=$(grep -c '^invite: proving [a-z_]* (' "$room/err")
-has 'the last crate' <(tail -n 2 "$room/log") 'begin invite run -- show' 'end invite'
-has 'each crate once' <(grep -c '^begin' "$room/log") "$(cut -d' ' -f2 "$room/log" | sort -u | wc -l)"
-has 'each is told' <(echo "$libraries") "$(grep -c '^begin' "$room/log")"
-has 'none of tests or measures' <(grep -cE '_(tests|bench) ' "$room/log") 0
+has 'what rt is asked for' <(sed 's/[0-9]*$//' "$room/log") 'crates: all check --jobs ' end 'invite: run -- show'
+has 'each crate is told' <(sed -n 's/^invite: checked \([a-z_]*\) (.*/\1/p' "$room/err") "$crates"
+has 'the last is told' <(grep -c "^invite: checked .* ($(wc -w <<<"$crates") of $(wc -w <<<"$crates")), 0 min so far" "$room/err") 1
 
 call ./invite show
 expect 'the second call' 0
@@ -72,39 +76,45 @@ has 'the second call says nothing' "$room/err"
 
 touch "$room/repo/crates/wire_msg/lib.rt"
 call ./invite show
-has 'a source that changed' <(tail -n 1 "$room/log") 'end invite'
+has 'a source that changed' <(tail -n 1 "$room/log") 'invite: run -- show'
+touch "$room/repo/crates/node_tests/lib.rt"
+call ./invite show
+has 'a source that the program does not stand on' "$room/log"
 
 ln -s "$room/repo/invite" "$room/link"
 anew
 call "$room/link" show
 has 'through a link' "$room/out" show input
 
-# never two at a time where there is one processor, and several where there are more
+# as many side by side as there are processors, where there is memory
 anew
 call taskset -c "$(taskset -cp $$ | sed 's/.*: //; s/[,-].*//')" ./invite show
-has 'one at a time' <(awk '/^begin/ && ++n > 1 { print; exit } /^end/ { --n }' "$room/log")
-if [ "$(nproc)" -gt 2 ]; then
+has 'one at a time' <(head -n 1 "$room/log") 'crates: all check --jobs 1'
+if [ "$(awk '/^MemAvailable:/ { print int($2 / 2000000) }' /proc/meminfo)" -ge "$(nproc)" ]; then
     anew
     call ./invite show
-    has 'several at a time' <(awk '/^begin/ && ++n > 1 { print n; exit } /^end/ { --n }' "$room/log") 2
+    has 'several at a time' <(head -n 1 "$room/log") "crates: all check --jobs $(nproc)"
 fi
 
+for name in node_core invite; do
+    anew
+    REFUSED=$name call ./invite show
+    expect "$name is refused" 1
+    has "$name: what is told" <(tail -n 3 "$room/err") "== $name" "a goal of $name is open" 'invite: the program was not built'
+    has "$name: what is built" <(grep -c run "$room/log") 0
+    has "$name: what is printed" "$room/out"
+done
 anew
-REFUSED=node_core call ./invite show
-expect 'a crate that is refused' 1
-has 'its proof is told' <(tail -n 2 "$room/err") 'a goal of node_core is open' 'invite: the program was not built'
-has 'nothing stands on it' <(grep -c 'histories\|invite' "$room/log") 0
-has 'nothing is printed' "$room/out"
-anew
-REFUSED=invite call ./invite show
-expect 'a program that is refused' 1
-has 'it is told' <(tail -n 2 "$room/err") 'a goal of invite is open' 'invite: the program was not built'
+REFUSED=all call ./invite show
+has 'rt comes to no crate' <(tail -n 2 "$room/err") 'a file that no check reads' 'invite: the program was not built'
+REFUSED=program call ./invite show
+has 'the program is not compiled' <(tail -n 2 "$room/err") 'no such compiler' 'invite: the program was not built'
 
 anew
 # shellcheck disable=SC2016 # the inner shell expands it
 NAP=9 call bash -c './invite show & sleep 1; kill $!; wait $!'
 expect 'an interrupted call' 130
-has 'no proof went on' <(grep -c '^end' "$room/log") 0
+has 'no proof went on' <(grep -c end "$room/log") 0
 has 'no proof goes on' <(pgrep -cf "$room/bin/rt") 0
 
 for word in show --unproved; do
