@@ -50,25 +50,34 @@ for plans in plans/*.txt; do
     name=$(basename "$plans" .txt)
     judge threads "$plans" "$name"
     has "$(($(grep -c . "$plans") - 2))" "$name"
+    # one worker alone has one history
+    if [ -e "plans/$name.out" ]; then
+        problem=''
+        cmp -s "$room/threads-$name.json" "plans/$name.out" || problem='it is another trace'
+        tell "$problem" "the trace of $name"
+    fi
 done
 
-# A storm: 8 nodes, of which each polls, fires timers, submits, crashes and recovers in 300 rounds.
+# A storm: 8 nodes, of which each worker takes 20,000 turns: polls of each other node, all timers, jobs, and now and then a disk that fails, a crash
+# and a recovery. The judge takes each history's turns once more.
 awk 'BEGIN {
-    print "cluster 8 64\nlinks 16"
+    print "cluster 8 256\nlinks 256"
     split("check merge accept ready coord dispatch", timers)
-    for (round = 0; round < 300; round++)
+    for (fill = ""; length(fill) < 1400; ) fill = fill "a5"
+    for (turn = 0; turn < 20000; turn++)
         for (node = 0; node < 8; node++) {
-            for (poll = 1; poll < 8; poll++) print node, "intake", (node + poll) % 8
-            print node, "clock", timers[(round + node) % 6 + 1]
-            if (round % 7 == 3) print node, "operator submit", (round + node) % 16, "6869", 1 + round % 255
-            else if (round % 11 == 5) print node, "operator arm", round % 6
-            else if (round % 31 == 12 + node) print node, "operator crash a5"
-            else if (round % 13 == 8) print node, "operator finish", (node + round) % 8, int(round / 13)
-            else print node, "operator recover"
+            print node, "intake", (node + 1 + turn % 7) % 8
+            print node, "clock", timers[turn % 6 + 1]
+            place = turn % 50
+            if (place == 10) print node, "operator arm 3"
+            else if (place == 15 || place == 30) print node, "operator recover"
+            else if (place == 25) print node, "operator crash", fill
+            else if (place % 10 == 0) print node, "operator submit 3 646967 1"
+            else print node, "operator finish", node, int(turn / 4)
         }
 }' >"$room/storm.txt"
 judge threads "$room/storm.txt" storm
-has "$((300 * 8 * 9))" storm
+has "$((20000 * 8 * 3))" storm
 
 # unread NUMBER TEXT: the line of this number can't be read
 unread() {

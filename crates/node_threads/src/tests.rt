@@ -10,20 +10,16 @@ use super::gathering::gather_links;
 use super::wiring::{lock_nodes, wire};
 use super::*;
 use crossbeam_utils::CachePadded;
-use durable_node::{Came, DurableNode};
 use group_task::{NODES, NodeId};
-use histories::{Rest, What};
-use job_model::{Payload, Queue, Work};
+use histories::What;
 use node_core::Event;
-use node_lock::{Fill, Gate, History, MOST_ENTRIES, NodeLock, Order, Plans, Timer, Worker};
-use sector_disk::MemDisk;
+use node_lock::{Gate, History, MOST_ENTRIES, NodeLock, Plans, Timer, Worker};
 use std::alloc::{AllocError, Global};
 use std::process::Abort;
 use std::sync::Wait;
 use std::sync::atomic::{AtomicU64, Ordering};
 use std::test::Fail;
 use std::thread::Threads;
-use wire_msg::Message;
 
 /// How often a gate looks at most before it gives up.
 const LOOKS: u64 = 1_000_000_000;
@@ -325,6 +321,16 @@ fn asking(alloc: Global, polls: usize) -> Result<Vec<Plans>, AllocError> {
     Ok(plans)
 }
 
+/// The event that the node was handed.
+fn event_in(what: What) -> Option<Event> {
+    match what {
+        What::Did(event) => Some(event),
+        What::Refused(event, _) => Some(event),
+        What::Faulted(event) => Some(event),
+        _ => None,
+    }
+}
+
 /// The locks of a run of these plans, once these turns were taken in this order.
 fn locks_after(
     rt: &(impl Abort + Wait),
@@ -340,8 +346,11 @@ fn locks_after(
     let ends = wire(alloc, size.nodes, size.capacity)?;
     let locks = lock_nodes(alloc, size, ends, plans)?;
     for (node, worker) in turns {
-        let taken = locks.get(*node).map(|lock| lock.turn(rt, *worker, &Open));
-        assert!(rt; taken == Some(Ok(true)));
+        let is_taken = match locks.get(*node) {
+            Some(lock) => lock.turn(rt, *worker, &Open) == Ok(true),
+            None => false,
+        };
+        assert!(rt; is_taken);
     }
     Ok(locks)
 }
@@ -420,172 +429,5 @@ fn longest_history_in_a_large_cluster(rt: HostRuntime) -> Result<(), Fail> {
     let last = history.entry(65_535).ok_or("an entry")?;
     assert_eq!(rt; last.sent.len(), 63);
     assert_eq!(rt; whole.links.len(), 64 * 63);
-    Ok(())
-}
-
-// ---- the storm
-
-/// How many nodes, and how many turns each worker of each takes.
-const STORM_NODES: u8 = 8;
-
-const STORM_TURNS: usize = 20_000;
-
-fn timer(turn: usize) -> Timer {
-    match turn % 6 {
-        0 => Timer::Check,
-        1 => Timer::Merge,
-        2 => Timer::Accept,
-        3 => Timer::Ready,
-        4 => Timer::Coord,
-        _ => Timer::Dispatch,
-    }
-}
-
-/// Jobs, and now and then a disk that fails, a crash and a recovery.
-fn order(alloc: Global, node: NodeId, turn: usize, work: &Work) -> Result<Order, AllocError> {
-    Ok(match turn % 50 {
-        10 => Order::Arm(3),
-        15 | 30 => Order::Recover,
-        25 => Order::Crash(Fill::new(vec![in alloc; 0xa5; 700]?)),
-        place if place % 10 == 0 => Order::Submit(*work),
-        _ => Order::Finish(node, turn as u64 / 4),
-    })
-}
-
-fn storm_plan(alloc: Global, node: u8, work: &Work) -> Result<Plans, AllocError>
-    requires { node < 8 }
-{
-    let mut intake = Vec::new(alloc);
-    let mut clock = Vec::new(alloc);
-    let mut operator = Vec::new(alloc);
-    let own = NodeId::numbered(node);
-    for turn in 0..STORM_TURNS {
-        let other = (node + 1 + (turn % 7) as u8) % STORM_NODES;
-        intake.push(NodeId::numbered(other))?;
-        clock.push(timer(turn))?;
-        operator.push(order(alloc, own, turn, work)?)?;
-    }
-    Ok(Plans::new(intake, clock, operator))
-}
-
-/// The event that the node was handed.
-fn event_in(what: What) -> Option<Event> {
-    match what {
-        What::Did(event) => Some(event),
-        What::Refused(event, _) => Some(event),
-        What::Faulted(event) => Some(event),
-        _ => None,
-    }
-}
-
-fn event_for(timer: Timer) -> Event {
-    match timer {
-        Timer::Check => Event::CheckTimer,
-        Timer::Merge => Event::MergeTimer,
-        Timer::Accept => Event::AcceptTimer,
-        Timer::Ready => Event::ReadyTimer,
-        Timer::Coord => Event::CoordTimer,
-        Timer::Dispatch => Event::DispatchTimer,
-    }
-}
-
-/// What comes of an event, and what is sent.
-fn step(node: &mut DurableNode<MemDisk>, event: Event) -> Result<(What, Vec<Message>), Fail> {
-    let Came { fate, sent, .. } = node.step(&event).ok().ok_or("a step")?;
-    Ok((fate.what(&event), sent))
-}
-
-fn obey(
-    alloc: Global,
-    node: &mut DurableNode<MemDisk>,
-    order: &Order,
-) -> Result<(What, Vec<Message>), Fail> {
-    match order {
-        Order::Submit(work) => step(node, Event::Submit(*work)),
-        Order::Finish(origin, id) => step(node, Event::Finish(*origin, *id)),
-        Order::Recover => step(node, Event::Recover),
-        Order::Arm(calls) => {
-            node.arm(*calls);
-            Ok((What::Rests(Rest::Nothing), Vec::new(alloc)))
-        }
-        Order::Crash(fill) => {
-            node.crash(fill.as_slice());
-            Ok((What::Crashed, Vec::new(alloc)))
-        }
-    }
-}
-
-/// Takes a turn once more: this worker's of this number, which was brought what is told.
-fn once_more(
-    alloc: Global,
-    node: &mut DurableNode<MemDisk>,
-    plan: &Plans,
-    worker: Worker,
-    index: usize,
-    told: What,
-) -> Result<(What, Vec<Message>), Fail> {
-    match worker {
-        Worker::Intake => match event_in(told) {
-            Some(event) => step(node, event),
-            None => Ok((What::Rests(Rest::Nothing), Vec::new(alloc))),
-        },
-        Worker::Clock => {
-            let timer = plan.clock().get(index).ok_or("a timer")?;
-            step(node, event_for(*timer))
-        }
-        Worker::Operator => {
-            let order = plan.operator().get(index).ok_or("an order")?;
-            obey(alloc, node, order)
-        }
-    }
-}
-
-/// Takes the turns of a history once more, at a node of its own, and expects what is written in it.
-fn replay(
-    rt: &impl Abort,
-    alloc: Global,
-    mut node: DurableNode<MemDisk>,
-    plan: &Plans,
-    history: &History,
-) -> Result<(), Fail> {
-    for place in 0..history.len() {
-        let entry = history.entry(place).ok_or("an entry")?;
-        let index = usize::try_from(entry.index).ok().ok_or("a place")?;
-        let (what, sent) = once_more(alloc, &mut node, plan, entry.worker, index, entry.what)?;
-        assert!(rt; what == entry.what, "turn {place}");
-        assert_eq!(rt; sent.len(), entry.sent.len());
-        for (number, message) in sent.iter().enumerate() {
-            assert!(rt; entry.sent.get(number) == Some(*message), "turn {place}");
-        }
-    }
-    Ok(())
-}
-
-#[test]
-fn storm(rt: HostRuntime) -> Result<(), Fail> {
-    let alloc = rt.alloc();
-    let work = Work {
-        queue: Queue::new(3).ok_or("a queue")?,
-        priority: 1,
-        payload: Payload::new(b"dig").ok_or("a payload")?,
-    };
-    let mut plans = Vec::new(alloc);
-    for node in 0..STORM_NODES {
-        plans.push(storm_plan(alloc, node, &work)?)?;
-    }
-    let size = size_for(&plans, 256, 256).ok_or("plans of a run")?;
-    let whole = run_threads(&rt, alloc, size, &plans, &Open)
-        .ok()
-        .ok_or("a whole run")?;
-    assert_eq!(rt; whole.histories.len(), 8);
-    assert_eq!(rt; whole.links.len(), 56);
-    for (number, history) in whole.histories.iter().enumerate() {
-        assert_eq!(rt; history.len(), 60_000);
-        let id = NodeId::new(number as u8).filter(|id| id.number() < size.nodes);
-        let id = id.ok_or("a node")?;
-        let node = DurableNode::open(alloc, id, size.nodes, size.slots)?;
-        let plan = plans.get(number).ok_or("a plan")?;
-        replay(&rt, alloc, node, plan, history)?;
-    }
     Ok(())
 }
