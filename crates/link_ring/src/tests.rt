@@ -45,11 +45,16 @@ fn take_in_vain(rt: &impl Abort, end: &mut TakeEnd) -> Result<(), AllocError> {
     Ok(())
 }
 
+/// Whether the message at this place is that of this job.
+fn is_done(messages: &MessageList, place: usize, id: u64) -> bool {
+    messages.get(place) == Some(done(id))
+}
+
 /// Expects the messages of these jobs, in this order.
 fn expect_done(rt: &impl Abort, messages: &MessageList, ids: &[u64]) {
     assert_eq!(rt; messages.len(), ids.len());
     for (place, id) in ids.iter().enumerate() {
-        assert!(rt; messages.get(place) == Some(done(*id)), "message {place}");
+        assert!(rt; is_done(messages, place, *id), "message {place}");
     }
 }
 
@@ -131,15 +136,19 @@ fn ends_of_two_links(rt: HostRuntime) -> Result<(), Fail> {
     Ok(())
 }
 
+/// Whether a putting end from node 0 to node 1 is paired with a taking end of these nodes.
+fn is_paired(alloc: Global, sender: u8, receiver: u8) -> Result<bool, Fail> {
+    let sender = NodeId::new(sender).ok_or("an id")?;
+    let receiver = NodeId::new(receiver).ok_or("an id")?;
+    let (put_end, _) = link_of(alloc, 1)?;
+    let (_, take_end) = link(alloc, sender, receiver, 1)?;
+    Ok(gather(put_end, take_end).is_ok())
+}
+
 #[test]
 fn ends_of_other_nodes(rt: HostRuntime) -> Result<(), Fail> {
-    // the nodes of the taking end, and whether it is paired with a putting end from node 0 to node 1
     for (sender, receiver, paired) in [(0, 1, true), (0, 2, false), (2, 1, false), (1, 0, false)] {
-        let (put_end, _) = link_of(rt.alloc(), 1)?;
-        let sender = NodeId::new(sender).ok_or("an id")?;
-        let receiver = NodeId::new(receiver).ok_or("an id")?;
-        let (_, take_end) = link(rt.alloc(), sender, receiver, 1)?;
-        assert!(rt; gather(put_end, take_end).is_ok() == paired);
+        assert!(rt; is_paired(rt.alloc(), sender, receiver)? == paired);
     }
     Ok(())
 }

@@ -7,6 +7,7 @@ use super::*;
 use group_task::NodeId;
 use histories::{Rest, What};
 use link_ring::{PutEnd, TakeEnd, link};
+use message_list::MessageList;
 use node_core::Event;
 use std::alloc::{AllocError, Global};
 use std::io::Print;
@@ -87,9 +88,9 @@ fn from_first(body: Body) -> Message {
 fn next<R: Abort + Print>(rt: &R, held: &mut Held, worker: Worker) -> Result<bool, HeldFault> {
     let before = held.turns(worker);
     for _ in 0..9 {
-        let taken = held.next(worker);
-        if taken != Err(HeldFault::NoMemory) {
-            return taken;
+        match held.next(worker) {
+            Err(HeldFault::NoMemory) => {}
+            taken => return taken,
         }
         let _ = println!(rt; "refused");
         assert_eq!(rt; held.turns(worker), before);
@@ -135,11 +136,16 @@ fn sent(history: &History, place: usize) -> Option<Message> {
     entry.sent.get(0)
 }
 
+/// Whether this message stands at this place.
+fn is_at(messages: &MessageList, place: usize, message: Message) -> bool {
+    messages.get(place) == Some(message)
+}
+
 /// Expects that this message was taken from the links, and no other one.
 fn expect_taken(rt: &impl Abort, takes: &[TakeEnd], message: Message) {
     for end in takes.iter() {
         assert_eq!(rt; end.messages().len(), 1);
-        assert!(rt; end.messages().get(0) == Some(message));
+        assert!(rt; is_at(end.messages(), 0, message));
     }
 }
 
@@ -229,8 +235,8 @@ fn expect_answered_once(rt: &impl Abort, parts: &Parts) {
     expect_taken(rt, &parts.takes, question());
     for end in parts.puts.iter() {
         assert_eq!(rt; end.messages().len(), 2);
-        assert!(rt; end.messages().get(0) == Some(from_first(Body::Coordinator(true))));
-        assert!(rt; end.messages().get(1) == Some(from_first(Body::AreYouCoordinator)));
+        assert!(rt; is_at(end.messages(), 0, from_first(Body::Coordinator(true))));
+        assert!(rt; is_at(end.messages(), 1, from_first(Body::AreYouCoordinator)));
     }
 }
 

@@ -8,7 +8,7 @@ ghost use Rattle.node_store.specs.Store.{slots_for};
 use durable_node::{Came, DurableNode, NodeFault};
 use group_task::NodeId;
 use node_core::Phase;
-use sector_disk::MemDisk;
+use sector_disk::{MemDisk, SectorDisk};
 use std::alloc::Global;
 use std::process::Abort;
 use std::test::Fail;
