@@ -70,6 +70,38 @@ fn seal_over(rt: &impl Abort, disk: &mut MemDisk, slot: u64, body: &Sector) -> R
     Ok(())
 }
 
+// What a raise answers that was stopped, what a mounting found then, and what the next raise answered.
+type Stopped = (Result<u64, CellFault>, u64, u64);
+
+// Raises over this value in so many device calls at most, crashes, mounts and raises.
+fn stop(
+    rt: &impl Abort,
+    alloc: Global,
+    before: u64,
+    calls: u64,
+    fill: &[u8],
+) -> Result<Stopped, Fail> {
+    let mut disk = raised(rt, alloc, before)?;
+    let answer = raise_within(rt, &mut disk, calls);
+    disk.crash(fill);
+    let value = mounted_value(rt, &mut disk)?;
+    let next = raise_within(rt, &mut disk, 6)?;
+    Ok((answer, value, next))
+}
+
+fn expect_stopped(
+    rt: &impl Abort,
+    alloc: Global,
+    before: u64,
+    calls: u64,
+    fill: &[u8],
+    want: Stopped,
+) -> Result<(), Fail> {
+    let found = stop(rt, alloc, before, calls, fill)?;
+    assert!(rt; found == want, "{calls} calls from {before}");
+    Ok(())
+}
+
 // From 0 a raise takes four device calls, over a slot that is sealed six. Its last two write and
 // sync the gate: a crash after either of them keeps the raise where it leaves 0xA5 there.
 #[test]
@@ -81,33 +113,17 @@ fn raise_stopped_at_each_call(rt: HostRuntime) -> Result<(), Fail> {
             (&[0x37; 512][..], false),
         ] {
             for k in 0..=calls {
-                let mut disk = raised(&rt, rt.alloc(), before)?;
                 let answer = if k < calls {
                     Err(CellFault::Device)
                 } else {
                     Ok(after)
                 };
-                assert_eq!(rt;
-                    raise_within(&rt, &mut disk, k),
-                    answer,
-                    "{k} calls from {before}"
-                );
-                disk.crash(fill);
-                let (value, then) = if k == calls || (seals && k >= gate) {
-                    (after, next)
+                let want = if k == calls || (seals && k >= gate) {
+                    (answer, after, next)
                 } else {
-                    (before, after)
+                    (answer, before, after)
                 };
-                assert_eq!(rt;
-                    mounted_value(&rt, &mut disk),
-                    Ok(value),
-                    "{k} calls from {before}"
-                );
-                assert_eq!(rt;
-                    raise_within(&rt, &mut disk, 6),
-                    Ok(then),
-                    "{k} calls from {before}"
-                );
+                expect_stopped(&rt, rt.alloc(), before, k, fill, want)?;
             }
         }
     }
@@ -143,37 +159,52 @@ fn unsealed_slot_stays(rt: HostRuntime) -> Result<(), Fail> {
     Ok(())
 }
 
+// Mounts in so many device calls at most: whether that was enough. It is found once the disk fails no more.
+fn is_mounted_within(rt: &impl Abort, alloc: Global, value: u64, calls: u64) -> Result<bool, Fail> {
+    let mut disk = raised(rt, alloc, value)?;
+    disk.arm(calls);
+    let answer = mounted_value(rt, &mut disk);
+    let is_whole = disk.failures() == 0;
+    let want = if is_whole {
+        Ok(value)
+    } else {
+        Err(CellFault::Device)
+    };
+    assert_eq!(rt; answer, want);
+    disk.crash(&[]);
+    assert_eq!(rt; mounted_value(rt, &mut disk), Ok(value));
+    Ok(is_whole)
+}
+
 // Three calls where the second slot is unsealed, four where both are sealed.
 #[test]
 fn mounting_fails_at_each_call(rt: HostRuntime) -> Result<(), Fail> {
     for (value, calls) in [(0, 3), (1, 4)] {
         for k in 0..=calls {
-            let mut disk = raised(&rt, rt.alloc(), value)?;
-            disk.arm(k);
-            let answer = if k < calls {
-                Err(CellFault::Device)
-            } else {
-                Ok(value)
-            };
-            assert_eq!(rt; mounted_value(&rt, &mut disk), answer, "{k} calls");
-            assert_eq!(rt; disk.failures() == 0, k == calls, "{k} calls");
-            disk.crash(&[]);
-            assert_eq!(rt; mounted_value(&rt, &mut disk), Ok(value), "after {k} calls");
+            let is_mounted = is_mounted_within(&rt, rt.alloc(), value, k)?;
+            assert!(rt; is_mounted == (k == calls), "{k} calls");
         }
     }
     Ok(())
 }
 
+// Whether a cell is formatted in so many device calls, or else the device is told to have failed.
+fn is_formatted_within(rt: &impl Abort, alloc: Global, calls: u64) -> Result<bool, Fail> {
+    let mut disk = raised(rt, alloc, 1)?;
+    match format_within(rt, &mut disk, calls) {
+        Ok(()) => Ok(true),
+        Err(CellFault::Device) => Ok(false),
+        Err(fault) => Err(Fail::new(fault)),
+    }
+}
+
 #[test]
 fn formatting_fails_at_each_call(rt: HostRuntime) -> Result<(), Fail> {
     for k in 0..=8 {
-        let mut disk = raised(&rt, rt.alloc(), 1)?;
-        let answer = if k < 8 {
-            Err(CellFault::Device)
-        } else {
-            Ok(())
-        };
-        assert_eq!(rt; format_within(&rt, &mut disk, k), answer, "{k} calls");
+        assert!(rt;
+            is_formatted_within(&rt, rt.alloc(), k)? == (k == 8),
+            "{k} calls"
+        );
     }
     Ok(())
 }
@@ -190,6 +221,23 @@ fn body_as_written(rt: HostRuntime) -> Result<(), Fail> {
     disk.read(4, &mut found)?;
     assert_eq!(rt; found, expected);
     Ok(())
+}
+
+// What a mounting tells of a cell whose slots have these bodies, where they are sealed.
+fn value_of(
+    rt: &impl Abort,
+    alloc: Global,
+    first: &Option<Sector>,
+    second: &Option<Sector>,
+) -> Result<Result<u64, CellFault>, Fail> {
+    let mut disk = MemDisk::new(alloc, 24)?;
+    if let Some(body) = first {
+        seal_over(rt, &mut disk, 4, body)?;
+    }
+    if let Some(body) = second {
+        seal_over(rt, &mut disk, 6, body)?;
+    }
+    Ok(mounted_value(rt, &mut disk))
 }
 
 #[test]
@@ -219,14 +267,8 @@ fn what_a_mounting_tells(rt: HostRuntime) -> Result<(), Fail> {
         (10, None, Some(torn), Err(CellFault::Damaged(6))),
         (11, Some(torn), Some(damaged), Err(CellFault::Damaged(4))),
     ] {
-        let mut disk = MemDisk::new(rt.alloc(), 24)?;
-        if let Some(body) = first {
-            seal_over(&rt, &mut disk, 4, &body)?;
-        }
-        if let Some(body) = second {
-            seal_over(&rt, &mut disk, 6, &body)?;
-        }
-        assert_eq!(rt; mounted_value(&rt, &mut disk), told, "row {row}");
+        let found = value_of(&rt, rt.alloc(), &first, &second)?;
+        assert!(rt; found == told, "row {row}");
     }
     Ok(())
 }

@@ -136,6 +136,20 @@ fn seal_greatest_area(rt: &impl Abort, disk: &mut MemDisk) -> Result<(), Fail> {
     Ok(())
 }
 
+// Appends a job in so many device calls at most, crashes and mounts: whether the append is done, the next id and how many jobs are pending.
+fn stopped_append(
+    rt: &impl Abort,
+    alloc: Global,
+    calls: u64,
+    fill: &[u8],
+) -> Result<(bool, u64, usize), Fail> {
+    let mut disk = formatted(rt, alloc)?;
+    let answer = append_within(rt, alloc, &mut disk, put()?, calls);
+    disk.crash(fill);
+    let (next, pending) = mounted_within(rt, alloc, &mut disk, u64::MAX)?;
+    Ok((answer.is_ok(), next, pending))
+}
+
 // The body is written and synced, and then the gate: a crash after the gate's write, done or failed, keeps the job
 // where it leaves 0xA5 there.
 #[test]
@@ -146,14 +160,10 @@ fn append_stopped_at_each_call(rt: HostRuntime) -> Result<(), Fail> {
         (&[0x37; 512][..], false),
     ] {
         for k in 0..=4 {
-            let mut disk = formatted(&rt, rt.alloc())?;
-            let answer = append_within(&rt, rt.alloc(), &mut disk, put()?, k);
-            assert_eq!(rt; answer.is_ok(), k == 4, "{k} calls");
-            disk.crash(fill);
-            let jobs = if k == 4 || (seals && k >= 2) { 1 } else { 0 };
-            let (next, pending) = mounted_within(&rt, rt.alloc(), &mut disk, u64::MAX)?;
-            assert_eq!(rt; next, jobs, "{k} calls");
-            assert_eq!(rt; pending as u64, jobs, "{k} calls");
+            let is_kept = k == 4 || (seals && k >= 2);
+            let found = stopped_append(&rt, rt.alloc(), k, fill)?;
+            let want = (k == 4, u64::from(is_kept), usize::from(is_kept));
+            assert!(rt; found == want, "{k} calls");
         }
     }
     Ok(())
@@ -193,10 +203,8 @@ fn no_id_left(rt: HostRuntime) -> Result<(), Fail> {
 fn full_journal(rt: HostRuntime) -> Result<(), Fail> {
     let mut disk = formatted(&rt, rt.alloc())?;
     for id in 0..2 {
-        assert_eq!(rt;
-            append_within(&rt, rt.alloc(), &mut disk, put()?, 4),
-            Ok(id)
-        );
+        let found = append_within(&rt, rt.alloc(), &mut disk, put()?, 4)?;
+        assert_eq!(rt; found, id);
     }
     assert_eq!(rt;
         append_within(&rt, rt.alloc(), &mut disk, put()?, 0),
@@ -214,6 +222,22 @@ fn with_no_free_slot(rt: &impl Abort, alloc: Global) -> Result<MemDisk, Fail> {
     Ok(disk)
 }
 
+// Takes job 1 out of a journal with no free slot, in so many device calls at most, crashes and mounts: whether it is done, the next id and how many
+// jobs are pending.
+fn stopped_compaction(
+    rt: &impl Abort,
+    alloc: Global,
+    calls: u64,
+    fill: &[u8],
+) -> Result<(bool, u64, usize), Fail> {
+    let mut disk = with_no_free_slot(rt, alloc)?;
+    let answer = append_within(rt, alloc, &mut disk, Command::Done(1), calls);
+    assert!(rt; matches!(answer, Ok(1) | Err(JournalFault::Device)));
+    disk.crash(fill);
+    let (next, pending) = mounted_within(rt, alloc, &mut disk, u64::MAX)?;
+    Ok((answer.is_ok(), next, pending))
+}
+
 // Eight calls unseal the other area, six fill a Base and two Keeps, six seal them, four raise the area cell over its
 // unsealed slot, and the last four are those of the Done: only a gate that is left sealed there keeps it.
 #[test]
@@ -225,21 +249,9 @@ fn stops_in_a_compaction(rt: HostRuntime) -> Result<(), Fail> {
         (&[0xff; 512][..], false),
     ] {
         for k in 0..=28 {
-            let mut disk = with_no_free_slot(&rt, rt.alloc())?;
-            let answer = append_within(&rt, rt.alloc(), &mut disk, Command::Done(1), k);
-            let done = if k == 28 {
-                Ok(1)
-            } else {
-                Err(JournalFault::Device)
-            };
-            assert_eq!(rt; answer, done, "{k} calls");
-            disk.crash(fill);
             let pending = if k == 28 || (seals && k >= 26) { 1 } else { 2 };
-            assert_eq!(rt;
-                mounted_within(&rt, rt.alloc(), &mut disk, u64::MAX),
-                Ok((3, pending)),
-                "{k} calls"
-            );
+            let found = stopped_compaction(&rt, rt.alloc(), k, fill)?;
+            assert!(rt; found == (k == 28, 3, pending), "{k} calls");
         }
     }
     Ok(())
@@ -277,6 +289,20 @@ fn old_disk_is_compacted(rt: HostRuntime) -> Result<(), Fail> {
     check_jobs(&rt, rt.alloc(), &mut disk, 3, &[old_job()?])
 }
 
+// Compacts an old disk in so many device calls at most, crashes, and finds its job: whether the compaction is done.
+fn stopped_on_an_old_disk(
+    rt: &impl Abort,
+    alloc: Global,
+    calls: u64,
+    fill: &[u8],
+) -> Result<bool, Fail> {
+    let mut disk = old_disk(rt, alloc)?;
+    let answer = compact_within(rt, alloc, &mut disk, calls);
+    disk.crash(fill);
+    check_jobs(rt, alloc, &mut disk, 3, &[old_job()?])?;
+    Ok(answer.is_ok())
+}
+
 // Eight calls unseal the other area, four fill a Base and a Keep, four seal them, and four raise the area cell.
 #[test]
 fn stops_on_an_old_disk(rt: HostRuntime) -> Result<(), Fail> {
@@ -288,11 +314,8 @@ fn stops_on_an_old_disk(rt: HostRuntime) -> Result<(), Fail> {
         &[0xa5; 4096][..],
     ] {
         for k in 0..=20 {
-            let mut disk = old_disk(&rt, rt.alloc())?;
-            let answer = compact_within(&rt, rt.alloc(), &mut disk, k);
-            assert_eq!(rt; answer.is_ok(), k == 20, "{k} calls");
-            disk.crash(fill);
-            check_jobs(&rt, rt.alloc(), &mut disk, 3, &[old_job()?])?;
+            let is_done = stopped_on_an_old_disk(&rt, rt.alloc(), k, fill)?;
+            assert!(rt; is_done == (k == 20), "{k} calls");
         }
     }
     Ok(())
@@ -367,21 +390,22 @@ fn second_area(rt: HostRuntime) -> Result<(), Fail> {
     Ok(())
 }
 
+// Whether an empty journal is mounted in so many device calls, or else the device is told to have failed.
+fn is_mounted_within(rt: &impl Abort, alloc: Global, calls: u64) -> Result<bool, Fail> {
+    let mut disk = formatted(rt, alloc)?;
+    match mounted_within(rt, alloc, &mut disk, calls) {
+        Ok((0, 0)) => Ok(true),
+        Err(JournalFault::Device) => Ok(false),
+        _ => Err(Fail::new("another answer")),
+    }
+}
+
 // Sectors 5, 4 and 7, and the gate in sector 9. Of a disk of zeros the area cell isn't sealed.
 #[test]
 fn mounting_fails_at_each_call(rt: HostRuntime) -> Result<(), Fail> {
     for k in 0..=4 {
-        let mut disk = formatted(&rt, rt.alloc())?;
-        let answer = if k < 4 {
-            Err(JournalFault::Device)
-        } else {
-            Ok((0, 0))
-        };
-        assert_eq!(rt;
-            mounted_within(&rt, rt.alloc(), &mut disk, k),
-            answer,
-            "{k} calls"
-        );
+        let is_mounted = is_mounted_within(&rt, rt.alloc(), k)?;
+        assert!(rt; is_mounted == (k == 4), "{k} calls");
     }
     let mut zeros = MemDisk::new(rt.alloc(), 24)?;
     assert_eq!(rt;

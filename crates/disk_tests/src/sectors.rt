@@ -1,4 +1,5 @@
 use sector_disk::{DiskFault, MemDisk, Sector, SectorDisk};
+use std::alloc::Global;
 use std::process::Abort;
 use std::test::Fail;
 
@@ -11,8 +12,8 @@ fn put(disk: &mut MemDisk, at: u64, byte: u8) -> Result<(), DiskFault> {
 
 fn check_sector(rt: &impl Abort, disk: &mut MemDisk, at: u64, want: &Sector) {
     let mut sector = [0xee; 512];
-    assert_eq!(rt; disk.read(at, &mut sector), Ok(()), "reading {at}");
-    assert!(rt; sector == *want, "sector {at}");
+    let answer = disk.read(at, &mut sector);
+    assert!(rt; answer.is_ok() && sector == *want, "sector {at}");
 }
 
 // The first bytes are of one value, and the others of another.
@@ -33,10 +34,10 @@ fn every_call_of_a_great_disk_passes(rt: HostRuntime) -> Result<(), Fail> {
     for round in 1..3 {
         for at in 0..sectors {
             let byte = (at % 100) as u8 + round;
-            assert_eq!(rt; put(&mut disk, at, byte), Ok(()), "writing {at}");
+            put(&mut disk, at, byte)?;
             check_sector(&rt, &mut disk, at, &[byte; 512]);
         }
-        assert_eq!(rt; disk.sync(), Ok(()));
+        disk.sync()?;
     }
     for at in 0..sectors {
         check_sector(&rt, &mut disk, at, &[(at % 100) as u8 + 2; 512]);
@@ -54,6 +55,21 @@ fn every_call_of_a_great_disk_passes(rt: HostRuntime) -> Result<(), Fail> {
     Ok(())
 }
 
+// Of three sectors that were 0x11, the first and the last were written over twice since.
+fn overwritten(alloc: Global) -> Result<MemDisk, Fail> {
+    let mut disk = MemDisk::new(alloc, 3)?;
+    for at in 0..3 {
+        put(&mut disk, at, 0x11)?;
+    }
+    disk.sync()?;
+    for byte in [0x22, 0x33] {
+        for at in [2, 0] {
+            put(&mut disk, at, byte)?;
+        }
+    }
+    Ok(disk)
+}
+
 // Sectors 0 and 2 of three are unsynced: each was 0x11, then 0x22, then 0x33. Of a fill the first
 // 512 bytes go to sector 0 and the next ones to sector 2, over 0x11.
 #[test]
@@ -69,16 +85,7 @@ fn fill_of_a_crash(rt: HostRuntime) -> Result<(), Fail> {
         (1025, 512, 512),
         (2048, 512, 512),
     ] {
-        let mut disk = MemDisk::new(rt.alloc(), 3)?;
-        for at in 0..3 {
-            assert_eq!(rt; put(&mut disk, at, 0x11), Ok(()));
-        }
-        assert_eq!(rt; disk.sync(), Ok(()));
-        for byte in [0x22, 0x33] {
-            for at in [2, 0] {
-                assert_eq!(rt; put(&mut disk, at, byte), Ok(()));
-            }
-        }
+        let mut disk = overwritten(rt.alloc())?;
         check_sector(&rt, &mut disk, 2, &[0x33; 512]);
         disk.crash(&vec![in rt.alloc(); 0xa5; bytes]?);
         check_sector(&rt, &mut disk, 0, &two_parts(0xa5, first, 0x11));

@@ -8,6 +8,7 @@ use job_model::{Payload, Queue, Work};
 use node_store::{NodeStore, StoreFault, format};
 use sector_disk::MemDisk;
 use std::alloc::Global;
+use std::process::Abort;
 use std::test::Fail;
 
 // The fault of a mounting, if it is refused.
@@ -87,8 +88,11 @@ fn smallest_disk(rt: HostRuntime) -> Result<(), Fail> {
     Ok(())
 }
 
-// What a disk mounts as: its counter and how many jobs are pending, or why not.
-fn mounts_as(alloc: Global, disk: MemDisk) -> Result<(u64, usize), StoreFault> {
+// The counter and how many jobs are pending, or why a disk isn't mounted.
+type Mounting = Result<(u64, usize), StoreFault>;
+
+// What a disk mounts as.
+fn mounts_as(alloc: Global, disk: MemDisk) -> Mounting {
     match NodeStore::mount(alloc, disk) {
         Ok(store) => Ok((store.counter(), store.table().pending().len())),
         Err(refused) => Err(refused.fault),
@@ -114,25 +118,49 @@ fn formatted_within(disk: &mut MemDisk, calls: u64, fill: &[u8]) -> Result<(), S
     answer
 }
 
+// Formats a new disk in so many device calls at most, and crashes: whether the formatting is done, and what the disk mounts as.
+fn stopped_on_a_new_disk(alloc: Global, calls: u64, fill: &[u8]) -> Result<(bool, Mounting), Fail> {
+    let mut disk = MemDisk::new(alloc, 24)?;
+    let answer = formatted_within(&mut disk, calls, fill);
+    Ok((answer.is_ok(), mounts_as(alloc, disk)))
+}
+
 // Eight writes and a sync unseal the gates of both areas; eight calls format the area cell and eight the counter. Cut off,
 // a new disk isn't formatted, unless a gate of the counter was torn shut: over a body of zeros that is a counter of 0.
 #[test]
 fn format_stopped_at_each_call(rt: HostRuntime) -> Result<(), Fail> {
     for (fill, seals) in [(&[][..], false), (&[0xa5][..], true)] {
         for k in 0..=25 {
-            let mut disk = MemDisk::new(rt.alloc(), 24)?;
-            let answer = formatted_within(&mut disk, k, fill);
-            assert_eq!(rt; answer.is_ok(), k == 25, "{k} calls");
             let torn = seals && (k >= 17 && k <= 20 || k >= 23);
-            let found = if k == 25 || torn {
+            let want = if k == 25 || torn {
                 Ok((0, 0))
             } else {
                 Err(StoreFault::NotFormatted)
             };
-            assert_eq!(rt; mounts_as(rt.alloc(), disk), found, "{k} calls");
+            let found = stopped_on_a_new_disk(rt.alloc(), k, fill)?;
+            assert!(rt; found == (k == 25, want), "{k} calls");
         }
     }
     Ok(())
+}
+
+// The same of a disk in use, where the crash leaves nothing over.
+fn stopped_on_a_used_disk(alloc: Global, calls: u64) -> Result<(bool, Mounting), Fail> {
+    let mut disk = used(alloc)?;
+    let answer = formatted_within(&mut disk, calls, &[]);
+    Ok((answer.is_ok(), mounts_as(alloc, disk)))
+}
+
+// What is found of a disk in use that was being formatted again, and stopped after so many calls.
+fn left_after(calls: u64) -> Mounting {
+    match calls {
+        0..=8 => Ok((2, 1)),
+        9 | 10 | 17 | 18 => Ok((2, 0)),
+        11..=16 => Err(StoreFault::Damaged(5)),
+        19 | 20 => Ok((1, 0)),
+        21..=24 => Err(StoreFault::NotFormatted),
+        _ => Ok((0, 0)),
+    }
 }
 
 // A disk in use isn't to be formatted: cut off, it may have lost its jobs and not its counter, its area cell, both, or have
@@ -140,18 +168,8 @@ fn format_stopped_at_each_call(rt: HostRuntime) -> Result<(), Fail> {
 #[test]
 fn used_disk_formatted_again(rt: HostRuntime) -> Result<(), Fail> {
     for k in 0..=25 {
-        let mut disk = used(rt.alloc())?;
-        let answer = formatted_within(&mut disk, k, &[]);
-        assert_eq!(rt; answer.is_ok(), k == 25, "{k} calls");
-        let found = match k {
-            0..=8 => Ok((2, 1)),
-            9 | 10 | 17 | 18 => Ok((2, 0)),
-            11..=16 => Err(StoreFault::Damaged(5)),
-            19 | 20 => Ok((1, 0)),
-            21..=24 => Err(StoreFault::NotFormatted),
-            _ => Ok((0, 0)),
-        };
-        assert_eq!(rt; mounts_as(rt.alloc(), disk), found, "{k} calls");
+        let found = stopped_on_a_used_disk(rt.alloc(), k)?;
+        assert!(rt; found == (k == 25, left_after(k)), "{k} calls");
     }
     Ok(())
 }
@@ -213,27 +231,32 @@ fn commands_are_mounted_again(rt: HostRuntime) -> Result<(), Fail> {
     Ok(())
 }
 
+// Mounts a disk whose counter was raised in so many device calls at most, and then with enough of them: whether the first was enough.
+fn is_mounted_within(rt: &impl Abort, alloc: Global, calls: u64) -> Result<bool, Fail> {
+    let mut store = opened(alloc)?;
+    store.raise()?;
+    let mut disk = store.into_disk();
+    disk.arm(calls);
+    let (is_mounted, mut disk) = match NodeStore::mount(alloc, disk) {
+        Ok(store) => (true, store.into_disk()),
+        Err(refused) => {
+            assert_eq!(rt; refused.fault, StoreFault::Device);
+            (false, refused.disk)
+        }
+    };
+    disk.arm(9);
+    assert_eq!(rt; refusal(alloc, disk), None);
+    Ok(is_mounted)
+}
+
 // A sync; sectors 1, 0, 3 and 2 of the counter; 5, 4 and 7 of the area cell; and the gate in sector 9.
 #[test]
 fn mounting_fails_at_each_call(rt: HostRuntime) -> Result<(), Fail> {
     for k in 0..=9 {
-        let mut store = opened(rt.alloc())?;
-        store.raise()?;
-        let mut disk = store.into_disk();
-        disk.arm(k);
-        let mut disk = match NodeStore::mount(rt.alloc(), disk) {
-            Ok(store) => {
-                assert_eq!(rt; k, 9);
-                store.into_disk()
-            }
-            Err(refused) => {
-                assert!(rt; k < 9);
-                assert_eq!(rt; refused.fault, StoreFault::Device);
-                refused.disk
-            }
-        };
-        disk.arm(9);
-        assert_eq!(rt; refusal(rt.alloc(), disk), None, "after {k} calls");
+        assert!(rt;
+            is_mounted_within(&rt, rt.alloc(), k)? == (k == 9),
+            "{k} calls"
+        );
     }
     Ok(())
 }
