@@ -79,6 +79,24 @@ awk 'BEGIN {
 judge threads "$room/storm.txt" storm
 has "$((20000 * 8 * 3))" storm
 
+# A shorter one, in which each node polls all others between two timers, so that most messages are found.
+awk 'BEGIN {
+    print "cluster 8 64\nlinks 16"
+    split("check merge accept ready coord dispatch", timers)
+    for (round = 0; round < 300; round++)
+        for (node = 0; node < 8; node++) {
+            for (poll = 1; poll < 8; poll++) print node, "intake", (node + poll) % 8
+            print node, "clock", timers[(round + node) % 6 + 1]
+            if (round % 7 == 3) print node, "operator submit", (round + node) % 16, "6869", 1 + round % 255
+            else if (round % 11 == 5) print node, "operator arm", round % 6
+            else if (round % 31 == 12 + node) print node, "operator crash a5"
+            else if (round % 13 == 8) print node, "operator finish", (node + round) % 8, int(round / 13)
+            else print node, "operator recover"
+        }
+}' >"$room/polls.txt"
+judge threads "$room/polls.txt" polls
+has "$((300 * 8 * 9))" polls
+
 # unread NUMBER TEXT: the line of this number can't be read
 unread() {
     local problem=''
