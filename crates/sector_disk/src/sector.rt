@@ -12,7 +12,7 @@ pub fn is_blank(sector: &Sector, from: usize) -> bool
     requires { from ≤ 512 }
     ensures { result ≡ is_blank (drop from sector.now) }
 {
-    sector[from..].iter().filter(|byte| **byte != 0).count() == 0
+    is_zero_block(&sector[from..])
 }
 
 // Whether a sector is all zeros.
@@ -24,7 +24,8 @@ pub fn is_zero(sector: &Sector) -> bool
 
 // Whether a block of bytes is all zeros. It looks at all of them, many at a time.
 fn is_zero_block(block: &[u8]) -> bool
-    ensures { IsTrue result → block.now ≡ replicate (length block.now) 0 }
+    ensures value { result ≡ is_blank block.now }
+    ensures zeros { IsTrue result → block.now ≡ replicate (length block.now) 0 }
 {
     let mut zeros = true;
     for at in 0..block.len() {

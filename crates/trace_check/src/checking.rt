@@ -94,15 +94,10 @@ fn take_next(trace: &Trace, desk: &mut Desk, id: NodeId) -> Result<bool, AllocEr
             Ok(false)
         }
         Judgement::Takes => {
-            let Some(entry) = trace.entry(id, place) else {
+            let Some(sent) = trace.sent(id, place) else {
                 unreachable!()
             };
-            post_all(
-                &mut desk.posted,
-                &mut desk.ready,
-                &desk.stopped,
-                &entry.sent,
-            )?;
+            post_all(&mut desk.posted, &mut desk.ready, &desk.stopped, &sent)?;
             desk.order.push(id)?;
             Ok(true)
         }

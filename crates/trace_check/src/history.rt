@@ -1,4 +1,5 @@
-ghost use Rattle.std.specs.Prelude.{◌≡◌, ◌≤◌, ◌<◌, ◌+◌, ◌^◌, [], ◌∷◌, ◌++◌, length, slice_get, Some, None, IfSome, IsNone, IsTrue, ◌↔◌, OnOk, OnErr};
+ghost use Rattle.std.specs.Prelude.{◌≡◌, ◌≤◌, ◌<◌, ◌+◌, ◌^◌, [], ◌∷◌, ◌++◌, length, slice_get, option_map, Some, None, IfSome, IsNone, IsTrue, ◌↔◌, OnOk, OnErr};
+ghost use Rattle.trace_check.specs.Claims.{Claim};
 ghost use Rattle.trace_check.specs.Traces.{claim, claim_seen};
 
 use crate::kept::{KeptEntry, deed_said, keep_deed};
@@ -84,6 +85,18 @@ impl History {
                 start: kept.start,
                 end: kept.end,
             },
+        })
+    }
+
+    /// The messages that the entry at this place sent.
+    pub fn sent(&self, place: usize) -> Option<Sent<'_>>
+        ensures { result ≡ option_map (λ (c : Claim). c.sent) (slice_get self.now place) }
+    {
+        let kept = self.entries.get(place)?;
+        Some(Sent {
+            messages: &self.messages,
+            start: kept.start,
+            end: kept.end,
         })
     }
 }

@@ -1,9 +1,10 @@
-ghost use Rattle.std.specs.Prelude.{◌≡◌, ◌<◌, ◌≤◌, ◌+◌, ◌^◌, length, slice_get, Some, None, IfSome, IsNone, vec_len};
+ghost use Rattle.std.specs.Prelude.{◌≡◌, ◌<◌, ◌≤◌, ◌+◌, ◌^◌, length, slice_get, option_map, Some, None, IfSome, IsNone, vec_len};
 ghost use Rattle.group_task.specs.declared.node.TheConstants.{NODES};
+ghost use Rattle.trace_check.specs.Claims.{Claim};
 ghost use Rattle.trace_check.specs.Orders.{history};
 ghost use Rattle.trace_check.specs.Traces.{claim_seen};
 
-use crate::history::{EntryView, History};
+use crate::history::{EntryView, History, Sent};
 use group_task::NodeId;
 use node_core::Event;
 use std::marker::Model;
@@ -93,5 +94,12 @@ impl Trace {
     {
         let history = self.histories.get(usize::from(node.number()))?;
         history.entry(place)
+    }
+    /// The messages that the entry of a node at this place of its history sent.
+    pub fn sent(&self, node: NodeId, place: usize) -> Option<Sent<'_>>
+        ensures { result ≡ option_map (λ (c : Claim). c.sent) (slice_get (history self.now node) place) }
+    {
+        let history = self.histories.get(usize::from(node.number()))?;
+        history.sent(place)
     }
 }

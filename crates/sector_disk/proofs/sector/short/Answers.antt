@@ -10,5 +10,5 @@ returns c =
     let rest = drop 32 sector in
     let size : length rest ≡ 480 = length-drop 32 sector ∙ omega (arith, c.told-sector) in
     let all = take_all 480 rest (omega (arith, size)) in
-    let zeros = sym all ∙ c.is_zero_block.ensures c.if-not-is_zero_block.false ∙ ap (λ n. replicate n 0) (ap length all ∙ size) in
+    let zeros = sym all ∙ c.is_zero_block.ensures.zeros c.if-not-is_zero_block.false ∙ ap (λ n. replicate n 0) (ap length all ∙ size) in
     ap whole c.copy_from_slice.ensures.after ∙ trim_done sector 32 (omega arith) c.told-sector zeros

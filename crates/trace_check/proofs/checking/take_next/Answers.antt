@@ -1,10 +1,11 @@
-use Rattle.std.proofs.Common.{◌≡◌, ◌<◌, ℕ, List, ◌∷◌, [], ◌++◌, length, reverse, slice_get, slice_set, Some, sym, ap, ◌∙◌, subst, arith, refl}
+use Rattle.std.proofs.Common.{◌≡◌, ◌<◌, ℕ, List, ◌∷◌, [], ◌++◌, length, reverse, option_map, slice_get, slice_set, Some, sym, ap, ◌∙◌, subst, arith, refl}
 use Rattle.std.proofs.lemmas.Option.{same_Some}
 use Rattle.trace_check.specs.declared.desk.Seat.{Seat}
 use Rattle.trace_check.specs.declared.desk.Judgement.{Judgement}
 use Rattle.trace_check.specs.Orders.{history}
-use Rattle.trace_check.specs.Traces.{claim_seen}
-use Rattle.trace_check.specs.Desks.{IsDesk, Judges, PostsAll}
+use Rattle.trace_check.specs.Claims.{Claim}
+use Rattle.wire_msg.specs.Envelope.{Envelope}
+use Rattle.trace_check.specs.Desks.{IsDesk, IsTaken, Judges, PostsAll}
 use Rattle.trace_check.proofs.Turns.{desk_stops, desk_waits, desk_takes, desk_without, desk_same, seat_at}
 use Rattle.trace_check.proofs.checking.take_next.Goals as goal
 
@@ -48,12 +49,12 @@ returns-in_ok-push-in-Takes-clause-fits c =
     let within : c.from-index.result < length d.seats.items = (let inside = c.if-index-len.false in let len = c.len.ensures in omega (arith, inside, len)) in
     let at = seat_at d.seats.items c.from-index.result n c.index_mut.result.now here within c.index_mut.ensures.value in
     let same : c.index.result.now ≡ c.index_mut.result.now = same_Some _ _ (sym (seat_at d.seats.items c.from-index.result n c.index.result.now here within c.index.ensures) ∙ at) in
-    let entry = claim_seen c.in-Some.entry in
-    let next : slice_get (history hs n) c.index_mut.result.now.place ≡ Some entry = subst (λ (s : Seat). slice_get (history hs n) s.place ≡ Some entry) same c.in-Some.ensures.some in
+    let taken : IsTaken hs d.posted n c.index_mut.result.now c.judge.new.seat = subst (λ (j : Judgement). Judges hs d.posted n c.index_mut.result.now c.judge.new.seat j) c.in-Takes.is c.in_ok-judge.ensures.judges in
+    let sent : c.in-Some.sent ≡ taken.claim.sent = same_Some _ _
+        (sym c.in-Some.is ∙ c.sent.ensures ∙ ap (λ (s : Seat). option_map (λ (k : Claim). k.sent) (slice_get (history hs n) s.place)) same ∙ ap (option_map (λ (k : Claim). k.sent)) taken.next) in
     subst (λ (order : List ℕ). IsDesk hs (slice_set d.seats.items c.from-index.result c.judge.new.seat) c.post_all.new.ready d.stopped c.post_all.new.posted (reverse order)) (sym c.in_ok-push-in-Takes.ensures.items)
     (desk_same hs _ _ _ _ d.stopped d.stopped _ _ (reverse (d.order.items ++ n ∷ [])) (ap (λ (k : ℕ). slice_set d.seats.items k c.judge.new.seat) here) refl refl refl
-    (desk_takes hs d.seats.items d.ready c.post_all.new.ready d.stopped d.posted c.post_all.new.posted d.order.items n c.index_mut.result.now c.judge.new.seat entry c.requires.fits c.requires.ready c.requires.least at
-    (subst (λ (j : Judgement). Judges hs d.posted n c.index_mut.result.now c.judge.new.seat j) c.in-Takes.is c.in_ok-judge.ensures.judges)
-    next
-    (subst (λ (p : List (List ℕ)). PostsAll d.stopped p c.post_all.new.posted d.ready c.post_all.new.ready entry.sent) c.judge.ensures.posted
-    c.in_ok-post_all-in-Takes.ensures)))
+    (desk_takes hs d.seats.items d.ready c.post_all.new.ready d.stopped d.posted c.post_all.new.posted d.order.items n c.index_mut.result.now c.judge.new.seat taken.claim c.requires.fits c.requires.ready c.requires.least at taken taken.next
+    (subst (λ (ms : List Envelope). PostsAll d.stopped d.posted c.post_all.new.posted d.ready c.post_all.new.ready ms) sent
+    (subst (λ (p : List (List ℕ)). PostsAll d.stopped p c.post_all.new.posted d.ready c.post_all.new.ready c.in-Some.sent) c.judge.ensures.posted
+    c.in_ok-post_all-in-Takes.ensures))))
