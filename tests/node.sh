@@ -98,6 +98,14 @@ problem=''
 [ "$(grep -c '^send 1 010100010000$' "$room/out")" -eq 1 ] || problem="it answers $(tr '\n' '/' <"$room/out")"
 tell "$problem" 'a tick fires once'
 
+# Work that was dispatched is dispatched again after 20 round trips; in a new group at once, since its predecessor's jobs were dropped.
+fresh
+printf 'recover\nsubmit 0 -\ntick 1\ntick 2\nrecover\ntick 3\n' | "$program" node "$file" 0 3 >"$room/out"
+problem=''
+[ "$(grep -c '^fired dispatch$' "$room/out")" -eq 2 ] || problem="it answers $(tr '\n' '/' <"$room/out")"
+[ "$(grep -c '^take 0 0 0 -$' "$room/out")" -eq 2 ] || problem="it answers $(tr '\n' '/' <"$room/out")"
+tell "$problem" 'a new group hands its jobs out'
+
 # A node that runs: its file is locked, and after kill -9 the next one finds what was answered.
 fresh
 mkfifo "$room/in"

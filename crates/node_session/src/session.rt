@@ -25,7 +25,7 @@ use crate::sending::push_messages;
 use crate::showing::{push_all_jobs, push_keeps_told, push_state};
 use crate::unread::Unread;
 use durable_node::{Came, DurableNode, NodeFault};
-use group_task::NodeId;
+use group_task::{GroupNo, NodeId};
 use line_words::cut_line;
 use node_core::{CoreFault, Event, Phase, Vector};
 use pace::{Pace, Setting, Sight, Waiting};
@@ -43,6 +43,8 @@ pub struct Session<D: SectorDisk> {
     id: NodeId,
     node: DurableNode<D>,
     pace: Pace,
+    // the group in which a timer was last looked for
+    group: Option<GroupNo>,
     waiting: Waiting,
     stopped: bool,
     count: u64,
@@ -81,6 +83,7 @@ impl<D: SectorDisk> Session<D> {
             id,
             node: DurableNode::down(alloc, id, nodes, disk),
             pace: Pace::new(setting, id, seed),
+            group: None,
             waiting: Waiting::new(alloc, setting.unit),
             stopped: false,
             count: 0,
@@ -295,7 +298,18 @@ impl<D: SectorDisk + Drop> Session<D> {
             self.node.vector(),
             merge_wait(self.id, self.node.vector()),
         );
+        self.look_at(sight.group);
         self.pace.tick(now, &sight)
+    }
+
+    /// A new group's members have no work in hand: in it work is due at once.
+    fn look_at(&mut self, group: GroupNo)
+        ensures { self.new ≡ self.old }
+    {
+        if self.group != Some(group) {
+            self.group = Some(group);
+            self.pace.worked();
+        }
     }
 
     /// Names an event that the session makes by itself.

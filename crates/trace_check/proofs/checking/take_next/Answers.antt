@@ -1,4 +1,4 @@
-use Rattle.std.proofs.Common.{◌≡◌, ◌<◌, ℕ, List, ◌∷◌, [], ◌++◌, length, reverse, option_map, slice_get, slice_set, Some, sym, ap, ◌∙◌, subst, arith, refl}
+use Rattle.std.proofs.Common.{◌≡◌, ◌<◌, ℕ, List, ◌∷◌, [], ◌++◌, length, reverse, option_map, slice_get, slice_set, sym, ap, ◌∙◌, subst, arith, refl}
 use Rattle.std.proofs.lemmas.Option.{same_Some}
 use Rattle.trace_check.specs.declared.desk.Seat.{Seat}
 use Rattle.trace_check.specs.declared.desk.Judgement.{Judgement}
@@ -51,7 +51,7 @@ returns-in_ok-push-in-Takes-clause-fits c =
     let same : c.index.result.now ≡ c.index_mut.result.now = same_Some _ _ (sym (seat_at d.seats.items c.from-index.result n c.index.result.now here within c.index.ensures) ∙ at) in
     let taken : IsTaken hs d.posted n c.index_mut.result.now c.judge.new.seat = subst (λ (j : Judgement). Judges hs d.posted n c.index_mut.result.now c.judge.new.seat j) c.in-Takes.is c.in_ok-judge.ensures.judges in
     let sent : c.in-Some.sent ≡ taken.claim.sent = same_Some _ _
-        (sym c.in-Some.is ∙ c.sent.ensures ∙ ap (λ (s : Seat). option_map (λ (k : Claim). k.sent) (slice_get (history hs n) s.place)) same ∙ ap (option_map (λ (k : Claim). k.sent)) taken.next) in
+    (sym c.in-Some.is ∙ c.sent.ensures ∙ ap (λ (s : Seat). option_map (λ (k : Claim). k.sent) (slice_get (history hs n) s.place)) same ∙ ap (option_map (λ (k : Claim). k.sent)) taken.next) in
     subst (λ (order : List ℕ). IsDesk hs (slice_set d.seats.items c.from-index.result c.judge.new.seat) c.post_all.new.ready d.stopped c.post_all.new.posted (reverse order)) (sym c.in_ok-push-in-Takes.ensures.items)
     (desk_same hs _ _ _ _ d.stopped d.stopped _ _ (reverse (d.order.items ++ n ∷ [])) (ap (λ (k : ℕ). slice_set d.seats.items k c.judge.new.seat) here) refl refl refl
     (desk_takes hs d.seats.items d.ready c.post_all.new.ready d.stopped d.posted c.post_all.new.posted d.order.items n c.index_mut.result.now c.judge.new.seat taken.claim c.requires.fits c.requires.ready c.requires.least at taken taken.next
