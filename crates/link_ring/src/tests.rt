@@ -3,7 +3,6 @@ use group_task::NodeId;
 use message_list::MessageList;
 use std::alloc::{AllocError, Global};
 use std::process::Abort;
-use std::test::Fail;
 use std::thread;
 use wire_msg::{Body, Message};
 
@@ -13,36 +12,32 @@ fn done(id: u64) -> Message {
 }
 
 /// A link from node 0 to node 1.
-fn link_of(alloc: Global, capacity: usize) -> Result<(PutEnd, TakeEnd), Fail> {
-    Ok(link(alloc, NodeId::numbered(0), NodeId::numbered(1), capacity)?)
+fn link_of(rt: &impl Abort, alloc: Global, capacity: usize) -> (PutEnd, TakeEnd) {
+    link(alloc, NodeId::numbered(0), NodeId::numbered(1), capacity).expect(rt, "memory for a link")
 }
 
 /// Puts the message of this job, and expects that the ring takes it.
-fn put(rt: &impl Abort, end: &mut PutEnd, id: u64) -> Result<(), AllocError> {
-    end.reserve(1)?;
+fn put(rt: &impl Abort, end: &mut PutEnd, id: u64) {
+    end.reserve(1).expect(rt, "memory for a message");
     assert!(rt; end.put(done(id)).is_none(), "message {id}");
-    Ok(())
 }
 
 /// Puts the message of this job, and expects it back.
-fn put_in_vain(rt: &impl Abort, end: &mut PutEnd, id: u64) -> Result<(), AllocError> {
-    end.reserve(1)?;
+fn put_in_vain(rt: &impl Abort, end: &mut PutEnd, id: u64) {
+    end.reserve(1).expect(rt, "memory for a message");
     assert!(rt; end.put(done(id)) == Some(done(id)), "message {id}");
-    Ok(())
 }
 
 /// Expects the message of this job.
-fn take(rt: &impl Abort, end: &mut TakeEnd, id: u64) -> Result<(), AllocError> {
-    end.reserve(1)?;
+fn take(rt: &impl Abort, end: &mut TakeEnd, id: u64) {
+    end.reserve(1).expect(rt, "memory for a message");
     assert!(rt; end.take() == Some(done(id)), "message {id}");
-    Ok(())
 }
 
 /// Expects no message.
-fn take_in_vain(rt: &impl Abort, end: &mut TakeEnd) -> Result<(), AllocError> {
-    end.reserve(1)?;
+fn take_in_vain(rt: &impl Abort, end: &mut TakeEnd) {
+    end.reserve(1).expect(rt, "memory for a message");
     assert!(rt; end.take().is_none());
-    Ok(())
 }
 
 /// Whether the message at this place is that of this job.
@@ -59,98 +54,90 @@ fn expect_done(rt: &impl Abort, messages: &MessageList, ids: &[u64]) {
 }
 
 #[test]
-fn taken_in_the_order_of_putting(rt: HostRuntime) -> Result<(), Fail> {
-    let (mut put_end, mut take_end) = link_of(rt.alloc(), 3)?;
-    take_in_vain(&rt, &mut take_end)?;
+fn taken_in_the_order_of_putting(rt: HostRuntime) {
+    let (mut put_end, mut take_end) = link_of(&rt, rt.alloc(), 3);
+    take_in_vain(&rt, &mut take_end);
     for id in [5, 7, 5] {
-        put(&rt, &mut put_end, id)?;
+        put(&rt, &mut put_end, id);
     }
     for id in [5, 7, 5] {
-        take(&rt, &mut take_end, id)?;
+        take(&rt, &mut take_end, id);
     }
-    take_in_vain(&rt, &mut take_end)?;
-    Ok(())
+    take_in_vain(&rt, &mut take_end);
 }
 
 #[test]
-fn full_link_hands_the_message_back(rt: HostRuntime) -> Result<(), Fail> {
-    let (mut put_end, mut take_end) = link_of(rt.alloc(), 2)?;
-    put(&rt, &mut put_end, 1)?;
-    put(&rt, &mut put_end, 2)?;
-    put_in_vain(&rt, &mut put_end, 3)?;
+fn full_link_hands_the_message_back(rt: HostRuntime) {
+    let (mut put_end, mut take_end) = link_of(&rt, rt.alloc(), 2);
+    put(&rt, &mut put_end, 1);
+    put(&rt, &mut put_end, 2);
+    put_in_vain(&rt, &mut put_end, 3);
     expect_done(&rt, put_end.messages(), &[1, 2]);
-    take(&rt, &mut take_end, 1)?;
-    put(&rt, &mut put_end, 3)?;
-    take(&rt, &mut take_end, 2)?;
-    take(&rt, &mut take_end, 3)?;
+    take(&rt, &mut take_end, 1);
+    put(&rt, &mut put_end, 3);
+    take(&rt, &mut take_end, 2);
+    take(&rt, &mut take_end, 3);
     expect_done(&rt, put_end.messages(), &[1, 2, 3]);
     expect_done(&rt, take_end.messages(), &[1, 2, 3]);
-    Ok(())
 }
 
 #[test]
-fn emptied_ring_takes_messages_again(rt: HostRuntime) -> Result<(), Fail> {
-    let (mut put_end, mut take_end) = link_of(rt.alloc(), 3)?;
+fn emptied_ring_takes_messages_again(rt: HostRuntime) {
+    let (mut put_end, mut take_end) = link_of(&rt, rt.alloc(), 3);
     for round in 0..1000 {
         for id in 3 * round..3 * round + 3 {
-            put(&rt, &mut put_end, id)?;
+            put(&rt, &mut put_end, id);
         }
-        put_in_vain(&rt, &mut put_end, 0)?;
+        put_in_vain(&rt, &mut put_end, 0);
         for id in 3 * round..3 * round + 3 {
-            take(&rt, &mut take_end, id)?;
+            take(&rt, &mut take_end, id);
         }
-        take_in_vain(&rt, &mut take_end)?;
+        take_in_vain(&rt, &mut take_end);
     }
     assert_eq!(rt; put_end.messages().len(), 3000);
-    Ok(())
 }
 
 #[test]
-fn gathered_with_messages_in_the_ring(rt: HostRuntime) -> Result<(), Fail> {
-    let (mut put_end, mut take_end) = link_of(rt.alloc(), 3)?;
+fn gathered_with_messages_in_the_ring(rt: HostRuntime) {
+    let (mut put_end, mut take_end) = link_of(&rt, rt.alloc(), 3);
     for id in 1..4 {
-        put(&rt, &mut put_end, id)?;
+        put(&rt, &mut put_end, id);
     }
-    take(&rt, &mut take_end, 1)?;
-    let gathered = gather(put_end, take_end).ok().ok_or("a pair")?;
+    take(&rt, &mut take_end, 1);
+    let gathered = gather(put_end, take_end).expect(&rt, "a pair");
     assert_eq!(rt; gathered.sender.number(), 0);
     assert_eq!(rt; gathered.receiver.number(), 1);
     expect_done(&rt, &gathered.put, &[1, 2, 3]);
     expect_done(&rt, &gathered.taken, &[1]);
-    Ok(())
 }
 
 #[test]
-fn ends_of_two_links(rt: HostRuntime) -> Result<(), Fail> {
-    let (mut first_put, first_take) = link_of(rt.alloc(), 3)?;
-    let (mut second_put, mut second_take) = link_of(rt.alloc(), 3)?;
-    put(&rt, &mut first_put, 1)?;
-    put(&rt, &mut second_put, 2)?;
-    take(&rt, &mut second_take, 2)?;
+fn ends_of_two_links(rt: HostRuntime) {
+    let (mut first_put, first_take) = link_of(&rt, rt.alloc(), 3);
+    let (mut second_put, mut second_take) = link_of(&rt, rt.alloc(), 3);
+    put(&rt, &mut first_put, 1);
+    put(&rt, &mut second_put, 2);
+    take(&rt, &mut second_take, 2);
     assert!(rt; gather(first_put, second_take).err() == Some(Unpaired));
-    let gathered = gather(second_put, first_take)
-        .ok()
-        .ok_or("nothing was taken")?;
+    let gathered = gather(second_put, first_take).expect(&rt, "nothing was taken");
     expect_done(&rt, &gathered.put, &[2]);
     expect_done(&rt, &gathered.taken, &[]);
-    Ok(())
 }
 
 /// Whether a putting end from node 0 to node 1 is paired with a taking end of these nodes.
-fn is_paired(alloc: Global, sender: u8, receiver: u8) -> Result<bool, Fail> {
-    let sender = NodeId::new(sender).ok_or("an id")?;
-    let receiver = NodeId::new(receiver).ok_or("an id")?;
-    let (put_end, _) = link_of(alloc, 1)?;
-    let (_, take_end) = link(alloc, sender, receiver, 1)?;
-    Ok(gather(put_end, take_end).is_ok())
+fn is_paired(rt: &impl Abort, alloc: Global, sender: u8, receiver: u8) -> bool {
+    let sender = NodeId::new(sender).expect(rt, "an id");
+    let receiver = NodeId::new(receiver).expect(rt, "an id");
+    let (put_end, _) = link_of(rt, alloc, 1);
+    let (_, take_end) = link(alloc, sender, receiver, 1).expect(rt, "memory for a link");
+    gather(put_end, take_end).is_ok()
 }
 
 #[test]
-fn ends_of_other_nodes(rt: HostRuntime) -> Result<(), Fail> {
+fn ends_of_other_nodes(rt: HostRuntime) {
     for (sender, receiver, paired) in [(0, 1, true), (0, 2, false), (2, 1, false), (1, 0, false)] {
-        assert!(rt; is_paired(rt.alloc(), sender, receiver)? == paired);
+        assert!(rt; is_paired(&rt, rt.alloc(), sender, receiver) == paired);
     }
-    Ok(())
 }
 
 /// Puts the messages of 100 jobs.
@@ -172,17 +159,17 @@ fn take_some(mut end: TakeEnd) -> Result<TakeEnd, AllocError> {
 }
 
 #[test]
-fn ends_in_two_threads(rt: HostRuntime) -> Result<(), Fail> {
-    let (put_end, take_end) = link_of(rt.alloc(), 100)?;
+fn ends_in_two_threads(rt: HostRuntime) {
+    let (put_end, take_end) = link_of(&rt, rt.alloc(), 100);
     let (put_end, take_end) = thread::join(
         &rt,
         move || put_all(put_end),
         move || take_some(take_end),
     );
     // what the other thread didn't find yet is found now
-    let gathered = gather(put_end?, take_some(take_end?)?)
-        .ok()
-        .ok_or("a pair")?;
+    let put_end = put_end.expect(&rt, "memory to put");
+    let take_end = take_some(take_end.expect(&rt, "memory to take")).expect(&rt, "memory to take");
+    let gathered = gather(put_end, take_end).expect(&rt, "a pair");
     for list in [&gathered.put, &gathered.taken] {
         assert_eq!(rt; list.len(), 100);
         for place in 0..100 {
@@ -192,11 +179,10 @@ fn ends_in_two_threads(rt: HostRuntime) -> Result<(), Fail> {
             );
         }
     }
-    Ok(())
 }
 
 #[test]
-fn want_of_memory_changes_nothing(rt: HostRuntime) -> Result<(), Fail> {
+fn want_of_memory_changes_nothing(rt: HostRuntime) {
     assert!(rt;
         link(
             rt.alloc(),
@@ -206,20 +192,18 @@ fn want_of_memory_changes_nothing(rt: HostRuntime) -> Result<(), Fail> {
         )
         .is_err()
     );
-    let (mut put_end, mut take_end) = link_of(rt.alloc(), 2)?;
-    put(&rt, &mut put_end, 1)?;
+    let (mut put_end, mut take_end) = link_of(&rt, rt.alloc(), 2);
+    put(&rt, &mut put_end, 1);
     assert!(rt; put_end.reserve(usize::MAX).is_err());
     assert!(rt; take_end.reserve(usize::MAX).is_err());
-    put(&rt, &mut put_end, 2)?;
-    take(&rt, &mut take_end, 1)?;
+    put(&rt, &mut put_end, 2);
+    take(&rt, &mut take_end, 1);
     expect_done(&rt, put_end.messages(), &[1, 2]);
     expect_done(&rt, take_end.messages(), &[1]);
-    Ok(())
 }
 
 #[test]
-fn name_of_the_fault(rt: HostRuntime) -> Result<(), Fail> {
-    let text = format!(in rt.alloc(); "{}", Unpaired)?;
+fn name_of_the_fault(rt: HostRuntime) {
+    let text = format!(in rt.alloc(); "{}", Unpaired).expect(&rt, "memory for a text");
     assert_eq!(rt; text.as_str(), "Unpaired");
-    Ok(())
 }

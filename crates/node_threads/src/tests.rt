@@ -18,7 +18,6 @@ use std::alloc::{AllocError, Global};
 use std::process::Abort;
 use std::sync::Wait;
 use std::sync::atomic::{AtomicU64, Ordering};
-use std::test::Fail;
 use std::thread::Threads;
 
 /// How often a gate looks at most before it gives up.
@@ -40,14 +39,14 @@ fn size_for(plans: &[Plans], slots: u64, capacity: usize) -> Option<Size>
 }
 
 /// A run on disks of four slots, with room for four messages on each link.
-fn run<R: Threads + Wait + Sync, G: Gate + Send>(
+fn run<R: Threads + Wait + Sync + Abort, G: Gate + Send>(
     rt: &R,
     alloc: Global,
     plans: &[Plans],
     gate: &G,
-) -> Result<Result<Gathered, ThreadsFault>, Fail> {
-    let size = size_for(plans, 4, 4).ok_or("plans of a run")?;
-    Ok(run_threads(rt, alloc, size, plans, gate))
+) -> Result<Gathered, ThreadsFault> {
+    let size = size_for(plans, 4, 4).expect(rt, "plans of a run");
+    run_threads(rt, alloc, size, plans, gate)
 }
 
 /// The plan of a node whose clock fires Check so often, and that does nothing else.
@@ -112,15 +111,15 @@ impl Gate for Meeting {
 
 // One thread for all, or one lock for all nodes, would leave each waiting in vain.
 #[test]
-fn nodes_meet_inside_their_locks(rt: HostRuntime) -> Result<(), Fail> {
-    let plans = checking(rt.alloc(), 2, 1)?;
+fn nodes_meet_inside_their_locks(rt: HostRuntime) {
+    let plans = checking(rt.alloc(), 2, 1).expect(&rt, "memory for plans");
     let gate = Meeting {
         first: CachePadded::new(AtomicU64::new(0)),
         second: CachePadded::new(AtomicU64::new(0)),
     };
-    let whole = run(&rt, rt.alloc(), &plans, &gate)?
+    let whole = run(&rt, rt.alloc(), &plans, &gate)
         .ok()
-        .ok_or("a whole run")?;
+        .expect(&rt, "a whole run");
     assert_eq!(rt; whole.histories.len(), 2);
     for history in whole.histories.iter() {
         assert_eq!(rt; history.len(), 1);
@@ -131,7 +130,6 @@ fn nodes_meet_inside_their_locks(rt: HostRuntime) -> Result<(), Fail> {
         assert_eq!(rt; link.put.len(), 1);
         assert_eq!(rt; link.taken.len(), 0);
     }
-    Ok(())
 }
 
 /// All workers wait for one another before their first turns.
@@ -155,17 +153,16 @@ impl Gate for Assembly {
 
 // One thread for each node would leave it waiting in vain.
 #[test]
-fn all_workers_meet(rt: HostRuntime) -> Result<(), Fail> {
-    let plans = checking(rt.alloc(), 2, 1)?;
+fn all_workers_meet(rt: HostRuntime) {
+    let plans = checking(rt.alloc(), 2, 1).expect(&rt, "memory for plans");
     let gate = Assembly {
         workers: 6,
         come: CachePadded::new(AtomicU64::new(0)),
     };
-    let whole = run(&rt, rt.alloc(), &plans, &gate)?
+    let whole = run(&rt, rt.alloc(), &plans, &gate)
         .ok()
-        .ok_or("a whole run")?;
+        .expect(&rt, "a whole run");
     assert_eq!(rt; whole.histories.len(), 2);
-    Ok(())
 }
 
 /// Node 1's first poll waits until node 0's clock begins its second turn.
@@ -193,25 +190,28 @@ impl Gate for PollLater {
 }
 
 #[test]
-fn poll_finds_what_was_put(rt: HostRuntime) -> Result<(), Fail> {
+fn poll_finds_what_was_put(rt: HostRuntime) {
     let alloc = rt.alloc();
-    let intake = vec![in alloc; NodeId::numbered(0); 1]?;
-    let mut plans = checking(alloc, 1, 2)?;
-    plans.push(Plans::new(intake, Vec::new(alloc), Vec::new(alloc)))?;
+    let intake = vec![in alloc; NodeId::numbered(0); 1].expect(&rt, "memory for a plan");
+    let mut plans = checking(alloc, 1, 2).expect(&rt, "memory for plans");
+    plans
+        .push(Plans::new(intake, Vec::new(alloc), Vec::new(alloc)))
+        .expect(&rt, "memory for plans");
     let gate = PollLater {
         sent: CachePadded::new(AtomicU64::new(0)),
     };
-    let whole = run(&rt, alloc, &plans, &gate)?.ok().ok_or("a whole run")?;
-    let sender = whole.histories.iter().next().ok_or("a history")?;
-    let receiver = whole.histories.iter().last().ok_or("a history")?;
+    let whole = run(&rt, alloc, &plans, &gate)
+        .ok()
+        .expect(&rt, "a whole run");
+    let sender = whole.histories.iter().next().expect(&rt, "a history");
+    let receiver = whole.histories.iter().last().expect(&rt, "a history");
     let question = sender
         .entry(0)
         .and_then(|entry| entry.sent.get(0))
-        .ok_or("a question")?;
+        .expect(&rt, "a question");
     assert_eq!(rt; receiver.len(), 1);
     let told = came(receiver, 0, Worker::Intake, 0);
     assert!(rt; told == Some(What::Did(Event::Deliver(question))));
-    Ok(())
 }
 
 /// Lets all pass.
@@ -231,20 +231,19 @@ impl Gate for Open {
 }
 
 #[test]
-fn history_of_the_greatest_length(rt: HostRuntime) -> Result<(), Fail> {
-    let plans = checking(rt.alloc(), 1, MOST_ENTRIES)?;
-    let whole = run(&rt, rt.alloc(), &plans, &Open)?
+fn history_of_the_greatest_length(rt: HostRuntime) {
+    let plans = checking(rt.alloc(), 1, MOST_ENTRIES).expect(&rt, "memory for plans");
+    let whole = run(&rt, rt.alloc(), &plans, &Open)
         .ok()
-        .ok_or("a whole run")?;
+        .expect(&rt, "a whole run");
     assert_eq!(rt; whole.links.len(), 0);
     for history in whole.histories.iter() {
         assert_eq!(rt; history.len(), 65_536);
     }
-    let plans = checking(rt.alloc(), 1, MOST_ENTRIES + 1)?;
-    let fault = run(&rt, rt.alloc(), &plans, &Open)?.err();
+    let plans = checking(rt.alloc(), 1, MOST_ENTRIES + 1).expect(&rt, "memory for plans");
+    let fault = run(&rt, rt.alloc(), &plans, &Open).err();
     let full = ThreadsFault::Unfinished(NodeId::numbered(0), Worker::Clock);
     assert!(rt; fault == Some(full));
-    Ok(())
 }
 
 /// Shut for the workers of one node.
@@ -266,22 +265,21 @@ impl Gate for Shut {
 }
 
 #[test]
-fn gate_shuts(rt: HostRuntime) -> Result<(), Fail> {
-    let plans = checking(rt.alloc(), 2, 1)?;
+fn gate_shuts(rt: HostRuntime) {
+    let plans = checking(rt.alloc(), 2, 1).expect(&rt, "memory for plans");
     for at_once in [false, true] {
         for node in [0, 1] {
-            let fault = run(&rt, rt.alloc(), &plans, &Shut { node, at_once })?.err();
+            let fault = run(&rt, rt.alloc(), &plans, &Shut { node, at_once }).err();
             assert!(rt; fault == Some(ThreadsFault::GateShut));
         }
-        let open = run(&rt, rt.alloc(), &plans, &Shut { node: 2, at_once })?;
+        let open = run(&rt, rt.alloc(), &plans, &Shut { node: 2, at_once });
         assert!(rt; open.is_ok());
     }
-    Ok(())
 }
 
 #[test]
-fn first_of_two_reasons(rt: HostRuntime) -> Result<(), Fail> {
-    let plans = checking(rt.alloc(), 2, MOST_ENTRIES + 1)?;
+fn first_of_two_reasons(rt: HostRuntime) {
+    let plans = checking(rt.alloc(), 2, MOST_ENTRIES + 1).expect(&rt, "memory for plans");
     let full = ThreadsFault::Unfinished(NodeId::numbered(0), Worker::Clock);
     let fault = run(
         &rt,
@@ -291,7 +289,7 @@ fn first_of_two_reasons(rt: HostRuntime) -> Result<(), Fail> {
             node: 1,
             at_once: true,
         },
-    )?
+    )
     .err();
     assert!(rt; fault == Some(full));
     let fault = run(
@@ -302,23 +300,24 @@ fn first_of_two_reasons(rt: HostRuntime) -> Result<(), Fail> {
             node: 0,
             at_once: true,
         },
-    )?
+    )
     .err();
     assert!(rt; fault == Some(ThreadsFault::GateShut));
-    Ok(())
 }
 
 // ---- what was mixed up
 
 /// The plans of two nodes: the first polls so often, and then the second asks once and polls once.
-fn asking(alloc: Global, polls: usize) -> Result<Vec<Plans>, AllocError> {
-    let first = vec![in alloc; NodeId::numbered(1); polls]?;
-    let second = vec![in alloc; NodeId::numbered(0); 1]?;
-    let clock = vec![in alloc; Timer::Check; 1]?;
+fn asking(rt: &impl Abort, alloc: Global, polls: usize) -> Vec<Plans> {
+    let first = vec![in alloc; NodeId::numbered(1); polls].expect(rt, "memory for a plan");
+    let second = vec![in alloc; NodeId::numbered(0); 1].expect(rt, "memory for a plan");
+    let clock = vec![in alloc; Timer::Check; 1].expect(rt, "memory for a plan");
+    let first = Plans::new(first, Vec::new(alloc), Vec::new(alloc));
+    let second = Plans::new(second, clock, Vec::new(alloc));
     let mut plans = Vec::new(alloc);
-    plans.push(Plans::new(first, Vec::new(alloc), Vec::new(alloc)))?;
-    plans.push(Plans::new(second, clock, Vec::new(alloc)))?;
-    Ok(plans)
+    plans.push(first).expect(rt, "memory for plans");
+    plans.push(second).expect(rt, "memory for plans");
+    plans
 }
 
 /// The event that the node was handed.
@@ -338,13 +337,13 @@ fn locks_after(
     size: Size,
     plans: &[Plans],
     turns: &[(usize, Worker)],
-) -> Result<Vec<NodeLock>, AllocError>
+) -> Vec<NodeLock>
     requires nodes { (length plans.now ≡ size.nodes) × (size.nodes ≤ NODES) }
     requires slots { (4 ≤ size.slots) × (size.slots ≤ 4096) }
     requires polls { PollOthers plans.now }
 {
-    let ends = wire(alloc, size.nodes, size.capacity)?;
-    let locks = lock_nodes(alloc, size, ends, plans)?;
+    let ends = wire(alloc, size.nodes, size.capacity).expect(rt, "memory for links");
+    let locks = lock_nodes(alloc, size, ends, plans).expect(rt, "memory for nodes");
     for (node, worker) in turns {
         let is_taken = match locks.get(*node) {
             Some(lock) => lock.turn(rt, *worker, &Open) == Ok(true),
@@ -352,25 +351,29 @@ fn locks_after(
         };
         assert!(rt; is_taken);
     }
-    Ok(locks)
+    locks
 }
 
 const ASKED: [(usize, Worker); 3] = [(1, Worker::Clock), (0, Worker::Intake), (1, Worker::Intake)];
 
 // Of two links from node 0 to node 1 the one carried a question, which wasn't taken, and the other an answer, which was.
 #[test]
-fn ends_of_two_runs(rt: HostRuntime) -> Result<(), Fail> {
+fn ends_of_two_runs(rt: HostRuntime) {
     let alloc = rt.alloc();
-    let checks = checking(alloc, 2, 1)?;
-    let asks = asking(alloc, 1)?;
+    let checks = checking(alloc, 2, 1).expect(&rt, "memory for plans");
+    let asks = asking(&rt, alloc, 1);
     let both = [(0, Worker::Clock), (1, Worker::Clock)];
     for (is_mixed, fault) in [(false, None), (true, Some(ThreadsFault::Unpaired))] {
-        let size = size_for(&checks, 4, 4).ok_or("plans of a run")?;
-        let locks = locks_after(&rt, alloc, size, &checks, &both)?;
-        let (_, checked) = take_all(alloc, size, locks, &checks).ok().ok_or("ended")?;
-        let size = size_for(&asks, 4, 4).ok_or("plans of a run")?;
-        let locks = locks_after(&rt, alloc, size, &asks, &ASKED)?;
-        let (histories, asked) = take_all(alloc, size, locks, &asks).ok().ok_or("ended")?;
+        let size = size_for(&checks, 4, 4).expect(&rt, "plans of a run");
+        let locks = locks_after(&rt, alloc, size, &checks, &both);
+        let (_, checked) = take_all(alloc, size, locks, &checks)
+            .ok()
+            .expect(&rt, "ended");
+        let size = size_for(&asks, 4, 4).expect(&rt, "plans of a run");
+        let locks = locks_after(&rt, alloc, size, &asks, &ASKED);
+        let (histories, asked) = take_all(alloc, size, locks, &asks)
+            .ok()
+            .expect(&rt, "ended");
         let told = histories.iter().last().and_then(|history| history.entry(1));
         let event = told.and_then(|entry| event_in(entry.what));
         assert!(rt; matches!(event, Some(Event::Deliver(_))));
@@ -379,21 +382,22 @@ fn ends_of_two_runs(rt: HostRuntime) -> Result<(), Fail> {
         let first = asked.next();
         let from = if is_mixed { checked.next() } else { first };
         let mut left: Vec<Left> = Vec::new(alloc);
-        left.push(from.ok_or("the ends of node 0")?)?;
-        left.push(asked.next().ok_or("the ends of node 1")?)?;
+        left.push(from.expect(&rt, "the ends of node 0"))
+            .expect(&rt, "memory for ends");
+        left.push(asked.next().expect(&rt, "the ends of node 1"))
+            .expect(&rt, "memory for ends");
         assert!(rt; gather_links(alloc, left).err() == fault);
     }
-    Ok(())
 }
 
 #[test]
-fn locks_of_another_run(rt: HostRuntime) -> Result<(), Fail> {
+fn locks_of_another_run(rt: HostRuntime) {
     let alloc = rt.alloc();
-    let plans = asking(alloc, 1)?;
-    let size = size_for(&plans, 4, 4).ok_or("plans of a run")?;
-    let others = asking(alloc, 2)?;
-    let size_of_others = size_for(&others, 4, 4).ok_or("plans of a run")?;
-    let larger = size_for(&plans, 5, 4).ok_or("plans of a run")?;
+    let plans = asking(&rt, alloc, 1);
+    let size = size_for(&plans, 4, 4).expect(&rt, "plans of a run");
+    let others = asking(&rt, alloc, 2);
+    let size_of_others = size_for(&others, 4, 4).expect(&rt, "plans of a run");
+    let larger = size_for(&plans, 5, 4).expect(&rt, "plans of a run");
     for (expected, wanted, turns, is_whole) in [
         (size, &plans, 3, true),
         // a plan with a turn left, other plans, and another size
@@ -401,7 +405,7 @@ fn locks_of_another_run(rt: HostRuntime) -> Result<(), Fail> {
         (size_of_others, &others, 3, false),
         (larger, &plans, 3, false),
     ] {
-        let locks = locks_after(&rt, alloc, size, &plans, &ASKED[..turns])?;
+        let locks = locks_after(&rt, alloc, size, &plans, &ASKED[..turns]);
         let fault = take_all(alloc, expected, locks, wanted).err();
         assert!(rt;
             fault
@@ -412,22 +416,22 @@ fn locks_of_another_run(rt: HostRuntime) -> Result<(), Fail> {
                 }
         );
     }
-    Ok(())
 }
 
 // Each of 65,536 checks asks 63 nodes.
 #[test]
-fn longest_history_in_a_large_cluster(rt: HostRuntime) -> Result<(), Fail> {
+fn longest_history_in_a_large_cluster(rt: HostRuntime) {
     let alloc = rt.alloc();
-    let mut plans = checking(alloc, 64, 0)?;
+    let mut plans = checking(alloc, 64, 0).expect(&rt, "memory for plans");
     if let Some(first) = plans.first_mut() {
-        *first = checks(alloc, MOST_ENTRIES)?;
+        *first = checks(alloc, MOST_ENTRIES).expect(&rt, "memory for plans");
     }
-    let whole = run(&rt, alloc, &plans, &Open)?.ok().ok_or("a whole run")?;
-    let history = whole.histories.iter().next().ok_or("a history")?;
+    let whole = run(&rt, alloc, &plans, &Open)
+        .ok()
+        .expect(&rt, "a whole run");
+    let history = whole.histories.iter().next().expect(&rt, "a history");
     assert_eq!(rt; history.len(), 65_536);
-    let last = history.entry(65_535).ok_or("an entry")?;
+    let last = history.entry(65_535).expect(&rt, "an entry");
     assert_eq!(rt; last.sent.len(), 63);
     assert_eq!(rt; whole.links.len(), 64 * 63);
-    Ok(())
 }
