@@ -150,18 +150,29 @@ fn expect_taken(rt: &impl Abort, takes: &[TakeEnd], message: Message) {
 }
 
 /// Two nodes: the first polls so often, the second once.
-fn both(alloc: Global, polls: usize, capacity: usize) -> Result<(Held, Held), AllocError> {
-    let (put_there, take_there) = link(alloc, NodeId::numbered(0), NodeId::numbered(1), capacity)?;
-    let (put_back, take_back) = link(alloc, NodeId::numbered(1), NodeId::numbered(0), capacity)?;
-    let asker = paired(alloc, 0, polls, capacity, put_there, take_back)?;
-    let other = paired(alloc, 1, 1, capacity, put_back, take_there)?;
-    Ok((asker, other))
+fn both(rt: &impl Abort, alloc: Global, polls: usize, capacity: usize) -> (Held, Held) {
+    let first = NodeId::numbered(0);
+    let second = NodeId::numbered(1);
+    let (put_there, take_there) = link(alloc, first, second, capacity).expect(
+        rt,
+        "memory for a link",
+    );
+    let (put_back, take_back) = link(alloc, second, first, capacity).expect(
+        rt,
+        "memory for a link",
+    );
+    let asker = paired(alloc, 0, polls, capacity, put_there, take_back).expect(
+        rt,
+        "memory for a node",
+    );
+    let other = paired(alloc, 1, 1, capacity, put_back, take_there).expect(rt, "memory for a node");
+    (asker, other)
 }
 
 /// Expects a poll that finds nothing, the question, its delivery with the answer sent, and the answer's delivery.
-fn expect_exchange(rt: &impl Abort, asker: &Parts, other: &Parts) -> Result<(), Fail> {
-    let question = sent(&asker.history, 1).ok_or("a question")?;
-    let answer = sent(&other.history, 0).ok_or("an answer")?;
+fn expect_exchange(rt: &impl Abort, asker: &Parts, other: &Parts) {
+    let question = sent(&asker.history, 1).expect(rt, "a question");
+    let answer = sent(&other.history, 0).expect(rt, "an answer");
     assert_eq!(rt; asker.history.len(), 3);
     assert!(rt; came(&asker.history, 1, Worker::Clock, 0) == Some(What::Did(Event::CheckTimer)));
     expect_polled(rt, &asker.history, 0, 0, None);
@@ -170,12 +181,11 @@ fn expect_exchange(rt: &impl Abort, asker: &Parts, other: &Parts) -> Result<(), 
     assert!(rt; asker.waiting.is_none() && other.waiting.is_none());
     expect_taken(rt, &asker.takes, answer);
     expect_taken(rt, &other.takes, question);
-    Ok(())
 }
 
 #[test]
-fn question_and_answer(rt: HostRuntime) -> Result<(), Fail> {
-    let (mut asker, mut other) = both(rt.alloc(), 2, 2)?;
+fn question_and_answer(rt: HostRuntime) {
+    let (mut asker, mut other) = both(&rt, rt.alloc(), 2, 2);
     take(&rt, &mut asker, Worker::Intake, 1);
     take(&rt, &mut asker, Worker::Clock, 1);
     take(&rt, &mut other, Worker::Intake, 1);
@@ -184,8 +194,8 @@ fn question_and_answer(rt: HostRuntime) -> Result<(), Fail> {
 }
 
 #[test]
-fn full_link_loses_the_message(rt: HostRuntime) -> Result<(), Fail> {
-    let (mut asker, mut other) = both(rt.alloc(), 0, 0)?;
+fn full_link_loses_the_message(rt: HostRuntime) {
+    let (mut asker, mut other) = both(&rt, rt.alloc(), 0, 0);
     take(&rt, &mut asker, Worker::Clock, 1);
     take(&rt, &mut other, Worker::Intake, 1);
     let asker = asker.into_parts();
@@ -194,7 +204,6 @@ fn full_link_loses_the_message(rt: HostRuntime) -> Result<(), Fail> {
         assert_eq!(rt; end.messages().len(), 0);
     }
     expect_polled(&rt, &other.into_parts().history, 0, 0, None);
-    Ok(())
 }
 
 /// Shuts from the turn of this number on.
@@ -214,8 +223,8 @@ impl Gate for Until {
 }
 
 #[test]
-fn gate_shuts(rt: HostRuntime) -> Result<(), Fail> {
-    let lock = NodeLock::new(alone(rt.alloc(), 2)?);
+fn gate_shuts(rt: HostRuntime) {
+    let lock = NodeLock::new(alone(rt.alloc(), 2).expect(&rt, "memory for a node"));
     let open = Until { first: 9 };
     let shut = Until { first: 1 };
     assert!(rt; lock.turn(&rt, Worker::Clock, &shut) == Ok(true));
@@ -224,7 +233,6 @@ fn gate_shuts(rt: HostRuntime) -> Result<(), Fail> {
     // not asked where the plan is used up
     assert!(rt; lock.turn(&rt, Worker::Clock, &shut) == Ok(false));
     assert_eq!(rt; lock.into_held().into_parts().history.len(), 2);
-    Ok(())
 }
 
 /// Expects that the message was taken from its ring once, and what is answered and asked is put once.
