@@ -6,7 +6,6 @@ use safe_cell::{CellFault, format, mount};
 use sector_disk::{MemDisk, Sector, SectorDisk};
 use std::alloc::Global;
 use std::process::Abort;
-use std::test::Fail;
 
 // The cell of these tests is in sectors 4 to 7 of a disk of 24.
 fn format_within(rt: &impl Abort, disk: &mut MemDisk, calls: u64) -> Result<(), CellFault> {
@@ -43,14 +42,14 @@ fn mount_and_raise_within(
 }
 
 // A disk whose cell was formatted with 0 and then raised so many times.
-fn raised(rt: &impl Abort, alloc: Global, raises: u64) -> Result<MemDisk, Fail> {
-    let mut disk = MemDisk::new(alloc, 24)?;
+fn raised(rt: &impl Abort, alloc: Global, raises: u64) -> MemDisk {
+    let mut disk = MemDisk::new(alloc, 24).expect(rt, "memory for a disk");
     assert!(rt; disk.sectors() == 24);
-    format(&mut disk, 4, 0)?;
+    format(&mut disk, 4, 0).expect(rt, "a formatted cell");
     for _ in 0..raises {
-        raise_within(rt, &mut disk, 6)?;
+        raise_within(rt, &mut disk, 6).expect(rt, "a raised cell");
     }
-    Ok(disk)
+    disk
 }
 
 // The body of a value, with two bytes past it.
@@ -62,31 +61,24 @@ fn body(value: u64, eighth: u8, last: u8) -> Sector {
     body
 }
 
-fn seal_over(rt: &impl Abort, disk: &mut MemDisk, slot: u64, body: &Sector) -> Result<(), Fail>
+fn seal_over(rt: &impl Abort, disk: &mut MemDisk, slot: u64, body: &Sector)
     requires { slot < 7 }
 {
     assert!(rt; disk.sectors() == 24);
-    slot_gate::store(disk, slot, false, body)?;
-    Ok(())
+    slot_gate::store(disk, slot, false, body).expect(rt, "a sealed slot");
 }
 
 // What a raise answers that was stopped, what a mounting found then, and what the next raise answered.
 type Stopped = (Result<u64, CellFault>, u64, u64);
 
 // Raises over this value in so many device calls at most, crashes, mounts and raises.
-fn stop(
-    rt: &impl Abort,
-    alloc: Global,
-    before: u64,
-    calls: u64,
-    fill: &[u8],
-) -> Result<Stopped, Fail> {
-    let mut disk = raised(rt, alloc, before)?;
+fn stop(rt: &impl Abort, alloc: Global, before: u64, calls: u64, fill: &[u8]) -> Stopped {
+    let mut disk = raised(rt, alloc, before);
     let answer = raise_within(rt, &mut disk, calls);
     disk.crash(fill);
-    let value = mounted_value(rt, &mut disk)?;
-    let next = raise_within(rt, &mut disk, 6)?;
-    Ok((answer, value, next))
+    let value = mounted_value(rt, &mut disk).expect(rt, "a mounted cell");
+    let next = raise_within(rt, &mut disk, 6).expect(rt, "a raised cell");
+    (answer, value, next)
 }
 
 fn expect_stopped(
@@ -96,16 +88,15 @@ fn expect_stopped(
     calls: u64,
     fill: &[u8],
     want: Stopped,
-) -> Result<(), Fail> {
-    let found = stop(rt, alloc, before, calls, fill)?;
+) {
+    let found = stop(rt, alloc, before, calls, fill);
     assert!(rt; found == want, "{calls} calls from {before}");
-    Ok(())
 }
 
 // From 0 a raise takes four device calls, over a slot that is sealed six. Its last two write and
 // sync the gate: a crash after either of them keeps the raise where it leaves 0xA5 there.
 #[test]
-fn raise_stopped_at_each_call(rt: HostRuntime) -> Result<(), Fail> {
+fn raise_stopped_at_each_call(rt: HostRuntime) {
     for (before, after, next, gate, calls) in [(0, 1, 2, 2, 4), (1, 2, 3, 4, 6)] {
         for (fill, seals) in [
             (&[][..], false),
@@ -123,31 +114,29 @@ fn raise_stopped_at_each_call(rt: HostRuntime) -> Result<(), Fail> {
                 } else {
                     (answer, before, after)
                 };
-                expect_stopped(&rt, rt.alloc(), before, k, fill, want)?;
+                expect_stopped(&rt, rt.alloc(), before, k, fill, want);
             }
         }
     }
-    Ok(())
 }
 
 #[test]
-fn greatest_count(rt: HostRuntime) -> Result<(), Fail> {
-    let mut disk = raised(&rt, rt.alloc(), 0)?;
+fn greatest_count(rt: HostRuntime) {
+    let mut disk = raised(&rt, rt.alloc(), 0);
     let mut greatest = [0; 512];
     greatest[..8].fill(0xff);
-    seal_over(&rt, &mut disk, 6, &greatest)?;
+    seal_over(&rt, &mut disk, 6, &greatest);
     assert_eq!(rt; mounted_value(&rt, &mut disk), Ok(18446744073709551615));
     assert_eq!(rt; raise_within(&rt, &mut disk, 0), Err(CellFault::Exhausted));
     assert_eq!(rt; disk.failures(), 0);
-    Ok(())
 }
 
 // The first raise stops when slot A is unsealed and its body is written, and a crash leaves that
 // body torn. The second stops at its first call, which is the write of that body and not of the
 // gate: so the crash can't seal the slot.
 #[test]
-fn unsealed_slot_stays(rt: HostRuntime) -> Result<(), Fail> {
-    let mut disk = raised(&rt, rt.alloc(), 1)?;
+fn unsealed_slot_stays(rt: HostRuntime) {
+    let mut disk = raised(&rt, rt.alloc(), 1);
     assert_eq!(rt; raise_within(&rt, &mut disk, 3), Err(CellFault::Device));
     disk.crash(&[0xff; 512]);
     assert_eq!(rt;
@@ -156,12 +145,11 @@ fn unsealed_slot_stays(rt: HostRuntime) -> Result<(), Fail> {
     );
     disk.crash(&[0xa5]);
     assert_eq!(rt; mount_and_raise_within(&rt, &mut disk, 7), Ok((1, Ok(2))));
-    Ok(())
 }
 
 // Mounts in so many device calls at most: whether that was enough. It is found once the disk fails no more.
-fn is_mounted_within(rt: &impl Abort, alloc: Global, value: u64, calls: u64) -> Result<bool, Fail> {
-    let mut disk = raised(rt, alloc, value)?;
+fn is_mounted_within(rt: &impl Abort, alloc: Global, value: u64, calls: u64) -> bool {
+    let mut disk = raised(rt, alloc, value);
     disk.arm(calls);
     let answer = mounted_value(rt, &mut disk);
     let is_whole = disk.failures() == 0;
@@ -173,54 +161,51 @@ fn is_mounted_within(rt: &impl Abort, alloc: Global, value: u64, calls: u64) -> 
     assert_eq!(rt; answer, want);
     disk.crash(&[]);
     assert_eq!(rt; mounted_value(rt, &mut disk), Ok(value));
-    Ok(is_whole)
+    is_whole
 }
 
 // Three calls where the second slot is unsealed, four where both are sealed.
 #[test]
-fn mounting_fails_at_each_call(rt: HostRuntime) -> Result<(), Fail> {
+fn mounting_fails_at_each_call(rt: HostRuntime) {
     for (value, calls) in [(0, 3), (1, 4)] {
         for k in 0..=calls {
-            let is_mounted = is_mounted_within(&rt, rt.alloc(), value, k)?;
+            let is_mounted = is_mounted_within(&rt, rt.alloc(), value, k);
             assert!(rt; is_mounted == (k == calls), "{k} calls");
         }
     }
-    Ok(())
 }
 
 // Whether a cell is formatted in so many device calls, or else the device is told to have failed.
-fn is_formatted_within(rt: &impl Abort, alloc: Global, calls: u64) -> Result<bool, Fail> {
-    let mut disk = raised(rt, alloc, 1)?;
+fn is_formatted_within(rt: &impl Abort, alloc: Global, calls: u64) -> bool {
+    let mut disk = raised(rt, alloc, 1);
     match format_within(rt, &mut disk, calls) {
-        Ok(()) => Ok(true),
-        Err(CellFault::Device) => Ok(false),
-        Err(fault) => Err(Fail::new(fault)),
+        Ok(()) => true,
+        Err(CellFault::Device) => false,
+        Err(fault) => panic!(rt; "{fault}"),
     }
 }
 
 #[test]
-fn formatting_fails_at_each_call(rt: HostRuntime) -> Result<(), Fail> {
+fn formatting_fails_at_each_call(rt: HostRuntime) {
     for k in 0..=8 {
         assert!(rt;
-            is_formatted_within(&rt, rt.alloc(), k)? == (k == 8),
+            is_formatted_within(&rt, rt.alloc(), k) == (k == 8),
             "{k} calls"
         );
     }
-    Ok(())
 }
 
 // The value is the first eight bytes of a body, greatest first.
 #[test]
-fn body_as_written(rt: HostRuntime) -> Result<(), Fail> {
-    let mut disk = MemDisk::new(rt.alloc(), 24)?;
-    format_within(&rt, &mut disk, 8)?;
+fn body_as_written(rt: HostRuntime) {
+    let mut disk = MemDisk::new(rt.alloc(), 24).expect(&rt, "memory for a disk");
+    format_within(&rt, &mut disk, 8).expect(&rt, "a formatted cell");
     disk.arm(1);
     let mut expected = [0; 512];
     expected[7] = 2;
     let mut found = [0xff; 512];
-    disk.read(4, &mut found)?;
+    disk.read(4, &mut found).expect(&rt, "a sector");
     assert_eq!(rt; found, expected);
-    Ok(())
 }
 
 // What a mounting tells of a cell whose slots have these bodies, where they are sealed.
@@ -229,19 +214,19 @@ fn value_of(
     alloc: Global,
     first: &Option<Sector>,
     second: &Option<Sector>,
-) -> Result<Result<u64, CellFault>, Fail> {
-    let mut disk = MemDisk::new(alloc, 24)?;
+) -> Result<u64, CellFault> {
+    let mut disk = MemDisk::new(alloc, 24).expect(rt, "memory for a disk");
     if let Some(body) = first {
-        seal_over(rt, &mut disk, 4, body)?;
+        seal_over(rt, &mut disk, 4, body);
     }
     if let Some(body) = second {
-        seal_over(rt, &mut disk, 6, body)?;
+        seal_over(rt, &mut disk, 6, body);
     }
-    Ok(mounted_value(rt, &mut disk))
+    mounted_value(rt, &mut disk)
 }
 
 #[test]
-fn what_a_mounting_tells(rt: HostRuntime) -> Result<(), Fail> {
+fn what_a_mounting_tells(rt: HostRuntime) {
     let damaged = body(9, 1, 0);
     let torn = body(9, 0, 1);
     for (row, first, second, told) in [
@@ -267,14 +252,13 @@ fn what_a_mounting_tells(rt: HostRuntime) -> Result<(), Fail> {
         (10, None, Some(torn), Err(CellFault::Damaged(6))),
         (11, Some(torn), Some(damaged), Err(CellFault::Damaged(4))),
     ] {
-        let found = value_of(&rt, rt.alloc(), &first, &second)?;
+        let found = value_of(&rt, rt.alloc(), &first, &second);
         assert!(rt; found == told, "row {row}");
     }
-    Ok(())
 }
 
 #[test]
-fn faults_as_text(rt: HostRuntime) -> Result<(), Fail> {
+fn faults_as_text(rt: HostRuntime) {
     for (fault, text) in [
         (CellFault::Device, "the device failed"),
         (CellFault::Broken, "the device failed earlier, mount again"),
@@ -282,7 +266,11 @@ fn faults_as_text(rt: HostRuntime) -> Result<(), Fail> {
         (CellFault::NotFormatted, "no slot is sealed"),
         (CellFault::Damaged(6), "the body in sector 6 is damaged"),
     ] {
-        assert_eq!(rt; format!(in rt.alloc(); "{fault}")?.as_str(), text);
+        assert_eq!(rt;
+            format!(in rt.alloc(); "{fault}")
+                .expect(&rt, "memory for a text")
+                .as_str(),
+            text
+        );
     }
-    Ok(())
 }

@@ -7,45 +7,43 @@ use job_model::{Command, Job, Payload, Queue, Record, Work};
 use sector_disk::{MemDisk, Sector, SectorDisk};
 use std::alloc::Global;
 use std::process::Abort;
-use std::test::Fail;
 
 // A disk of 24 sectors with an empty journal, four slots in each area.
-fn formatted(rt: &impl Abort, alloc: Global) -> Result<MemDisk, Fail> {
-    let mut disk = MemDisk::new(alloc, 24)?;
+fn formatted(rt: &impl Abort, alloc: Global) -> MemDisk {
+    let mut disk = MemDisk::new(alloc, 24).expect(rt, "memory for a disk");
     assert!(rt; disk.sectors() == 24);
-    format(&mut disk, 4)?;
-    Ok(disk)
+    format(&mut disk, 4).expect(rt, "a formatted disk");
+    disk
 }
 
-fn job(id: u64) -> Result<Job, Fail> {
-    let queue = Queue::new(1).ok_or("no queue")?;
-    let payload = Payload::new(b"hi").ok_or("no payload")?;
+fn job(rt: &impl Abort, id: u64) -> Job {
+    let queue = Queue::new(1).expect(rt, "a queue");
+    let payload = Payload::new(b"hi").expect(rt, "a payload");
     let work = Work {
         queue,
         priority: 7,
         payload,
     };
-    Ok(Job { id, work })
+    Job { id, work }
 }
 
-fn put() -> Result<Command, Fail> {
-    let job = job(0)?;
-    Ok(Command::Put(job.work))
+fn put(rt: &impl Abort) -> Command {
+    let job = job(rt, 0);
+    Command::Put(job.work)
 }
 
-fn seal_over(rt: &impl Abort, disk: &mut MemDisk, slot: u64, record: &Record) -> Result<(), Fail>
+fn seal_over(rt: &impl Abort, disk: &mut MemDisk, slot: u64, record: &Record)
     requires { slot < 23 }
 {
-    seal_body(rt, disk, slot, &record.to_sector())
+    seal_body(rt, disk, slot, &record.to_sector());
 }
 
-fn seal_body(rt: &impl Abort, disk: &mut MemDisk, slot: u64, body: &Sector) -> Result<(), Fail>
+fn seal_body(rt: &impl Abort, disk: &mut MemDisk, slot: u64, body: &Sector)
     requires { slot < 23 }
 {
     disk.arm(u64::MAX);
     assert!(rt; disk.sectors() == 24);
-    slot_gate::store(disk, slot, false, body)?;
-    Ok(())
+    slot_gate::store(disk, slot, false, body).expect(rt, "a sealed slot");
 }
 
 // A sector that begins with these bytes, with zeros behind them.
@@ -57,31 +55,23 @@ fn sector(bytes: &[u8]) -> Sector {
     sector
 }
 
-fn check_sector(rt: &impl Abort, disk: &mut MemDisk, at: u64, bytes: &[u8]) -> Result<(), Fail>
+fn check_sector(rt: &impl Abort, disk: &mut MemDisk, at: u64, bytes: &[u8])
     requires { at < 24 }
 {
     assert!(rt; disk.sectors() == 24);
     let mut found = [0; 512];
     disk.arm(u64::MAX);
-    disk.read(at, &mut found)?;
+    disk.read(at, &mut found).expect(rt, "a sector");
     assert!(rt; found == sector(bytes), "sector {at}");
-    Ok(())
 }
 
 // Mounts, and finds these jobs pending.
-fn check_jobs(
-    rt: &impl Abort,
-    alloc: Global,
-    disk: &mut MemDisk,
-    next: u64,
-    jobs: &[Job],
-) -> Result<(), Fail> {
+fn check_jobs(rt: &impl Abort, alloc: Global, disk: &mut MemDisk, next: u64, jobs: &[Job]) {
     assert!(rt; disk.sectors() == 24);
     disk.arm(u64::MAX);
-    let journal = mount(alloc, disk, 4)?;
+    let journal = mount(alloc, disk, 4).expect(rt, "a mounted journal");
     assert_eq!(rt; journal.table().next(), next);
     assert!(rt; journal.table().pending() == jobs);
-    Ok(())
 }
 
 // Mounts in so many device calls at most: the next id, and how many jobs are pending.
@@ -127,33 +117,30 @@ fn compact_within(
     journal.compact(disk)
 }
 
-fn seal_greatest_area(rt: &impl Abort, disk: &mut MemDisk) -> Result<(), Fail> {
+fn seal_greatest_area(rt: &impl Abort, disk: &mut MemDisk) {
     disk.arm(u64::MAX);
     assert!(rt; disk.sectors() == 24);
     let mut greatest = [0; 512];
     greatest[..8].copy_from_slice(&[0xff; 8]);
-    slot_gate::store(disk, 6, false, &greatest)?;
-    Ok(())
+    slot_gate::store(disk, 6, false, &greatest).expect(rt, "a sealed slot");
 }
 
 // Appends a job in so many device calls at most, crashes and mounts: whether the append is done, the next id and how many jobs are pending.
-fn stopped_append(
-    rt: &impl Abort,
-    alloc: Global,
-    calls: u64,
-    fill: &[u8],
-) -> Result<(bool, u64, usize), Fail> {
-    let mut disk = formatted(rt, alloc)?;
-    let answer = append_within(rt, alloc, &mut disk, put()?, calls);
+fn stopped_append(rt: &impl Abort, alloc: Global, calls: u64, fill: &[u8]) -> (bool, u64, usize) {
+    let mut disk = formatted(rt, alloc);
+    let answer = append_within(rt, alloc, &mut disk, put(rt), calls);
     disk.crash(fill);
-    let (next, pending) = mounted_within(rt, alloc, &mut disk, u64::MAX)?;
-    Ok((answer.is_ok(), next, pending))
+    let (next, pending) = mounted_within(rt, alloc, &mut disk, u64::MAX).expect(
+        rt,
+        "a mounted journal",
+    );
+    (answer.is_ok(), next, pending)
 }
 
 // The body is written and synced, and then the gate: a crash after the gate's write, done or failed, keeps the job
 // where it leaves 0xA5 there.
 #[test]
-fn append_stopped_at_each_call(rt: HostRuntime) -> Result<(), Fail> {
+fn append_stopped_at_each_call(rt: HostRuntime) {
     for (fill, seals) in [
         (&[][..], false),
         (&[0xa5][..], true),
@@ -161,33 +148,31 @@ fn append_stopped_at_each_call(rt: HostRuntime) -> Result<(), Fail> {
     ] {
         for k in 0..=4 {
             let is_kept = k == 4 || (seals && k >= 2);
-            let found = stopped_append(&rt, rt.alloc(), k, fill)?;
+            let found = stopped_append(&rt, rt.alloc(), k, fill);
             let want = (k == 4, u64::from(is_kept), usize::from(is_kept));
             assert!(rt; found == want, "{k} calls");
         }
     }
-    Ok(())
 }
 
 #[test]
-fn put_with_another_id(rt: HostRuntime) -> Result<(), Fail> {
-    let mut disk = formatted(&rt, rt.alloc())?;
-    seal_over(&rt, &mut disk, 8, &Record::Put(job(1)?))?;
+fn put_with_another_id(rt: HostRuntime) {
+    let mut disk = formatted(&rt, rt.alloc());
+    seal_over(&rt, &mut disk, 8, &Record::Put(job(&rt, 1)));
     assert_eq!(rt;
         mounted_within(&rt, rt.alloc(), &mut disk, u64::MAX),
         Err(JournalFault::Damaged(8))
     );
-    Ok(())
 }
 
 // The journal of area 0 begins with the greatest next id there is, and one job was kept.
 #[test]
-fn no_id_left(rt: HostRuntime) -> Result<(), Fail> {
-    let mut disk = formatted(&rt, rt.alloc())?;
-    seal_over(&rt, &mut disk, 8, &Record::Base(18446744073709551615))?;
-    seal_over(&rt, &mut disk, 10, &Record::Keep(job(7)?))?;
+fn no_id_left(rt: HostRuntime) {
+    let mut disk = formatted(&rt, rt.alloc());
+    seal_over(&rt, &mut disk, 8, &Record::Base(18446744073709551615));
+    seal_over(&rt, &mut disk, 10, &Record::Keep(job(&rt, 7)));
     assert_eq!(rt;
-        append_within(&rt, rt.alloc(), &mut disk, put()?, 0),
+        append_within(&rt, rt.alloc(), &mut disk, put(&rt), 0),
         Err(JournalFault::Exhausted)
     );
     assert_eq!(rt; disk.failures(), 0);
@@ -195,31 +180,32 @@ fn no_id_left(rt: HostRuntime) -> Result<(), Fail> {
         append_within(&rt, rt.alloc(), &mut disk, Command::Done(7), 4),
         Ok(7)
     );
-    Ok(())
 }
 
 // Two jobs are pending: a Base, three jobs and a Done wouldn't fit into four slots.
 #[test]
-fn full_journal(rt: HostRuntime) -> Result<(), Fail> {
-    let mut disk = formatted(&rt, rt.alloc())?;
+fn full_journal(rt: HostRuntime) {
+    let mut disk = formatted(&rt, rt.alloc());
     for id in 0..2 {
-        let found = append_within(&rt, rt.alloc(), &mut disk, put()?, 4)?;
+        let found = append_within(&rt, rt.alloc(), &mut disk, put(&rt), 4).expect(
+            &rt,
+            "an appended record",
+        );
         assert_eq!(rt; found, id);
     }
     assert_eq!(rt;
-        append_within(&rt, rt.alloc(), &mut disk, put()?, 0),
+        append_within(&rt, rt.alloc(), &mut disk, put(&rt), 0),
         Err(JournalFault::Full)
     );
-    Ok(())
 }
 
 // Four records stand in the four slots, and jobs 1 and 2 are pending.
-fn with_no_free_slot(rt: &impl Abort, alloc: Global) -> Result<MemDisk, Fail> {
-    let mut disk = formatted(rt, alloc)?;
-    for command in [put()?, put()?, Command::Done(0), put()?] {
-        append_within(rt, alloc, &mut disk, command, 4)?;
+fn with_no_free_slot(rt: &impl Abort, alloc: Global) -> MemDisk {
+    let mut disk = formatted(rt, alloc);
+    for command in [put(rt), put(rt), Command::Done(0), put(rt)] {
+        append_within(rt, alloc, &mut disk, command, 4).expect(rt, "an appended record");
     }
-    Ok(disk)
+    disk
 }
 
 // Takes job 1 out of a journal with no free slot, in so many device calls at most, crashes and mounts: whether it is done, the next id and how many
@@ -229,19 +215,22 @@ fn stopped_compaction(
     alloc: Global,
     calls: u64,
     fill: &[u8],
-) -> Result<(bool, u64, usize), Fail> {
-    let mut disk = with_no_free_slot(rt, alloc)?;
+) -> (bool, u64, usize) {
+    let mut disk = with_no_free_slot(rt, alloc);
     let answer = append_within(rt, alloc, &mut disk, Command::Done(1), calls);
     assert!(rt; matches!(answer, Ok(1) | Err(JournalFault::Device)));
     disk.crash(fill);
-    let (next, pending) = mounted_within(rt, alloc, &mut disk, u64::MAX)?;
-    Ok((answer.is_ok(), next, pending))
+    let (next, pending) = mounted_within(rt, alloc, &mut disk, u64::MAX).expect(
+        rt,
+        "a mounted journal",
+    );
+    (answer.is_ok(), next, pending)
 }
 
 // Eight calls unseal the other area, six fill a Base and two Keeps, six seal them, four raise the area cell over its
 // unsealed slot, and the last four are those of the Done: only a gate that is left sealed there keeps it.
 #[test]
-fn stops_in_a_compaction(rt: HostRuntime) -> Result<(), Fail> {
+fn stops_in_a_compaction(rt: HostRuntime) {
     for (fill, seals) in [
         (&[][..], false),
         (&[0xa5][..], true),
@@ -250,62 +239,56 @@ fn stops_in_a_compaction(rt: HostRuntime) -> Result<(), Fail> {
     ] {
         for k in 0..=28 {
             let pending = if k == 28 || (seals && k >= 26) { 1 } else { 2 };
-            let found = stopped_compaction(&rt, rt.alloc(), k, fill)?;
+            let found = stopped_compaction(&rt, rt.alloc(), k, fill);
             assert!(rt; found == (k == 28, 3, pending), "{k} calls");
         }
     }
-    Ok(())
 }
 
 const BASE_3: [u8; 9] = [3, 0, 0, 0, 0, 0, 0, 0, 3];
 
 // A disk from before jobs had priorities: area 0 holds Base 3, and Keep of id 1, queue 0 and payload `62`.
-fn old_disk(rt: &impl Abort, alloc: Global) -> Result<MemDisk, Fail> {
-    let mut disk = formatted(rt, alloc)?;
+fn old_disk(rt: &impl Abort, alloc: Global) -> MemDisk {
+    let mut disk = formatted(rt, alloc);
     let keep = [4, 0, 0, 0, 0, 0, 0, 0, 1, 0, 0, 1, 0x62];
-    seal_body(rt, &mut disk, 8, &sector(&BASE_3))?;
-    seal_body(rt, &mut disk, 10, &sector(&keep))?;
-    Ok(disk)
+    seal_body(rt, &mut disk, 8, &sector(&BASE_3));
+    seal_body(rt, &mut disk, 10, &sector(&keep));
+    disk
 }
 
 // Its job, which has no priority.
-fn old_job() -> Result<Job, Fail> {
+fn old_job(rt: &impl Abort) -> Job {
     let work = Work {
-        queue: Queue::new(0).ok_or("no queue")?,
+        queue: Queue::new(0).expect(rt, "a queue"),
         priority: 0,
-        payload: Payload::new(b"b").ok_or("no payload")?,
+        payload: Payload::new(b"b").expect(rt, "a payload"),
     };
-    Ok(Job { id: 1, work })
+    Job { id: 1, work }
 }
 
 #[test]
-fn old_disk_is_compacted(rt: HostRuntime) -> Result<(), Fail> {
-    let mut disk = old_disk(&rt, rt.alloc())?;
-    check_jobs(&rt, rt.alloc(), &mut disk, 3, &[old_job()?])?;
-    compact_within(&rt, rt.alloc(), &mut disk, 20)?;
+fn old_disk_is_compacted(rt: HostRuntime) {
+    let mut disk = old_disk(&rt, rt.alloc());
+    check_jobs(&rt, rt.alloc(), &mut disk, 3, &[old_job(&rt)]);
+    compact_within(&rt, rt.alloc(), &mut disk, 20).expect(&rt, "a compacted journal");
     let keep = [6, 0, 0, 0, 0, 0, 0, 0, 1, 0, 0, 0, 1, 0x62];
-    check_sector(&rt, &mut disk, 16, &BASE_3)?;
-    check_sector(&rt, &mut disk, 18, &keep)?;
-    check_jobs(&rt, rt.alloc(), &mut disk, 3, &[old_job()?])
+    check_sector(&rt, &mut disk, 16, &BASE_3);
+    check_sector(&rt, &mut disk, 18, &keep);
+    check_jobs(&rt, rt.alloc(), &mut disk, 3, &[old_job(&rt)]);
 }
 
 // Compacts an old disk in so many device calls at most, crashes, and finds its job: whether the compaction is done.
-fn stopped_on_an_old_disk(
-    rt: &impl Abort,
-    alloc: Global,
-    calls: u64,
-    fill: &[u8],
-) -> Result<bool, Fail> {
-    let mut disk = old_disk(rt, alloc)?;
+fn stopped_on_an_old_disk(rt: &impl Abort, alloc: Global, calls: u64, fill: &[u8]) -> bool {
+    let mut disk = old_disk(rt, alloc);
     let answer = compact_within(rt, alloc, &mut disk, calls);
     disk.crash(fill);
-    check_jobs(rt, alloc, &mut disk, 3, &[old_job()?])?;
-    Ok(answer.is_ok())
+    check_jobs(rt, alloc, &mut disk, 3, &[old_job(rt)]);
+    answer.is_ok()
 }
 
 // Eight calls unseal the other area, four fill a Base and a Keep, four seal them, and four raise the area cell.
 #[test]
-fn stops_on_an_old_disk(rt: HostRuntime) -> Result<(), Fail> {
+fn stops_on_an_old_disk(rt: HostRuntime) {
     for fill in [
         &[][..],
         &[0xa5][..],
@@ -314,54 +297,55 @@ fn stops_on_an_old_disk(rt: HostRuntime) -> Result<(), Fail> {
         &[0xa5; 4096][..],
     ] {
         for k in 0..=20 {
-            let is_done = stopped_on_an_old_disk(&rt, rt.alloc(), k, fill)?;
+            let is_done = stopped_on_an_old_disk(&rt, rt.alloc(), k, fill);
             assert!(rt; is_done == (k == 20), "{k} calls");
         }
     }
-    Ok(())
 }
 
 // An old Put stands between two others.
 #[test]
-fn old_among_new(rt: HostRuntime) -> Result<(), Fail> {
-    let mut disk = formatted(&rt, rt.alloc())?;
-    append_within(&rt, rt.alloc(), &mut disk, put()?, 4)?;
+fn old_among_new(rt: HostRuntime) {
+    let mut disk = formatted(&rt, rt.alloc());
+    append_within(&rt, rt.alloc(), &mut disk, put(&rt), 4).expect(&rt, "an appended record");
     let old = [1, 0, 0, 0, 0, 0, 0, 0, 1, 0, 0, 1, 0x62];
-    seal_body(&rt, &mut disk, 10, &sector(&old))?;
-    append_within(&rt, rt.alloc(), &mut disk, Command::Done(0), 4)?;
-    append_within(&rt, rt.alloc(), &mut disk, put()?, 4)?;
+    seal_body(&rt, &mut disk, 10, &sector(&old));
+    append_within(&rt, rt.alloc(), &mut disk, Command::Done(0), 4).expect(
+        &rt,
+        "an appended record",
+    );
+    append_within(&rt, rt.alloc(), &mut disk, put(&rt), 4).expect(&rt, "an appended record");
     check_sector(
         &rt,
         &mut disk,
         14,
         &[5, 0, 0, 0, 0, 0, 0, 0, 2, 1, 7, 0, 2, 0x68, 0x69],
-    )?;
-    check_jobs(&rt, rt.alloc(), &mut disk, 3, &[old_job()?, job(2)?])
+    );
+    check_jobs(&rt, rt.alloc(), &mut disk, 3, &[old_job(&rt), job(&rt, 2)]);
 }
 
 // Compactions by turns into either area; over a sealed slot of the area cell a raise takes six calls.
 #[test]
-fn compaction_repeated(rt: HostRuntime) -> Result<(), Fail> {
-    let mut disk = with_no_free_slot(&rt, rt.alloc())?;
-    compact_within(&rt, rt.alloc(), &mut disk, 24)?;
+fn compaction_repeated(rt: HostRuntime) {
+    let mut disk = with_no_free_slot(&rt, rt.alloc());
+    compact_within(&rt, rt.alloc(), &mut disk, 24).expect(&rt, "a compacted journal");
     for _ in 0..9 {
-        compact_within(&rt, rt.alloc(), &mut disk, 26)?;
+        compact_within(&rt, rt.alloc(), &mut disk, 26).expect(&rt, "a compacted journal");
     }
     disk.crash(&[]);
     assert_eq!(rt;
         mounted_within(&rt, rt.alloc(), &mut disk, u64::MAX),
         Ok((3, 2))
     );
-    Ok(())
 }
 
 // Slot B of the area cell has the greatest value there is, which is odd: no compaction any more.
 #[test]
-fn no_compaction_left(rt: HostRuntime) -> Result<(), Fail> {
-    let mut disk = with_no_free_slot(&rt, rt.alloc())?;
-    seal_greatest_area(&rt, &mut disk)?;
+fn no_compaction_left(rt: HostRuntime) {
+    let mut disk = with_no_free_slot(&rt, rt.alloc());
+    seal_greatest_area(&rt, &mut disk);
     assert_eq!(rt;
-        append_within(&rt, rt.alloc(), &mut disk, put()?, 0),
+        append_within(&rt, rt.alloc(), &mut disk, put(&rt), 0),
         Err(JournalFault::Full)
     );
     assert_eq!(rt;
@@ -372,51 +356,54 @@ fn no_compaction_left(rt: HostRuntime) -> Result<(), Fail> {
         compact_within(&rt, rt.alloc(), &mut disk, 0),
         Err(JournalFault::Exhausted)
     );
-    Ok(())
 }
 
 // The area cell is raised to 2: the first slot of area 1 is in sector 16.
 #[test]
-fn second_area(rt: HostRuntime) -> Result<(), Fail> {
-    let mut disk = formatted(&rt, rt.alloc())?;
+fn second_area(rt: HostRuntime) {
+    let mut disk = formatted(&rt, rt.alloc());
     assert!(rt; disk.sectors() == 24);
-    safe_cell::mount(&mut disk, 4)?.raise(&mut disk)?;
-    seal_over(&rt, &mut disk, 16, &Record::Base(3))?;
-    assert_eq!(rt; append_within(&rt, rt.alloc(), &mut disk, put()?, 4), Ok(3));
+    safe_cell::mount(&mut disk, 4)
+        .expect(&rt, "a mounted cell")
+        .raise(&mut disk)
+        .expect(&rt, "a raised cell");
+    seal_over(&rt, &mut disk, 16, &Record::Base(3));
+    assert_eq!(rt;
+        append_within(&rt, rt.alloc(), &mut disk, put(&rt), 4),
+        Ok(3)
+    );
     assert_eq!(rt;
         mounted_within(&rt, rt.alloc(), &mut disk, u64::MAX),
         Ok((4, 1))
     );
-    Ok(())
 }
 
 // Whether an empty journal is mounted in so many device calls, or else the device is told to have failed.
-fn is_mounted_within(rt: &impl Abort, alloc: Global, calls: u64) -> Result<bool, Fail> {
-    let mut disk = formatted(rt, alloc)?;
+fn is_mounted_within(rt: &impl Abort, alloc: Global, calls: u64) -> bool {
+    let mut disk = formatted(rt, alloc);
     match mounted_within(rt, alloc, &mut disk, calls) {
-        Ok((0, 0)) => Ok(true),
-        Err(JournalFault::Device) => Ok(false),
-        _ => Err(Fail::new("another answer")),
+        Ok((0, 0)) => true,
+        Err(JournalFault::Device) => false,
+        _ => panic!(rt; "another answer"),
     }
 }
 
 // Sectors 5, 4 and 7, and the gate in sector 9. Of a disk of zeros the area cell isn't sealed.
 #[test]
-fn mounting_fails_at_each_call(rt: HostRuntime) -> Result<(), Fail> {
+fn mounting_fails_at_each_call(rt: HostRuntime) {
     for k in 0..=4 {
-        let is_mounted = is_mounted_within(&rt, rt.alloc(), k)?;
+        let is_mounted = is_mounted_within(&rt, rt.alloc(), k);
         assert!(rt; is_mounted == (k == 4), "{k} calls");
     }
-    let mut zeros = MemDisk::new(rt.alloc(), 24)?;
+    let mut zeros = MemDisk::new(rt.alloc(), 24).expect(&rt, "memory for a disk");
     assert_eq!(rt;
         mounted_within(&rt, rt.alloc(), &mut zeros, u64::MAX),
         Err(JournalFault::Damaged(5))
     );
-    Ok(())
 }
 
 #[test]
-fn faults_as_text(rt: HostRuntime) -> Result<(), Fail> {
+fn faults_as_text(rt: HostRuntime) {
     for (fault, text) in [
         (JournalFault::Device, "the device failed"),
         (
@@ -429,7 +416,11 @@ fn faults_as_text(rt: HostRuntime) -> Result<(), Fail> {
         (JournalFault::NoSuchJob, "no such job is pending"),
         (JournalFault::NoMemory, "out of memory"),
     ] {
-        assert_eq!(rt; format!(in rt.alloc(); "{fault}")?.as_str(), text);
+        assert_eq!(rt;
+            format!(in rt.alloc(); "{fault}")
+                .expect(&rt, "memory for a text")
+                .as_str(),
+            text
+        );
     }
-    Ok(())
 }
