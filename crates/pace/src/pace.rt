@@ -71,7 +71,7 @@ impl Pace {
         self.heard[usize::from(from.number())] = self.checks;
     }
 
-    /// A job came or went: work is due at once, and is dispatched often again.
+    /// A job came or went, or the node is in another group than before: work is due at once, and is dispatched often again.
     pub fn worked(&mut self)
         ensures { self.new ≡ record self.old { dispatched = 0; pause = 0 } }
     {

@@ -95,6 +95,7 @@ impl Trace {
         let history = self.histories.get(usize::from(node.number()))?;
         history.entry(place)
     }
+
     /// The messages that the entry of a node at this place of its history sent.
     pub fn sent(&self, node: NodeId, place: usize) -> Option<Sent<'_>>
         ensures { result ≡ option_map (λ (c : Claim). c.sent) (slice_get (history self.now node) place) }
