@@ -1,17 +1,17 @@
 -- What a compaction leaves of a node that is up.
-use Rattle.std.proofs.Common.{◌≡◌, ◌≢◌, ◌≤◌, ◌⊎◌, inl, inr, ⊎_elim, ℕ, true, false, Bool, Option, Some, None, Result, Ok, Err, sym, ◌∙◌, ap, subst, refl, arith, IsTrue, IsFalse}
+use Rattle.std.proofs.Common.{◌≡◌, ◌≢◌, ◌⊎◌, inl, inr, ⊎_elim, ℕ, true, false, Bool, Option, Some, None, Result, Ok, Err, sym, ◌∙◌, ap, subst, refl, IsTrue, IsFalse}
 use Rattle.std.specs.Prelude.{IsOk, IfErr, if◌then◌else◌}
 use Rattle.sector_disk.specs.Disk.{DiskState}
-use Rattle.sector_disk.specs.Run.{Run, Each}
+use Rattle.sector_disk.specs.Run.{Each}
 use Rattle.job_model.specs.Durable.{Durable}
-use Rattle.job_journal.specs.Journal.{IsSound}
 use Rattle.node_core.specs.declared.durable.Durable.{Durable as Wanted}
 use Rattle.node_core.specs.declared.fault.CoreFault.TheVariants.{Down}
 use Rattle.node_core.specs.Core.{Core}
 use Rattle.node_core.specs.NodeStep.{Worn}
 use Rattle.node_core.specs.Start.{down}
 use Rattle.node_core.specs.State.{State, is_down}
-use Rattle.node_store.specs.Store.{StoreState, durable_of, slots_for, stands_for, InStore, StaysAs}
+use Rattle.node_store.specs.Store.{StoreState, durable_of, slots_for, stands_for, StaysAs}
+use Rattle.durable_node.specs.Carrying.{KeepsSound}
 use Rattle.durable_node.specs.declared.fault.NodeFault.{NodeFault}
 use Rattle.durable_node.specs.declared.fault.NodeFault.TheVariants as node
 use Rattle.histories.specs.NodeState.{NodeState}
@@ -20,12 +20,12 @@ use Rattle.histories.specs.declared.what.Rest.TheVariants.{Compacted, CompactDow
 use Rattle.histories.specs.After.{after}
 use Rattle.durable_node.specs.declared.node_disk.NodeDisk.{NodeDisk}
 use Rattle.durable_node.specs.declared.node_disk.NodeDisk.TheVariants.{Mounted}
-use Rattle.durable_node.specs.Node.{Area, IsLeft, IsNode, Stands, kept_in, area_in, area_of, node_with}
+use Rattle.durable_node.specs.Node.{Area, IsLeft, Stands, kept_in, area_in, area_of, node_with}
 use Rattle.durable_node.specs.Refusing.{AnswersTo, compaction_refusal, is_last}
 use Rattle.durable_node.specs.Compacting.{Compacts, StaysKept, IsMovedNode, IsFallenNode, IsRewrittenCore, moved}
 use Rattle.durable_node.proofs.Ignores.{not_up}
-use Rattle.durable_node.proofs.Mounts.{was_honest, left_by}
-use Rattle.durable_node.proofs.Nodes.{clash, is_some, store_of, same_node}
+use Rattle.durable_node.proofs.Mounts.{at_some, left_done}
+use Rattle.durable_node.proofs.Nodes.{IsSettled, is_some, same_node}
 use Rattle.durable_node.proofs.Serves.{kept_up, up_kept}
 
 -- how a compaction ends
@@ -61,54 +61,23 @@ module _ {Disk A : Type 0} (disks : Disk → DiskState) (id nodes : ℕ) (core c
   still_up : is_down core.state.phase ≡ false → core'.state ≡ core.state → is_down core'.state.phase ≡ false
   still_up up same = ap (λ (s : State). is_down s.phase) same ∙ up
 
-  pub node_rewritten : IsNode disks id nodes core (Mounted store) → is_down core.state.phase ≡ false → IsRewrittenCore id nodes core core' result
-      → AnswersTo (compaction_refusal (Some (area_of store))) result
+  pub rewritten : is_down core.state.phase ≡ false → IsFalse store.broken → IsRewrittenCore id nodes core core' result → AnswersTo (compaction_refusal (Some (area_of store))) result
       → (IsOk result → IsFalse store'.broken × (area_of store' ≡ moved (durable_of store) (area_of store)))
-      → IfErr result (λ fault. fault ≢ node.Device → store' ≡ store)
-      → store'.journal.slots ≡ store.journal.slots → (disks store'.disk).sectors ≡ (disks store.disk).sectors → IsSound store.journal.slots (disks store'.disk)
-      → IsNode disks id nodes core' (Mounted store')
-  node_rewritten is up left answers done refused same sectors sound = record {
-    core_id = left.id;
-    core_nodes = left.nodes_is;
-    within = is.within;
-    most = is.most;
-    there = refl;
-    up = λ now. elim (ends_as (is_last (area_of store)) result answers) [
-      | inl ok ↦ (done ok).0
-      | inr (inl device) ↦ absurd (not_up id core'.state (left.falls device) now)
-      | inr (inr worn) ↦ subst (λ (st : StoreState Disk). IsFalse st.broken) (sym (of_err result node.Exhausted _ worn refused (λ e. cc))) (is.up up)
-    ];
-    fallen = λ now. elim (ends_as (is_last (area_of store)) result answers) [
-      | inl ok ↦ absurd (clash (is_down core'.state.phase) now (still_up up (left.stays (ok_is_none result node.Device ok))))
-      | inr (inl device) ↦ left.falls device
-      | inr (inr worn) ↦ absurd (clash (is_down core'.state.phase) now (still_up up (left.stays (worn_is_none result worn))))
-    ];
-    slots = store_of disks id nodes core core' store' store.journal.slots same at;
-    sound = λ now e. subst (λ (x : Disk). IsSound (slots_for (disks x).sectors) (disks x)) (is_some store'.disk now e)
-        (subst (λ (n : ℕ). IsSound (slots_for n) (disks store'.disk)) (sym sectors) (subst (λ (n : ℕ). IsSound n (disks store'.disk)) (is.slots store refl) sound));
-  }
-    where
-      at : store.journal.slots ≡ slots_for (disks store'.disk).sectors
-      at = is.slots store refl ∙ ap (λ (n : ℕ). slots_for n) (sym sectors)
-
-  left_after : (s t : NodeState) → t.durable ≡ s.durable → durable_of store ≡ s.durable → 24 ≤ (disks store.disk).sectors → store.journal.slots ≡ slots_for (disks store.disk).sectors
-      → (disks store'.disk).sectors ≡ (disks store.disk).sectors → (disks store'.disk).honest ≡ (disks store.disk).honest → IsSound store.journal.slots (disks store'.disk)
-      → (IsTrue (disks store.disk).honest → Run (InStore store.journal.slots) (disks store.disk) (disks store'.disk))
-      → (IsTrue (disks store.disk).honest → Each (disks store.disk) (disks store'.disk) (StaysAs store)) → IsLeft (disks store'.disk) t
-  left_after s t same kept enough slots sectors honest sound run each =
-      let at : store.journal.slots ≡ slots_for (disks store'.disk).sectors = slots ∙ ap (λ (n : ℕ). slots_for n) (sym sectors) in
-      left_by (disks store'.disk) t (omega (arith, enough, sectors))
-      (λ h image im. (let before = was_honest (disks store.disk) (disks store'.disk) honest h in
-      ap (λ (n : ℕ). stands_for n image) (sym at) ∙ each before image ((run before).ends image im) ∙ ap (λ (d : Durable). Some d) (kept ∙ sym same)))
-      (subst (λ (n : ℕ). IsSound n (disks store'.disk)) at sound)
+      → IfErr result (λ fault. fault ≢ node.Device → store' ≡ store) → IsSettled id core' store'
+  rewritten up whole left answers done refused = elim (ends_as (is_last (area_of store)) result answers) [
+    | inl ok ↦ inl (still_up up (left.stays (ok_is_none result node.Device ok)), (done ok).0)
+    | inr (inl device) ↦ inr (left.falls device)
+    | inr (inr worn) ↦ inl (
+      still_up up (left.stays (worn_is_none result worn)),
+      subst (λ (st : StoreState Disk). IsFalse st.broken) (sym (of_err result node.Exhausted _ worn refused (λ e. cc))) whole,
+    )
+  ]
 
   pub compacts : is_down core.state.phase ≡ false → store.journal.slots ≡ slots_for (disks store.disk).sectors → IsRewrittenCore id nodes core core' result
-      → AnswersTo (compaction_refusal (Some (area_of store))) result → durable_of store' ≡ durable_of store
-      → (disks store'.disk).sectors ≡ (disks store.disk).sectors → (disks store'.disk).honest ≡ (disks store.disk).honest → IsSound store.journal.slots (disks store'.disk)
-      → (IsTrue (disks store.disk).honest → Run (InStore store.journal.slots) (disks store.disk) (disks store'.disk))
+      → AnswersTo (compaction_refusal (Some (area_of store))) result → durable_of store' ≡ durable_of store → (failed : Type 0) → KeepsSound disks store store' failed
       → (IsTrue (disks store.disk).honest → Each (disks store.disk) (disks store'.disk) (StaysAs store))
       → Compacts disks (node_with id nodes core (Mounted store) doubt was) (node_with id nodes core' (Mounted store') doubt None) result
-  compacts up slots left answers same_kept sectors honest sound run each on s at stands =
+  compacts up slots left answers same_kept failed keeps each on s at stands =
       elim (ends_as (is_last (area_of store)) result answers) [
         | inl ok ↦ (Rests Compacted, ok, up_at, stays (left.stays (ok_is_none result node.Device ok)))
         | inr (inl device) ↦ (
@@ -131,15 +100,10 @@ module _ {Disk A : Type 0} (disks : Disk → DiskState) (id nodes : ℕ) (core c
       up_at : is_down s.state.phase ≡ false
       up_at = subst (λ (v : State). is_down v.phase ≡ false) stands.state up
 
-      was_left : IsLeft (disks on) s
-      was_left = stands.disk on at
-
-      enough : 24 ≤ (disks store.disk).sectors
-      enough = subst (λ (d : Disk). 24 ≤ (disks d).sectors) (sym (is_some store.disk on at)) was_left.sectors
-
       ends : (t : NodeState) → t.durable ≡ s.durable → (now : Disk) → Some store'.disk ≡ Some now → IsLeft (disks now) t
-      ends t same now e = subst (λ (d : Disk). IsLeft (disks d) t) (is_some store'.disk now e)
-          (left_after s t same kept enough slots sectors honest sound run each)
+      ends t same now e = at_some (λ (d : Disk). IsLeft (disks d) t) store'.disk now e
+          (left_done disks store store' failed keeps slots (stands.disk store.disk refl).sectors t
+          (λ honest image im. each honest image ((keeps.run honest).ends image im) ∙ ap (λ (d : Durable). Some d) (kept ∙ sym same)))
 
       stays : core'.state ≡ core.state → Stands disks (node_with id nodes core' (Mounted store') doubt None) s
       stays same = record {

@@ -1,5 +1,5 @@
 -- What a node that is down does with an event that doesn't make it mount its disk.
-use Rattle.std.proofs.Common.{◌≡◌, ◌≢◌, ◌≤◌, ℕ, false, arith, length, Option, Some, None, Result, Ok, Err, sym, ◌∙◌, ap, subst, refl}
+use Rattle.std.proofs.Common.{◌≡◌, ◌≢◌, ◌≤◌, ℕ, false, arith, length, [], Option, Some, None, Result, Ok, Err, sym, ◌∙◌, ap, subst, refl}
 use Rattle.std.specs.Prelude.{IfOk, IfErr, IsErrOf}
 use Rattle.sector_disk.specs.Disk.{DiskState}
 use Rattle.job_model.specs.Command.{Command}
@@ -28,7 +28,7 @@ use Rattle.histories.specs.After.{after}
 use Rattle.histories.specs.Possible.{IsForNode}
 use Rattle.durable_node.specs.declared.node_disk.NodeDisk.{NodeDisk}
 use Rattle.durable_node.specs.Node.{node_with, Stands}
-use Rattle.durable_node.specs.Stepping.{Does, IsIgnored, IsSilent, Steps}
+use Rattle.durable_node.specs.Stepping.{Does, IsIgnored, Steps}
 use Rattle.durable_node.specs.Faults.{fault_of, told, told_as}
 use Rattle.histories.proofs.Attempts.{tried_none}
 use Rattle.histories.proofs.Downs.{StaysDown, at_down}
@@ -114,36 +114,24 @@ module _ {Disk : Type 0} (disks : Disk → DiskState) (id nodes : ℕ) (core cor
 
 -- ---- what a caller is told of it
 
-not_of_device : (why : Option CoreFault) (came : Came) (end : Fate) → IsIgnored why came end → IsErrOf (told_as came (fault_of end)) node.Device → ⊥
-not_of_device why came fate.Done is device = cc
-not_of_device why came (fate.Refused (refusal.Core f)) is device = cc
-not_of_device why came (fate.Refused refusal.Full) is device = absurd is
-not_of_device why came (fate.Refused refusal.Exhausted) is device = absurd is
-not_of_device why came (fate.Refused refusal.Worn) is device = absurd is
-not_of_device why came fate.Faulted is device = absurd is
-not_of_device why came (fate.Recovered kept) is device = absurd is
-not_of_device why came fate.MountFailed is device = absurd is
-not_of_device why came (fate.RaiseFailed kept) is device = absurd is
-not_of_device why came (fate.RaiseRefused kept) is device = absurd is
+quiet_as : (why : Option CoreFault) (came : Came) (end : Fate) → IsIgnored why came end → (IsErrOf (told_as came (fault_of end)) node.Device → ⊥) × (came.sent.items ≡ [])
+quiet_as why came fate.Done is = (λ device. cc, is.1.0)
+quiet_as why came (fate.Refused (refusal.Core f)) is = (λ device. cc, is.1.0)
+quiet_as why came (fate.Refused refusal.Full) is = absurd is
+quiet_as why came (fate.Refused refusal.Exhausted) is = absurd is
+quiet_as why came (fate.Refused refusal.Worn) is = absurd is
+quiet_as why came fate.Faulted is = absurd is
+quiet_as why came (fate.Recovered kept) is = absurd is
+quiet_as why came fate.MountFailed is = absurd is
+quiet_as why came (fate.RaiseFailed kept) is = absurd is
+quiet_as why came (fate.RaiseRefused kept) is = absurd is
 
 -- no device was called
 pub no_device : (why : Option CoreFault) (result : Result Came NodeFault) → IfOk result (λ came. IsIgnored why came came.fate) → IfErr result (λ fault. fault ≡ node.Core NoMemory)
     → IsErrOf (told result) node.Device → ⊥
-no_device why (Ok came) is stuck device = not_of_device why came came.fate is device
+no_device why (Ok came) is stuck device = (quiet_as why came came.fate is).0 device
 no_device why (Err fault) is stuck device = cc
 
-silent_as : (why : Option CoreFault) (came : Came) (end : Fate) → IsIgnored why came end → IsSilent came
-silent_as why came fate.Done is = is.1
-silent_as why came (fate.Refused (refusal.Core f)) is = is.1
-silent_as why came (fate.Refused refusal.Full) is = absurd is
-silent_as why came (fate.Refused refusal.Exhausted) is = absurd is
-silent_as why came (fate.Refused refusal.Worn) is = absurd is
-silent_as why came fate.Faulted is = absurd is
-silent_as why came (fate.Recovered kept) is = absurd is
-silent_as why came fate.MountFailed is = absurd is
-silent_as why came (fate.RaiseFailed kept) is = absurd is
-silent_as why came (fate.RaiseRefused kept) is = absurd is
-
 pub few_ignored : (n : ℕ) (why : Option CoreFault) (result : Result Came NodeFault) → IfOk result (λ came. IsIgnored why came came.fate) → IfOk result (λ came. length came.sent.items ≤ n)
-few_ignored n why (Ok came) is = (let none : length came.sent.items ≡ 0 = ap length (silent_as why came came.fate is).0 in omega (arith, none))
+few_ignored n why (Ok came) is = (let none : length came.sent.items ≡ 0 = ap length (quiet_as why came came.fate is).1 in omega (arith, none))
 few_ignored n why (Err fault) is = tt

@@ -10,4 +10,3 @@ pub mod Opens
 pub mod AnyDisk
 pub mod Readings
 pub mod Compactions
-pub mod Carries

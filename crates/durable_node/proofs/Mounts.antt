@@ -1,16 +1,16 @@
 -- What calls of a store leave of what its disk stands for.
-use Rattle.std.proofs.Common.{◌≡◌, ◌+◌, ◌*◌, ◌≤◌, ⊎_elim, ℕ, true, false, Bool, Option, Some, None, sym, ◌∙◌, ap, subst, refl, arith, IsTrue}
-use Rattle.sector_disk.specs.Disk.{Image, DiskState, IsImage, SameBut, nothing}
+use Rattle.std.proofs.Common.{◌≡◌, ◌+◌, ◌*◌, ◌≤◌, inl, ⊎_elim, ℕ, true, false, Bool, Option, Some, None, sym, ◌∙◌, ap, subst, refl, arith, IsTrue}
+use Rattle.sector_disk.specs.Disk.{Image, DiskState, IsImage, Laws, SameBut, nothing}
 use Rattle.sector_disk.specs.Run.{Run, Each}
 use Rattle.safe_cell.specs.Cell.{cell_at}
 use Rattle.job_model.specs.Command.{Command}
 use Rattle.job_model.specs.Durable.{Durable}
-use Rattle.job_journal.specs.Journal.{jobs_by, jobs_in, IsSound, IsSoundImage}
+use Rattle.job_journal.specs.Journal.{jobs_by, jobs_in, IsSound}
 use Rattle.job_journal.proofs.Frames.{SameFrom, cell_same_from, found_same_from}
-use Rattle.node_store.specs.Store.{durable_by, stands_for, slots_for, AllStandFor}
+use Rattle.node_store.specs.Store.{StoreState, durable_by, stands_for, slots_for, AllStandFor}
 use Rattle.histories.specs.NodeState.{NodeState, settled}
 use Rattle.histories.specs.Possible.{IsWanted, IsSettling}
-use Rattle.durable_node.specs.Carrying.{BeforeOrAfter}
+use Rattle.durable_node.specs.Carrying.{BeforeOrAfter, KeepsSound, Writes}
 use Rattle.durable_node.specs.Node.{IsLeft}
 use Rattle.node_store.proofs.Mountings.{sound_kept}
 
@@ -26,11 +26,13 @@ stands_same slots d c same =
     ap (λ (v : Option ℕ). durable_by v (jobs_in slots c)) (cell_same_from 0 d c (quiet_same 0 4 d c same))
     ∙ ap (λ f. durable_by (cell_at d 0) (jobs_by f)) (found_same_from slots d c (quiet_same 4 (4 + 4 * slots) d c same))
 
--- soundness after calls that kept it in each image
-pub sound_after : (slots : ℕ) (touched : ℕ → Type 0) (old new : DiskState) → new.honest ≡ old.honest → (IsTrue old.honest → Run touched old new)
-    → (IsTrue old.honest → Each old new (IsSoundImage slots)) → IsSound slots new
-sound_after slots touched old new same run each honest image is =
-    let was = was_honest old new same honest in each was image ((run was).ends image is)
+-- a store that wasn't called
+pub unwritten : {Disk : Type 0} (disks : Disk → DiskState) (store : StoreState Disk) (wants : Option Command) (done : Type 0)
+    → (IsTrue (disks store.disk).honest → Laws (disks store.disk)) → Writes disks store store wants done
+unwritten disks store wants done laws = record {
+  images = λ honest all image since. inl (all image ((laws honest).only_now image since));
+  after = λ honest all _. all;
+}
 
 -- calls that wrote nothing leave what was left
 pub left_quiet : (old new : DiskState) (s : NodeState) → new.sectors ≡ old.sectors → new.honest ≡ old.honest → (IsTrue old.honest → Run nothing old new) → IsLeft old s → IsLeft new s
@@ -72,13 +74,33 @@ stands_all disk s none left honest image is =
 pub left_by : (disk : DiskState) (s : NodeState) → 24 ≤ disk.sectors → (IsTrue disk.honest → AllStandFor (slots_for disk.sectors) s.durable disk) → IsSound (slots_for disk.sectors) disk → IsLeft disk s
 left_by disk s sectors all sound = record { sectors = sectors; images = λ honest image is. (false, tt, all honest image is); sound = sound }
 
--- after the device failed in a command
-pub left_in_doubt : (touched : ℕ → Type 0) (old new : DiskState) (s : NodeState) → 24 ≤ new.sectors → new.honest ≡ old.honest → IsWanted s.doubt
-    → (IsTrue old.honest → Run touched old new) → (IsTrue old.honest → Each old new (BeforeOrAfter (slots_for new.sectors) s.durable s.doubt))
-    → IsSound (slots_for new.sectors) new → IsLeft new s
-left_in_doubt touched old new s sectors same wanted run each sound = record {
-  sectors = sectors;
-  images = λ honest image is. (let was = was_honest old new same honest in
-      ⊎_elim (λ before. (false, tt, before)) (λ after. (true, wanted, after)) (each was image ((run was).ends image is)));
-  sound = sound;
-}
+-- of what is there
+pub at_some : {T : Type 0} (P : T → Type 0) (x y : T) → Some x ≡ Some y → P x → P y
+at_some P x y is p = subst P (let same : x ≡ y = cc in same) p
+
+-- as many slots as the disk has, after a call too
+pub slots_kept : {Disk : Type 0} (disks : Disk → DiskState) (old new : StoreState Disk) (failed : Type 0) → KeepsSound disks old new failed
+    → old.journal.slots ≡ slots_for (disks old.disk).sectors → old.journal.slots ≡ slots_for (disks new.disk).sectors
+slots_kept disks old new failed keeps at = at ∙ ap (λ (n : ℕ). slots_for n) (sym keeps.counts.sectors)
+
+-- what a call left of a store
+module _ {Disk : Type 0} (disks : Disk → DiskState) (old new : StoreState Disk) (failed : Type 0) (keeps : KeepsSound disks old new failed)
+    (at : old.journal.slots ≡ slots_for (disks old.disk).sectors) (enough : 24 ≤ (disks old.disk).sectors) (s : NodeState) where
+  same_slots : old.journal.slots ≡ slots_for (disks new.disk).sectors
+  same_slots = slots_kept disks old new failed keeps at
+
+  -- where it was done
+  pub left_done : (IsTrue (disks old.disk).honest → AllStandFor old.journal.slots s.durable (disks new.disk)) → IsLeft (disks new.disk) s
+  left_done all = left_by (disks new.disk) s (omega (arith, enough, keeps.counts.sectors))
+      (λ honest. subst (λ (n : ℕ). AllStandFor n s.durable (disks new.disk)) same_slots (all (was_honest (disks old.disk) (disks new.disk) keeps.counts.honest honest)))
+      (subst (λ (n : ℕ). IsSound n (disks new.disk)) same_slots keeps.sound)
+
+  -- where the device failed in a command
+  pub left_cut : IsWanted s.doubt → (IsTrue (disks old.disk).honest → Each (disks old.disk) (disks new.disk) (BeforeOrAfter old.journal.slots s.durable s.doubt)) → IsLeft (disks new.disk) s
+  left_cut wanted each = record {
+    sectors = omega (arith, enough, keeps.counts.sectors);
+    images = λ honest image is. (let was = was_honest (disks old.disk) (disks new.disk) keeps.counts.honest honest in
+        ⊎_elim (λ before. (false, tt, before)) (λ after. (true, wanted, after))
+        (subst (λ (n : ℕ). BeforeOrAfter n s.durable s.doubt image) same_slots (each was image ((keeps.run was).ends image is))));
+    sound = subst (λ (n : ℕ). IsSound n (disks new.disk)) same_slots keeps.sound;
+  }

@@ -1,6 +1,6 @@
 -- What is true of every node stays true.
-use Rattle.std.proofs.Common.{◌≡◌, ◌≢◌, ◌+◌, ◌⊎◌, arith, inl, inr, ℕ, true, false, Bool, Option, Some, None, Result, Ok, Err, sym, ◌∙◌, ap, subst, refl, IsFalse}
-use Rattle.std.specs.Prelude.{IsOk, IfOk, IfErr, IsErrOf, IsSome, IsSomeAnd}
+use Rattle.std.proofs.Common.{◌≡◌, ◌≢◌, ◌⊎◌, arith, inl, inr, ⊎_elim, ℕ, true, false, Bool, Option, Some, None, Result, Ok, Err, sym, ◌∙◌, ap, subst, refl, IsFalse}
+use Rattle.std.specs.Prelude.{IfOk, IfErr, IsErrOf, IsSome, IsSomeAnd}
 use Rattle.sector_disk.specs.Disk.{DiskState, Counts}
 use Rattle.job_model.specs.Durable.{Durable}
 use Rattle.job_journal.specs.Journal.{IsSound}
@@ -8,8 +8,7 @@ use Rattle.node_core.specs.declared.durable.Durable.{Durable as Wanted}
 use Rattle.node_core.specs.declared.event.Event.{Event}
 use Rattle.node_core.specs.declared.fault.CoreFault.TheVariants.{NoMemory}
 use Rattle.node_core.specs.Core.{Core}
-use Rattle.node_core.specs.Effect.{Effect}
-use Rattle.node_core.specs.Start.{down, alone}
+use Rattle.node_core.specs.Start.{down}
 use Rattle.node_core.specs.State.{State, is_down}
 use Rattle.node_store.specs.Store.{StoreState, durable_of, slots_for}
 use Rattle.durable_node.specs.declared.fault.NodeFault.{NodeFault}
@@ -17,13 +16,15 @@ use Rattle.durable_node.specs.declared.fault.NodeFault.TheVariants as node
 use Rattle.durable_node.specs.declared.came.Came.{Came}
 use Rattle.durable_node.specs.declared.node_disk.NodeDisk.{NodeDisk}
 use Rattle.durable_node.specs.declared.node_disk.NodeDisk.TheVariants.{Bare, Mounted, Taken}
-use Rattle.durable_node.specs.Node.{IsNode, disk_in, store_in, kept_in, area_in, node_with}
-use Rattle.durable_node.specs.Remounting.{IsRisen, IsRiseRefused}
-use Rattle.durable_node.specs.Stepping.{IsDone, CountsOf, Stuck}
-use Rattle.durable_node.specs.Faults.{told}
-use Rattle.durable_node.proofs.Serves.{is_device}
+use Rattle.histories.specs.declared.fate.Fate.{Fate}
+use Rattle.histories.specs.declared.fate.Fate.TheVariants as fate
+use Rattle.durable_node.specs.Carrying.{KeepsSound}
+use Rattle.durable_node.specs.Node.{IsCoreOf, IsNode, IsOver, disk_in, store_in, kept_in, area_in, node_with}
+use Rattle.durable_node.specs.Remounting.{HasRisen}
+use Rattle.durable_node.specs.Stepping.{CountsOf, IsAsBefore, IsServed, Stuck}
+use Rattle.durable_node.proofs.Mounts.{at_some, slots_kept}
+use Rattle.durable_node.proofs.Serves.{done_up}
 use Rattle.durable_node.proofs.Ignores.{not_up}
-use Rattle.histories.proofs.Ups.{stays_up}
 
 pub is_some : {T : Type 0} (x y : T) → Some x ≡ Some y → x ≡ y
 is_some x y e = cc
@@ -37,11 +38,6 @@ up_by_disk disk true bare up = refl
 up_by_disk (Bare d) false bare up = absurd (up refl)
 up_by_disk (Mounted store) false bare up = absurd (bare store refl)
 up_by_disk Taken false bare up = absurd (up refl)
-
--- a node that is up does an event
-pub done_up : (slots nodes id : ℕ) (old new : State) (d d' : Durable) (event : Event) (came : Came) → is_down old.phase ≡ false → IsDone slots nodes id old d event new d' came → is_down new.phase ≡ false
-done_up slots nodes id old new d d' event came up done =
-    subst (λ (e : Effect). is_down e.state.phase ≡ false) done.handled.effect (stays_up nodes id d.pending event _ old up)
 
 pub bare_down : {Disk : Type 0} (disks : Disk → DiskState) (id nodes : ℕ) (core : Core) (disk : NodeDisk Disk) → IsNode disks id nodes core disk → ((store : StoreState Disk) → disk ≢ Mounted store) → is_down core.state.phase ≡ true
 bare_down disks id nodes core disk is bare = up_by_disk disk (is_down core.state.phase) bare is.up
@@ -76,78 +72,68 @@ module _ {Disk : Type 0} (disks : Disk → DiskState) (id nodes : ℕ) (core cor
         (subst (λ (n : ℕ). IsSound (slots_for n) (disks back)) (sym sectors) sound);
   }
 
-  pub store_of : (store : StoreState Disk) (slots : ℕ) → store.journal.slots ≡ slots → slots ≡ slots_for (disks store.disk).sectors → (st : StoreState Disk) → Some store ≡ Some st → st.journal.slots ≡ slots_for (disks st.disk).sectors
-  store_of store slots same at st e = subst (λ (x : StoreState Disk). x.journal.slots ≡ slots_for (disks x.disk).sectors) (is_some store st e) (same ∙ at)
+-- an event may use what a node that is up has
+pub over : {Disk : Type 0} (disks : Disk → DiskState) (id nodes : ℕ) (core : Core) (store : StoreState Disk) → IsNode disks id nodes core (Mounted store) → is_down core.state.phase ≡ false → IsOver disks id nodes core store
+over disks id nodes core store is up = record {
+  of = record { id = is.core_id; nodes = is.core_nodes };
+  within = is.within;
+  most = is.most;
+  ready = record { whole = is.up up; sound = subst (λ (n : ℕ). IsSound n (disks store.disk)) (sym (is.slots store refl)) (is.sound store.disk refl) };
+}
 
-  alone_up : (count : ℕ) (s : State) → s ≡ alone id count → is_down s.phase ≡ false
-  alone_up count s is = ap (λ (v : State). is_down v.phase) is
+-- the core is up over a store that isn't broken, or down in the one state of a node that is down
+abbrev pub IsSettled : {Disk : Type 0} → ℕ → Core → StoreState Disk → Type 0
+IsSettled id core store = ((is_down core.state.phase ≡ false) × IsFalse store.broken) ⊎ (core.state ≡ down id)
 
-  pub node_mounted : (disk : NodeDisk Disk) (end : StoreState Disk) (slots : ℕ) (d d' : Durable) (doubt : Option (Wanted × ℕ)) → IsNode disks id nodes core disk → is_down core.state.phase ≡ true
-      → core'.id ≡ id → core'.nodes ≡ nodes → end.journal.slots ≡ slots → slots ≡ slots_for (disks end.disk).sectors → IsSound slots (disks end.disk)
-      → (result : Result Came NodeFault) → IfOk result (IsRisen id d d' core' doubt) → (IsOk result → IsFalse end.broken) → IfErr result (λ _. core'.state ≡ core.state)
-      → IsNode disks id nodes core' (Mounted end)
-  node_mounted disk end slots d d' doubt is fallen same_id same_nodes same at sound result risen whole err = record {
-    core_id = same_id;
-    core_nodes = same_nodes;
-    within = is.within;
-    most = is.most;
-    there = refl;
-    up = up_by result risen whole err;
-    fallen = fallen_by result risen err;
-    slots = store_of end slots same at;
-    sound = λ now e. subst (λ (x : Disk). IsSound (slots_for (disks x).sectors) (disks x)) (is_some end.disk now e)
-        (subst (λ (n : ℕ). IsSound n (disks end.disk)) at sound);
-  }
-    where
-      up_by : (result : Result Came NodeFault) → IfOk result (IsRisen id d d' core' doubt) → (IsOk result → IsFalse end.broken) → IfErr result (λ _. core'.state ≡ core.state) → is_down core'.state.phase ≡ false → IsFalse end.broken
-      up_by (Ok came) risen whole err up = whole refl
-      up_by (Err fault) risen whole err up = absurd (clash (is_down core'.state.phase) (ap (λ (s : State). is_down s.phase) err ∙ fallen) up)
+-- what a call left is a node's
+pub node_over : {Disk : Type 0} (disks : Disk → DiskState) (id nodes : ℕ) (core core' : Core) (disk : NodeDisk Disk) (mid end : StoreState Disk) (failed : Type 0) → IsNode disks id nodes core disk → IsCoreOf id nodes core'
+    → mid.journal.slots ≡ slots_for (disks mid.disk).sectors → KeepsSound disks mid end failed → IsSettled id core' end → IsNode disks id nodes core' (Mounted end)
+node_over {Disk} disks id nodes core core' disk mid end failed is of at keeps settled = record {
+  core_id = of.id;
+  core_nodes = of.nodes;
+  within = is.within;
+  most = is.most;
+  there = refl;
+  up = λ now. ⊎_elim (λ up. up.1) (λ fallen. absurd (not_up id core'.state fallen now)) settled;
+  fallen = λ now. ⊎_elim (λ up. absurd (clash (is_down core'.state.phase) now up.0)) (λ fallen. fallen) settled;
+  slots = λ st e. at_some (λ (x : StoreState Disk). x.journal.slots ≡ slots_for (disks x.disk).sectors) end st e (keeps.slots ∙ slots);
+  sound = λ now e. at_some (λ (x : Disk). IsSound (slots_for (disks x).sectors) (disks x)) end.disk now e (subst (λ (n : ℕ). IsSound n (disks end.disk)) slots keeps.sound);
+}
+  where
+    slots : mid.journal.slots ≡ slots_for (disks end.disk).sectors
+    slots = slots_kept disks mid end failed keeps at
 
-      fallen_by : (result : Result Came NodeFault) → IfOk result (IsRisen id d d' core' doubt) → IfErr result (λ _. core'.state ≡ core.state) → is_down core'.state.phase ≡ true → core'.state ≡ down id
-      fallen_by (Ok came) risen err down_now = absurd (clash (is_down core'.state.phase) down_now (alone_up (d.counter + 1) core'.state risen.state))
-      fallen_by (Err fault) risen err down_now = err ∙ is.fallen fallen
+module _ {Disk : Type 0} (id nodes : ℕ) (core core' : Core) (store store' : StoreState Disk) (doubt doubt' : Option (Wanted × ℕ)) where
+  pub as_before : IsSettled id core store → IsAsBefore core core' store store' doubt doubt' → IsSettled id core' store'
+  as_before settled same = ⊎_elim
+      (λ up. inl (ap (λ (s : State). is_down s.phase) same.same_state ∙ up.0, subst (λ (st : StoreState Disk). IsFalse st.broken) (sym same.same_store) up.1))
+      (λ fallen. inr (same.same_state ∙ fallen)) settled
 
-  pub node_served : (store store' : StoreState Disk) (doubt doubt' : Option (Wanted × ℕ)) (event : Event) → IsNode disks id nodes core (Mounted store) → is_down core.state.phase ≡ false
-      → core'.id ≡ id → core'.nodes ≡ nodes → store'.journal.slots ≡ store.journal.slots → (disks store'.disk).sectors ≡ (disks store.disk).sectors → IsSound store.journal.slots (disks store'.disk)
-      → (result : Result Came NodeFault) → IfOk result (IsDone store.journal.slots nodes id core.state (durable_of store) event core'.state (durable_of store'))
-      → (IsOk result → IsFalse store'.broken × (doubt' ≡ doubt)) → (IsErrOf result node.Device → core'.state ≡ down id)
-      → IfErr result (λ fault. fault ≢ node.Device → (core'.state ≡ core.state) × (store' ≡ store) × (doubt' ≡ doubt))
-      → IsNode disks id nodes core' (Mounted store')
-  node_served store store' doubt doubt' event is up same_id same_nodes same sectors sound result done whole fallen unchanged = record {
-    core_id = same_id;
-    core_nodes = same_nodes;
-    within = is.within;
-    most = is.most;
-    there = refl;
-    up = up_by result whole fallen unchanged;
-    fallen = fallen_by result done fallen unchanged;
-    slots = store_of store' store.journal.slots same at;
-    sound = λ now e. subst (λ (x : Disk). IsSound (slots_for (disks x).sectors) (disks x)) (is_some store'.disk now e)
-        (subst (λ (n : ℕ). IsSound n (disks store'.disk)) at sound);
-  }
-    where
-      at : store.journal.slots ≡ slots_for (disks store'.disk).sectors
-      at = is.slots store refl ∙ ap (λ (n : ℕ). slots_for n) (sym sectors)
+  served_by : (event : Event) (came : Came) (end : Fate) → is_down core.state.phase ≡ false → IsFalse store.broken → IsServed nodes id core core' store store' doubt doubt' event came end → IsSettled id core' store'
+  served_by event came fate.Done up whole is = inl (done_up store.journal.slots nodes id core.state core'.state (durable_of store) (durable_of store') event came up is.0, is.1)
+  served_by event came (fate.Refused why) up whole is = as_before (inl (up, whole)) is.2
+  served_by event came fate.Faulted up whole is = inr is.2
+  served_by event came (fate.Recovered kept) up whole is = absurd is
+  served_by event came fate.MountFailed up whole is = absurd is
+  served_by event came (fate.RaiseFailed kept) up whole is = absurd is
+  served_by event came (fate.RaiseRefused kept) up whole is = absurd is
 
-      up_fault : (fault : NodeFault) → (fault ≡ node.Device) ⊎ (fault ≢ node.Device) → (fault ≡ node.Device → core'.state ≡ down id)
-          → (fault ≢ node.Device → (core'.state ≡ core.state) × (store' ≡ store) × (doubt' ≡ doubt)) → is_down core'.state.phase ≡ false → IsFalse store'.broken
-      up_fault fault (inl e) fallen unchanged now = absurd (not_up id core'.state (fallen e) now)
-      up_fault fault (inr e) fallen unchanged now = subst (λ (st : StoreState Disk). IsFalse st.broken) (sym (unchanged e).1) (is.up up)
+  -- after an event
+  pub served : (event : Event) (result : Result Came NodeFault) → is_down core.state.phase ≡ false → IsFalse store.broken
+      → IfOk result (λ came. IsServed nodes id core core' store store' doubt doubt' event came came.fate)
+      → IfErr result (λ fault. (fault ≡ node.Core NoMemory) × IsAsBefore core core' store store' doubt doubt') → IsSettled id core' store'
+  served event (Ok came) up whole is stuck = served_by event came came.fate up whole is
+  served event (Err fault) up whole is stuck = as_before (inl (up, whole)) stuck.1
 
-      up_by : (result : Result Came NodeFault) → (IsOk result → IsFalse store'.broken × (doubt' ≡ doubt)) → (IsErrOf result node.Device → core'.state ≡ down id)
-          → IfErr result (λ fault. fault ≢ node.Device → (core'.state ≡ core.state) × (store' ≡ store) × (doubt' ≡ doubt)) → is_down core'.state.phase ≡ false → IsFalse store'.broken
-      up_by (Ok came) whole fallen unchanged now = (whole refl).0
-      up_by (Err fault) whole fallen unchanged now = up_fault fault (is_device fault) (λ e. fallen (ap (λ (f : NodeFault). Err f) e)) unchanged now
-
-      fallen_fault : (fault : NodeFault) → (fault ≡ node.Device) ⊎ (fault ≢ node.Device) → (fault ≡ node.Device → core'.state ≡ down id)
-          → (fault ≢ node.Device → (core'.state ≡ core.state) × (store' ≡ store) × (doubt' ≡ doubt)) → is_down core'.state.phase ≡ true → core'.state ≡ down id
-      fallen_fault fault (inl e) fallen unchanged now = fallen e
-      fallen_fault fault (inr e) fallen unchanged now = absurd (clash (is_down core'.state.phase) now (ap (λ (s : State). is_down s.phase) (unchanged e).0 ∙ up))
-
-      fallen_by : (result : Result Came NodeFault) → IfOk result (IsDone store.journal.slots nodes id core.state (durable_of store) event core'.state (durable_of store')) → (IsErrOf result node.Device → core'.state ≡ down id)
-          → IfErr result (λ fault. fault ≢ node.Device → (core'.state ≡ core.state) × (store' ≡ store) × (doubt' ≡ doubt)) → is_down core'.state.phase ≡ true → core'.state ≡ down id
-      fallen_by (Ok came) done fallen unchanged now = absurd (clash (is_down core'.state.phase) now (done_up store.journal.slots nodes id core.state core'.state (durable_of store) (durable_of store') event came up done))
-      fallen_by (Err fault) done fallen unchanged now = fallen_fault fault (is_device fault) (λ e. fallen (ap (λ (f : NodeFault). Err f) e)) unchanged now
+  -- after a raise
+  pub risen : (kept : Bool) (came : Came) (end : Fate) → core.state ≡ down id → HasRisen id kept core core' store store' doubt doubt' came end → IsSettled id core' store'
+  risen kept came (fate.Recovered k) fallen is = inl (ap (λ (s : State). is_down s.phase) is.1.state, is.2)
+  risen kept came (fate.RaiseFailed k) fallen is = inr (is.1.state ∙ fallen)
+  risen kept came (fate.RaiseRefused k) fallen is = inr (is.3.same_state ∙ fallen)
+  risen kept came fate.Done fallen is = absurd is
+  risen kept came (fate.Refused why) fallen is = absurd is
+  risen kept came fate.Faulted fallen is = absurd is
+  risen kept came fate.MountFailed fallen is = absurd is
 
 -- a refusal for want of memory leaves the node as it was
 pub same_node : {Disk : Type 0} (id nodes : ℕ) (core core' : Core) (disk disk' : NodeDisk Disk) (doubt doubt' : Option (Wanted × ℕ)) → core'.state ≡ core.state → disk' ≡ disk → doubt' ≡ doubt
@@ -162,16 +148,6 @@ same_node id nodes core core' disk disk' doubt doubt' same same_disk same_doubt 
   doubt = same_doubt i;
   found = None;
 })
-
--- a recovery that fails after the mounting leaves the state
-pub same_on_fault : (A B : Type 0) (d : Durable) (core core' : Core) (result : Result Came NodeFault) → (IsErrOf result node.Device → core'.state ≡ core.state)
-    → IfErr result (λ fault. fault ≢ node.Device → IsRiseRefused d fault × (core'.state ≡ core.state) × A × B) → IfErr result (λ _. core'.state ≡ core.state)
-same_on_fault A B d core core' (Ok came) failed refused = tt
-same_on_fault A B d core core' (Err fault) failed refused = by_device (is_device fault)
-  where
-    by_device : (fault ≡ node.Device) ⊎ (fault ≢ node.Device) → core'.state ≡ core.state
-    by_device (inl e) = failed (ap (λ (f : NodeFault). Err f) e)
-    by_device (inr e) = (refused e).1
 
 -- what is counted of a disk that is there
 pub counts_of : {Disk A : Type 0} (disks : Disk → DiskState) (was now : Disk) (result : Result A NodeFault)
@@ -197,28 +173,14 @@ counts_still {Disk} {A} disks disk result there not_device = record {
       (record { sectors = refl; honest = refl; later = omega arith; unchanged = λ _. refl; cause = λ device. absurd (not_device device) });
 }
 
-pub up_on_ok : (slots nodes id : ℕ) (old new : State) (d d' : Durable) (event : Event) → is_down old.phase ≡ false → (result : Result Came NodeFault) → IfOk result (IsDone slots nodes id old d event new d') → IsOk result → is_down new.phase ≡ false
-up_on_ok slots nodes id old new d d' event up (Ok came) done ok = done_up slots nodes id old new d d' event came up done
-up_on_ok slots nodes id old new d d' event up (Err fault) done ok = absurd cc
+pub if_err : {A : Type 0} (P Q : NodeFault → Type 0) (result : Result A NodeFault) → ((fault : NodeFault) → P fault → Q fault) → IfErr result P → IfErr result Q
+if_err P Q (Ok a) so is = tt
+if_err P Q (Err fault) so is = so fault is
 
 -- where there is no memory the node is as it was
-pub stuck_for_memory : {Disk : Type 0} (disks : Disk → DiskState) (id nodes : ℕ) (core core' : Core) (disk disk' : NodeDisk Disk) (doubt doubt' : Option (Wanted × ℕ)) (before : Option ℕ) (event : Event) (result : Result Came NodeFault)
-    → IfErr result (λ fault. fault ≡ node.Core NoMemory) → IfErr result (λ _. (core'.state ≡ core.state) × (disk' ≡ disk) × (doubt' ≡ doubt))
-    → IfErr result (Stuck disks (node_with id nodes core disk doubt before) (node_with id nodes core' disk' doubt' None) event)
-stuck_for_memory disks id nodes core core' disk disk' doubt doubt' before event (Ok came) memory same = tt
-stuck_for_memory {Disk} disks id nodes core core' disk disk' doubt doubt' before event (Err fault) memory same =
+pub stuck_for_memory : {Disk : Type 0} (disks : Disk → DiskState) (id nodes : ℕ) (core core' : Core) (disk disk' : NodeDisk Disk) (doubt doubt' : Option (Wanted × ℕ)) (before : Option ℕ) (event : Event)
+    → (core'.state ≡ core.state) × (disk' ≡ disk) × (doubt' ≡ doubt) → (fault : NodeFault) → fault ≡ node.Core NoMemory
+    → Stuck disks (node_with id nodes core disk doubt before) (node_with id nodes core' disk' doubt' None) event fault
+stuck_for_memory disks id nodes core core' disk disk' doubt doubt' before event same fault memory =
     subst (λ (f : NodeFault). Stuck disks (node_with id nodes core disk doubt before) (node_with id nodes core' disk' doubt' None) event f) (sym memory)
     (refl, same_node id nodes core core' disk disk' doubt doubt' same.0 same.1 same.2)
-
-pub served_same : {Disk : Type 0} (core core' : Core) (store store' : StoreState Disk) (doubt doubt' : Option (Wanted × ℕ)) (result : Result Came NodeFault)
-    → IfErr result (λ fault. fault ≡ node.Core NoMemory) → IfErr (told result) (λ fault. fault ≢ node.Device → (core'.state ≡ core.state) × (store' ≡ store) × (doubt' ≡ doubt))
-    → IfErr result (λ _. (core'.state ≡ core.state) × (Mounted store' ≡ Mounted store) × (doubt' ≡ doubt))
-served_same core core' store store' doubt doubt' (Ok came) memory unchanged = tt
-served_same {Disk} core core' store store' doubt doubt' (Err fault) memory unchanged =
-    let same = unchanged (λ device. (let bad : node.Core NoMemory ≡ node.Device = sym memory ∙ device in cc)) in
-    (same.0, ap (λ (st : StoreState Disk). Mounted st) same.1, same.2)
-
-pub still_same : {Disk : Type 0} (core core' : Core) (disk disk' : NodeDisk Disk) (doubt : Option (Wanted × ℕ)) (result : Result Came NodeFault) → core'.state ≡ core.state → disk' ≡ disk
-    → IfErr result (λ _. (core'.state ≡ core.state) × (disk' ≡ disk) × (doubt ≡ doubt))
-still_same core core' disk disk' doubt (Ok came) same same_disk = tt
-still_same core core' disk disk' doubt (Err fault) same same_disk = (same, same_disk, refl)

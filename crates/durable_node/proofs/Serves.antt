@@ -1,41 +1,37 @@
 -- What a node that is up does with an event.
-use Rattle.std.proofs.Common.{◌≡◌, ◌≢◌, ◌≤◌, ◌⊎◌, inl, inr, ℕ, true, false, Bool, Option, Some, None, option_map, Result, Ok, Err, sym, ◌∙◌, ap, subst, refl, arith, IsTrue, IsFalse}
-use Rattle.std.specs.Prelude.{IsOk, IfOk, IfErr, IsErrOf}
+use Rattle.std.proofs.Common.{◌≡◌, ◌≢◌, ◌⊎◌, inl, inr, ℕ, true, false, Bool, Option, Some, None, option_map, Result, Ok, Err, sym, ◌∙◌, ap, subst, refl, IsTrue}
+use Rattle.std.specs.Prelude.{IsOk, IfOk}
 use Rattle.sector_disk.specs.Disk.{DiskState}
-use Rattle.sector_disk.specs.Run.{Run, Each}
 use Rattle.job_model.specs.Command.{Command}
 use Rattle.job_model.specs.Durable.{Durable}
-use Rattle.job_journal.specs.Journal.{IsSound}
 use Rattle.node_core.specs.declared.durable.Durable.{Durable as Wanted}
 use Rattle.node_core.specs.declared.event.Event.{Event}
 use Rattle.node_core.specs.declared.event.Event.TheVariants.{CheckTimer, MergeTimer, AcceptTimer, ReadyTimer, CoordTimer, DispatchTimer, Deliver, Submit, Finish, Recover}
 use Rattle.node_core.specs.Core.{Core}
 use Rattle.node_core.specs.Effect.{Effect}
-use Rattle.node_core.specs.Start.{down}
 use Rattle.node_core.specs.State.{State, is_down}
 use Rattle.node_core.specs.Wants.{wants_of}
-use Rattle.node_store.specs.Store.{StoreState, durable_of, slots_for, AllStandFor, InStore}
+use Rattle.node_store.specs.Store.{StoreState, durable_of, slots_for, AllStandFor}
 use Rattle.durable_node.specs.declared.fault.NodeFault.{NodeFault}
 use Rattle.durable_node.specs.declared.fault.NodeFault.TheVariants as node
 use Rattle.durable_node.specs.declared.came.Came.{Came}
 use Rattle.histories.specs.NodeState.{NodeState}
 use Rattle.histories.specs.declared.what.What.{What}
-use Rattle.histories.specs.declared.what.What.TheVariants.{Did, Refused, Faulted}
+use Rattle.histories.specs.declared.what.What.TheVariants.{Did, Faulted}
 use Rattle.histories.specs.declared.fate.Fate.{Fate}
 use Rattle.histories.specs.declared.fate.Fate.TheVariants as fate
-use Rattle.histories.specs.declared.what.Refusal.{Refusal}
-use Rattle.histories.specs.declared.what.Refusal.TheVariants as refusal
-use Rattle.histories.specs.What.{reason_of}
 use Rattle.histories.specs.Fates.{attempt_of, what_of}
 use Rattle.histories.proofs.Attempts.{tried_none, tried_wanted}
+use Rattle.histories.proofs.Ups.{stays_up}
 use Rattle.histories.specs.After.{after}
 use Rattle.histories.specs.Possible.{IsForNode}
-use Rattle.durable_node.specs.Carrying.{BeforeOrAfter}
+use Rattle.durable_node.specs.Carrying.{KeepsSound, Writes}
 use Rattle.durable_node.specs.declared.node_disk.NodeDisk.TheVariants.{Mounted}
 use Rattle.durable_node.specs.Node.{told_doubt, kept_in, node_with, IsLeft, Stands}
-use Rattle.durable_node.specs.Stepping.{IsDone, IsFailed, IsTurnedAway, IsServed, IsSilent, Does, Steps, command_by}
-use Rattle.durable_node.specs.Faults.{fault_of, shown, told, told_as}
-use Rattle.durable_node.proofs.Mounts.{stands_all, left_by, left_in_doubt}
+use Rattle.durable_node.specs.Stepping.{IsDone, IsServed, Does, Steps, command_by}
+use Rattle.durable_node.specs.Faults.{fault_of, told, told_as}
+use Rattle.durable_node.proofs.Ignores.{not_up}
+use Rattle.durable_node.proofs.Mounts.{at_some, left_cut, left_done, stands_all}
 
 -- where a node is up, each event is one for it
 for_node : (s : State) (event : Event) → is_down s.phase ≡ false → IsForNode s event
@@ -59,12 +55,6 @@ is_device node.NotFormatted = inr (λ e. absurd cc)
 is_device (node.Damaged sector) = inr (λ e. absurd cc)
 is_device node.TooSmall = inr (λ e. absurd cc)
 
-pub not_device : (why : Refusal) → shown (reason_of why) ≢ node.Device
-not_device (refusal.Core fault) is = cc
-not_device refusal.Full is = cc
-not_device refusal.Exhausted is = cc
-not_device refusal.Worn is = cc
-
 pub kept_up : {Disk : Type 0} (b : Bool) (store : StoreState Disk) (d : Durable) → b ≡ false → kept_in b (Some store) ≡ Some d → durable_of store ≡ d
 kept_up true store d up h = absurd cc
 kept_up false store d up h = cc
@@ -73,179 +63,101 @@ pub up_kept : {Disk : Type 0} (b : Bool) (store : StoreState Disk) → b ≡ fal
 up_kept true store up = absurd cc
 up_kept false store up = refl
 
+-- a node that is up does an event
+pub done_up : (slots nodes id : ℕ) (old new : State) (d d' : Durable) (event : Event) (came : Came) → is_down old.phase ≡ false → IsDone slots nodes id old d event new d' came → is_down new.phase ≡ false
+done_up slots nodes id old new d d' event came up done =
+    subst (λ (e : Effect). is_down e.state.phase ≡ false) done.handled.effect (stays_up nodes id d.pending event _ old up)
+
 -- the state of a node that is up
 abbrev up_at : {Disk : Type 0} → Core → StoreState Disk → NodeState
 up_at core store = record { state = core.state; durable = durable_of store; doubt = None }
 
-module _ {Disk : Type 0} (disks : Disk → DiskState) (id nodes : ℕ) (core core' : Core) (store store' : StoreState Disk) (doubt doubt' : Option (Wanted × ℕ)) (was : Option ℕ) (event : Event) where
+module _ {Disk : Type 0} (disks : Disk → DiskState) (id nodes : ℕ) (core core' : Core) (store store' : StoreState Disk) (doubt doubt' : Option (Wanted × ℕ)) (event : Event)
+    (up : is_down core.state.phase ≡ false) (at : store.journal.slots ≡ slots_for (disks store.disk).sectors) (failed : Type 0) (keeps : KeepsSound disks store store' failed) where
   abbrev wants : Option Command
   wants = wants_of id (durable_of store).pending event core.state
 
-  abbrev slots : ℕ
-  slots = slots_for (disks store.disk).sectors
+  -- for a node without doubt
+  module _ (left : IsLeft (disks store.disk) (up_at core store)) (none : doubt ≡ None) (came : Came) where
+    abbrev Ended : What → Type 0
+    Ended what = Does store.journal.slots id nodes (up_at core store) event came None what × Stands disks (node_with id nodes core' (Mounted store') doubt' None) (after id nodes (up_at core store) what)
 
-  abbrev Ended : Came → What → Type 0
-  Ended came what = Does slots id nodes (up_at core store) event came None what × Stands disks (node_with id nodes core' (Mounted store') doubt' None) (after id nodes (up_at core store) what)
+    stood : IsTrue (disks store.disk).honest → AllStandFor store.journal.slots (durable_of store) (disks store.disk)
+    stood honest = subst (λ (n : ℕ). AllStandFor n (durable_of store) (disks store.disk)) (sym at) (stands_all (disks store.disk) (up_at core store) refl left honest)
 
-  served_ok : is_down core.state.phase ≡ false → is_down core'.state.phase ≡ false → 24 ≤ (disks store'.disk).sectors → (disks store'.disk).sectors ≡ (disks store.disk).sectors
-      → doubt ≡ None → doubt' ≡ doubt → (came : Came) → IsDone slots nodes id core.state (durable_of store) event core'.state (durable_of store') came → came.tried ≡ option_map attempt_of wants
-      → (IsTrue (disks store'.disk).honest → AllStandFor slots (durable_of store') (disks store'.disk)) → IsSound slots (disks store'.disk) → Ended came (Did event)
-  served_ok up up' enough sectors none same came done tried all sound = (
-    record {
-      of = refl;
-      possible = (for_node core.state event up, done.handled.taken);
-      of_slots = done.fits;
-      tried = tried_wanted id (durable_of store).pending event core.state came.tried tried;
-      answer = done.answer;
-      sent = ap (λ (e : Effect). e.sent) (sym done.handled.effect);
-      mounted = refl;
-    },
-    record {
-      state = ap (λ (e : Effect). e.state) (sym done.handled.effect);
-      doubt = same ∙ none;
-      up = λ _. (up_kept _ store' up' ∙ ap (λ (d : Durable). Some d) done.handled.kept, refl);
-      disk = λ disk at. (let is : store'.disk ≡ disk = cc in
-          subst (λ (d : Disk). IsLeft (disks d) (after id nodes (up_at core store) (Did event))) is
-          (left_by (disks store'.disk) (after id nodes (up_at core store) (Did event)) enough
-          (λ honest image im. subst (λ (n : ℕ). AllStandFor (slots_for n) (durable_of store') (disks store'.disk)) (sym sectors) (all honest) image im
-          ∙ ap (λ (d : Durable). Some d) done.handled.kept)
-          (subst (λ (n : ℕ). IsSound (slots_for n) (disks store'.disk)) (sym sectors) sound)));
-    },
-  )
+    by_fate : (end : Fate) → IsServed nodes id core core' store store' doubt doubt' event came end → came.tried ≡ option_map attempt_of (command_by wants end)
+        → Writes disks store store' wants (IsOk (told_as came (fault_of end))) → Ended (what_of event end)
+    by_fate fate.Done is tried writes = (
+      record {
+        of = refl;
+        possible = (for_node core.state event up, is.0.handled.taken);
+        of_slots = is.0.fits;
+        tried = tried_wanted id (durable_of store).pending event core.state came.tried tried;
+        answer = is.0.answer;
+        sent = ap (λ (e : Effect). e.sent) (sym is.0.handled.effect);
+        mounted = refl;
+      },
+      record {
+        state = ap (λ (e : Effect). e.state) (sym is.0.handled.effect);
+        doubt = is.2 ∙ none;
+        up = λ now. (up_kept _ store' now ∙ ap (λ (d : Durable). Some d) is.0.handled.kept, refl);
+        disk = λ disk e. at_some (λ (d : Disk). IsLeft (disks d) (after id nodes (up_at core store) (Did event))) store'.disk disk e
+            (left_done disks store store' failed keeps at left.sectors (after id nodes (up_at core store) (Did event))
+            (λ honest. subst (λ (d : Durable). AllStandFor store.journal.slots d (disks store'.disk)) is.0.handled.kept (writes.after honest (stood honest) refl)));
+      },
+    )
+    by_fate (fate.Refused why) is tried writes = (
+      record {
+        of = refl;
+        possible = (for_node core.state event up, is.0.refused);
+        of_slots = is.0.of_slots;
+        tried = tried_none event came.tried tried;
+        answer = is.1.1;
+        sent = is.1.0;
+        mounted = refl;
+      },
+      record {
+        state = is.2.same_state;
+        doubt = is.2.same_doubt ∙ none;
+        up = λ now. (up_kept _ store' now ∙ ap (λ (st : StoreState Disk). Some (durable_of st)) is.2.same_store, refl);
+        disk = λ disk e. at_some (λ (d : Disk). IsLeft (disks d) (up_at core store)) store.disk disk (ap (λ (st : StoreState Disk). Some st.disk) (sym is.2.same_store) ∙ e) left;
+      },
+    )
+    by_fate fate.Faulted is tried writes = (
+      record {
+        of = refl;
+        possible = ((for_node core.state event up, is.0.taken), is.0.wanted);
+        of_slots = is.0.fits;
+        tried = tried_wanted id (durable_of store).pending event core.state came.tried tried;
+        answer = is.1.1;
+        sent = is.1.0;
+        mounted = refl;
+      },
+      record {
+        state = is.2;
+        doubt = is.3;
+        up = λ now. absurd (not_up id core'.state is.2 now);
+        disk = λ disk e. at_some (λ (d : Disk). IsLeft (disks d) (after id nodes (up_at core store) (Faulted event))) store'.disk disk e
+            (left_cut disks store store' failed keeps at left.sectors (after id nodes (up_at core store) (Faulted event)) is.0.wanted (λ honest. writes.images honest (stood honest)));
+      },
+    )
+    by_fate (fate.Recovered kept) is tried writes = absurd is
+    by_fate fate.MountFailed is tried writes = absurd is
+    by_fate (fate.RaiseFailed kept) is tried writes = absurd is
+    by_fate (fate.RaiseRefused kept) is tried writes = absurd is
 
-  served_failed : is_down core.state.phase ≡ false → 24 ≤ (disks store'.disk).sectors → (disks store'.disk).sectors ≡ (disks store.disk).sectors → (disks store'.disk).honest ≡ (disks store.disk).honest
-      → core'.state ≡ down id → doubt' ≡ told_doubt (durable_of store) wants → (came : Came) → IsFailed slots nodes id core.state (durable_of store) event → IsSilent came → came.tried ≡ option_map attempt_of wants
-      → (IsTrue (disks store.disk).honest → Run (InStore slots) (disks store.disk) (disks store'.disk))
-      → (IsTrue (disks store.disk).honest → Each (disks store.disk) (disks store'.disk) (BeforeOrAfter slots (durable_of store) wants)) → IsSound slots (disks store'.disk) → Ended came (Faulted event)
-  served_failed up enough sectors honest fallen told came failed silent tried run each sound = (
-    record {
-      of = refl;
-      possible = ((for_node core.state event up, failed.taken), failed.wanted);
-      of_slots = failed.fits;
-      tried = tried_wanted id (durable_of store).pending event core.state came.tried tried;
-      answer = silent.1;
-      sent = silent.0;
-      mounted = refl;
-    },
-    record {
-      state = fallen;
-      doubt = told;
-      up = λ still. absurd (let bad : is_down (down id).phase ≡ false = subst (λ (s : State). is_down s.phase ≡ false) fallen still in cc);
-      disk = λ disk at. (let is : store'.disk ≡ disk = cc in
-          subst (λ (d : Disk). IsLeft (disks d) (after id nodes (up_at core store) (Faulted event))) is
-          (left_in_doubt (InStore slots) (disks store.disk) (disks store'.disk) (after id nodes (up_at core store) (Faulted event)) enough honest failed.wanted run
-          (λ h. subst (λ (n : ℕ). Each (disks store.disk) (disks store'.disk) (BeforeOrAfter (slots_for n) (durable_of store) wants)) (sym sectors) (each h))
-          (subst (λ (n : ℕ). IsSound (slots_for n) (disks store'.disk)) (sym sectors) sound)));
-    },
-  )
-
-  served_refused : is_down core.state.phase ≡ false → core'.state ≡ core.state → store' ≡ store → doubt ≡ None → doubt' ≡ doubt
-      → (came : Came) (why : Refusal) → IsTurnedAway slots nodes id core.state (durable_of store) event (reason_of why) → IsSilent came → came.tried ≡ None → IsLeft (disks store.disk) (up_at core store)
-      → Ended came (Refused event why)
-  served_refused up same same_store none same_doubt came why turned silent tried left = (
-    record {
-      of = refl;
-      possible = (for_node core.state event up, turned.refused);
-      of_slots = turned.of_slots;
-      tried = tried_none event came.tried tried;
-      answer = silent.1;
-      sent = silent.0;
-      mounted = refl;
-    },
-    record {
-      state = same;
-      doubt = same_doubt ∙ none;
-      up = λ _. (up_kept _ store' (ap (λ (s : State). is_down s.phase) same ∙ up) ∙ ap (λ (st : StoreState Disk). Some (durable_of st)) same_store, refl);
-      disk = λ disk at. (let is : store.disk ≡ disk = sym (ap (λ (st : StoreState Disk). st.disk) same_store) ∙ (let e : store'.disk ≡ disk = cc in e) in
-          subst (λ (d : Disk). IsLeft (disks d) (up_at core store)) is left);
-    },
-  )
-
-  by_fate : is_down core.state.phase ≡ false → 24 ≤ (disks store'.disk).sectors → (disks store'.disk).sectors ≡ (disks store.disk).sectors → (disks store'.disk).honest ≡ (disks store.disk).honest
-      → doubt ≡ None → (came : Came) (end : Fate) → IsServed slots nodes id core.state (durable_of store) event core'.state (durable_of store') came end → came.tried ≡ option_map attempt_of (command_by wants end)
-      → (IsOk (told_as came (fault_of end)) → is_down core'.state.phase ≡ false)
-      → (IsOk (told_as came (fault_of end)) → IsFalse store'.broken × (doubt' ≡ doubt))
-      → (IsErrOf (told_as came (fault_of end)) node.Device → (core'.state ≡ down id) × (doubt' ≡ told_doubt (durable_of store) wants))
-      → IfErr (told_as came (fault_of end)) (λ fault. fault ≢ node.Device → (core'.state ≡ core.state) × (store' ≡ store) × (doubt' ≡ doubt))
-      → (IsTrue (disks store.disk).honest → Run (InStore slots) (disks store.disk) (disks store'.disk))
-      → (IsTrue (disks store.disk).honest → Each (disks store.disk) (disks store'.disk) (BeforeOrAfter slots (durable_of store) wants))
-      → (IsTrue (disks store.disk).honest → IsOk (told_as came (fault_of end)) → AllStandFor slots (durable_of store') (disks store'.disk))
-      → IsSound slots (disks store'.disk) → IsLeft (disks store.disk) (up_at core store) → Ended came (what_of event end)
-  by_fate up enough sectors honest none came fate.Done is tried up' whole fallen unchanged run each all sound left =
-      served_ok up (up' refl) enough sectors none (whole refl).1 came is tried (λ h. all (subst (λ (b : Bool). IsTrue b) honest h) refl) sound
-  by_fate up enough sectors honest none came (fate.Refused why) is tried up' whole fallen unchanged run each all sound left =
-      let same = unchanged (not_device why) in
-      served_refused up same.0 same.1 none same.2 came why is.0 is.1 tried left
-  by_fate up enough sectors honest none came fate.Faulted is tried up' whole fallen unchanged run each all sound left =
-      let down = fallen refl in
-      served_failed up enough sectors honest down.0 down.1 came is.0 is.1 tried run each sound
-  by_fate up enough sectors honest none came (fate.Recovered kept) is tried up' whole fallen unchanged run each all sound left = absurd is
-  by_fate up enough sectors honest none came fate.MountFailed is tried up' whole fallen unchanged run each all sound left = absurd is
-  by_fate up enough sectors honest none came (fate.RaiseFailed kept) is tried up' whole fallen unchanged run each all sound left = absurd is
-  by_fate up enough sectors honest none came (fate.RaiseRefused kept) is tried up' whole fallen unchanged run each all sound left = absurd is
-
-  abbrev Facts : ℕ → Came → Type 0 → Type 0
-  Facts n came P =
-      is_down core.state.phase ≡ false → (IsOk (told (Ok came)) → is_down core'.state.phase ≡ false)
-      → (disks store'.disk).sectors ≡ (disks store.disk).sectors → (disks store'.disk).honest ≡ (disks store.disk).honest
-      → IsServed n nodes id core.state (durable_of store) event core'.state (durable_of store') came came.fate → came.tried ≡ option_map attempt_of (command_by wants came.fate)
-      → (IsOk (told (Ok came)) → IsFalse store'.broken × (doubt' ≡ doubt))
-      → (IsErrOf (told (Ok came)) node.Device → (core'.state ≡ down id) × (doubt' ≡ told_doubt (durable_of store) wants))
-      → IfErr (told (Ok came)) (λ fault. fault ≢ node.Device → (core'.state ≡ core.state) × (store' ≡ store) × (doubt' ≡ doubt))
-      → (IsTrue (disks store.disk).honest → Run (InStore n) (disks store.disk) (disks store'.disk))
-      → (IsTrue (disks store.disk).honest → AllStandFor n (durable_of store) (disks store.disk)
-      → Each (disks store.disk) (disks store'.disk) (BeforeOrAfter n (durable_of store) wants))
-      → (IsTrue (disks store.disk).honest → AllStandFor n (durable_of store) (disks store.disk) → IsOk (told (Ok came)) → AllStandFor n (durable_of store') (disks store'.disk))
-      → IsSound n (disks store'.disk) → P
-
-  pub serves : (came : Came) → Facts slots came (Steps disks (node_with id nodes core (Mounted store) doubt was) (node_with id nodes core' (Mounted store') doubt' None) event came)
-  serves came up up' sectors honest done tried whole fallen unchanged run each all sound disk s at stands mounting =
+  pub serves : (was : Option ℕ) (result : Result Came NodeFault) → IfOk result (λ came. IsServed nodes id core core' store store' doubt doubt' event came came.fate)
+      → IfOk result (λ came. came.tried ≡ option_map attempt_of (command_by wants came.fate)) → Writes disks store store' wants (IsOk (told result))
+      → IfOk result (Steps disks (node_with id nodes core (Mounted store) doubt was) (node_with id nodes core' (Mounted store') doubt' None) event)
+  serves was (Err fault) served tried writes = tt
+  serves was (Ok came) served tried writes = λ disk s on stands mounting.
       let kept = stands.up up in
       let is : up_at core store ≡ s = (λ i. record { state = stands.state i; durable = kept_up (is_down core.state.phase) store s.durable up kept.0 i; doubt = sym kept.1 i }) in
-      let on : store.disk ≡ disk = cc in
       let left : IsLeft (disks store.disk) (up_at core store) = subst (λ (t : NodeState). IsLeft (disks store.disk) t) (sym is) (stands.disk store.disk refl) in
-      let stood = stands_all (disks store.disk) (up_at core store) refl left in
       let none : doubt ≡ None = subst (λ (t : NodeState). doubt ≡ told_doubt t.durable t.doubt) (sym is) stands.doubt in
-      subst (λ (d : Disk). Does (slots_for (disks d).sectors) id nodes s event came None (what_of event came.fate)
-      × Stands disks (node_with id nodes core' (Mounted store') doubt' None) (after id nodes s (what_of event came.fate))) on
-      (subst (λ (t : NodeState). Does slots id nodes t event came None (what_of event came.fate)
+      let slots : store.journal.slots ≡ slots_for (disks disk).sectors = at_some (λ (d : Disk). store.journal.slots ≡ slots_for (disks d).sectors) store.disk disk on at in
+      subst (λ (n : ℕ). Does n id nodes s event came None (what_of event came.fate)
+      × Stands disks (node_with id nodes core' (Mounted store') doubt' None) (after id nodes s (what_of event came.fate))) slots
+      (subst (λ (t : NodeState). Does store.journal.slots id nodes t event came None (what_of event came.fate)
       × Stands disks (node_with id nodes core' (Mounted store') doubt' None) (after id nodes t (what_of event came.fate))) is
-      (by_fate up (omega (arith, left.sectors, sectors)) sectors honest none came came.fate done tried up' whole fallen unchanged run
-      (λ h. each h (stood h)) (λ h. all h (stood h)) sound left))
-
--- the same, of as many slots as the store has
-pub all_served : {Disk : Type 0} (disks : Disk → DiskState) (id nodes size : ℕ) (core core' : Core) (store store' : StoreState Disk) (doubt doubt' : Option (Wanted × ℕ)) (was : Option ℕ) (event : Event) (result : Result Came NodeFault)
-    → size ≡ slots_for (disks store.disk).sectors
-    → is_down core.state.phase ≡ false → (IsOk (told result) → is_down core'.state.phase ≡ false)
-    → (disks store'.disk).sectors ≡ (disks store.disk).sectors → (disks store'.disk).honest ≡ (disks store.disk).honest
-    → IfOk result (λ came. IsServed size nodes id core.state (durable_of store) event core'.state (durable_of store') came came.fate)
-    → IfOk result (λ came. came.tried ≡ option_map attempt_of (command_by (wants_of id (durable_of store).pending event core.state) came.fate))
-    → (IsOk (told result) → IsFalse store'.broken × (doubt' ≡ doubt))
-    → (IsErrOf (told result) node.Device → (core'.state ≡ down id) × (doubt' ≡ told_doubt (durable_of store) (wants_of id (durable_of store).pending event core.state)))
-    → IfErr (told result) (λ fault. fault ≢ node.Device → (core'.state ≡ core.state) × (store' ≡ store) × (doubt' ≡ doubt))
-    → (IsTrue (disks store.disk).honest → Run (InStore size) (disks store.disk) (disks store'.disk))
-    → (IsTrue (disks store.disk).honest → AllStandFor size (durable_of store) (disks store.disk)
-    → Each (disks store.disk) (disks store'.disk) (BeforeOrAfter size (durable_of store) (wants_of id (durable_of store).pending event core.state)))
-    → (IsTrue (disks store.disk).honest → AllStandFor size (durable_of store) (disks store.disk) → IsOk (told result) → AllStandFor size (durable_of store') (disks store'.disk))
-    → IsSound size (disks store'.disk)
-    → IfOk result (Steps disks (node_with id nodes core (Mounted store) doubt was) (node_with id nodes core' (Mounted store') doubt' None) event)
-all_served {Disk} disks id nodes size core core' store store' doubt doubt' was event (Ok came) at =
-    subst (λ (n : ℕ). Facts disks id nodes core core' store store' doubt doubt' was event n came (Steps disks (node_with id nodes core (Mounted store) doubt was) (node_with id nodes core' (Mounted store') doubt' None) event came))
-    (sym at) (serves disks id nodes core core' store store' doubt doubt' was event came)
-all_served disks id nodes size core core' store store' doubt doubt' was event (Err fault) at = λ up up' sectors honest is tried whole fallen unchanged run each all sound. tt
-
--- ---- what a caller is told of it
-
-module _ (slots nodes self : ℕ) (s s' : State) (d d' : Durable) (event : Event) where
-  done_as : (came : Came) (end : Fate) → IsServed slots nodes self s d event s' d' came end → IfOk (told_as came (fault_of end)) (IsDone slots nodes self s d event s' d')
-  done_as came fate.Done is = is
-  done_as came (fate.Refused why) is = tt
-  done_as came fate.Faulted is = tt
-  done_as came (fate.Recovered kept) is = absurd is
-  done_as came fate.MountFailed is = absurd is
-  done_as came (fate.RaiseFailed kept) is = absurd is
-  done_as came (fate.RaiseRefused kept) is = absurd is
-
-  pub done_told : (result : Result Came NodeFault) → IfOk result (λ came. IsServed slots nodes self s d event s' d' came came.fate) → IfOk (told result) (IsDone slots nodes self s d event s' d')
-  done_told (Ok came) is = done_as came came.fate is
-  done_told (Err fault) is = tt
+      (by_fate left none came came.fate served tried writes))

@@ -5,6 +5,8 @@ use Rattle.job_model.specs.Command.{Command}
 use Rattle.job_model.specs.Durable.{Durable}
 use Rattle.node_core.specs.declared.event.Event.{Event}
 use Rattle.node_core.specs.declared.fault.CoreFault.{CoreFault}
+use Rattle.job_model.specs.Table.{Table}
+use Rattle.node_core.specs.Core.{Core}
 use Rattle.node_core.specs.State.{State}
 use Rattle.node_core.specs.NodeStep.{StepFault, OfCore, Full, Exhausted, Worn, CantTake, IsRefused}
 use Rattle.node_core.specs.Refusals.{refusal_of}
@@ -39,6 +41,12 @@ turned_as slots nodes self s d d' event fault wants why none same is cant told =
     let so = subst (λ (w : Option Command). (n : ℕ) (c : CantCarry n d w fault) → why ≡ c.why) is
     (subst (λ (x : Durable). (n : ℕ) (c : CantCarry n x wants fault) → why ≡ c.why) same told) slots it in
     (subst (λ (w : StepFault). IsTurnedAway slots nodes self s d event w) (sym so) (by_store slots nodes self s d event fault none it), ap (λ (w : StepFault). shown w) so ∙ sym it.is_shown)
+
+-- the plan wants what the event wants
+pub wanted_so : (wanted planned : Option Command) (old new : Core) (id : ℕ) (event : Event) (shown table : Table) → wanted ≡ planned → planned ≡ wants_of new.id shown.pending event new.state
+    → new ≡ record old { room = new.room } → old.id ≡ id → shown ≡ table → wanted ≡ wants_of id table.pending event old.state
+wanted_so wanted planned old new id event shown table is by kept of same =
+    is ∙ by ∙ ap (λ (k : Core). wants_of k.id shown.pending event k.state) kept ∙ (λ i. wants_of (of i) (same i).pending event old.state)
 
 pub not_so : (b : Bool) → b ≡ false → IsTrue b → ⊥
 not_so true is so = cc

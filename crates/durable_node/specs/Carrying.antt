@@ -1,24 +1,60 @@
--- What the store makes of the command that an event wants.
-use Rattle.std.specs.Prelude.{ℕ, ◌≡◌, ◌⊎◌, Option, Some, IsFalse}
-use Rattle.sector_disk.specs.Disk.{Image}
+-- What the store makes of the command that an event wants, and what a call leaves of it.
+use Rattle.std.specs.Prelude.{ℕ, ◌≡◌, ◌⊎◌, Option, Some, IsTrue, IsFalse}
+use Rattle.sector_disk.specs.Disk.{DiskState, Image, Counts}
+use Rattle.sector_disk.specs.Run.{Run, Each}
 use Rattle.job_model.specs.Command.{Command}
 use Rattle.job_model.specs.Durable.{Durable}
 use Rattle.job_model.specs.Fold.{after_wanted}
+use Rattle.job_journal.specs.Journal.{IsSound}
 use Rattle.node_core.specs.NodeStep.{StepFault, CantTake, IsSpent, FitsSlots, Handled, Refused}
-use Rattle.node_store.specs.Store.{StoreState, durable_of, stands_for}
+use Rattle.node_store.specs.Store.{StoreState, durable_of, stands_for, AllStandFor, InStore}
 use Rattle.histories.specs.NodeState.{answer_if_wanted}
+use Rattle.histories.specs.Possible.{IsWanted}
 use Rattle.durable_node.specs.declared.fault.NodeFault.{NodeFault}
 use Rattle.durable_node.specs.Faults.{shown}
 
--- the store keeps what the command makes, and answers it
-abbrev pub Carried : {Disk : Type 0} → StoreState Disk → StoreState Disk → Option Command → Option ℕ → Type 0
-Carried old new wants answer =
-    (answer ≡ answer_if_wanted (durable_of old) wants) × (durable_of new ≡ after_wanted (durable_of old) wants) × IsFalse new.broken
+-- A store that a call may be made of: no device failed under it, and its disk is sound.
+pub record IsReady {Disk : Type 0} (disks : Disk → DiskState) (store : StoreState Disk) : Type 0 where
+  pub whole : IsFalse store.broken
+  pub sound : IsSound store.journal.slots (disks store.disk)
+
+-- What any call leaves of a store and its disk: as many slots, and a disk that is sound and was written in the store's sectors alone.
+-- A device that failed is counted.
+pub record KeepsSound {Disk : Type 0} (disks : Disk → DiskState) (old new : StoreState Disk) (failed : Type 0) : Type 0 where
+  pub counts : Counts (disks old.disk) (disks new.disk) failed (failed → ⊥)
+  pub slots : new.journal.slots ≡ old.journal.slots
+  pub sound : IsSound old.journal.slots (disks new.disk)
+  pub run : IsTrue (disks old.disk).honest → Run (InStore old.journal.slots) (disks old.disk) (disks new.disk)
+
+-- an image stands for what was kept before the wanted command, or for what is kept after it
+abbrev pub BeforeOrAfter : ℕ → Durable → Option Command → Image → Type 0
+BeforeOrAfter slots d wants image = (stands_for slots image ≡ Some d) ⊎ (stands_for slots image ≡ Some (after_wanted d wants))
+
+-- What a wanted command leaves on an honest disk that stood for what was kept: each image since the call began is from before the
+-- command or after it, and once that is done the disk stands for what is kept now.
+pub record Writes {Disk : Type 0} (disks : Disk → DiskState) (old new : StoreState Disk) (wants : Option Command) (done : Type 0) : Type 0 where
+  pub images : IsTrue (disks old.disk).honest → AllStandFor old.journal.slots (durable_of old) (disks old.disk)
+      → Each (disks old.disk) (disks new.disk) (BeforeOrAfter old.journal.slots (durable_of old) wants)
+  pub after : IsTrue (disks old.disk).honest → AllStandFor old.journal.slots (durable_of old) (disks old.disk)
+      → done → AllStandFor old.journal.slots (durable_of new) (disks new.disk)
 
 -- the store may take the command
 pub record MayTake (slots : ℕ) (d : Durable) (wants : Option Command) : Type 0 where
   pub not_spent : IsSpent d wants → ⊥
   pub fits : FitsSlots slots d wants Handled
+
+-- the store took the command, keeps what it makes, and answers it
+pub record Carried {Disk : Type 0} (old new : StoreState Disk) (wants : Option Command) (given : Option ℕ) : Type 0 where
+  pub may : MayTake old.journal.slots (durable_of old) wants
+  pub answer : given ≡ answer_if_wanted (durable_of old) wants
+  pub kept : durable_of new ≡ after_wanted (durable_of old) wants
+  pub whole : IsFalse new.broken
+
+-- the device failed in a command that the store took, and what the store shows is from before it
+pub record IsCut {Disk : Type 0} (old new : StoreState Disk) (wants : Option Command) : Type 0 where
+  pub may : MayTake old.journal.slots (durable_of old) wants
+  pub wanted : IsWanted wants
+  pub kept : durable_of new ≡ durable_of old
 
 -- the store can't take the command, and this is how it is told
 pub record CantCarry (slots : ℕ) (d : Durable) (wants : Option Command) (fault : NodeFault) : Type 0 where
@@ -26,7 +62,3 @@ pub record CantCarry (slots : ℕ) (d : Durable) (wants : Option Command) (fault
   pub is_shown : fault ≡ shown why
   pub cant : CantTake d wants why
   pub of_slots : FitsSlots slots d wants (Refused why)
-
--- an image stands for what was kept before the wanted command, or for what is kept after it
-abbrev pub BeforeOrAfter : ℕ → Durable → Option Command → Image → Type 0
-BeforeOrAfter slots d wants image = (stands_for slots image ≡ Some d) ⊎ (stands_for slots image ≡ Some (after_wanted d wants))

@@ -16,7 +16,7 @@ use Rattle.histories.specs.declared.what.Rest.{Rest}
 use Rattle.histories.specs.declared.what.Rest.TheVariants.{Nothing, Compacted, CompactDown, CompactWorn}
 use Rattle.histories.specs.After.{after}
 use Rattle.histories.specs.Possible.{IsPossible}
-use Rattle.durable_node.specs.Node.{Node, Area, Stands}
+use Rattle.durable_node.specs.Node.{Node, Area, IsCoreOf, Stands}
 
 -- what a compaction that rests answers
 abbrev pub RestTold : {A : Type 0} → Rest → Result A NodeFault → Type 0
@@ -65,7 +65,6 @@ IsFallenNode old new = new ≡ record old { state = down old.id; disk = new.disk
 
 -- the core goes down where the device fails, and else it stays
 pub record IsRewrittenCore {A : Type 0} (self nodes : ℕ) (old new : Core) (result : Result A NodeFault) : Type 0 where
-  pub id : new.id ≡ self
-  pub nodes_is : new.nodes ≡ nodes
+  pub of : IsCoreOf self nodes new
   pub stays : (result ≡ Err node.Device → ⊥) → new.state ≡ old.state
   pub falls : result ≡ Err node.Device → new.state ≡ down self

@@ -13,6 +13,7 @@ use Rattle.job_journal.specs.Journal.{IsSound}
 use Rattle.node_store.specs.Store.{StoreState, durable_of, slots_for, stands_for}
 use Rattle.histories.specs.NodeState.{NodeState, settled}
 use Rattle.histories.specs.Possible.{IsSettling}
+use Rattle.durable_node.specs.Carrying.{IsReady}
 use Rattle.durable_node.specs.declared.node_disk.NodeDisk.{NodeDisk}
 use Rattle.durable_node.specs.declared.node_disk.NodeDisk.TheVariants.{Bare, Mounted, Taken}
 
@@ -113,3 +114,15 @@ pub record IsNode {Disk : Type 0} (disks : Disk → DiskState) (id nodes : ℕ) 
   pub fallen : is_down core.state.phase ≡ true → core.state ≡ down id
   pub slots : (store : StoreState Disk) → store_in disk ≡ Some store → store.journal.slots ≡ slots_for (disks store.disk).sectors
   pub sound : (now : Disk) → disk_in disk ≡ Some now → IsSound (slots_for (disks now).sectors) (disks now)
+
+-- the core of this node, in a group of so many
+pub record IsCoreOf (self group : ℕ) (core : Core) : Type 0 where
+  pub id : core.id ≡ self
+  pub nodes : core.nodes ≡ group
+
+-- A node of so many stands over a store that a call may be made of.
+pub record IsOver {Disk : Type 0} (disks : Disk → DiskState) (self group : ℕ) (core : Core) (store : StoreState Disk) : Type 0 where
+  pub of : IsCoreOf self group core
+  pub within : self < group
+  pub most : group ≤ NODES
+  pub ready : IsReady disks store

@@ -1,5 +1,5 @@
 -- What the raise of a recovery that mounts its disk does.
-use Rattle.std.specs.Prelude.{ℕ, ◌≡◌, ◌⊎◌, ◌+◌, ◌-◌, ◌^◌, ◌<◌, ◌==◌, not, Bool, false, [], Option, Some, None, Result, Ok, Err}
+use Rattle.std.specs.Prelude.{ℕ, ◌≡◌, ◌⊎◌, ◌+◌, ◌-◌, ◌^◌, ◌<◌, ◌==◌, not, Bool, false, IsFalse, [], Option, Some, None, Result, Ok, Err}
 use Rattle.job_model.specs.Command.{Command, Raise}
 use Rattle.job_model.specs.Durable.{Durable}
 use Rattle.job_model.specs.Fold.{after_command, is_pending}
@@ -15,7 +15,7 @@ use Rattle.node_store.specs.Store.{StoreState, durable_of}
 use Rattle.histories.specs.declared.fate.Fate.{Fate}
 use Rattle.histories.specs.declared.fate.Fate.TheVariants.{Recovered, MountFailed, RaiseFailed, RaiseRefused}
 use Rattle.durable_node.specs.Node.{Node}
-use Rattle.durable_node.specs.Stepping.{IsSilent}
+use Rattle.durable_node.specs.Stepping.{IsAsBefore, IsSilent}
 
 -- the counter that was found is raised, and the node is alone in the group of the new count
 pub record IsRisen (self : ℕ) (found now : Durable) (core : Core) (told : Option (Wanted × ℕ)) (came : Came) : Type 0 where
@@ -33,17 +33,14 @@ pub record IsRiseFailed (found now : Durable) (old new : Core) (told : Option (W
   pub state : new.state ≡ old.state
   pub doubt : told ≡ Some (wanted.Raise, found.counter)
 
--- the counter that was found is the greatest there is
-pub record IsRiseRefused (found : Durable) (fault : NodeFault) : Type 0 where
-  pub spent : found.counter ≡ 2 ^ 64 - 1
-  pub told : fault ≡ node.Exhausted
-
--- what came of the raise, where the command that was in doubt was found, or wasn't
+-- what came of the raise and what it left, where the command that was in doubt was found, or wasn't
 abbrev pub HasRisen : {Disk : Type 0} → ℕ → Bool → Core → Core → StoreState Disk → StoreState Disk → Option (Wanted × ℕ) → Option (Wanted × ℕ) → Came → Fate → Type 0
-HasRisen self kept core core' store store' doubt doubt' came (Recovered k) = (k ≡ kept) × IsRisen self (durable_of store) (durable_of store') core' doubt' came
-HasRisen self kept core core' store store' doubt doubt' came (RaiseFailed k) = (k ≡ kept) × IsRiseFailed (durable_of store) (durable_of store') core core' doubt' × IsSilent came
+HasRisen self kept core core' store store' doubt doubt' came (Recovered k) =
+    (k ≡ kept) × IsRisen self (durable_of store) (durable_of store') core' doubt' came × IsFalse store'.broken
+HasRisen self kept core core' store store' doubt doubt' came (RaiseFailed k) =
+    (k ≡ kept) × IsRiseFailed (durable_of store) (durable_of store') core core' doubt' × IsSilent came
 HasRisen self kept core core' store store' doubt doubt' came (RaiseRefused k) =
-    (k ≡ kept) × IsRiseRefused (durable_of store) node.Exhausted × (core'.state ≡ core.state) × (store' ≡ store) × (doubt' ≡ doubt) × IsSilent came
+    (k ≡ kept) × ((durable_of store).counter ≡ 2 ^ 64 - 1) × IsSilent came × IsAsBefore core core' store store' doubt doubt'
 HasRisen self kept core core' store store' doubt doubt' came fate = ⊥
 
 -- the raise, where it was tried

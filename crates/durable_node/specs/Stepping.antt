@@ -1,14 +1,17 @@
 -- What a call of a node does, and how it is told.
-use Rattle.std.specs.Prelude.{ℕ, ◌≡◌, ◌+◌, Bool, true, false, IsTrue, IsSome, IsErrOf, [], Option, Some, None, Result}
+use Rattle.std.specs.Prelude.{ℕ, ◌≡◌, ◌+◌, Bool, true, false, IsTrue, IsFalse, IsSome, IsErrOf, [], Option, Some, None, Result}
 use Rattle.sector_disk.specs.Disk.{DiskState, Counts}
 use Rattle.job_model.specs.Durable.{Durable}
+use Rattle.node_core.specs.declared.durable.Durable.{Durable as Wanted}
 use Rattle.node_core.specs.declared.event.Event.{Event}
 use Rattle.node_core.specs.declared.event.Event.TheVariants as on
+use Rattle.node_core.specs.Core.{Core}
+use Rattle.node_core.specs.Start.{down}
 use Rattle.node_core.specs.State.{State, is_down}
 use Rattle.node_core.specs.NodeStep.{IsTaken, IsHandled, IsRefused, StepFault, FitsSlots, Handled, Refused as Refusal}
 use Rattle.node_core.specs.Wants.{wants_of}
 use Rattle.node_core.specs.Most.{most_of}
-use Rattle.node_store.specs.Store.{slots_for}
+use Rattle.node_store.specs.Store.{StoreState, durable_of, slots_for}
 use Rattle.durable_node.specs.declared.fault.NodeFault.{NodeFault}
 use Rattle.durable_node.specs.declared.fault.NodeFault.TheVariants as node
 use Rattle.durable_node.specs.declared.came.Came.{Came}
@@ -25,7 +28,7 @@ use Rattle.histories.specs.declared.what.Refusal.TheVariants as refusal
 use Rattle.job_model.specs.Command.{Command, Raise}
 use Rattle.node_core.specs.declared.fault.CoreFault.{CoreFault}
 use Rattle.node_core.specs.declared.fault.CoreFault.TheVariants.{NoMemory}
-use Rattle.durable_node.specs.Node.{Node, Stands}
+use Rattle.durable_node.specs.Node.{Node, Stands, told_doubt}
 
 -- the event Recover
 abbrev pub is_recover : Event → Bool
@@ -55,12 +58,22 @@ pub record IsTurnedAway (slots nodes self : ℕ) (s : State) (d : Durable) (even
 abbrev pub IsSilent : Came → Type 0
 IsSilent came = (came.sent.items ≡ []) × (came.answer ≡ None)
 
--- what came of the event
-abbrev pub IsServed : ℕ → ℕ → ℕ → State → Durable → Event → State → Durable → Came → Fate → Type 0
-IsServed slots nodes self s d event s' d' came fate.Done = IsDone slots nodes self s d event s' d' came
-IsServed slots nodes self s d event s' d' came (fate.Refused why) = IsTurnedAway slots nodes self s d event (reason_of why) × IsSilent came
-IsServed slots nodes self s d event s' d' came fate.Faulted = IsFailed slots nodes self s d event × IsSilent came
-IsServed slots nodes self s d event s' d' came other = ⊥
+-- the core's state, the store and the command in doubt are as they were
+pub record IsAsBefore {Disk : Type 0} (core core' : Core) (store store' : StoreState Disk) (doubt doubt' : Option (Wanted × ℕ)) : Type 0 where
+  pub same_state : core'.state ≡ core.state
+  pub same_store : store' ≡ store
+  pub same_doubt : doubt' ≡ doubt
+
+-- what came of the event, and what it left
+abbrev pub IsServed : {Disk : Type 0} → ℕ → ℕ → Core → Core → StoreState Disk → StoreState Disk → Option (Wanted × ℕ) → Option (Wanted × ℕ) → Event → Came → Fate → Type 0
+IsServed nodes self core core' store store' doubt doubt' event came fate.Done =
+    IsDone store.journal.slots nodes self core.state (durable_of store) event core'.state (durable_of store') came × IsFalse store'.broken × (doubt' ≡ doubt)
+IsServed nodes self core core' store store' doubt doubt' event came (fate.Refused why) =
+    IsTurnedAway store.journal.slots nodes self core.state (durable_of store) event (reason_of why) × IsSilent came × IsAsBefore core core' store store' doubt doubt'
+IsServed nodes self core core' store store' doubt doubt' event came fate.Faulted =
+    IsFailed store.journal.slots nodes self core.state (durable_of store) event × IsSilent came × (core'.state ≡ down self)
+    × (doubt' ≡ told_doubt (durable_of store) (wants_of self (durable_of store).pending event core.state))
+IsServed nodes self core core' store store' doubt doubt' event came other = ⊥
 
 -- the command that was tried, of one that was wanted
 abbrev pub command_by : Option Command → Fate → Option Command

@@ -42,14 +42,17 @@ pub(crate) fn advance<D: SectorDisk + Drop>(
     ensures reads { is_down core.old.state.phase ≡ true → event.now ≡ Event.Recover → ReadsDisk D.state (disk_in disk.old) (disk_in disk.new) (told result) (found_in found.new (store_in disk.new)) }
     ensures few { IfOk result (λ came. length came.sent.items ≤ most_by nodes (kept_in (is_down core.old.state.phase) (store_in disk.old))) }
 {
-    *found = None;
     match disk {
         NodeDisk::Mounted(store) if !is_down(core) => {
+            *found = None;
             handle(alloc, id, nodes, core, store, doubt, event)
         }
         _ => match event {
             Event::Recover => remount(alloc, id, nodes, core, disk, doubt, found),
-            _ => ignore(alloc, core, disk, event),
+            _ => {
+                *found = None;
+                ignore(alloc, core, disk, event)
+            }
         },
     }
 }

@@ -1,13 +1,11 @@
 // The compaction of a node's journal.
-ghost use Rattle.std.specs.Prelude.{◌≡◌, ◌≢◌, ◌≤◌, ◌<◌, IsTrue, IsFalse, IsOk, IfErr, IsErrOf, Some, None};
-ghost use Rattle.sector_disk.specs.Disk.{Counts};
-ghost use Rattle.sector_disk.specs.Run.{Run, Each};
-ghost use Rattle.group_task.specs.declared.node.TheConstants.{NODES};
-ghost use Rattle.job_journal.specs.Journal.{IsSound};
+ghost use Rattle.std.specs.Prelude.{◌≡◌, ◌≢◌, IsTrue, IsFalse, IsOk, IfErr, IsErrOf, Some, None};
+ghost use Rattle.sector_disk.specs.Run.{Each};
 ghost use Rattle.node_core.specs.State.{is_down};
-ghost use Rattle.node_store.specs.Store.{durable_of, InStore, StaysAs};
+ghost use Rattle.node_store.specs.Store.{durable_of, StaysAs};
+ghost use Rattle.durable_node.specs.Carrying.{KeepsSound};
 ghost use Rattle.durable_node.specs.Compacting.{Compacts, StaysKept, IsMovedNode, IsFallenNode, IsRewrittenCore, moved};
-ghost use Rattle.durable_node.specs.Node.{disk_in, store_in, area_in, area_of, IsNode, node_with};
+ghost use Rattle.durable_node.specs.Node.{disk_in, store_in, area_in, area_of, IsNode, IsOver, node_with};
 ghost use Rattle.durable_node.specs.Refusing.{AnswersTo, compaction_refusal};
 ghost use Rattle.durable_node.specs.Stepping.{CountsOf};
 
@@ -56,21 +54,13 @@ fn rewrite<D: SectorDisk>(
     core: &mut NodeCore,
     store: &mut NodeStore<D>,
 ) -> Result<(), NodeFault>
-    requires id { core.old.id ≡ id }
-    requires nodes { core.old.nodes ≡ nodes }
-    requires within { id < nodes }
-    requires most { nodes ≤ NODES }
-    requires whole { IsFalse store.old.broken }
-    requires sound { IsSound store.old.journal.slots (D.state store.old.disk) }
+    requires over { IsOver D.state id nodes core.old store.old }
     ensures core { IsRewrittenCore id nodes core.old core.new result }
     ensures answers { AnswersTo (compaction_refusal (Some (area_of store.old))) result }
     ensures done { IsOk result → IsFalse store.new.broken × (area_of store.new ≡ moved (durable_of store.old) (area_of store.old)) }
     ensures refused { IfErr result (λ fault. fault ≢ NodeFault.Device → store.new ≡ store.old) }
     ensures kept { durable_of store.new ≡ durable_of store.old }
-    ensures slots { store.new.journal.slots ≡ store.old.journal.slots }
-    ensures counts { Counts (D.state store.old.disk) (D.state store.new.disk) (IsErrOf result NodeFault.Device) (IsErrOf result NodeFault.Device → ⊥) }
-    ensures sound { IsSound store.old.journal.slots (D.state store.new.disk) }
-    ensures run { IsTrue (D.state store.old.disk).honest → Run (InStore store.old.journal.slots) (D.state store.old.disk) (D.state store.new.disk) }
+    ensures store { KeepsSound D.state store.old store.new (IsErrOf result NodeFault.Device) }
     ensures images { IsTrue (D.state store.old.disk).honest → Each (D.state store.old.disk) (D.state store.new.disk) (StaysAs store.old) }
 {
     match store.compact() {

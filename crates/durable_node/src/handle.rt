@@ -1,24 +1,18 @@
-ghost use Rattle.std.specs.Prelude.{◌≡◌, ◌≢◌, ◌≤◌, ◌<◌, ◌↔◌, ℕ, true, false, IsTrue, IsFalse, IsOk, IfOk, IfErr, IsErrOf, Some, None, Err, length, option_map};
-ghost use Rattle.sector_disk.specs.Disk.{Counts};
-ghost use Rattle.sector_disk.specs.Run.{Run, Each};
-ghost use Rattle.group_task.specs.declared.node.TheConstants.{NODES};
+ghost use Rattle.std.specs.Prelude.{◌≡◌, ◌≤◌, ◌↔◌, ℕ, IsTrue, IsOk, IfOk, IfErr, IsErrOf, length, option_map};
 ghost use Rattle.node_core.specs.declared.fault.CoreFault.TheVariants.{NoMemory};
-ghost use Rattle.node_core.specs.State.{is_down};
 ghost use Rattle.node_core.specs.Most.{most_of};
-ghost use Rattle.node_core.specs.Start.{down};
+ghost use Rattle.node_core.specs.NodeStep.{IsSpent};
 ghost use Rattle.node_core.specs.Planned.{wanted_by};
 ghost use Rattle.node_core.specs.Refusals.{refusal_of};
 ghost use Rattle.node_core.specs.Wants.{wants_of};
-ghost use Rattle.job_journal.specs.Journal.{IsSound};
-ghost use Rattle.node_store.specs.Store.{durable_of, InStore, AllStandFor};
-ghost use Rattle.durable_node.specs.Carrying.{BeforeOrAfter, CantCarry};
-ghost use Rattle.durable_node.specs.Node.{area_of, told_doubt};
+ghost use Rattle.node_store.specs.Store.{durable_of};
 ghost use Rattle.histories.specs.Fates.{attempt_of};
 ghost use Rattle.histories.specs.What.{reason_of};
-ghost use Rattle.node_core.specs.NodeStep.{IsSpent};
+ghost use Rattle.durable_node.specs.Carrying.{CantCarry, KeepsSound, Writes};
 ghost use Rattle.durable_node.specs.Faults.{told};
+ghost use Rattle.durable_node.specs.Node.{IsCoreOf, IsOver, area_of, told_doubt};
 ghost use Rattle.durable_node.specs.Refusing.{AnswersEvent, disk_refusal};
-ghost use Rattle.durable_node.specs.Stepping.{IsServed, command_by};
+ghost use Rattle.durable_node.specs.Stepping.{IsAsBefore, IsServed, command_by};
 
 use crate::came::{Came, attempt_in};
 use crate::carry::carry;
@@ -42,36 +36,17 @@ pub(crate) fn handle<D: SectorDisk>(
     doubt: &mut Option<(Durable, u64)>,
     event: &Event,
 ) -> Result<Came, NodeFault>
-    requires id { core.old.id ≡ id }
-    requires nodes { core.old.nodes ≡ nodes }
-    requires within { id < nodes }
-    requires most { nodes ≤ NODES }
-    requires whole { IsFalse store.old.broken }
-    requires sound { IsSound store.old.journal.slots (D.state store.old.disk) }
-    ensures id { core.new.id ≡ id }
-    ensures nodes { core.new.nodes ≡ nodes }
-    ensures counts { Counts (D.state store.old.disk) (D.state store.new.disk) (IsErrOf (told result) NodeFault.Device) (IsErrOf (told result) NodeFault.Device → ⊥) }
-
-    ensures answers { AnswersEvent (refusal_of nodes id event.now core.old.state) (disk_refusal (durable_of store.old) (area_of store.old) (wants_of id (durable_of store.old).pending event.now core.old.state)) (told result) }
-    ensures stuck { IfErr result (λ fault. fault ≡ NodeFault.Core NoMemory) }
-
+    requires over { IsOver D.state id nodes core.old store.old }
+    ensures core { IsCoreOf id nodes core.new }
     // What came of the event, and which command it wanted, if it was tried.
-    ensures what { IfOk result (λ came. IsServed store.old.journal.slots nodes id core.old.state (durable_of store.old) event.now core.new.state (durable_of store.new) came came.fate) }
+    ensures what { IfOk result (λ came. IsServed nodes id core.old core.new store.old store.new doubt.old doubt.new event.now came came.fate) }
     ensures tried { IfOk result (λ came. came.tried ≡ option_map attempt_of (command_by (wants_of id (durable_of store.old).pending event.now core.old.state) came.fate)) }
     ensures few { IfOk result (λ came. length came.sent.items ≤ most_of nodes (durable_of store.old).pending) }
-
-    // The event was done, the device failed in its command, or it was refused.
-    ensures whole { IsOk (told result) → IsFalse store.new.broken × (doubt.new ≡ doubt.old) }
-    ensures fallen { IsErrOf (told result) NodeFault.Device → (core.new.state ≡ down id) × (doubt.new ≡ told_doubt (durable_of store.old) (wants_of id (durable_of store.old).pending event.now core.old.state)) }
-    ensures unchanged { IfErr (told result) (λ fault. fault ≢ NodeFault.Device → (core.new.state ≡ core.old.state) × (store.new ≡ store.old) × (doubt.new ≡ doubt.old)) }
-
-    ensures slots { store.new.journal.slots ≡ store.old.journal.slots }
-    ensures sound { IsSound store.old.journal.slots (D.state store.new.disk) }
-    ensures run { IsTrue (D.state store.old.disk).honest → Run (InStore store.old.journal.slots) (D.state store.old.disk) (D.state store.new.disk) }
-    ensures images { IsTrue (D.state store.old.disk).honest → AllStandFor store.old.journal.slots (durable_of store.old) (D.state store.old.disk)
-        → Each (D.state store.old.disk) (D.state store.new.disk) (BeforeOrAfter store.old.journal.slots (durable_of store.old) (wants_of id (durable_of store.old).pending event.now core.old.state)) }
-    ensures after { IsTrue (D.state store.old.disk).honest → AllStandFor store.old.journal.slots (durable_of store.old) (D.state store.old.disk)
-        → IsOk (told result) → AllStandFor store.old.journal.slots (durable_of store.new) (D.state store.new.disk) }
+    ensures stuck { IfErr result (λ fault. (fault ≡ NodeFault.Core NoMemory) × IsAsBefore core.old core.new store.old store.new doubt.old doubt.new) }
+    ensures answers { AnswersEvent (refusal_of nodes id event.now core.old.state)
+        (disk_refusal (durable_of store.old) (area_of store.old) (wants_of id (durable_of store.old).pending event.now core.old.state)) (told result) }
+    ensures store { KeepsSound D.state store.old store.new (IsErrOf (told result) NodeFault.Device) }
+    ensures disk { Writes D.state store.old store.new (wants_of id (durable_of store.old).pending event.now core.old.state) (IsOk (told result)) }
 {
     let plan = match core.plan_step(event, store.table()) {
         Ok(plan) => plan,

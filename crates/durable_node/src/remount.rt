@@ -1,17 +1,12 @@
-ghost use Rattle.std.specs.Prelude.{◌≡◌, ◌≢◌, ◌≤◌, ◌<◌, ℕ, Option, IsTrue, IsFalse, IsOk, IfOk, IfErr, IsErrOf, Ok, Err, Some, None, option_map, true, []};
-ghost use Rattle.sector_disk.specs.Disk.{Counts};
-ghost use Rattle.sector_disk.specs.Run.{Run, Each};
-ghost use Rattle.group_task.specs.declared.node.TheConstants.{NODES};
+ghost use Rattle.std.specs.Prelude.{◌≡◌, ◌≢◌, IsOk, IfOk, IfErr, IsErrOf, Ok, Err, Some, None, option_map, true, []};
 ghost use Rattle.job_model.specs.Command.{Raise};
-ghost use Rattle.job_journal.specs.Journal.{IsSound};
 ghost use Rattle.node_core.specs.declared.event.Event.TheVariants.{Recover};
-ghost use Rattle.node_core.specs.declared.fault.CoreFault.TheVariants.{NoMemory};
 ghost use Rattle.node_core.specs.State.{is_down};
+ghost use Rattle.node_store.specs.Store.{durable_of};
 ghost use Rattle.histories.specs.Fates.{attempt_of};
+ghost use Rattle.durable_node.specs.Carrying.{KeepsSound, Writes};
 ghost use Rattle.durable_node.specs.Faults.{told};
-ghost use Rattle.node_store.specs.Store.{durable_of, InStore, AllStandFor};
-ghost use Rattle.durable_node.specs.Carrying.{BeforeOrAfter};
-ghost use Rattle.durable_node.specs.Node.{disk_in, store_in, found_in, IsNode, node_with};
+ghost use Rattle.durable_node.specs.Node.{disk_in, store_in, found_in, IsCoreOf, IsNode, IsOver, node_with};
 ghost use Rattle.durable_node.specs.Reading.{ReadsDisk};
 ghost use Rattle.durable_node.specs.Remounting.{HasRisen, IsFoundBy, IsKeptIn, Remounted, raise_by};
 ghost use Rattle.durable_node.specs.Stepping.{CountsOf, IsSilent, Steps, Stuck};
@@ -39,15 +34,11 @@ pub(crate) fn remount<D: SectorDisk + Drop>(
 ) -> Result<Came, NodeFault>
     requires node { IsNode D.state id nodes core.old disk.old }
     requires down { is_down core.old.state.phase ≡ true }
-    requires found { found.old ≡ None }
     ensures node { IsNode D.state id nodes core.new disk.new }
-    ensures step { (was : Option ℕ)
-        → IfOk result (Steps D.state (node_with id nodes core.old disk.old doubt.old was) (node_with id nodes core.new disk.new doubt.new found.new) Recover) }
-    ensures stuck { (was : Option ℕ)
-        → IfErr result (Stuck D.state (node_with id nodes core.old disk.old doubt.old was) (node_with id nodes core.new disk.new doubt.new found.new) Recover) }
+    ensures step { IfOk result (Steps D.state (node_with id nodes core.old disk.old doubt.old found.old) (node_with id nodes core.new disk.new doubt.new found.new) Recover) }
+    ensures stuck { IfErr result (Stuck D.state (node_with id nodes core.old disk.old doubt.old found.old) (node_with id nodes core.new disk.new doubt.new found.new) Recover) }
     ensures counts { CountsOf D.state (disk_in disk.old) (disk_in disk.new) (told result) }
-    ensures mounting { (was : Option ℕ)
-        → Remounted (node_with id nodes core.old disk.old doubt.old was) (node_with id nodes core.new disk.new doubt.new found.new) (told result) (found_in found.new (store_in disk.new)) }
+    ensures mounting { Remounted (node_with id nodes core.old disk.old doubt.old found.old) (node_with id nodes core.new disk.new doubt.new found.new) (told result) (found_in found.new (store_in disk.new)) }
     ensures kept { IfOk result (λ came. IsFoundBy doubt.old came.fate (found_in found.new (store_in disk.new))) }
     ensures reads { ReadsDisk D.state (disk_in disk.old) (disk_in disk.new) (told result) (found_in found.new (store_in disk.new)) }
     ensures quiet { IfOk result (λ came. came.sent.items ≡ []) }
@@ -56,6 +47,7 @@ pub(crate) fn remount<D: SectorDisk + Drop>(
         Ok(mounted) => mounted,
         Err(refused) => {
             *disk = NodeDisk::Bare(refused.disk);
+            *found = None;
             return unmounted(alloc, node_fault(refused.fault));
         }
     };
@@ -107,25 +99,12 @@ fn rise<D: SectorDisk>(
     doubt: &mut Option<(Durable, u64)>,
     kept: bool,
 ) -> Came
-    requires id { core.old.id ≡ id }
-    requires nodes { core.old.nodes ≡ nodes }
-    requires within { id < nodes }
-    requires most { nodes ≤ NODES }
-    requires whole { IsFalse store.old.broken }
-    requires sound { IsSound store.old.journal.slots (D.state store.old.disk) }
-    ensures id { core.new.id ≡ id }
-    ensures nodes { core.new.nodes ≡ nodes }
-    ensures counts { Counts (D.state store.old.disk) (D.state store.new.disk) (IsErrOf (told (Ok result)) NodeFault.Device) (IsErrOf (told (Ok result)) NodeFault.Device → ⊥) }
+    requires over { IsOver D.state id nodes core.old store.old }
+    ensures core { IsCoreOf id nodes core.new }
     ensures what { HasRisen id kept core.old core.new store.old store.new doubt.old doubt.new result result.fate }
     ensures tried { result.tried ≡ option_map attempt_of (raise_by result.fate) }
-    ensures whole { IsOk (told (Ok result)) → IsFalse store.new.broken }
-    ensures slots { store.new.journal.slots ≡ store.old.journal.slots }
-    ensures sound { IsSound store.old.journal.slots (D.state store.new.disk) }
-    ensures run { IsTrue (D.state store.old.disk).honest → Run (InStore store.old.journal.slots) (D.state store.old.disk) (D.state store.new.disk) }
-    ensures images { IsTrue (D.state store.old.disk).honest → AllStandFor store.old.journal.slots (durable_of store.old) (D.state store.old.disk)
-        → Each (D.state store.old.disk) (D.state store.new.disk) (BeforeOrAfter store.old.journal.slots (durable_of store.old) (Some Raise)) }
-    ensures after { IsTrue (D.state store.old.disk).honest → AllStandFor store.old.journal.slots (durable_of store.old) (D.state store.old.disk)
-        → IsOk (told (Ok result)) → AllStandFor store.old.journal.slots (durable_of store.new) (D.state store.new.disk) }
+    ensures store { KeepsSound D.state store.old store.new (IsErrOf (told (Ok result)) NodeFault.Device) }
+    ensures disk { Writes D.state store.old store.new (Some Raise) (IsOk (told (Ok result))) }
 {
     let count = store.counter();
     match carry(store, &Durable::Raise) {

@@ -9,8 +9,8 @@ use Rattle.durable_node.specs.Node.{Area, IsNode, area_in, disk_in, store_in, no
 use Rattle.durable_node.specs.Compacting.{Compacts, IsMovedNode, IsFallenNode, StaysKept}
 use Rattle.durable_node.specs.Refusing.{AnswersTo, compaction_refusal}
 use Rattle.durable_node.specs.Stepping.{CountsOf}
-use Rattle.durable_node.proofs.Nodes.{bare_down, counts_of}
-use Rattle.durable_node.proofs.Compactions.{compact_down, node_rewritten, compacts, moves_node, fallen_node, refused_node, stays_kept, up_area, ok_is_none}
+use Rattle.durable_node.proofs.Nodes.{bare_down, counts_of, node_over, over}
+use Rattle.durable_node.proofs.Compactions.{compact_down, rewritten, compacts, moves_node, fallen_node, refused_node, stays_kept, up_area, ok_is_none}
 use Rattle.durable_node.proofs.compacting.compact.Goals as goal
 use Rattle.durable_node.proofs.compacting.compact.Goals.{in_default-via-in-Mounted+else-not-is_down, in_default-via-in_default}
 
@@ -26,14 +26,20 @@ returns-in_default-clause-step g c =
     subst (λ (d : NodeDisk _). Compacts {A = ⊤} state was (node_with c.args.id c.args.nodes c.args.core.now d c.args.doubt.now None) (Err (node.Core Down))) (sym same)
     (compact_down state c.args.id c.args.nodes c.args.core.now c.args.disk.now c.args.doubt.now c.args.found.now _ down refl)
 
+pub rewrite-requires : goal.rewrite-requires
+rewrite-requires g c =
+    let up = sym c.is_down.ensures ∙ c.if-not-is_down.true in
+    record { over = over g.D.SectorDisk.state c.args.id c.args.nodes c.args.core.now c.in-Mounted.store (subst (λ (d : NodeDisk _). IsNode g.D.SectorDisk.state c.args.id c.args.nodes c.args.core.now d) c.in-Mounted.is c.requires.node) up }
+
 pub returns-in-Mounted-clause-node : goal.returns-in-Mounted-clause-node
 returns-in-Mounted-clause-node g c =
     let state = g.D.SectorDisk.state in
     let e = c.rewrite.ensures in
     let up = sym c.is_down.ensures ∙ c.if-not-is_down.true in
     let node = subst (λ (d : NodeDisk _). IsNode state c.args.id c.args.nodes c.args.core.now d) c.in-Mounted.is c.requires.node in
-    node_rewritten state c.args.id c.args.nodes c.args.core.now c.rewrite.new.core c.in-Mounted.store c.rewrite.new.store c.args.doubt.now c.args.found.now c.rewrite.result
-    node up e.core e.answers e.done e.refused e.slots e.counts.sectors e.sound
+    let store = c.in-Mounted.store in
+    node_over state c.args.id c.args.nodes c.args.core.now c.rewrite.new.core (Mounted store) store c.rewrite.new.store _ node e.core.of (node.slots store refl) e.store
+    (rewritten state c.args.id c.args.nodes c.args.core.now c.rewrite.new.core store c.rewrite.new.store c.args.doubt.now c.args.found.now c.rewrite.result up (node.up up) e.core e.answers e.done e.refused)
 
 pub returns-in-Mounted-clause-answers : goal.returns-in-Mounted-clause-answers
 returns-in-Mounted-clause-answers g c =
@@ -50,7 +56,7 @@ returns-in-Mounted-clause-step g c =
     subst (λ (d : NodeDisk _). Compacts state (node_with c.args.id c.args.nodes c.args.core.now d c.args.doubt.now c.args.found.now)
     (node_with c.args.id c.args.nodes c.rewrite.new.core (Mounted c.rewrite.new.store) c.args.doubt.now None) c.rewrite.result) (sym c.in-Mounted.is)
     (compacts state c.args.id c.args.nodes c.args.core.now c.rewrite.new.core c.in-Mounted.store c.rewrite.new.store c.args.doubt.now c.args.found.now c.rewrite.result
-    up (node.slots c.in-Mounted.store refl) e.core e.answers e.kept e.counts.sectors e.counts.honest e.sound e.run e.images)
+    up (node.slots c.in-Mounted.store refl) e.core e.answers e.kept _ e.store e.images)
 
 pub returns-in-Mounted-clause-moved : goal.returns-in-Mounted-clause-moved
 returns-in-Mounted-clause-moved g c = λ ok.
@@ -92,4 +98,4 @@ pub returns-in-Mounted-clause-counts : goal.returns-in-Mounted-clause-counts
 returns-in-Mounted-clause-counts g c =
     let state = g.D.SectorDisk.state in
     subst (λ (d : NodeDisk _). CountsOf state (disk_in d) (Some c.rewrite.new.store.disk) c.rewrite.result) (sym c.in-Mounted.is)
-    (counts_of state c.in-Mounted.store.disk c.rewrite.new.store.disk c.rewrite.result c.rewrite.ensures.counts)
+    (counts_of state c.in-Mounted.store.disk c.rewrite.new.store.disk c.rewrite.result c.rewrite.ensures.store.counts)

@@ -1,6 +1,5 @@
-use Rattle.std.proofs.Common.{ℕ, ◌≡◌, ◌≢◌, inl, ap, refl, ◌∙◌, Option, Err}
+use Rattle.std.proofs.Common.{◌≡◌, ◌≢◌, ap, refl, ◌∙◌, Option, Err}
 use Rattle.job_model.specs.Command.{Command}
-use Rattle.job_model.specs.Table.{Table}
 use Rattle.node_core.specs.Core.{Core}
 use Rattle.node_core.specs.Planned.{wanted_by}
 use Rattle.node_core.specs.Wants.{wants_of}
@@ -12,42 +11,38 @@ use Rattle.durable_node.specs.Faults.{fault_of, told_as}
 use Rattle.durable_node.specs.Node.{area_of}
 use Rattle.histories.specs.declared.fate.Fate.{Fate}
 use Rattle.durable_node.specs.Refusing.{disk_refusal}
-use Rattle.durable_node.proofs.Turned.{event_by_store, not_so, turned_as}
+use Rattle.durable_node.proofs.Mounts.{unwritten}
+use Rattle.durable_node.proofs.Turned.{event_by_store, not_so, turned_as, wanted_so}
 use Rattle.durable_node.proofs.handle.handle.Goals as goal
 
-pub returns-in-Err-clause-images : goal.returns-in-Err-clause-images
-returns-in-Err-clause-images g c = λ honest all image since.
-    inl (all image ((g.met.D.SectorDisk.laws c.args.store.now.disk honest).only_now image since))
+pub returns-in-Err-clause-disk : goal.returns-in-Err-clause-disk
+returns-in-Err-clause-disk g c = unwritten g.D.SectorDisk.state c.args.store.now _ _ (g.met.D.SectorDisk.laws c.args.store.now.disk)
 
-pub returns-in-Err-NoMemory-clause-images : goal.returns-in-Err-NoMemory-clause-images
-returns-in-Err-NoMemory-clause-images g c = λ honest all image since.
-    inl (all image ((g.met.D.SectorDisk.laws c.args.store.now.disk honest).only_now image since))
+pub returns-in-Err-NoMemory-clause-disk : goal.returns-in-Err-NoMemory-clause-disk
+returns-in-Err-NoMemory-clause-disk g c = unwritten g.D.SectorDisk.state c.args.store.now _ _ (g.met.D.SectorDisk.laws c.args.store.now.disk)
 
 pub returns-then-not-is_device-clause-what : goal.returns-then-not-is_device-clause-what
 returns-then-not-is_device-clause-what g c =
     let d = durable_of c.args.store.now in
     let wants : wanted_by c.wants-wants.result ≡ wants_of c.args.id d.pending c.args.event.now c.args.core.now.state =
-    c.wants-wants.ensures ∙ c.in-Ok.ensures.plan.wants_is
-    ∙ ap (λ (k : Core). wants_of k.id c.table.result.now.pending c.args.event.now k.state) c.plan_step.ensures.kept
-    ∙ ap (λ (n : ℕ). wants_of n c.table.result.now.pending c.args.event.now c.args.core.now.state) c.requires.id
-    ∙ ap (λ (t : Table). wants_of c.args.id t.pending c.args.event.now c.args.core.now.state) c.table.ensures in
+    wanted_so _ _ c.args.core.now c.plan_step.new.self c.args.id c.args.event.now c.table.result.now c.args.store.now.journal.table
+    c.wants-wants.ensures c.in-Ok.ensures.plan.wants_is c.plan_step.ensures.kept c.requires.over.of.id c.table.ensures in
     let not_device : c.in-Err-carry.fault ≢ node.Device = (λ e. not_so c.is_device.result c.if-not-is_device.true (c.is_device.ensures.1 e)) in
     let carried = c.in-Err-carry.ensures.refused not_device in
     let turned = turned_as c.args.store.now.journal.slots c.args.nodes c.args.id c.args.core.now.state d (durable_of c.carry.new.store) c.args.event.now c.in-Err-carry.fault (wanted_by c.wants-wants.result)
-    (reason_of c.refusal.result) (rw (c.requires.nodes, c.requires.id) at c.in-Ok.ensures.done) (ap (λ (st : StoreState _). durable_of st) carried.0) wants carried.1 c.refusal.ensures in
-    rw c.silent-then-not-is_device.ensures.fate (turned.0, c.silent-then-not-is_device.ensures.silent)
+    (reason_of c.refusal.result) (rw (c.requires.over.of.nodes, c.requires.over.of.id) at c.in-Ok.ensures.done) (ap (λ (st : StoreState _). durable_of st) carried.0) wants carried.1 c.refusal.ensures in
+    rw c.silent-then-not-is_device.ensures.fate
+    (turned.0, c.silent-then-not-is_device.ensures.silent, record { same_state = ap (λ (k : Core). k.state) c.plan_step.ensures.kept; same_store = carried.0; same_doubt = refl })
 
 pub returns-then-not-is_device-clause-answers : goal.returns-then-not-is_device-clause-answers
 returns-then-not-is_device-clause-answers g c =
     let d = durable_of c.args.store.now in
     let wants : wanted_by c.wants-wants.result ≡ wants_of c.args.id d.pending c.args.event.now c.args.core.now.state =
-    c.wants-wants.ensures ∙ c.in-Ok.ensures.plan.wants_is
-    ∙ ap (λ (k : Core). wants_of k.id c.table.result.now.pending c.args.event.now k.state) c.plan_step.ensures.kept
-    ∙ ap (λ (n : ℕ). wants_of n c.table.result.now.pending c.args.event.now c.args.core.now.state) c.requires.id
-    ∙ ap (λ (t : Table). wants_of c.args.id t.pending c.args.event.now c.args.core.now.state) c.table.ensures in
+    wanted_so _ _ c.args.core.now c.plan_step.new.self c.args.id c.args.event.now c.table.result.now c.args.store.now.journal.table
+    c.wants-wants.ensures c.in-Ok.ensures.plan.wants_is c.plan_step.ensures.kept c.requires.over.of.id c.table.ensures in
     let not_device : c.in-Err-carry.fault ≢ node.Device = (λ e. not_so c.is_device.result c.if-not-is_device.true (c.is_device.ensures.1 e)) in
     let carried = c.in-Err-carry.ensures.refused not_device in
-    let none = rw (c.requires.nodes, c.requires.id) at c.in-Ok.ensures.done in
+    let none = rw (c.requires.over.of.nodes, c.requires.over.of.id) at c.in-Ok.ensures.done in
     let turned = turned_as c.args.store.now.journal.slots c.args.nodes c.args.id c.args.core.now.state d (durable_of c.carry.new.store) c.args.event.now c.in-Err-carry.fault (wanted_by c.wants-wants.result)
     (reason_of c.refusal.result) none (ap (λ (st : StoreState _). durable_of st) carried.0) wants carried.1 c.refusal.ensures in
     event_by_store _ _ (disk_refusal d (area_of c.args.store.now) (wanted_by c.wants-wants.result)) c.in-Err-carry.fault _ _ none
