@@ -1,8 +1,10 @@
-ghost use Rattle.std.specs.Prelude.{◌≡◌, ◌-◌, ◌+◌, ◌<◌, ◌≤◌, [], ◌∷◌, ◌++◌, length, max, option_map, slice_get, IfSome, OnOk, OnErr};
+ghost use Rattle.std.specs.Prelude.{◌≡◌, ◌-◌, ◌+◌, ◌<◌, ◌≤◌, ◌↔◌, [], ◌∷◌, ◌++◌, length, max, option_map, slice_get, Some, IfSome, IsTrue, OnOk, OnErr};
 ghost use Rattle.wire_msg.specs.Spelling.{spelling};
 ghost use Rattle.message_list.specs.Letters.{ends_of};
 
-use crate::letter::{KeptWork, Letter, body_of, keep_payload, keep_task, keep_work, letter_of};
+use crate::letter::{
+    KeptWork, Letter, body_of, is_message, keep_payload, keep_task, keep_work, letter_of,
+};
 use crate::spelling::{spell_letter, spell_message};
 use group_task::{NodeId, Task};
 use job_model::PAYLOAD_CAPACITY;
@@ -100,6 +102,16 @@ impl MessageList {
         let letter = self.letters.get(place)?;
         let body = body_of(&self.tasks, &self.works, &self.payloads, letter);
         Some(Message::between(letter.sender, letter.receiver, body))
+    }
+
+    /// Whether the message at a place, counted from 0, is this one. None is made for it.
+    pub fn holds(&self, place: usize, message: &Message) -> bool
+        ensures { IsTrue result ↔ (slice_get self.now.messages place ≡ Some message.now) }
+    {
+        match self.letters.get(place) {
+            Some(letter) => is_message(&self.tasks, &self.works, &self.payloads, letter, message),
+            None => false,
+        }
     }
 
     /// The sender and the receiver of the message at a place, counted from 0.
