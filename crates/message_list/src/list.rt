@@ -1,5 +1,5 @@
 ghost use Rattle.std.specs.Prelude.{◌≡◌, ◌-◌, ◌+◌, ◌<◌, ◌≤◌, ◌↔◌, [], ◌∷◌, ◌++◌, length, max, option_map, slice_get, Some, IfSome, IsTrue, OnOk, OnErr};
-ghost use Rattle.wire_msg.specs.Spelling.{spelling};
+ghost use Rattle.wire_msg.specs.Spelling.{spelling, IsMessage};
 ghost use Rattle.message_list.specs.Letters.{ends_of};
 
 use crate::letter::{
@@ -127,6 +127,7 @@ impl MessageList {
     pub fn spell(&self, place: usize, bytes: &mut Vec<u8>) -> Result<(), AllocError>
         requires { place < length self.now.messages }
         ensures spelled { IfSome (slice_get self.now.messages place) (λ message. OnOk result (bytes.new.items ≡ spelling message)) }
+        ensures message { IfSome (slice_get self.now.messages place) (λ message. OnOk result (IsMessage message)) }
         ensures refused { OnErr result (bytes.new.items ≡ []) }
     {
         let Some(letter) = self.letters.get(place) else {
@@ -148,6 +149,7 @@ impl MessageList {
     fn spell_kept(&self, place: usize, bytes: &mut Vec<u8>) -> Result<(), AllocError>
         requires { place < length self.now.messages }
         ensures spelled { IfSome (slice_get self.now.messages place) (λ message. OnOk result (bytes.new.items ≡ spelling message)) }
+        ensures message { IfSome (slice_get self.now.messages place) (λ message. OnOk result (IsMessage message)) }
         ensures refused { OnErr result (bytes.new.items ≡ []) }
     {
         match self.get(place) {
