@@ -1,7 +1,7 @@
 //! Messages as they are kept: 16 bytes for each, and what is longer in lists beside it.
 
-ghost use Rattle.std.specs.Prelude.{◌≡◌, ◌+◌, ◌<◌, ◌≤◌, ◌^◌, ◌++◌, length, vec_len, vec_capacity, All};
-ghost use Rattle.message_list.specs.Letters.{letter_of, noted, task_kept, work_kept, payload_kept, body_of, HasNumber, CanBeRead, HasPayload, work_said};
+ghost use Rattle.std.specs.Prelude.{◌≡◌, ◌+◌, ◌<◌, ◌≤◌, ◌^◌, ◌++◌, ◌↔◌, IsTrue, length, vec_len, vec_capacity, All};
+ghost use Rattle.message_list.specs.Letters.{letter_of, noted, task_kept, work_kept, payload_kept, kind_of, body_of, message_of, HasNumber, CanBeRead, HasPayload, work_said};
 ghost use Rattle.job_model.specs.declared.payload.TheConstants.{PAYLOAD_CAPACITY};
 
 use group_task::{GroupNo, NodeId, Task};
@@ -9,7 +9,7 @@ use job_model::{PAYLOAD_CAPACITY, Payload, Queue, Work};
 use wire_msg::{Body, Message};
 
 /// The kind of a message, and its answer where it has one.
-#[derive(Clone, Copy)]
+#[derive(Clone, Copy, PartialEq, Eq)]
 pub enum Kind {
     AreYouCoordinator,
     Coordinator(bool),
@@ -184,4 +184,83 @@ fn work_said(payloads: &[u8], work: &KeptWork) -> Body
             payload: Payload::new(bytes).unwrap(),
         },
     }
+}
+
+/// Whether a letter's message is this one. None is made for it.
+pub fn is_message(
+    tasks: &[Task],
+    works: &[KeptWork],
+    payloads: &[u8],
+    letter: &Letter,
+    message: &Message,
+) -> bool
+    requires number { HasNumber (length tasks.now) (length works.now) letter.now.kind letter.now.number }
+    requires payloads { All (HasPayload (length payloads.now)) works.now }
+    ensures { IsTrue result ↔ (message_of tasks.now works.now payloads.now letter.now ≡ message.now) }
+{
+    letter.sender == message.sender()
+        && letter.receiver == message.receiver()
+        && is_body(tasks, works, payloads, letter, message.body())
+}
+
+/// Whether a letter's body is this one.
+fn is_body(
+    tasks: &[Task],
+    works: &[KeptWork],
+    payloads: &[u8],
+    letter: &Letter,
+    body: &Body,
+) -> bool
+    requires number { HasNumber (length tasks.now) (length works.now) letter.now.kind letter.now.number }
+    requires payloads { All (HasPayload (length payloads.now)) works.now }
+    ensures { IsTrue result ↔ (body_of tasks.now works.now payloads.now letter.now ≡ body.now) }
+{
+    if letter.kind != kind_of(body) {
+        return false;
+    }
+    match body {
+        Body::AreYouCoordinator | Body::Coordinator(_) => true,
+        Body::AreYouThere(group)
+        | Body::Here(group, _)
+        | Body::Invitation(group)
+        | Body::Accept(group)
+        | Body::ReadyAck(group) => {
+            letter.creator == group.creator() && letter.number == group.count()
+        }
+        Body::Ready(task) => tasks[letter.number as usize] == *task,
+        Body::Work { group, id, work } => {
+            is_work(payloads, &works[letter.number as usize], *group, *id, work)
+        }
+        Body::Done(id) => letter.number == *id,
+    }
+}
+
+/// The kind of a body.
+fn kind_of(body: &Body) -> Kind
+    ensures { result ≡ kind_of body.now }
+{
+    match body {
+        Body::AreYouCoordinator => Kind::AreYouCoordinator,
+        Body::Coordinator(answer) => Kind::Coordinator(*answer),
+        Body::AreYouThere(_) => Kind::AreYouThere,
+        Body::Here(_, answer) => Kind::Here(*answer),
+        Body::Invitation(_) => Kind::Invitation,
+        Body::Accept(_) => Kind::Accept,
+        Body::Ready(_) => Kind::Ready,
+        Body::ReadyAck(_) => Kind::ReadyAck,
+        Body::Work { .. } => Kind::Work,
+        Body::Done(_) => Kind::Done,
+    }
+}
+
+/// Whether a Work that is kept is this one.
+fn is_work(payloads: &[u8], kept: &KeptWork, group: GroupNo, id: u64, work: &Work) -> bool
+    requires { HasPayload (length payloads.now) kept.now }
+    ensures { IsTrue result ↔ (work_said payloads.now kept.now ≡ Body.Work group id work.now) }
+{
+    kept.group == group
+        && kept.id == id
+        && kept.queue == work.queue
+        && kept.priority == work.priority
+        && &payloads[kept.start..kept.start + kept.len] == work.payload.as_slice()
 }

@@ -1,8 +1,10 @@
-ghost use Rattle.std.specs.Prelude.{◌≡◌, ◌-◌, ◌+◌, ◌<◌, ◌≤◌, [], ◌∷◌, ◌++◌, length, max, option_map, slice_get, IfSome, OnOk, OnErr};
-ghost use Rattle.wire_msg.specs.Spelling.{spelling};
+ghost use Rattle.std.specs.Prelude.{◌≡◌, ◌-◌, ◌+◌, ◌<◌, ◌≤◌, ◌↔◌, [], ◌∷◌, ◌++◌, length, max, option_map, slice_get, Some, IfSome, IsTrue, OnOk, OnErr};
+ghost use Rattle.wire_msg.specs.Spelling.{spelling, IsMessage};
 ghost use Rattle.message_list.specs.Letters.{ends_of};
 
-use crate::letter::{KeptWork, Letter, body_of, keep_payload, keep_task, keep_work, letter_of};
+use crate::letter::{
+    KeptWork, Letter, body_of, is_message, keep_payload, keep_task, keep_work, letter_of,
+};
 use crate::spelling::{spell_letter, spell_message};
 use group_task::{NodeId, Task};
 use job_model::PAYLOAD_CAPACITY;
@@ -102,6 +104,16 @@ impl MessageList {
         Some(Message::between(letter.sender, letter.receiver, body))
     }
 
+    /// Whether the message at a place, counted from 0, is this one. None is made for it.
+    pub fn holds(&self, place: usize, message: &Message) -> bool
+        ensures { IsTrue result ↔ (slice_get self.now.messages place ≡ Some message.now) }
+    {
+        match self.letters.get(place) {
+            Some(letter) => is_message(&self.tasks, &self.works, &self.payloads, letter, message),
+            None => false,
+        }
+    }
+
     /// The sender and the receiver of the message at a place, counted from 0.
     pub fn ends(&self, place: usize) -> Option<(NodeId, NodeId)>
         ensures { result ≡ option_map ends_of (slice_get self.now.messages place) }
@@ -115,6 +127,7 @@ impl MessageList {
     pub fn spell(&self, place: usize, bytes: &mut Vec<u8>) -> Result<(), AllocError>
         requires { place < length self.now.messages }
         ensures spelled { IfSome (slice_get self.now.messages place) (λ message. OnOk result (bytes.new.items ≡ spelling message)) }
+        ensures message { IfSome (slice_get self.now.messages place) (λ message. OnOk result (IsMessage message)) }
         ensures refused { OnErr result (bytes.new.items ≡ []) }
     {
         let Some(letter) = self.letters.get(place) else {
@@ -136,6 +149,7 @@ impl MessageList {
     fn spell_kept(&self, place: usize, bytes: &mut Vec<u8>) -> Result<(), AllocError>
         requires { place < length self.now.messages }
         ensures spelled { IfSome (slice_get self.now.messages place) (λ message. OnOk result (bytes.new.items ≡ spelling message)) }
+        ensures message { IfSome (slice_get self.now.messages place) (λ message. OnOk result (IsMessage message)) }
         ensures refused { OnErr result (bytes.new.items ≡ []) }
     {
         match self.get(place) {

@@ -1,11 +1,12 @@
 //! Spellings of messages as they are kept. A letter tells its message, but for a Ready and a Work, whose bodies are kept beside it.
 
-ghost use Rattle.std.specs.Prelude.{◌≡◌, ◌∷◌, ◌++◌, [], ℕ, List, true, IfOk, OnOk, OnErr};
+ghost use Rattle.std.specs.Prelude.{◌≡◌, ◌≢◌, ◌<◌, ◌^◌, ◌∷◌, ◌++◌, [], ℕ, List, length, true, IfOk, OnOk, OnErr};
 ghost use Rattle.std.specs.Int.{w64, to_be_bytes};
 ghost use Rattle.group_task.specs.Assignment.{Assignment};
-ghost use Rattle.wire_msg.specs.Spelling.{spelling, truth, version_naming};
+ghost use Rattle.group_task.specs.declared.node.TheConstants.{NODES};
+ghost use Rattle.wire_msg.specs.Spelling.{spelling, truth, version_naming, IsMessage};
 ghost use Rattle.message_list.specs.declared.letter.KeptWork.{KeptWork as Kept};
-ghost use Rattle.message_list.specs.Letters.{is_whole, message_of};
+ghost use Rattle.message_list.specs.Letters.{is_whole, message_of, CanBeRead};
 
 use crate::letter::{Kind, Letter};
 use std::alloc::AllocError;
@@ -16,6 +17,8 @@ pub fn spell_letter(bytes: &mut Vec<u8>, letter: &Letter) -> Result<bool, AllocE
     ensures whole { IfOk result (λ whole. whole ≡ is_whole letter.now.kind) }
     ensures spelled { IfOk result (λ whole. whole ≡ true → (tasks : List Assignment) (works : List Kept) (payloads : List ℕ)
         → bytes.new.items ≡ spelling (message_of tasks works payloads letter.now)) }
+    ensures message { IfOk result (λ whole. whole ≡ true → (tasks : List Assignment) (works : List Kept) (payloads : List ℕ)
+        → CanBeRead (length tasks) (length works) letter.now → IsMessage (message_of tasks works payloads letter.now)) }
 {
     match letter.kind {
         Kind::AreYouCoordinator => begin(bytes, letter, version_without_group(letter), 1, 0)?,
@@ -44,6 +47,7 @@ pub fn spell_letter(bytes: &mut Vec<u8>, letter: &Letter) -> Result<bool, AllocE
 /// Writes the spelling of a message in place of what `bytes` held, which is left empty where memory runs out.
 pub fn spell_message(bytes: &mut Vec<u8>, message: &Message) -> Result<(), AllocError>
     ensures spelled { OnOk result (bytes.new.items ≡ spelling message.now) }
+    ensures message { OnOk result (IsMessage message.now) }
     ensures refused { OnErr result (bytes.new.items ≡ []) }
 {
     if encode_into(bytes, message).is_err() {
@@ -60,7 +64,9 @@ fn begin(
     kind: u8,
     len: u8,
 ) -> Result<(), AllocError>
-    ensures { OnOk result (bytes.new.items ≡ version ∷ kind ∷ letter.now.sender ∷ letter.now.receiver ∷ 0 ∷ len ∷ []) }
+    ensures bytes { OnOk result (bytes.new.items ≡ version ∷ kind ∷ letter.now.sender ∷ letter.now.receiver ∷ 0 ∷ len ∷ []) }
+    ensures sender { letter.now.sender < NODES }
+    ensures receiver { letter.now.receiver < NODES }
 {
     let head = [
         version,
@@ -90,8 +96,12 @@ fn version_with_group(letter: &Letter) -> u8
 
 /// The spelling of a message that says a group alone.
 fn spell_group(bytes: &mut Vec<u8>, letter: &Letter, kind: u8) -> Result<(), AllocError>
-    ensures { OnOk result (bytes.new.items
+    ensures bytes { OnOk result (bytes.new.items
         ≡ version_naming (letter.now.sender ∷ letter.now.receiver ∷ letter.now.creator ∷ []) ∷ kind ∷ letter.now.sender ∷ letter.now.receiver ∷ 0 ∷ 9 ∷ letter.now.creator ∷ to_be_bytes w64 letter.now.number) }
+    ensures sender { OnOk result (letter.now.sender < NODES) }
+    ensures receiver { OnOk result (letter.now.receiver < NODES) }
+    ensures creator { OnOk result (letter.now.creator < NODES) }
+    ensures fits { OnOk result (letter.now.number < 2 ^ 64) }
 {
     begin(bytes, letter, version_with_group(letter), kind, 9)?;
     push_group(bytes, letter)
@@ -99,7 +109,9 @@ fn spell_group(bytes: &mut Vec<u8>, letter: &Letter, kind: u8) -> Result<(), All
 
 /// Adds the group that a letter names.
 fn push_group(bytes: &mut Vec<u8>, letter: &Letter) -> Result<(), AllocError>
-    ensures { OnOk result (bytes.new.items ≡ bytes.old.items ++ letter.now.creator ∷ to_be_bytes w64 letter.now.number) }
+    ensures bytes { OnOk result (bytes.new.items ≡ bytes.old.items ++ letter.now.creator ∷ to_be_bytes w64 letter.now.number) }
+    ensures creator { letter.now.creator < NODES }
+    ensures fits { letter.now.number < 2 ^ 64 }
 {
     let number = letter.number.to_be_bytes();
     bytes.push(letter.creator.number())?;

@@ -1,5 +1,6 @@
-ghost use Rattle.std.specs.Prelude.{◌≡◌, ◌≤◌, ◌<◌, ◌+◌, ◌∷◌, [], ℕ, length, cond, IfOk, OnOk, IfSome, IsNone, IsTrue, true, false, MatchOption};
+ghost use Rattle.std.specs.Prelude.{◌≡◌, ◌≤◌, ◌<◌, ◌+◌, ◌∷◌, [], ℕ, length, slice_get, Some, cond, IfOk, OnOk, IfSome, IsNone, IsTrue, true, false, MatchOption};
 ghost use Rattle.group_task.specs.Ids.{has, with_id, without_id};
+ghost use Rattle.wire_msg.specs.Envelope.{Envelope};
 ghost use Rattle.trace_check.specs.Claims.{brought_by};
 ghost use Rattle.trace_check.specs.Desks.{Fits, Judges, PostsAll};
 
@@ -90,25 +91,26 @@ pub(crate) fn post_all(
     ensures { OnOk result (PostsAll stopped.now posted.old posted.new ready.old ready.new sent.now) }
 {
     for place in 0..sent.len() {
-        let Some(message) = sent.get(place) else {
-            unreachable!()
-        };
-        post(posted, ready, stopped, &message)?;
+        post(posted, ready, stopped, sent, place)?;
     }
     Ok(())
 }
 
-/// A message is sent.
+/// The message at a place of these is sent.
 fn post(
     posted: &mut Posted,
     ready: &mut Members,
     stopped: &Members,
-    message: &Message,
+    sent: &Sent<'_>,
+    place: usize,
 ) -> Result<(), AllocError>
-    ensures { OnOk result (PostsAll stopped.now posted.old posted.new ready.old ready.new (message.now ∷ [])) }
+    requires { place < length sent.now }
+    ensures { (m : Envelope) → slice_get sent.now place ≡ Some m → OnOk result (PostsAll stopped.now posted.old posted.new ready.old ready.new (m ∷ [])) }
 {
-    posted.add(message)?;
-    let receiver = message.receiver();
+    let Some(receiver) = sent.receiver(place) else {
+        unreachable!()
+    };
+    posted.add(sent, place)?;
     if !stopped.contains(receiver) {
         ready.insert(receiver);
     }

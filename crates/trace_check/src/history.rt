@@ -1,9 +1,12 @@
 ghost use Rattle.std.specs.Prelude.{◌≡◌, ◌≤◌, ◌<◌, ◌+◌, ◌^◌, [], ◌∷◌, ◌++◌, length, slice_get, option_map, Some, None, IfSome, IsNone, IsTrue, ◌↔◌, OnOk, OnErr};
+ghost use Rattle.wire_msg.specs.Envelope.{Envelope};
+ghost use Rattle.wire_msg.specs.Spelling.{Spells};
 ghost use Rattle.trace_check.specs.Claims.{Claim};
 ghost use Rattle.trace_check.specs.Traces.{claim, claim_seen};
 
 use crate::kept::{KeptEntry, deed_said, keep_deed};
 use crate::trace::Deed;
+use group_task::NodeId;
 use job_model::PAYLOAD_CAPACITY;
 use message_list::MessageList;
 use std::alloc::{AllocError, Global};
@@ -163,5 +166,42 @@ impl<'a> Sent<'a> {
         } else {
             None
         }
+    }
+
+    /// Whether the message at this place is this one. None is made for it.
+    pub fn holds(&self, place: usize, message: &Message) -> bool
+        ensures { IsTrue result ↔ (slice_get self.now place ≡ Some message.now) }
+    {
+        if place < self.end - self.start {
+            self.messages.holds(self.start + place, message)
+        } else {
+            false
+        }
+    }
+
+    /// The node that the message at this place is for.
+    pub fn receiver(&self, place: usize) -> Option<NodeId>
+        ensures { result ≡ option_map (λ (m : Envelope). m.receiver) (slice_get self.now place) }
+    {
+        if place < self.end - self.start {
+            let (_, receiver) = self.messages.ends(self.start + place)?;
+            Some(receiver)
+        } else {
+            None
+        }
+    }
+
+    /// Writes the spelling of the message at this place in place of what `bytes` held.
+    #[tactic(auto, using(crate::proofs::KeptEntries::part_length))]
+    pub fn spell(&self, place: usize, bytes: &mut Vec<u8>) -> Result<(), AllocError>
+        requires { place < length self.now }
+        ensures spelled { IfSome (slice_get self.now place) (λ message. OnOk result (Spells message bytes.new.items)) }
+        ensures refused { OnErr result (bytes.new.items ≡ []) }
+    {
+        let many = self.end - self.start;
+        if place >= many {
+            unreachable!()
+        }
+        self.messages.spell(self.start + place, bytes)
     }
 }

@@ -1,19 +1,21 @@
-ghost use Rattle.std.specs.Prelude.{◌≡◌, ◌↔◌, ◌||◌, ℕ, List, [], IfOk, OnOk, IsTrue, IsOk};
+ghost use Rattle.std.specs.Prelude.{◌≡◌, ◌↔◌, ◌||◌, ◌<◌, ℕ, List, [], length, slice_get, Some, IfOk, OnOk, IsTrue, IsOk};
+ghost use Rattle.wire_msg.specs.Envelope.{Envelope};
 ghost use Rattle.wire_msg.specs.Spelling.{IsMessage, Spells};
 ghost use Rattle.trace_check.specs.Posts.{IsPosted, Posts, has_spelling};
 ghost use Rattle.trace_check.specs.Keys.{items_of};
 ghost use Rattle.std.specs.Str.{bytes_eq};
 
+use crate::history::Sent;
 use std::alloc::{AllocError, Global};
 use std::collections::HashSet;
 use std::marker::Model;
-use wire_msg::{Message, encode, encode_into};
+use wire_msg::{Message, encode_into};
 
 /// The messages that were sent, as a set of spellings.
 #[derive(Drop)]
 pub(crate) struct Posted {
     alloc: Global,
-    // where a message is spelled that is looked for
+    // where a message is spelled that is looked for, or put in
     room: Vec<u8>,
     spelled: HashSet<Vec<u8>>,
 }
@@ -49,14 +51,23 @@ impl Posted {
         Ok(self.spelled.contains(self.room.as_slice()))
     }
 
-    /// Adds a message, which may be there already.
-    pub(crate) fn add(&mut self, message: &Message) -> Result<(), AllocError>
-        ensures posts { OnOk result (Posts self.old self.new message.now) }
-        ensures message { IsOk result → IsMessage message.now }
+    /// Adds the message at a place of those that were sent. It may be there already.
+    pub(crate) fn add(&mut self, sent: &Sent<'_>, place: usize) -> Result<(), AllocError>
+        requires { place < length sent.now }
+        ensures { (m : Envelope) → slice_get sent.now place ≡ Some m → OnOk result (Posts self.old self.new m) }
     {
-        let spelling = spelling_of(self.alloc, message)?;
+        sent.spell(place, &mut self.room)?;
+        let spelling = copy_of(self.alloc, &self.room)?;
         put(&mut self.spelled, spelling)
     }
+}
+
+fn copy_of(alloc: Global, bytes: &[u8]) -> Result<Vec<u8>, AllocError>
+    ensures { IfOk result (λ copy. copy.items ≡ bytes.now) }
+{
+    let mut copy = Vec::new(alloc);
+    copy.extend_from_slice(bytes)?;
+    Ok(copy)
 }
 
 /// Puts a spelling among the others.
@@ -67,16 +78,6 @@ fn put(spelled: &mut HashSet<Vec<u8>>, spelling: Vec<u8>) -> Result<(), AllocErr
         return Err(AllocError);
     };
     Ok(())
-}
-
-/// The spelling of a message.
-fn spelling_of(alloc: Global, message: &Message) -> Result<Vec<u8>, AllocError>
-    ensures { IfOk result (λ bytes. Spells message.now bytes.items) }
-{
-    match encode(alloc, message) {
-        Ok(bytes) => Ok(bytes),
-        Err(_) => Err(AllocError),
-    }
 }
 
 /// Writes the spelling of a message in place of what `bytes` held.

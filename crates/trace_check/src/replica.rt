@@ -254,19 +254,9 @@ fn same(told: &[Message], sent: &Sent<'_>) -> bool
         return false;
     }
     for place in 0..told.len() {
-        let Some(message) = sent.get(place) else {
-            return false;
-        };
-        if !is_same(&told[place], &message) {
+        if !sent.holds(place, &told[place]) {
             return false;
         }
     }
     true
-}
-
-/// Whether this is the same message.
-fn is_same(told: &Message, sent: &Message) -> bool
-    ensures { IsTrue result ↔ (told.now ≡ sent.now) }
-{
-    told == sent
 }
