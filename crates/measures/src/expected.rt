@@ -1,14 +1,13 @@
 // What a journal has to keep, by the commands that it acknowledged: it knows neither records nor areas.
 use crate::random::Random;
-use anyhow::Context;
-use job_model::{Command, JobTable, Payload, Queue, Work};
-use std::alloc::{AllocError, Global};
+use job_model::{Command, Job, JobTable, Payload, Queue, Work};
+use std::alloc::Global;
 
-/// The ids of the pending jobs, in order, each with its queue and its priority; the payload of a job is its id in eight bytes.
+/// The pending jobs in the order of their ids; the payload of a job is its id in eight bytes.
 #[derive(Drop)]
 pub struct Expected {
     next: u64,
-    pending: Vec<(u64, u8, u8)>,
+    pending: Vec<Job>,
     // Whether more jobs are to be put than done, until the journal is full.
     rises: bool,
 }
@@ -23,7 +22,7 @@ impl Expected {
     }
 
     /// A command for the journal: of four commands three are Puts until it was full, and then one until it was empty.
-    pub fn choose(&mut self, random: &mut Random) -> anyhow::Result<Command> {
+    pub fn choose(&mut self, random: &mut Random) -> Result<Command, &'static str> {
         if self.pending.is_empty() {
             self.rises = true;
         }
@@ -31,31 +30,24 @@ impl Expected {
         let jobs = self.pending.len() as u64;
         if jobs == 0 || random.below(4) < puts {
             let drawn = random.next();
-            let queue = Queue::new((drawn % 16) as u8).context("no queue")?;
-            let payload = Payload::new(&self.next.to_be_bytes()).context("no payload")?;
             return Ok(Command::Put(Work {
-                queue,
+                queue: Queue::new((drawn % 16) as u8).ok_or("no queue")?,
                 priority: (drawn / 16 % 256) as u8,
-                payload,
+                payload: Payload::new(&self.next.to_be_bytes()).ok_or("no payload")?,
             }));
         }
         let at = random.below(jobs) as usize;
-        let (id, ..) = self.pending[at];
-        Ok(Command::Done(id))
+        Ok(Command::Done(self.pending[at].id))
     }
 
     /// Whether a Base, all jobs and a Done wouldn't fit into so many slots after the command.
     pub fn is_full(&mut self, command: &Command, slots: u64) -> bool {
-        match command {
-            Command::Put(..) => {
-                let full = (self.pending.len() as u64).saturating_add(3) > slots;
-                if full {
-                    self.rises = false;
-                }
-                full
-            }
-            Command::Done(_) => false,
+        let full = matches!(command, Command::Put(..))
+            && (self.pending.len() as u64).saturating_add(3) > slots;
+        if full {
+            self.rises = false;
         }
+        full
     }
 
     /// The id that the command makes or ends.
@@ -66,26 +58,33 @@ impl Expected {
         }
     }
 
-    pub fn apply(&mut self, command: &Command) -> Result<(), AllocError> {
+    pub fn apply(&mut self, command: &Command) -> Result<(), &'static str> {
         match command {
             Command::Put(work) => {
-                self.pending
-                    .push((self.next, work.queue.number(), work.priority))?;
+                let job = Job {
+                    id: self.next,
+                    work: *work,
+                };
                 self.next = self.next.saturating_add(1);
+                self.pending.push(job).ok().ok_or("no memory")
             }
-            Command::Done(id) => self.pending.retain(|job| job.0 != *id),
+            Command::Done(id) => {
+                self.end(*id);
+                Ok(())
+            }
         }
-        Ok(())
+    }
+
+    fn end(&mut self, id: u64) {
+        for at in 0..self.pending.len() {
+            if at < self.pending.len() && self.pending[at].id == id {
+                self.pending.remove(at);
+                return;
+            }
+        }
     }
 
     pub fn matches(&self, table: &JobTable) -> bool {
-        table.next() == self.next
-            && table.pending().len() == self.pending.len()
-            && table.pending().iter().zip(self.pending.iter()).all(|(job, kept)| {
-                job.id == kept.0
-                    && job.work.queue.number() == kept.1
-                    && job.work.priority == kept.2
-                    && job.work.payload.as_slice() == kept.0.to_be_bytes().as_slice()
-            })
+        table.next() == self.next && table.pending() == self.pending.as_slice()
     }
 }

@@ -89,7 +89,7 @@ impl Figures {
         nodes: u8,
         loss: u8,
         options: &Options,
-    ) -> anyhow::Result<()> {
+    ) -> io::Result<()> {
         self.to_one.times.sort()?;
         self.coordinator.times.sort()?;
         self.member.times.sort()?;
@@ -104,8 +104,7 @@ impl Figures {
         print_share(rt, self.sent, units)?;
         self.coordinator.print(rt)?;
         self.member.print(rt)?;
-        println!(rt;)?;
-        Ok(())
+        println!(rt;)
     }
 }
 

@@ -10,7 +10,7 @@ use std::alloc::Global;
 const MOST: u16 = 2_000;
 
 /// What came of one trial. Times are in round trips.
-#[derive(Clone, Copy, Debug)]
+#[derive(Drop)]
 pub struct Trial {
     /// From the start to one group of all nodes.
     pub to_one: Option<u64>,
@@ -34,10 +34,9 @@ pub fn run_trial(
     nodes: u8,
     loss: u8,
     seed: u64,
-) -> anyhow::Result<Trial>
+) -> Result<Trial, &'static str>
     requires { nodes ≤ NODES }
 {
-    let mut cluster = Cluster::new(alloc, options, nodes, loss, seed)?;
     let mut trial = Trial {
         to_one: None,
         extra: 0,
@@ -47,25 +46,37 @@ pub fn run_trial(
         coordinator: None,
         member: None,
     };
-    if cluster.run_until_one(MOST)?.is_none() {
-        return Ok(trial);
-    }
-    trial.to_one = Some(cluster.time());
-    trial.extra = cluster.groups().saturating_sub(u64::from(nodes));
-    watch(&mut cluster, options, &mut trial)?;
-    if let Some(leader) = cluster.run_until_one(MOST)? {
-        trial.coordinator = run_without(&mut cluster, leader)?;
-    }
-    if let Some(leader) = cluster.run_until_one(MOST)? {
-        if let Some(member) = cluster.live().without(leader).first() {
-            trial.member = run_without(&mut cluster, member)?;
-        }
-    }
+    let mut cluster = Cluster::new(alloc, options, loss, seed);
+    cluster.add(options, nodes, seed)?;
+    run_cluster(&mut cluster, options, nodes, &mut trial)?;
     Ok(trial)
 }
 
+fn run_cluster(
+    cluster: &mut Cluster,
+    options: &Options,
+    nodes: u8,
+    trial: &mut Trial,
+) -> Result<(), &'static str> {
+    if cluster.run_until_one(MOST)?.is_none() {
+        return Ok(());
+    }
+    trial.to_one = Some(cluster.time());
+    trial.extra = cluster.groups().saturating_sub(u64::from(nodes));
+    watch(cluster, options, trial)?;
+    if let Some(leader) = cluster.run_until_one(MOST)? {
+        trial.coordinator = run_without(cluster, leader)?;
+    }
+    if let Some(leader) = cluster.run_until_one(MOST)? {
+        if let Some(member) = cluster.live().without(leader).first() {
+            trial.member = run_without(cluster, member)?;
+        }
+    }
+    Ok(())
+}
+
 /// Runs on with no fault but loss, and counts.
-fn watch(cluster: &mut Cluster, options: &Options, trial: &mut Trial) -> anyhow::Result<()> {
+fn watch(cluster: &mut Cluster, options: &Options, trial: &mut Trial) -> Result<(), &'static str> {
     let groups = cluster.groups();
     let sent = cluster.sent();
     for _unit in 0..options.quiet {
@@ -80,7 +91,7 @@ fn watch(cluster: &mut Cluster, options: &Options, trial: &mut Trial) -> anyhow:
 }
 
 /// This node dies: the time until all others are one group.
-fn run_without(cluster: &mut Cluster, id: NodeId) -> anyhow::Result<Option<u64>> {
+fn run_without(cluster: &mut Cluster, id: NodeId) -> Result<Option<u64>, &'static str> {
     cluster.kill(id);
     let dies = cluster.time();
     let leader = cluster.run_until_one(MOST)?;

@@ -2,8 +2,8 @@ ghost use Rattle.std.specs.Prelude.{◌≤◌};
 ghost use Rattle.group_task.specs.declared.node.TheConstants.{NODES};
 
 use crate::link::Link;
-use crate::node::Node;
 use crate::options::{Options, UNIT};
+use crate::timed::Timed;
 use group_task::{Members, NodeId};
 use rand_core::utils::NextWord;
 use rand_pcg::Pcg32;
@@ -20,7 +20,7 @@ const START: u32 = 10;
 /// A node, the step of the clock in which it starts, counted from 1, and how far its own steps are before the others'.
 #[derive(Drop)]
 struct Place {
-    node: Node,
+    node: Timed,
     starts: u64,
     offset: u64,
 }
@@ -31,36 +31,39 @@ pub struct Cluster {
     alloc: Global,
     places: Vec<Place>,
     link: Link,
+    // the messages of one step, on their way to the link
+    sent: Vec<Message>,
     step: u64,
 }
 
 impl Cluster {
-    /// All nodes are Down.
-    pub fn new(
-        alloc: Global,
-        options: &Options,
-        nodes: u8,
-        loss: u8,
-        seed: u64,
-    ) -> anyhow::Result<Cluster>
+    /// A cluster with no nodes.
+    pub fn new(alloc: Global, options: &Options, loss: u8, seed: u64) -> Cluster {
+        Cluster {
+            alloc,
+            places: Vec::new(alloc),
+            link: Link::new(alloc, options, loss, seed),
+            sent: Vec::new(alloc),
+            step: 0,
+        }
+    }
+
+    /// Adds so many nodes, which are Down.
+    pub fn add(&mut self, options: &Options, nodes: u8, seed: u64) -> Result<(), &'static str>
         requires { nodes ≤ NODES }
     {
         let mut random = Pcg32::new(seed, 2_000);
-        let mut places = Vec::new(alloc);
         for number in 0..nodes {
             let id = NodeId::numbered(number);
-            places.push(Place {
-                node: Node::new(alloc, id, nodes, options, seed)?,
-                starts: 1 + u64::from(random.next_word() % (START * u32::from(UNIT))) / STEP,
+            let starts = 1 + u64::from(random.next_word() % (START * u32::from(UNIT))) / STEP;
+            let place = Place {
+                node: Timed::new(self.alloc, id, nodes, options, seed)?,
+                starts,
                 offset: u64::from(random.next_word()) % STEPS,
-            })?;
+            };
+            self.places.push(place).ok().ok_or("no memory")?;
         }
-        Ok(Cluster {
-            alloc,
-            places,
-            link: Link::new(alloc, options, loss, seed),
-            step: 0,
-        })
+        Ok(())
     }
 
     /// The time since all began, in round trips.
@@ -86,7 +89,7 @@ impl Cluster {
     pub fn live(&self) -> Members {
         let mut live = Members::new();
         for place in &self.places {
-            if !place.node.is_dead() {
+            if !place.node.is_dead {
                 live.insert(place.node.id());
             }
         }
@@ -99,7 +102,7 @@ impl Cluster {
         let first = live.first()?;
         let group = self.places.get(usize::from(first.number()))?.node.group();
         for place in &self.places {
-            if !place.node.is_dead() && !place.node.works_in(group, live) {
+            if !place.node.is_dead && !place.node.works_in(group, live) {
                 return None;
             }
         }
@@ -108,13 +111,13 @@ impl Cluster {
 
     pub fn kill(&mut self, id: NodeId) {
         if let Some(place) = self.places.get_mut(usize::from(id.number())) {
-            place.node.die();
+            place.node.is_dead = true;
         }
     }
 
     /// Runs until all live nodes are one group, for so many round trips at most. It answers its coordinator.
-    pub fn run_until_one(&mut self, most: u16) -> anyhow::Result<Option<NodeId>> {
-        for _unit in 0..most {
+    pub fn run_until_one(&mut self, most: u16) -> Result<Option<NodeId>, &'static str> {
+        for unit in 0..most {
             self.run(1)?;
             let leader = self.leader();
             if leader.is_some() {
@@ -125,19 +128,19 @@ impl Cluster {
     }
 
     /// Runs for so many round trips.
-    pub fn run(&mut self, units: u16) -> anyhow::Result<()> {
-        for _unit in 0..units {
-            for _step in 0..u64::from(UNIT) / STEP {
+    pub fn run(&mut self, units: u16) -> Result<(), &'static str> {
+        for unit in 0..units {
+            for step in 0..u64::from(UNIT) / STEP {
                 self.run_step()?;
             }
         }
         Ok(())
     }
 
-    fn run_step(&mut self) -> anyhow::Result<()> {
+    fn run_step(&mut self) -> Result<(), &'static str> {
         self.step = self.step.saturating_add(1);
         let now = self.step.saturating_mul(STEP);
-        for _arrival in 0..u64::MAX {
+        for arrival in 0..u64::MAX {
             let Some((at, message)) = self.link.arrival(now) else {
                 break;
             };
@@ -149,47 +152,46 @@ impl Cluster {
         Ok(())
     }
 
-    fn deliver(&mut self, at: u64, message: Message) -> anyhow::Result<()> {
+    fn deliver(&mut self, at: u64, message: Message) -> Result<(), &'static str> {
         let receiver = usize::from(message.receiver().number());
         if let Some(place) = self.places.get_mut(receiver) {
-            if !place.node.is_dead() {
-                let answers = place.node.deliver(message)?;
-                self.send(at, &answers)?;
+            if !place.node.is_dead {
+                place.node.deliver(message, &mut self.sent)?;
+                self.send(at)?;
             }
         }
         Ok(())
     }
 
     /// Starts a node, or looks at its timers, where this step is its own.
-    fn wake(&mut self, number: usize, now: u64) -> anyhow::Result<()> {
+    fn wake(&mut self, number: usize, now: u64) -> Result<(), &'static str> {
         let step = self.step;
         let Some(place) = self.places.get_mut(number) else {
             return Ok(());
         };
-        if place.node.is_dead() || step < place.starts {
+        if place.node.is_dead || step < place.starts {
             return Ok(());
         }
         if step == place.starts {
             place.node.start()?;
         } else if step.saturating_add(place.offset) % STEPS == 0 {
-            let sent = place.node.tick(self.alloc, now)?;
-            self.send(now, &sent)?;
+            place.node.tick(now, &mut self.sent)?;
+            self.send(now)?;
         }
         Ok(())
     }
 
-    fn send(&mut self, now: u64, messages: &[Message]) -> anyhow::Result<()> {
-        for message in messages {
-            let is_dead = self.is_dead(message.receiver());
+    /// Gives the link what was sent.
+    fn send(&mut self, now: u64) -> Result<(), &'static str> {
+        for message in self.sent.iter() {
+            let receiver = usize::from(message.receiver().number());
+            let is_dead = match self.places.get(receiver) {
+                Some(place) => place.node.is_dead,
+                None => true,
+            };
             self.link.send(now, message, is_dead)?;
         }
+        self.sent.clear();
         Ok(())
-    }
-
-    fn is_dead(&self, id: NodeId) -> bool {
-        match self.places.get(usize::from(id.number())) {
-            Some(place) => place.node.is_dead(),
-            None => true,
-        }
     }
 }

@@ -1,17 +1,16 @@
-use anyhow::{Context, bail};
 use pace::Setting;
 
 /// A round trip, in ticks of the simulated clock.
 pub const UNIT: u16 = 1_000;
 
 /// What the command line asks for.
-#[derive(Clone, Copy, Debug)]
+#[derive(Drop)]
 pub struct Options {
     /// `seeds`: how many trials for each row.
-    pub seeds: u64,
+    pub seeds: u16,
     /// `nodes`, `loss`: this size or this loss alone, of those that are in the table.
-    nodes: Option<u8>,
-    loss: Option<u8>,
+    nodes: Option<u16>,
+    loss: Option<u16>,
     /// `resends`: how often the link sends a message again at most.
     pub resends: u16,
     /// `repeats`: 1 where nodes send again what they wait for, and 0 where they leave that to the link.
@@ -40,27 +39,36 @@ impl Options {
 
     /// Whether this row was asked for.
     pub fn has(&self, nodes: u8, loss: u8) -> bool {
+        let (nodes, loss) = (u16::from(nodes), u16::from(loss));
         self.nodes.unwrap_or(nodes) == nodes && self.loss.unwrap_or(loss) == loss
     }
 
     /// Reads one word, as `seeds=100`.
-    pub fn read(&mut self, word: &str) -> anyhow::Result<()> {
-        let (name, value) = word.split_once('=').context("NAME=VALUE?")?;
+    pub fn read(&mut self, word: &str) -> Result<(), &'static str> {
+        let Some((name, value)) = word.split_once('=') else {
+            return Err("NAME=VALUE?");
+        };
+        match value.parse::<u16>() {
+            Ok(value) => self.set(name, value),
+            Err(_) => Err("no number"),
+        }
+    }
+
+    fn set(&mut self, name: &str, value: u16) -> Result<(), &'static str> {
         match name {
-            "seeds" => self.seeds = value.parse()?,
-            "nodes" => self.nodes = Some(value.parse()?),
-            "loss" => self.loss = Some(value.parse()?),
-            "repeats" => self.repeats = value.parse()?,
-            "resends" => self.resends = value.parse()?,
-            "slow" => self.slow = value.parse()?,
-            "quiet" => self.quiet = value.parse()?,
-            "silent_checks" => self.setting.silent_checks = value.parse()?,
-            _ => self.read_wait(name, value.parse()?)?,
+            "seeds" => self.seeds = value,
+            "nodes" => self.nodes = Some(value),
+            "loss" => self.loss = Some(value),
+            "repeats" => self.repeats = value,
+            "resends" => self.resends = value,
+            "slow" => self.slow = value,
+            "quiet" => self.quiet = value,
+            _ => return self.set_wait(name, value),
         }
         Ok(())
     }
 
-    fn read_wait(&mut self, name: &str, units: u16) -> anyhow::Result<()> {
+    fn set_wait(&mut self, name: &str, units: u16) -> Result<(), &'static str> {
         match name {
             "check" => self.setting.check = units,
             "check_jitter" => self.setting.check_jitter = units,
@@ -73,7 +81,8 @@ impl Options {
             "coordinator" => self.setting.coordinator = units,
             "coordinator_jitter" => self.setting.coordinator_jitter = units,
             "answer" => self.setting.answer = units,
-            _ => bail!("no such option"),
+            "silent_checks" => self.setting.silent_checks = (units % 256) as u8,
+            _ => return Err("no such option"),
         }
         Ok(())
     }

@@ -1,30 +1,26 @@
 use crate::options::{Options, UNIT};
 use rand_core::utils::NextWord;
 use rand_pcg::Pcg32;
-use slab::Slab;
-use std::alloc::{AllocError, Global};
-use std::cmp::Reverse;
-use std::collections::BinaryHeap;
+use std::alloc::Global;
 use wire_msg::Message;
 
-/// The time at which a copy of a message arrives, and where it is kept. Of two that arrive at one time the one that was sent
-/// first comes first.
-#[derive(Clone, Copy, PartialEq, Eq, PartialOrd, Ord, Debug, Drop)]
-struct Arrival {
+/// A message on its way, and the time at which it arrives.
+#[derive(Clone, Copy)]
+struct Carried {
     at: u64,
     number: u64,
-    place: usize,
+    message: Message,
 }
 
-/// The network between all nodes: it loses messages, and sends each again until it is acknowledged.
+/// The network between all nodes: it loses messages, and sends each again until it is acknowledged. Of two messages that arrive
+/// at one time the one that was sent first comes first.
 #[derive(Drop)]
 pub struct Link {
     random: Pcg32,
     loss: u32,
     resends: u16,
     slow: u64,
-    arrivals: BinaryHeap<Reverse<Arrival>>,
-    on_the_way: Slab<Message>,
+    carried: Vec<Carried>,
     sent: u64,
 }
 
@@ -35,8 +31,7 @@ impl Link {
             loss: u32::from(loss),
             resends: options.resends,
             slow: u64::from(options.slow),
-            arrivals: BinaryHeap::new(alloc),
-            on_the_way: Slab::new(alloc),
+            carried: Vec::new(alloc),
             sent: 0,
         }
     }
@@ -47,17 +42,22 @@ impl Link {
     }
 
     /// Sends a message, and each copy that the link sends again. At a receiver that is dead none arrives.
-    pub fn send(&mut self, now: u64, message: &Message, is_dead: bool) -> Result<(), AllocError> {
+    pub fn send(&mut self, now: u64, message: &Message, is_dead: bool) -> Result<(), &'static str> {
         let mut at = now;
         let mut acknowledged = u64::MAX;
-        for _copy in 0..=self.resends {
+        for copy in 0..=self.resends {
             if acknowledged <= at {
                 break;
             }
             self.sent = self.sent.saturating_add(1);
             let arrives = at.saturating_add(self.delay());
             if !self.is_lost() && !is_dead {
-                self.carry(arrives, message)?;
+                let carried = Carried {
+                    at: arrives,
+                    number: self.sent,
+                    message: *message,
+                };
+                self.carried.push(carried).ok().ok_or("no memory")?;
                 let answered = arrives.saturating_add(self.delay());
                 if !self.is_lost() {
                     acknowledged = acknowledged.min(answered);
@@ -70,24 +70,19 @@ impl Link {
 
     /// The next message that arrives up to this time, and when it does.
     pub fn arrival(&mut self, now: u64) -> Option<(u64, Message)> {
-        let Reverse(first) = self.arrivals.peek()?;
-        if first.at > now {
-            return None;
+        let mut first = usize::MAX;
+        let mut least = (now, u64::MAX);
+        for (place, carried) in self.carried.iter().enumerate() {
+            if carried.at < least.0 || carried.at == least.0 && carried.number < least.1 {
+                first = place;
+                least = (carried.at, carried.number);
+            }
         }
-        let Reverse(first) = self.arrivals.pop()?;
-        let message = self.on_the_way.try_remove(first.place)?;
-        Some((first.at, message))
-    }
-
-    fn carry(&mut self, at: u64, message: &Message) -> Result<(), AllocError> {
-        let place = self.on_the_way.insert(*message)?;
-        let arrival = Arrival {
-            at,
-            number: self.sent,
-            place,
-        };
-        self.arrivals.push(Reverse(arrival))?;
-        Ok(())
+        if first < self.carried.len() {
+            let carried = self.carried.swap_remove(first);
+            return Some((carried.at, carried.message));
+        }
+        None
     }
 
     fn is_lost(&mut self) -> bool {

@@ -1,0 +1,94 @@
+// A core with its counter and its table of jobs.
+ghost use Rattle.std.specs.Prelude.{◌≡◌, ◌<◌, ◌≤◌, Some};
+ghost use Rattle.group_task.specs.declared.node.TheConstants.{NODES};
+ghost use Rattle.job_model.specs.Command.{Raise};
+ghost use Rattle.node_core.specs.Planned.{wanted_by};
+
+use group_task::NodeId;
+use job_model::{Command, JobTable};
+use node_core::{Durable, Event, NodeCore};
+use std::alloc::Global;
+use std::mem;
+use wire_msg::Message;
+
+/// A node that keeps its count of groups and its jobs in memory.
+#[derive(Drop)]
+pub struct Node {
+    alloc: Global,
+    pub core: NodeCore,
+    table: JobTable,
+    pub count: u64,
+    // the list of the last messages that were sent, which is kept for its room
+    sent: Vec<Message>,
+}
+
+impl Node {
+    /// A node that is Down, with room for so many pending jobs.
+    pub fn new(alloc: Global, id: NodeId, nodes: u8, jobs: usize) -> Result<Node, &'static str>
+        requires within { id < nodes }
+        requires nodes { nodes ≤ NODES }
+    {
+        match JobTable::with_room(alloc, jobs) {
+            Ok(table) => Ok(Node {
+                alloc,
+                core: NodeCore::down(alloc, id, nodes),
+                table,
+                count: 0,
+                sent: Vec::new(alloc),
+            }),
+            Err(_) => Err("no memory"),
+        }
+    }
+
+    /// The messages of the last step.
+    pub fn sent(&self) -> &[Message] {
+        self.sent.as_slice()
+    }
+
+    /// One whole step: its plan, its command, and its commit.
+    pub fn step(&mut self, event: &Event) -> Result<(), &'static str> {
+        let Ok(plan) = self.core.plan_step(event, &self.table) else {
+            return Err("a step was refused");
+        };
+        let answer = self.carry_out(plan.wants());
+        self.sent = self.core.commit_step(plan, answer);
+        Ok(())
+    }
+
+    /// One whole step for a message that is delivered.
+    pub fn deliver(&mut self, message: &Message) -> Result<(), &'static str> {
+        let mut room = mem::replace(&mut self.sent, Vec::new(self.alloc));
+        room.clear();
+        let Ok(plan) = self.core.plan_delivery(message, &self.table, room) else {
+            return Err("a message was refused");
+        };
+        let answer = self.carry_out(plan.wants());
+        self.sent = self.core.commit_step(plan, answer);
+        Ok(())
+    }
+
+    fn carry_out(&mut self, wants: Durable) -> u64
+        ensures at_least_one { wanted_by wants ≡ Some Raise → 1 ≤ result }
+        ensures core { self.new.core ≡ self.old.core }
+    {
+        match wants {
+            Durable::None => 0,
+            Durable::Raise => {
+                self.count = self.count.saturating_add(1);
+                self.count
+            }
+            Durable::Put(work) => self.apply(Command::Put(work)),
+            Durable::Done(id) => self.apply(Command::Done(id)),
+        }
+    }
+
+    fn apply(&mut self, command: Command) -> u64
+        ensures { self.new.core ≡ self.old.core }
+    {
+        if self.table.can_apply(&command) {
+            self.table.apply(command)
+        } else {
+            u64::MAX
+        }
+    }
+}
