@@ -1,4 +1,4 @@
-ghost use Rattle.std.specs.Prelude.{◌≡◌, map, codes, IfOk, option_map, option_and_then, Some, None, MatchBool};
+ghost use Rattle.std.specs.Prelude.{◌≡◌, ◌++◌, ◌∷◌, [], map, codes, IfOk, option_map, option_and_then, Some, None, MatchBool};
 ghost use Rattle.serde_json.specs.Find.{as_str};
 ghost use Rattle.serde_json.specs.View.{view, items_view};
 ghost use Rattle.hex.specs.Hex.{decode_of};
@@ -8,6 +8,7 @@ ghost use Rattle.job_model.specs.declared.queue.TheConstants.{QUEUES};
 ghost use Rattle.trace_text.specs.Fields.{data_of, found_by};
 ghost use Rattle.trace_text.specs.Entries.{claim_of, good, below, bytes_in, spelled_in, messages_in, number_in, priority_in, deliver_in, submit_in, finish_in, event_in, device_in, recover_in, deed_named, deed_in, claim_in};
 ghost use Rattle.trace_text.specs.Streams.{messages_of, claim_with};
+ghost use Rattle.trace_text.specs.Places.{IsRead, recovery_said};
 
 use crate::fields::{Field, Fields};
 use group_task::{NODES, NodeId};
@@ -30,9 +31,11 @@ pub struct Entry {
 pub fn read_entry(alloc: Global, value: &Value) -> Result<Option<Entry>, AllocError>
     ensures { IfOk result (λ entry. option_map claim_of entry ≡ claim_in (view value.now)) }
 {
-    let Some(deed) = read_deed(alloc, &Fields::of_tree(value))? else {
+    let mut room = Vec::new(alloc);
+    let mut deed = Deed::Nothing;
+    if !read_deed(&mut room, &Fields::of_tree(value), &mut deed)? {
         return Ok(None);
-    };
+    }
     let Some(list) = value.get("sent") else {
         return Ok(None);
     };
@@ -45,36 +48,58 @@ pub fn read_entry(alloc: Global, value: &Value) -> Result<Option<Entry>, AllocEr
     Ok(Some(Entry { deed, sent }))
 }
 
-/// The entry of these fields, and of these texts of the messages that it sent.
-pub(crate) fn entry_of(
-    alloc: Global,
+/// The entry of these fields, and of these texts of the messages that it sent, in place of another. False where there is none.
+pub(crate) fn read_into(
+    room: &mut Vec<u8>,
     fields: &Fields<'_>,
     texts: &[&str],
-) -> Result<Option<Entry>, AllocError>
-    ensures { IfOk result (λ entry. option_map claim_of entry ≡ claim_with (deed_in (found_by fields.now)) (messages_of (map (λ s. s.now) texts.now))) }
+    entry: &mut Entry,
+) -> Result<bool, AllocError>
+    ensures { IfOk result (λ some. IsRead some (claim_of entry.new) (claim_with (deed_in (found_by fields.now)) (messages_of (map (λ s. s.now) texts.now)))) }
 {
-    let Some(deed) = read_deed(alloc, fields)? else {
-        return Ok(None);
-    };
-    let Some(sent) = spelled_by(alloc, texts)? else {
-        return Ok(None);
-    };
-    Ok(Some(Entry { deed, sent }))
+    if !read_deed(room, fields, &mut entry.deed)? {
+        return Ok(false);
+    }
+    spelled_by(room, texts, &mut entry.sent)
 }
 
-/// The messages of these texts.
-fn spelled_by(alloc: Global, texts: &[&str]) -> Result<Option<Vec<Message>>, AllocError>
-    ensures { IfOk result (λ messages. option_map (λ v. v.items) messages ≡ messages_of (map (λ s. s.now) texts.now)) }
+/// The messages of these texts, in place of others. False where a text spells none.
+fn spelled_by(
+    room: &mut Vec<u8>,
+    texts: &[&str],
+    messages: &mut Vec<Message>,
+) -> Result<bool, AllocError>
+    ensures { IfOk result (λ some. IsRead some messages.new.items (messages_of (map (λ s. s.now) texts.now))) }
 {
-    let mut room = Vec::new(alloc);
-    let mut messages = Vec::new(alloc);
+    messages.clear();
     for text in texts {
-        let Some(message) = read_message(&mut room, text)? else {
-            return Ok(None);
-        };
-        messages.push(message)?;
+        if !add_message(room, text, messages)? {
+            return Ok(false);
+        }
     }
-    Ok(Some(messages))
+    Ok(true)
+}
+
+/// Adds the message of a text of hex digits, if it spells one. It stands apart, since each call of a function pays for the size of
+/// its locals, and here a whole message is one.
+#[inline(never)]
+fn add_message(
+    room: &mut Vec<u8>,
+    text: &str,
+    messages: &mut Vec<Message>,
+) -> Result<bool, AllocError>
+    ensures { IfOk result (λ some. IsRead some messages.new.items (option_map (λ m. messages.old.items ++ m ∷ []) (spelled_in text.now))) }
+{
+    if !read_bytes(room, text)? {
+        return Ok(false);
+    }
+    match decode(room) {
+        Ok(message) => {
+            messages.push(message)?;
+            Ok(true)
+        }
+        Err(_) => Ok(false),
+    }
 }
 
 /// The text of a field.
@@ -148,42 +173,46 @@ fn read_messages(alloc: Global, values: &[Value]) -> Result<Option<Vec<Message>>
     Ok(Some(messages))
 }
 
-/// What was done.
-fn read_deed(alloc: Global, fields: &Fields<'_>) -> Result<Option<Deed>, AllocError>
-    ensures { IfOk result (λ deed. deed ≡ deed_in (found_by fields.now)) }
+/// What was done, in place of another deed. False where the fields say none.
+fn read_deed(room: &mut Vec<u8>, fields: &Fields<'_>, deed: &mut Deed) -> Result<bool, AllocError>
+    ensures { IfOk result (λ some. IsRead some deed.new (deed_in (found_by fields.now))) }
 {
-    let mut room = Vec::new(alloc);
     match text_of(fields.name) {
-        Some(name) => deed_named(&mut room, fields, name),
-        None => Ok(None),
+        Some(name) => read_named(room, fields, name, deed),
+        None => Ok(false),
     }
 }
 
 /// What was done, by its name.
-fn deed_named(
+fn read_named(
     room: &mut Vec<u8>,
     fields: &Fields<'_>,
     name: &str,
-) -> Result<Option<Deed>, AllocError>
-    ensures { IfOk result (λ deed. deed ≡ deed_named (found_by fields.now) name.now) }
+    deed: &mut Deed,
+) -> Result<bool, AllocError>
+    ensures { IfOk result (λ some. IsRead some deed.new (deed_named (found_by fields.now) name.now)) }
 {
     if name == "none" {
-        return Ok(Some(Deed::Nothing));
+        *deed = Deed::Nothing;
+        return Ok(true);
     }
     if name == "crash" {
-        return Ok(Some(Deed::Crashed));
+        *deed = Deed::Crashed;
+        return Ok(true);
     }
     if name == "recover" {
-        return Ok(read_recover(fields));
+        return Ok(read_recover(fields, deed));
     }
-    let Some(event) = read_event(room, fields, name)? else {
-        return Ok(None);
-    };
+    let mut event = Event::Recover;
+    if !read_event(room, fields, name, &mut event)? {
+        return Ok(false);
+    }
     match read_device(fields.fault) {
-        Some(true) => Ok(Some(Deed::Faulted(event))),
-        Some(false) => Ok(Some(Deed::Done(event))),
-        None => Ok(None),
+        Some(true) => *deed = Deed::Faulted(event),
+        Some(false) => *deed = Deed::Done(event),
+        None => return Ok(false),
     }
+    Ok(true)
 }
 
 /// Whether the device failed.
@@ -200,93 +229,120 @@ fn read_device(fault: Option<Field<'_>>) -> Option<bool>
     }
 }
 
-/// A recovery.
-fn read_recover(fields: &Fields<'_>) -> Option<Deed>
-    ensures { result ≡ recover_in (found_by fields.now) }
+/// A recovery, in place of another deed.
+fn read_recover(fields: &Fields<'_>, deed: &mut Deed) -> bool
+    ensures { IsRead result deed.new (recover_in (found_by fields.now)) }
+{
+    let Some((kept, fault)) = recovery_of(fields) else {
+        return false;
+    };
+    *deed = match fault {
+        None => Deed::Recovered(kept),
+        Some(fault) => Deed::NotRecovered(kept, fault),
+    };
+    true
+}
+
+/// What a recovery says: whether the command in doubt was kept, and how it failed.
+fn recovery_of(fields: &Fields<'_>) -> Option<(bool, Option<RecoverFault>)>
+    ensures { option_map recovery_said result ≡ recover_in (found_by fields.now) }
 {
     let kept = fields.kept?.flag()?;
     let Some(fault) = fields.fault else {
-        return Some(Deed::Recovered(kept));
+        return Some((kept, None));
     };
     let text = fault.text()?;
     if text == "mount" {
-        return Some(Deed::NotRecovered(kept, RecoverFault::Mount));
+        return Some((kept, Some(RecoverFault::Mount)));
     }
     if text == "raise" {
-        return Some(Deed::NotRecovered(kept, RecoverFault::Raise));
+        return Some((kept, Some(RecoverFault::Raise)));
     }
     None
 }
 
-/// An event, by its name.
+/// An event, by its name, in place of another. False where the fields say none.
 fn read_event(
     room: &mut Vec<u8>,
     fields: &Fields<'_>,
     name: &str,
-) -> Result<Option<Event>, AllocError>
-    ensures { IfOk result (λ event. event ≡ event_in (found_by fields.now) name.now) }
+    event: &mut Event,
+) -> Result<bool, AllocError>
+    ensures { IfOk result (λ some. IsRead some event.new (event_in (found_by fields.now) name.now)) }
 {
     if name == "check" {
-        return Ok(Some(Event::CheckTimer));
+        *event = Event::CheckTimer;
+    } else if name == "merge" {
+        *event = Event::MergeTimer;
+    } else if name == "accept" {
+        *event = Event::AcceptTimer;
+    } else if name == "ready" {
+        *event = Event::ReadyTimer;
+    } else if name == "coord" {
+        *event = Event::CoordTimer;
+    } else if name == "dispatch" {
+        *event = Event::DispatchTimer;
+    } else if name == "deliver" {
+        return read_deliver(room, fields, event);
+    } else if name == "submit" {
+        return read_submit(room, fields, event);
+    } else if name == "finish" {
+        return Ok(read_finish(fields, event));
+    } else {
+        return Ok(false);
     }
-    if name == "merge" {
-        return Ok(Some(Event::MergeTimer));
-    }
-    if name == "accept" {
-        return Ok(Some(Event::AcceptTimer));
-    }
-    if name == "ready" {
-        return Ok(Some(Event::ReadyTimer));
-    }
-    if name == "coord" {
-        return Ok(Some(Event::CoordTimer));
-    }
-    if name == "dispatch" {
-        return Ok(Some(Event::DispatchTimer));
-    }
-    if name == "deliver" {
-        return read_deliver(room, fields);
-    }
-    if name == "submit" {
-        return read_submit(room, fields);
-    }
-    if name == "finish" {
-        return Ok(read_finish(fields));
-    }
-    Ok(None)
+    Ok(true)
 }
 
-fn read_deliver(room: &mut Vec<u8>, fields: &Fields<'_>) -> Result<Option<Event>, AllocError>
-    ensures { IfOk result (λ event. event ≡ deliver_in (found_by fields.now)) }
+/// It stands apart, as a whole message is one of its locals.
+#[inline(never)]
+fn read_deliver(
+    room: &mut Vec<u8>,
+    fields: &Fields<'_>,
+    event: &mut Event,
+) -> Result<bool, AllocError>
+    ensures { IfOk result (λ some. IsRead some event.new (deliver_in (found_by fields.now))) }
 {
-    let Some(text) = text_of(fields.message) else {
-        return Ok(None);
-    };
-    match read_message(room, text)? {
-        Some(message) => Ok(Some(Event::Deliver(message))),
-        None => Ok(None),
+    if !bytes_of(room, fields.message)? {
+        return Ok(false);
+    }
+    match decode(room) {
+        Ok(message) => {
+            *event = Event::Deliver(message);
+            Ok(true)
+        }
+        Err(_) => Ok(false),
     }
 }
 
-fn read_submit(room: &mut Vec<u8>, fields: &Fields<'_>) -> Result<Option<Event>, AllocError>
-    ensures { IfOk result (λ event. event ≡ submit_in (found_by fields.now)) }
+/// It stands apart, as a whole payload is one of its locals.
+#[inline(never)]
+fn read_submit(
+    room: &mut Vec<u8>,
+    fields: &Fields<'_>,
+    event: &mut Event,
+) -> Result<bool, AllocError>
+    ensures { IfOk result (λ some. IsRead some event.new (submit_in (found_by fields.now))) }
 {
     let Some(queue) = queue_of(number_of(fields.queue)) else {
-        return Ok(None);
+        return Ok(false);
     };
     let Some(priority) = priority_of(fields.priority) else {
-        return Ok(None);
+        return Ok(false);
     };
     if !bytes_of(room, fields.payload)? {
-        return Ok(None);
+        return Ok(false);
     }
     match Payload::new(room) {
-        Some(payload) => Ok(Some(Event::Submit(Work {
-            queue,
-            priority,
-            payload,
-        }))),
-        None => Ok(None),
+        Some(payload) => {
+            *event = Event::Submit(Work {
+                queue,
+                priority,
+                payload,
+            });
+            Ok(true)
+        }
+        None => Ok(false),
     }
 }
 
@@ -305,12 +361,17 @@ fn priority_of(priority: Option<Field<'_>>) -> Option<u8>
     }
 }
 
-fn read_finish(fields: &Fields<'_>) -> Option<Event>
-    ensures { result ≡ finish_in (found_by fields.now) }
+fn read_finish(fields: &Fields<'_>, event: &mut Event) -> bool
+    ensures { IsRead result event.new (finish_in (found_by fields.now)) }
 {
-    let origin = node_of(number_of(fields.origin))?;
-    let id = number_of(fields.id)?;
-    Some(Event::Finish(origin, id))
+    let Some(origin) = node_of(number_of(fields.origin)) else {
+        return false;
+    };
+    let Some(id) = number_of(fields.id) else {
+        return false;
+    };
+    *event = Event::Finish(origin, id);
+    true
 }
 
 fn queue_of(number: Option<u64>) -> Option<Queue>

@@ -18,13 +18,13 @@ ghost use Rattle.trace_text.specs.Streams.{data_at, items_at, members_at, histor
 ghost use Rattle.trace_text.specs.Wholes.{trace_of, in_shape, shape_in};
 
 use crate::fields::{Field, Fields};
-use crate::reading::entry_of;
+use crate::reading::{Entry, read_into};
 use fast_float::Numeral;
 use group_task::NODES;
 use json::{Invalid, Reader, Scratch, Token};
 use std::alloc::{AllocError, Global};
 use std::str;
-use trace_check::{History, Trace};
+use trace_check::{Deed, History, Trace};
 
 /// Why the reader stopped.
 #[derive(Clone, Copy, Debug)]
@@ -54,6 +54,14 @@ pub struct Draft<'a> {
     pub has_sent: bool,
     /// The messages of `sent`.
     pub texts: Vec<&'a str>,
+}
+
+/// Where an entry is read, one after another.
+#[derive(Drop)]
+struct Desk {
+    /// The bytes of a text of hex digits.
+    room: Vec<u8>,
+    entry: Entry,
 }
 
 /// The whole, as far as it was read.
@@ -170,8 +178,15 @@ fn read_each_history(alloc: Global, reader: &mut Reader<'_>) -> Result<Vec<Histo
         has_sent: false,
         texts: Vec::new(alloc),
     };
+    let mut desk = Desk {
+        room: Vec::new(alloc),
+        entry: Entry {
+            deed: Deed::Nothing,
+            sent: Vec::new(alloc),
+        },
+    };
     'histories: while !reader.take_end_array() {
-        let history = read_history(alloc, reader, &mut draft)?;
+        let history = read_history(alloc, reader, &mut draft, &mut desk)?;
         histories.reserve(1)?;
         histories.push_reserved(history);
     }
@@ -183,12 +198,13 @@ fn read_history<'a>(
     alloc: Global,
     reader: &mut Reader<'a>,
     draft: &mut Draft<'a>,
+    desk: &mut Desk,
 ) -> Result<History, Halt>
     ensures history { IfOk result (λ h. converted history_of (data_at 125 reader.old) ≡ Some (h, reader.new)) }
     ensures shorter { OnOk result (length reader.new < length reader.old) }
 {
     open_list(reader)?;
-    read_entries(alloc, reader, draft)
+    read_entries(alloc, reader, draft, desk)
 }
 
 /// The entries from behind a bracket on.
@@ -196,25 +212,26 @@ fn read_entries<'a>(
     alloc: Global,
     reader: &mut Reader<'a>,
     draft: &mut Draft<'a>,
+    desk: &mut Desk,
 ) -> Result<History, Halt>
     ensures entries { IfOk result (λ h. items_at claim_in 124 (length reader.old) reader.old ≡ Some (h, reader.new)) }
     ensures shorter { OnOk result (length reader.new ≤ length reader.old) }
 {
     let mut history = History::new(alloc);
     'entries: while !reader.take_end_array() {
-        history = read_entry(alloc, reader, draft, history)?;
+        read_entry(reader, draft, desk, &mut history)?;
     }
     Ok(history)
 }
 
-/// The history with the entry at the front.
+/// Adds the entry at the front to a history.
 fn read_entry<'a>(
-    alloc: Global,
     reader: &mut Reader<'a>,
     draft: &mut Draft<'a>,
-    history: History,
-) -> Result<History, Halt>
-    ensures entry { IfOk result (λ h. parse_map (λ (c : Claim). history ++ c ∷ []) (converted claim_in (data_at 124 reader.old)) ≡ Some (h, reader.new)) }
+    desk: &mut Desk,
+    history: &mut History,
+) -> Result<(), Halt>
+    ensures entry { OnOk result (parse_map (λ (c : Claim). history.old ++ c ∷ []) (converted claim_in (data_at 124 reader.old)) ≡ Some (history.new, reader.new)) }
     ensures shorter { OnOk result (length reader.new < length reader.old) }
 {
     open_object(reader)?;
@@ -224,23 +241,23 @@ fn read_entry<'a>(
     if !draft.has_sent {
         return Err(Halt::Odd);
     }
-    with_entry(alloc, &draft.fields, &draft.texts, history)
+    add_entry(&draft.fields, &draft.texts, desk, history)
 }
 
-/// The history with the entry of these fields and texts.
-fn with_entry(
-    alloc: Global,
+/// Adds the entry of these fields and texts to a history.
+fn add_entry(
     fields: &Fields<'_>,
     texts: &[&str],
-    mut history: History,
-) -> Result<History, Halt>
-    ensures { IfOk result (λ h. option_map (λ (c : Claim). history ++ c ∷ []) (claim_with (deed_in (found_by fields.now)) (messages_of (map (λ s. s.now) texts.now))) ≡ Some h) }
+    desk: &mut Desk,
+    history: &mut History,
+) -> Result<(), Halt>
+    ensures { OnOk result (option_map (λ (c : Claim). history.old ++ c ∷ []) (claim_with (deed_in (found_by fields.now)) (messages_of (map (λ s. s.now) texts.now))) ≡ Some history.new) }
 {
-    let Some(entry) = entry_of(alloc, fields, texts)? else {
+    if !read_into(&mut desk.room, fields, texts, &mut desk.entry)? {
         return Err(Halt::Odd);
-    };
-    history.push(&entry.deed, &entry.sent)?;
-    Ok(history)
+    }
+    history.push(&desk.entry.deed, &desk.entry.sent)?;
+    Ok(())
 }
 
 /// The members of an entry, from behind its brace on.

@@ -20,9 +20,9 @@ entries-preserved c =
     let r = c.read_entry.new.reader in
     let going : (after_end_array l.reader ≡ None) × (c.take_end_array.new.self ≡ l.reader) = grind arith in
     let add = λ (x : Claim). l.history ++ x ∷ [] in
-    let read : parse_map add (converted claim_in (data_at 124 l.reader)) ≡ Some (c.in_ok-history.history, r) = rw (← going.1) c.in_ok-history.ensures.entry in
-    let added = mapped_some add (converted claim_in (data_at 124 l.reader)) c.in_ok-history.history r read in
-    let less : length r < length l.reader = rw (← going.1) c.in_ok-history.ensures.shorter in (
+    let read : parse_map add (converted claim_in (data_at 124 l.reader)) ≡ Some (c.read_entry.new.history, r) = rw (← going.1) c.in_ok-read_entry.ensures.entry in
+    let added = mapped_some add (converted claim_in (data_at 124 l.reader)) c.read_entry.new.history r read in
+    let less : length r < length l.reader = rw (← going.1) c.in_ok-read_entry.ensures.shorter in (
       n - 1,
       omega (arith, l.invariant.1),
       l.invariant.2 ∙ item_turn claim_in 124 n l.reader r added.0 l.history (omega (arith, l.invariant.1)) going.0 added.1

@@ -1,0 +1,18 @@
+-- What was read into a place.
+use Rattle.std.specs.Prelude.{◌≡◌, Bool, true, false, Option, Some, None}
+use Rattle.trace_check.specs.declared.trace.Deed.{Deed}
+use Rattle.trace_check.specs.declared.trace.Deed.TheVariants as deed
+use Rattle.trace_check.specs.declared.trace.RecoverFault.{RecoverFault}
+
+-- what is to be read is there now, or there is nothing to be read
+abbrev pub IsRead : {A : Type 0} → Bool → A → Option A → Type 0
+IsRead true new is = is ≡ Some new
+IsRead false new is = is ≡ None
+
+-- whether the command in doubt was kept, and how the recovery failed
+abbrev pub recovery_said : Bool × Option RecoverFault → Deed
+recovery_said r = said r.0 r.1
+  where
+    said : Bool → Option RecoverFault → Deed
+    said kept None = deed.Recovered kept
+    said kept (Some fault) = deed.NotRecovered kept fault
