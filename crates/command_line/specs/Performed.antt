@@ -13,8 +13,8 @@ use Rattle.invite_console.specs.Recorded.{IsRecording}
 use Rattle.threads_console.specs.Printed.{IsThreading}
 use Rattle.threads_console.specs.Reasons.{plans_flaw}
 use Rattle.trace_draw.specs.Drawn.{IsDrawn}
-use Rattle.invite.specs.declared.task.Batch.{Batch}
-use Rattle.invite.specs.declared.task.Batch.TheVariants.{Answer, Show, Sim, Store, Trace, Record, Threads, Draw}
+use Rattle.command_line.specs.declared.task.Batch.{Batch}
+use Rattle.command_line.specs.declared.task.Batch.TheVariants.{Answer, Show, Sim, Store, Trace, Record, Threads, Draw}
 
 -- the outcome is what the command prints for these bytes
 abbrev pub IsOutcomeOf : Batch → List ℕ → Outcome → Type 0

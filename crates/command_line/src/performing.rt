@@ -1,7 +1,7 @@
 // The commands that read their whole input first.
 ghost use Rattle.std.specs.Prelude.{◌≡◌, ◌≤◌, ◌+◌};
 ghost use Rattle.console_text.specs.Ends.{Prints, status_of};
-ghost use Rattle.invite.specs.Performed.{IsOutcomeOf, IsWhyOf};
+ghost use Rattle.command_line.specs.Performed.{IsOutcomeOf, IsWhyOf};
 
 use crate::task::Batch;
 use console_text::{Ended, Source};

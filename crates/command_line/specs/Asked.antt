@@ -3,12 +3,12 @@ use Rattle.std.specs.Prelude.{ℕ, List, [], nat_le, nat_lt, ◌&&◌, Bool, fal
 use Rattle.group_task.specs.declared.node.TheConstants.{NODES}
 use Rattle.node_console.specs.declared.making.TheConstants.{LEAST_SLOTS, MOST_SLOTS}
 use Rattle.line_words.specs.Words.{number_of}
-use Rattle.invite.specs.declared.task.Place.{Place}
-use Rattle.invite.specs.declared.task.Making.{Making}
-use Rattle.invite.specs.declared.task.Batch.{Batch}
-use Rattle.invite.specs.declared.task.Batch.TheVariants.{Answer, Show, Sim, Store, Trace, Record, Threads, Draw}
-use Rattle.invite.specs.declared.task.Task.{Task}
-use Rattle.invite.specs.declared.task.Task.TheVariants as task
+use Rattle.command_line.specs.declared.task.Place.{Place}
+use Rattle.command_line.specs.declared.task.Making.{Making}
+use Rattle.command_line.specs.declared.task.Batch.{Batch}
+use Rattle.command_line.specs.declared.task.Batch.TheVariants.{Answer, Show, Sim, Store, Trace, Record, Threads, Draw}
+use Rattle.command_line.specs.declared.task.Task.{Task}
+use Rattle.command_line.specs.declared.task.Task.TheVariants as task
 
 -- what a file is made for: a node, the slots of an area, and the count
 pub record Made : Type 0 where

@@ -1,7 +1,7 @@
 // From the words of the command line to what they ask for.
 ghost use Rattle.std.specs.Prelude.{◌≡◌, IfOk, bytes_eq, codes, option_map};
 ghost use Rattle.clap.specs.Words.{first_value, found_of};
-ghost use Rattle.invite.specs.Asked.{answers, asked, asked_by, format_of, is_set, made, making_of, placed, place_of, serves_by, stores};
+ghost use Rattle.command_line.specs.Asked.{answers, asked, asked_by, format_of, is_set, made, making_of, placed, place_of, serves_by, stores};
 
 use crate::task::{Batch, Making, Place, Task};
 use clap::ArgMatches;

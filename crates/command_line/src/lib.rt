@@ -1,0 +1,186 @@
+//! The command line of the program `invite`. The commands themselves are those of `invite_console`, `store_console`, `node_console`,
+//! `trace_console`, `trace_draw` and `threads_console`, over standard input and output.
+//!
+//! It stands apart from the program, since a program is proved over the code of all that it reaches, and a library over the interfaces
+//! of what it uses.
+#![tactic(auto)]
+
+mod asking;
+mod commands;
+mod performing;
+mod reasons;
+mod task;
+
+use commands::command;
+use console_text::{Sink, Source};
+use group_task::NODES;
+use node_console::{LEAST_SLOTS, MOST_SLOTS, Status};
+use performing::perform;
+use reasons::{Reason, explain, reason_of};
+use std::fs::File;
+use std::io;
+use std::io::ErrorKind;
+use std::process::ExitCode;
+use std::sync::Wait;
+use std::thread::Threads;
+use task::{Batch, Making, Place, Task};
+
+/// The exit status of a command line that can't be read.
+const UNREADABLE: u8 = 2;
+
+/// Runs the command that the words of the command line name, and answers the exit status. `threads` starts the threads of the
+/// command `threads`.
+pub fn run<T: Threads + Wait + Sync>(rt: &HostRuntime, threads: &T) -> ExitCode {
+    match obey(rt, threads) {
+        Ok(status) => ExitCode::from(status),
+        Err(error) => failed(rt, &error),
+    }
+}
+
+/// Want of memory is told as the commands tell it, and any other error on standard error.
+fn failed(rt: &HostRuntime, error: &io::Error) -> ExitCode {
+    if error.kind() == ErrorKind::OutOfMemory {
+        let _ = rt.println("no memory");
+        let _ = explain(rt, Reason::NoMemory);
+    } else {
+        let _ = eprintln!(rt; "invite: {error}");
+    }
+    ExitCode::FAILURE
+}
+
+/// Runs the command, and answers its exit status. The command line is judged before any input is read.
+fn obey<T: Threads + Wait + Sync>(rt: &HostRuntime, threads: &T) -> io::Result<u8> {
+    let _held = [null(rt)?, null(rt)?, null(rt)?];
+    let Some(words) = words(rt)? else {
+        return Ok(UNREADABLE);
+    };
+    let Some(task) = task_of(rt, words.as_slice())? else {
+        return Ok(UNREADABLE);
+    };
+    match task {
+        Task::Batch(batch) => Ok(carry_out(rt, threads, &batch)),
+        Task::Format(path, making) => format(rt, path.as_str(), &making),
+        Task::Node(path, place) => node(rt, path.as_str(), place),
+    }
+}
+
+/// Takes the number of a standard stream that the caller left closed, if there is one: a file that was opened in its place would be read as
+/// the input, or written over by the output. Here an input ends at once, and a write fails.
+fn null(rt: &HostRuntime) -> io::Result<File> {
+    File::open(rt, "/dev/null")
+}
+
+/// The words of the command line. Where one of them isn't UTF-8, says so.
+fn words(rt: &HostRuntime) -> io::Result<Option<Vec<String>>> {
+    match std::env::args(rt) {
+        Ok(words) => Ok(Some(words.collect(rt.alloc())?)),
+        Err(error) if error.kind() == ErrorKind::InvalidData => {
+            rt.println(
+                "error: a word of the command line isn't UTF-8\n\nFor more information, try '--help'.",
+            )?;
+            Ok(None)
+        }
+        Err(error) => Err(error),
+    }
+}
+
+/// Runs a command over standard input and output, and answers the exit status. Where it didn't end well, says why on standard error.
+fn carry_out<T: Threads + Wait + Sync>(rt: &HostRuntime, threads: &T, batch: &Batch) -> u8 {
+    let mut input = Source::new(rt.stdin());
+    let mut output = Sink::new(rt.stdout());
+    let performed = perform(rt, threads, rt.alloc(), batch, &mut input, &mut output);
+    let status = performed.status;
+    if let Some(reason) = reason_of(performed, input.fault(), output.fault()) {
+        let _ = explain(rt, reason);
+    }
+    status
+}
+
+/// Serves a node, and answers the exit status.
+fn node(rt: &HostRuntime, path: &str, place: Place) -> io::Result<u8> {
+    let mut input = rt.stdin();
+    let mut output = Sink::new(rt.stdout());
+    let status = node_console::serve_file(
+        rt,
+        rt.alloc(),
+        path,
+        place.id,
+        place.nodes,
+        &mut input,
+        &mut output,
+    );
+    if status == Status::Failed && output.fault().is_some() {
+        explain(rt, Reason::Unwritten(output.fault()))?;
+        return Ok(status.code());
+    }
+    tell(rt, status)
+}
+
+/// Makes the file of a node, and answers the exit status.
+fn format(rt: &HostRuntime, path: &str, making: &Making) -> io::Result<u8> {
+    let place = making.place;
+    let status = node_console::format_file(
+        rt,
+        path,
+        making.slots,
+        place.id,
+        place.nodes,
+        making.first,
+    );
+    tell(rt, status)
+}
+
+/// Where a command of a node didn't end well, says why on standard error. Answers the exit status.
+fn tell(rt: &HostRuntime, status: Status) -> io::Result<u8> {
+    if status != Status::Done {
+        rt.eprint("invite: ")?;
+        rt.eprint(status.word())?;
+        rt.eprint("\n")?;
+    }
+    Ok(status.code())
+}
+
+/// Reads the command line. Where it can't be read or asks for help, prints what is wrong with it, or the help.
+fn task_of<'a>(rt: &HostRuntime, words: &'a [String]) -> io::Result<Option<Task>> {
+    let alloc = rt.alloc();
+    match command(alloc)?.try_get_matches_from(words) {
+        Ok(matches) => {
+            let task = match matches.subcommand() {
+                Some((name, words)) => asking::task(alloc, name, words)?,
+                None => None,
+            };
+            if task.is_none() {
+                println!(rt;
+                    "error: SELF and NODES are decimal numbers, NODES from 1 to {NODES}, and SELF is below NODES; SLOTS is from {LEAST_SLOTS} to {MOST_SLOTS}, and FIRST below 2^64\n\nFor more information, try '--help'."
+                )?;
+            }
+            Ok(task)
+        }
+        Err(error) => {
+            if error.kind() == clap::error::ErrorKind::OutOfMemory {
+                return Err(io::Error::from(ErrorKind::OutOfMemory));
+            }
+            let is_mistake = error.use_stderr();
+            rt.print(error)?;
+            if is_mistake {
+                hint(rt, words)?;
+            }
+            Ok(None)
+        }
+    }
+}
+
+/// Where a file was named for a command that reads standard input, says so.
+fn hint(rt: &HostRuntime, words: &[String]) -> io::Result<()> {
+    if words.len() < 3 {
+        return Ok(());
+    }
+    let name = words[1].as_str();
+    if matches!(
+        name,
+        "show" | "sim" | "trace" | "record" | "threads" | "draw"
+    ) {
+        println!(rt; "\n{name} reads standard input, as in: invite {name} < FILE")?;
+    }
+    Ok(())
+}
