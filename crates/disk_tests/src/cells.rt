@@ -2,6 +2,7 @@
 // layout, and whole runs with stops and crashes.
 ghost use Rattle.std.specs.Prelude.{◌<◌};
 
+use crate::texts::expect_text;
 use safe_cell::{CellFault, format, mount};
 use sector_disk::{MemDisk, Sector, SectorDisk};
 use std::alloc::Global;
@@ -126,25 +127,28 @@ fn greatest_count(rt: HostRuntime) {
     let mut greatest = [0; 512];
     greatest[..8].fill(0xff);
     seal_over(&rt, &mut disk, 6, &greatest);
-    assert_eq!(rt; mounted_value(&rt, &mut disk), Ok(18446744073709551615));
-    assert_eq!(rt; raise_within(&rt, &mut disk, 0), Err(CellFault::Exhausted));
-    assert_eq!(rt; disk.failures(), 0);
+    assert!(rt;
+        mount_and_raise_within(&rt, &mut disk, 4)
+            == Ok((18446744073709551615, Err(CellFault::Exhausted)))
+    );
+    assert!(rt; disk.failures() == 0);
 }
 
-// The first raise stops when slot A is unsealed and its body is written, and a crash leaves that
-// body torn. The second stops at its first call, which is the write of that body and not of the
+// The first mounting takes four calls, since both slots are sealed, and the others three. The first raise stops when
+// slot A is unsealed and its body is written, and a crash leaves that body torn. The second stops at its first call, which is the write of that body and not of the
 // gate: so the crash can't seal the slot.
 #[test]
 fn unsealed_slot_stays(rt: HostRuntime) {
     let mut disk = raised(&rt, rt.alloc(), 1);
-    assert_eq!(rt; raise_within(&rt, &mut disk, 3), Err(CellFault::Device));
-    disk.crash(&[0xff; 512]);
-    assert_eq!(rt;
-        mount_and_raise_within(&rt, &mut disk, 3),
-        Ok((1, Err(CellFault::Device)))
-    );
-    disk.crash(&[0xa5]);
-    assert_eq!(rt; mount_and_raise_within(&rt, &mut disk, 7), Ok((1, Ok(2))));
+    for (calls, answer, fill) in [
+        (7, Err(CellFault::Device), &[0xff; 512][..]),
+        (3, Err(CellFault::Device), &[0xa5][..]),
+        (7, Ok(2), &[][..]),
+    ] {
+        let found = mount_and_raise_within(&rt, &mut disk, calls);
+        assert!(rt; found == Ok((1, answer)), "{calls} calls");
+        disk.crash(fill);
+    }
 }
 
 // Mounts in so many device calls at most: whether that was enough. It is found once the disk fails no more.
@@ -266,11 +270,6 @@ fn faults_as_text(rt: HostRuntime) {
         (CellFault::NotFormatted, "no slot is sealed"),
         (CellFault::Damaged(6), "the body in sector 6 is damaged"),
     ] {
-        assert_eq!(rt;
-            format!(in rt.alloc(); "{fault}")
-                .expect(&rt, "memory for a text")
-                .as_str(),
-            text
-        );
+        expect_text(&rt, rt.alloc(), &fault, text);
     }
 }

@@ -2,8 +2,8 @@
 // its layout.
 use sector_disk::{DiskFault, MemDisk, Sector, SectorDisk};
 use slot_gate::{fill, look, seal, store, unseal};
+use std::alloc::Global;
 use std::process::Abort;
-use std::test::Fail;
 
 #[derive(Clone, Copy, Debug)]
 enum Call {
@@ -27,9 +27,30 @@ fn make(rt: &impl Abort, disk: &mut MemDisk, call: Call) -> Result<Option<Sector
     Ok(None)
 }
 
+// A disk of six sectors, on which the slot is sealed or unsealed.
+fn disk_with(rt: &impl Abort, alloc: Global, sealed: bool) -> MemDisk {
+    let mut disk = MemDisk::new(alloc, 6).expect(rt, "memory for a disk");
+    if sealed {
+        make(rt, &mut disk, Call::Store { sealed: false }).expect(rt, "a sealed slot");
+    }
+    disk
+}
+
+// Makes a call in so many device calls at most: whether it is done, and then no device call failed.
+fn is_done_within(rt: &impl Abort, alloc: Global, sealed: bool, call: Call, calls: u64) -> bool {
+    let mut disk = disk_with(rt, alloc, sealed);
+    disk.arm(calls);
+    let done = make(rt, &mut disk, call).is_ok();
+    assert!(rt;
+        (disk.failures() == 0) == done,
+        "{call:?} with {calls} calls"
+    );
+    done
+}
+
 // The disk lets fewer calls pass, and then as many as are needed.
 #[test]
-fn device_calls(rt: HostRuntime) -> Result<(), Fail> {
+fn device_calls(rt: HostRuntime) {
     for (sealed, call, calls) in [
         (false, Call::Unseal, 2),
         (false, Call::Fill, 2),
@@ -40,22 +61,25 @@ fn device_calls(rt: HostRuntime) -> Result<(), Fail> {
         (true, Call::Store { sealed: true }, 6),
     ] {
         for k in 0..=calls {
-            let mut disk = MemDisk::new(rt.alloc(), 6)?;
-            if sealed {
-                make(&rt, &mut disk, Call::Store { sealed: false })?;
-            }
-            disk.arm(k);
-            let done = make(&rt, &mut disk, call).is_ok();
-            assert_eq!(rt; done, k == calls, "{call:?} with {k} calls");
-            assert_eq!(rt; disk.failures() == 0, done, "{call:?} with {k} calls");
+            let done = is_done_within(&rt, rt.alloc(), sealed, call, k);
+            assert!(rt; done == (k == calls), "{call:?} with {k} calls");
         }
     }
-    Ok(())
+}
+
+// Whether the slot is sealed by a gate of this first byte and these others.
+fn is_sealed_by(rt: &impl Abort, alloc: Global, first: u8, others: u8) -> bool {
+    let mut disk = disk_with(rt, alloc, false);
+    let mut gate = [others; 512];
+    gate[0] = first;
+    disk.write(3, &gate).expect(rt, "a gate");
+    let found = make(rt, &mut disk, Call::Look).expect(rt, "a slot");
+    found.is_some()
 }
 
 // Only the first byte of a gate is looked at, and it is 0xA5 where the slot is sealed.
 #[test]
-fn gates(rt: HostRuntime) -> Result<(), Fail> {
+fn gates(rt: HostRuntime) {
     for (first, others, is_sealed) in [
         (0xa5, 0x00, true),
         (0xa5, 0xff, true),
@@ -63,30 +87,28 @@ fn gates(rt: HostRuntime) -> Result<(), Fail> {
         (0x5a, 0x00, false),
         (0xff, 0xff, false),
     ] {
-        let mut disk = MemDisk::new(rt.alloc(), 6)?;
-        let mut gate = [others; 512];
-        gate[0] = first;
-        disk.write(3, &gate)?;
-        let found = make(&rt, &mut disk, Call::Look)?;
-        assert_eq!(rt;
-            found.is_some(),
-            is_sealed,
-            "a gate of {first} and {others}"
-        );
+        let found = is_sealed_by(&rt, rt.alloc(), first, others);
+        assert!(rt; found == is_sealed, "a gate of {first} and {others}");
     }
-    Ok(())
+}
+
+// The gate after a call.
+fn gate_after(rt: &impl Abort, disk: &mut MemDisk, call: Call) -> Sector {
+    make(rt, disk, call).expect(rt, "a device that works");
+    let mut gate = [0xff; 512];
+    disk.read(3, &mut gate).expect(rt, "a gate");
+    gate
 }
 
 #[test]
-fn gates_as_written(rt: HostRuntime) -> Result<(), Fail> {
-    let mut disk = MemDisk::new(rt.alloc(), 6)?;
+fn gates_as_written(rt: HostRuntime) {
+    let mut disk = disk_with(&rt, rt.alloc(), false);
     for (call, first) in [(Call::Seal, 0xa5), (Call::Unseal, 0x00)] {
-        make(&rt, &mut disk, call)?;
         let mut expected = [0; 512];
         expected[0] = first;
-        let mut gate = [0xff; 512];
-        disk.read(3, &mut gate)?;
-        assert_eq!(rt; gate, expected, "after {call:?}");
+        assert!(rt;
+            gate_after(&rt, &mut disk, call) == expected,
+            "after {call:?}"
+        );
     }
-    Ok(())
 }

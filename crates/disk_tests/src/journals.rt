@@ -2,6 +2,7 @@
 // whole runs with stops and crashes.
 ghost use Rattle.std.specs.Prelude.{◌<◌};
 
+use crate::texts::expect_text;
 use job_journal::{JournalFault, format, mount};
 use job_model::{Command, Job, Payload, Queue, Record, Work};
 use sector_disk::{MemDisk, Sector, SectorDisk};
@@ -70,8 +71,8 @@ fn check_jobs(rt: &impl Abort, alloc: Global, disk: &mut MemDisk, next: u64, job
     assert!(rt; disk.sectors() == 24);
     disk.arm(u64::MAX);
     let journal = mount(alloc, disk, 4).expect(rt, "a mounted journal");
-    assert_eq!(rt; journal.table().next(), next);
-    assert!(rt; journal.table().pending() == jobs);
+    let table = journal.table();
+    assert!(rt; table.next() == next && table.pending() == jobs);
 }
 
 // Mounts in so many device calls at most: the next id, and how many jobs are pending.
@@ -88,33 +89,57 @@ fn mounted_within(
     Ok((table.next(), table.pending().len()))
 }
 
-// Mounts, and appends in so many device calls at most.
-fn append_within(
+// A call of a journal. A put is of a job of two bytes.
+#[derive(Clone, Copy, Debug)]
+enum Call {
+    Put,
+    Done(u64),
+    Compact,
+}
+
+// Mounts, and makes a call in so many device calls at most. A compaction that is done answers 0.
+fn call_within(
     rt: &impl Abort,
     alloc: Global,
     disk: &mut MemDisk,
-    command: Command,
+    call: Call,
     calls: u64,
 ) -> Result<u64, JournalFault> {
     assert!(rt; disk.sectors() == 24);
     disk.arm(u64::MAX);
     let mut journal = mount(alloc, disk, 4)?;
     disk.arm(calls);
+    let command = match call {
+        Call::Put => put(rt),
+        Call::Done(id) => Command::Done(id),
+        Call::Compact => {
+            journal.compact(disk)?;
+            return Ok(0);
+        }
+    };
     journal.append(disk, command)
 }
 
-// Mounts, and compacts in so many device calls at most.
-fn compact_within(
+// A call, in how many device calls, and its answer.
+type Row = (Call, u64, Result<u64, JournalFault>);
+
+// Makes these calls, each after a mounting, and compares their answers.
+fn run(rt: &impl Abort, alloc: Global, disk: &mut MemDisk, rows: &[Row]) {
+    for (call, calls, want) in rows {
+        let found = call_within(rt, alloc, disk, *call, *calls);
+        assert!(rt; found == *want, "{call:?}");
+    }
+}
+
+// Expects that the disk mounts as this.
+fn check_mounted(
     rt: &impl Abort,
     alloc: Global,
     disk: &mut MemDisk,
-    calls: u64,
-) -> Result<(), JournalFault> {
-    assert!(rt; disk.sectors() == 24);
-    disk.arm(u64::MAX);
-    let mut journal = mount(alloc, disk, 4)?;
-    disk.arm(calls);
-    journal.compact(disk)
+    want: Result<(u64, usize), JournalFault>,
+) {
+    let found = mounted_within(rt, alloc, disk, u64::MAX);
+    assert!(rt; found == want);
 }
 
 fn seal_greatest_area(rt: &impl Abort, disk: &mut MemDisk) {
@@ -125,15 +150,17 @@ fn seal_greatest_area(rt: &impl Abort, disk: &mut MemDisk) {
     slot_gate::store(disk, 6, false, &greatest).expect(rt, "a sealed slot");
 }
 
+// Crashes and mounts: the next id and how many jobs are pending.
+fn crashed(rt: &impl Abort, alloc: Global, disk: &mut MemDisk, fill: &[u8]) -> (u64, usize) {
+    disk.crash(fill);
+    mounted_within(rt, alloc, disk, u64::MAX).expect(rt, "a mounted journal")
+}
+
 // Appends a job in so many device calls at most, crashes and mounts: whether the append is done, the next id and how many jobs are pending.
 fn stopped_append(rt: &impl Abort, alloc: Global, calls: u64, fill: &[u8]) -> (bool, u64, usize) {
     let mut disk = formatted(rt, alloc);
-    let answer = append_within(rt, alloc, &mut disk, put(rt), calls);
-    disk.crash(fill);
-    let (next, pending) = mounted_within(rt, alloc, &mut disk, u64::MAX).expect(
-        rt,
-        "a mounted journal",
-    );
+    let answer = call_within(rt, alloc, &mut disk, Call::Put, calls);
+    let (next, pending) = crashed(rt, alloc, &mut disk, fill);
     (answer.is_ok(), next, pending)
 }
 
@@ -159,10 +186,7 @@ fn append_stopped_at_each_call(rt: HostRuntime) {
 fn put_with_another_id(rt: HostRuntime) {
     let mut disk = formatted(&rt, rt.alloc());
     seal_over(&rt, &mut disk, 8, &Record::Put(job(&rt, 1)));
-    assert_eq!(rt;
-        mounted_within(&rt, rt.alloc(), &mut disk, u64::MAX),
-        Err(JournalFault::Damaged(8))
-    );
+    check_mounted(&rt, rt.alloc(), &mut disk, Err(JournalFault::Damaged(8)));
 }
 
 // The journal of area 0 begins with the greatest next id there is, and one job was kept.
@@ -171,40 +195,42 @@ fn no_id_left(rt: HostRuntime) {
     let mut disk = formatted(&rt, rt.alloc());
     seal_over(&rt, &mut disk, 8, &Record::Base(18446744073709551615));
     seal_over(&rt, &mut disk, 10, &Record::Keep(job(&rt, 7)));
-    assert_eq!(rt;
-        append_within(&rt, rt.alloc(), &mut disk, put(&rt), 0),
-        Err(JournalFault::Exhausted)
-    );
-    assert_eq!(rt; disk.failures(), 0);
-    assert_eq!(rt;
-        append_within(&rt, rt.alloc(), &mut disk, Command::Done(7), 4),
-        Ok(7)
-    );
+    let exhausted = (Call::Put, 0, Err(JournalFault::Exhausted));
+    run(&rt, rt.alloc(), &mut disk, &[exhausted]);
+    assert!(rt; disk.failures() == 0);
+    run(&rt, rt.alloc(), &mut disk, &[(Call::Done(7), 4, Ok(7))]);
 }
 
 // Two jobs are pending: a Base, three jobs and a Done wouldn't fit into four slots.
 #[test]
 fn full_journal(rt: HostRuntime) {
     let mut disk = formatted(&rt, rt.alloc());
-    for id in 0..2 {
-        let found = append_within(&rt, rt.alloc(), &mut disk, put(&rt), 4).expect(
-            &rt,
-            "an appended record",
-        );
-        assert_eq!(rt; found, id);
-    }
-    assert_eq!(rt;
-        append_within(&rt, rt.alloc(), &mut disk, put(&rt), 0),
-        Err(JournalFault::Full)
+    run(
+        &rt,
+        rt.alloc(),
+        &mut disk,
+        &[
+            (Call::Put, 4, Ok(0)),
+            (Call::Put, 4, Ok(1)),
+            (Call::Put, 0, Err(JournalFault::Full)),
+        ],
     );
 }
 
 // Four records stand in the four slots, and jobs 1 and 2 are pending.
 fn with_no_free_slot(rt: &impl Abort, alloc: Global) -> MemDisk {
     let mut disk = formatted(rt, alloc);
-    for command in [put(rt), put(rt), Command::Done(0), put(rt)] {
-        append_within(rt, alloc, &mut disk, command, 4).expect(rt, "an appended record");
-    }
+    run(
+        rt,
+        alloc,
+        &mut disk,
+        &[
+            (Call::Put, 4, Ok(0)),
+            (Call::Put, 4, Ok(1)),
+            (Call::Done(0), 4, Ok(0)),
+            (Call::Put, 4, Ok(2)),
+        ],
+    );
     disk
 }
 
@@ -217,13 +243,9 @@ fn stopped_compaction(
     fill: &[u8],
 ) -> (bool, u64, usize) {
     let mut disk = with_no_free_slot(rt, alloc);
-    let answer = append_within(rt, alloc, &mut disk, Command::Done(1), calls);
+    let answer = call_within(rt, alloc, &mut disk, Call::Done(1), calls);
     assert!(rt; matches!(answer, Ok(1) | Err(JournalFault::Device)));
-    disk.crash(fill);
-    let (next, pending) = mounted_within(rt, alloc, &mut disk, u64::MAX).expect(
-        rt,
-        "a mounted journal",
-    );
+    let (next, pending) = crashed(rt, alloc, &mut disk, fill);
     (answer.is_ok(), next, pending)
 }
 
@@ -270,7 +292,7 @@ fn old_job(rt: &impl Abort) -> Job {
 fn old_disk_is_compacted(rt: HostRuntime) {
     let mut disk = old_disk(&rt, rt.alloc());
     check_jobs(&rt, rt.alloc(), &mut disk, 3, &[old_job(&rt)]);
-    compact_within(&rt, rt.alloc(), &mut disk, 20).expect(&rt, "a compacted journal");
+    run(&rt, rt.alloc(), &mut disk, &[(Call::Compact, 20, Ok(0))]);
     let keep = [6, 0, 0, 0, 0, 0, 0, 0, 1, 0, 0, 0, 1, 0x62];
     check_sector(&rt, &mut disk, 16, &BASE_3);
     check_sector(&rt, &mut disk, 18, &keep);
@@ -280,7 +302,7 @@ fn old_disk_is_compacted(rt: HostRuntime) {
 // Compacts an old disk in so many device calls at most, crashes, and finds its job: whether the compaction is done.
 fn stopped_on_an_old_disk(rt: &impl Abort, alloc: Global, calls: u64, fill: &[u8]) -> bool {
     let mut disk = old_disk(rt, alloc);
-    let answer = compact_within(rt, alloc, &mut disk, calls);
+    let answer = call_within(rt, alloc, &mut disk, Call::Compact, calls);
     disk.crash(fill);
     check_jobs(rt, alloc, &mut disk, 3, &[old_job(rt)]);
     answer.is_ok()
@@ -307,14 +329,11 @@ fn stops_on_an_old_disk(rt: HostRuntime) {
 #[test]
 fn old_among_new(rt: HostRuntime) {
     let mut disk = formatted(&rt, rt.alloc());
-    append_within(&rt, rt.alloc(), &mut disk, put(&rt), 4).expect(&rt, "an appended record");
+    run(&rt, rt.alloc(), &mut disk, &[(Call::Put, 4, Ok(0))]);
     let old = [1, 0, 0, 0, 0, 0, 0, 0, 1, 0, 0, 1, 0x62];
     seal_body(&rt, &mut disk, 10, &sector(&old));
-    append_within(&rt, rt.alloc(), &mut disk, Command::Done(0), 4).expect(
-        &rt,
-        "an appended record",
-    );
-    append_within(&rt, rt.alloc(), &mut disk, put(&rt), 4).expect(&rt, "an appended record");
+    let rows = [(Call::Done(0), 4, Ok(0)), (Call::Put, 4, Ok(2))];
+    run(&rt, rt.alloc(), &mut disk, &rows);
     check_sector(
         &rt,
         &mut disk,
@@ -328,15 +347,9 @@ fn old_among_new(rt: HostRuntime) {
 #[test]
 fn compaction_repeated(rt: HostRuntime) {
     let mut disk = with_no_free_slot(&rt, rt.alloc());
-    compact_within(&rt, rt.alloc(), &mut disk, 24).expect(&rt, "a compacted journal");
-    for _ in 0..9 {
-        compact_within(&rt, rt.alloc(), &mut disk, 26).expect(&rt, "a compacted journal");
-    }
-    disk.crash(&[]);
-    assert_eq!(rt;
-        mounted_within(&rt, rt.alloc(), &mut disk, u64::MAX),
-        Ok((3, 2))
-    );
+    run(&rt, rt.alloc(), &mut disk, &[(Call::Compact, 24, Ok(0))]);
+    run(&rt, rt.alloc(), &mut disk, &[(Call::Compact, 26, Ok(0)); 9]);
+    assert!(rt; crashed(&rt, rt.alloc(), &mut disk, &[]) == (3, 2));
 }
 
 // Slot B of the area cell has the greatest value there is, which is odd: no compaction any more.
@@ -344,38 +357,32 @@ fn compaction_repeated(rt: HostRuntime) {
 fn no_compaction_left(rt: HostRuntime) {
     let mut disk = with_no_free_slot(&rt, rt.alloc());
     seal_greatest_area(&rt, &mut disk);
-    assert_eq!(rt;
-        append_within(&rt, rt.alloc(), &mut disk, put(&rt), 0),
-        Err(JournalFault::Full)
+    run(
+        &rt,
+        rt.alloc(),
+        &mut disk,
+        &[
+            (Call::Put, 0, Err(JournalFault::Full)),
+            (Call::Done(1), 0, Err(JournalFault::Exhausted)),
+            (Call::Compact, 0, Err(JournalFault::Exhausted)),
+        ],
     );
-    assert_eq!(rt;
-        append_within(&rt, rt.alloc(), &mut disk, Command::Done(1), 0),
-        Err(JournalFault::Exhausted)
-    );
-    assert_eq!(rt;
-        compact_within(&rt, rt.alloc(), &mut disk, 0),
-        Err(JournalFault::Exhausted)
-    );
+}
+
+fn raise_area(rt: &impl Abort, disk: &mut MemDisk) {
+    assert!(rt; disk.sectors() == 24);
+    let mut area = safe_cell::mount(disk, 4).expect(rt, "a mounted cell");
+    area.raise(disk).expect(rt, "a raised cell");
 }
 
 // The area cell is raised to 2: the first slot of area 1 is in sector 16.
 #[test]
 fn second_area(rt: HostRuntime) {
     let mut disk = formatted(&rt, rt.alloc());
-    assert!(rt; disk.sectors() == 24);
-    safe_cell::mount(&mut disk, 4)
-        .expect(&rt, "a mounted cell")
-        .raise(&mut disk)
-        .expect(&rt, "a raised cell");
+    raise_area(&rt, &mut disk);
     seal_over(&rt, &mut disk, 16, &Record::Base(3));
-    assert_eq!(rt;
-        append_within(&rt, rt.alloc(), &mut disk, put(&rt), 4),
-        Ok(3)
-    );
-    assert_eq!(rt;
-        mounted_within(&rt, rt.alloc(), &mut disk, u64::MAX),
-        Ok((4, 1))
-    );
+    run(&rt, rt.alloc(), &mut disk, &[(Call::Put, 4, Ok(3))]);
+    check_mounted(&rt, rt.alloc(), &mut disk, Ok((4, 1)));
 }
 
 // Whether an empty journal is mounted in so many device calls, or else the device is told to have failed.
@@ -396,10 +403,7 @@ fn mounting_fails_at_each_call(rt: HostRuntime) {
         assert!(rt; is_mounted == (k == 4), "{k} calls");
     }
     let mut zeros = MemDisk::new(rt.alloc(), 24).expect(&rt, "memory for a disk");
-    assert_eq!(rt;
-        mounted_within(&rt, rt.alloc(), &mut zeros, u64::MAX),
-        Err(JournalFault::Damaged(5))
-    );
+    check_mounted(&rt, rt.alloc(), &mut zeros, Err(JournalFault::Damaged(5)));
 }
 
 #[test]
@@ -416,11 +420,6 @@ fn faults_as_text(rt: HostRuntime) {
         (JournalFault::NoSuchJob, "no such job is pending"),
         (JournalFault::NoMemory, "out of memory"),
     ] {
-        assert_eq!(rt;
-            format!(in rt.alloc(); "{fault}")
-                .expect(&rt, "memory for a text")
-                .as_str(),
-            text
-        );
+        expect_text(&rt, rt.alloc(), &fault, text);
     }
 }

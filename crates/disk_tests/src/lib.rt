@@ -17,3 +17,5 @@ mod records;
 mod sectors;
 #[cfg(test)]
 mod stores;
+#[cfg(test)]
+mod texts;

@@ -4,25 +4,18 @@ ghost use Rattle.sector_disk.specs.Memory.{state_of};
 ghost use Rattle.job_journal.specs.Journal.{IsSound};
 ghost use Rattle.node_store.specs.Store.{slots_for};
 
+use crate::texts::expect_text;
 use job_model::{Payload, Queue, Work};
-use node_store::{NodeStore, StoreFault, format};
+use node_store::{MountFault, NodeStore, StoreFault, format};
 use sector_disk::MemDisk;
 use std::alloc::Global;
 use std::process::Abort;
 
-// The fault of a mounting, if it is refused.
-fn refusal(alloc: Global, disk: MemDisk) -> Option<StoreFault> {
-    match NodeStore::mount(alloc, disk) {
-        Ok(_) => None,
-        Err(refused) => Some(refused.fault),
-    }
-}
-
-// A disk of 24 sectors with an empty store.
-fn formatted(alloc: Global) -> Result<MemDisk, StoreFault>
+// A disk of so many sectors with an empty store.
+fn formatted(alloc: Global, sectors: u64) -> Result<MemDisk, StoreFault>
     ensures { IfOk result (λ disk. IsSound (slots_for (state_of disk).sectors) (state_of disk)) }
 {
-    let Ok(mut disk) = MemDisk::new(alloc, 24) else {
+    let Ok(mut disk) = MemDisk::new(alloc, sectors) else {
         return Err(StoreFault::NoMemory);
     };
     format(&mut disk)?;
@@ -39,73 +32,94 @@ fn mounted(alloc: Global, disk: MemDisk) -> Result<NodeStore<MemDisk>, StoreFaul
     }
 }
 
-fn opened(rt: &impl Abort, alloc: Global) -> NodeStore<MemDisk>
+fn opened(rt: &impl Abort, alloc: Global, sectors: u64) -> NodeStore<MemDisk>
     ensures { IsSound result.journal.slots (state_of result.disk) }
 {
-    let disk = formatted(alloc).expect(rt, "a formatted disk");
+    let disk = formatted(alloc, sectors).expect(rt, "a formatted disk");
     mounted(alloc, disk).expect(rt, "a mounted store")
 }
 
-// Puts a job of two bytes.
-fn put(store: &mut NodeStore<MemDisk>) -> Option<Result<u64, StoreFault>>
-    requires { IsSound store.old.journal.slots (state_of store.old.disk) }
-    ensures { IsSound store.new.journal.slots (state_of store.new.disk) }
-{
-    let queue = Queue::new(1)?;
-    let payload = Payload::new(b"hi")?;
-    Some(store.put(Work {
-        queue,
+// A call of a store. A put is of a job of two bytes.
+#[derive(Clone, Copy, Debug)]
+enum Call {
+    Put,
+    Done(u64),
+    Raise,
+    Compact,
+}
+
+fn work(rt: &impl Abort) -> Work {
+    Work {
+        queue: Queue::new(1).expect(rt, "a queue"),
         priority: 7,
-        payload,
-    }))
-}
-
-fn done(store: &mut NodeStore<MemDisk>, id: u64) -> Result<u64, StoreFault>
-    requires { IsSound store.old.journal.slots (state_of store.old.disk) }
-    ensures { IsSound store.new.journal.slots (state_of store.new.disk) }
-{
-    store.done(id)
-}
-
-fn compact(store: &mut NodeStore<MemDisk>) -> Result<(), StoreFault>
-    requires { IsSound store.old.journal.slots (state_of store.old.disk) }
-    ensures { IsSound store.new.journal.slots (state_of store.new.disk) }
-{
-    store.compact()
-}
-
-// Of 24 sectors an area has four slots: two jobs, a Base and a Done fit.
-#[test]
-fn smallest_disk(rt: HostRuntime) {
-    let mut small = MemDisk::new(rt.alloc(), 23).expect(&rt, "memory for a disk");
-    assert_eq!(rt; format(&mut small), Err(StoreFault::TooSmall));
-    assert_eq!(rt; refusal(rt.alloc(), small), Some(StoreFault::TooSmall));
-    let zeros = MemDisk::new(rt.alloc(), 24).expect(&rt, "memory for a disk");
-    assert_eq!(rt; refusal(rt.alloc(), zeros), Some(StoreFault::NotFormatted));
-    let mut store = opened(&rt, rt.alloc());
-    assert_eq!(rt; put(&mut store), Some(Ok(0)));
-    assert_eq!(rt; put(&mut store), Some(Ok(1)));
-    assert_eq!(rt; put(&mut store), Some(Err(StoreFault::Full)));
-}
-
-// The counter and how many jobs are pending, or why a disk isn't mounted.
-type Mounting = Result<(u64, usize), StoreFault>;
-
-// What a disk mounts as.
-fn mounts_as(alloc: Global, disk: MemDisk) -> Mounting {
-    match NodeStore::mount(alloc, disk) {
-        Ok(store) => Ok((store.counter(), store.table().pending().len())),
-        Err(refused) => Err(refused.fault),
+        payload: Payload::new(b"hi").expect(rt, "a payload"),
     }
 }
 
-// A disk whose counter is 2, in slot A over a 1 in slot B, and on which one job is pending.
-fn used(rt: &impl Abort, alloc: Global) -> MemDisk {
-    let mut store = opened(rt, alloc);
-    assert!(rt; put(&mut store) == Some(Ok(0)), "no job was put");
-    store.raise().expect(rt, "a raised counter");
-    store.raise().expect(rt, "a raised counter");
-    store.into_disk()
+// Makes a call. A compaction that is done answers 0.
+fn make(rt: &impl Abort, store: &mut NodeStore<MemDisk>, call: Call) -> Result<u64, StoreFault>
+    requires { IsSound store.old.journal.slots (state_of store.old.disk) }
+    ensures { IsSound store.new.journal.slots (state_of store.new.disk) }
+{
+    match call {
+        Call::Put => store.put(work(rt)),
+        Call::Done(id) => store.done(id),
+        Call::Raise => store.raise(),
+        Call::Compact => compact(store),
+    }
+}
+
+fn compact(store: &mut NodeStore<MemDisk>) -> Result<u64, StoreFault>
+    requires { IsSound store.old.journal.slots (state_of store.old.disk) }
+    ensures { IsSound store.new.journal.slots (state_of store.new.disk) }
+{
+    match store.compact() {
+        Ok(()) => Ok(0),
+        Err(fault) => Err(fault),
+    }
+}
+
+// A call and its answer.
+type Row = (Call, Result<u64, StoreFault>);
+
+// Opens an empty store of so many sectors, makes these calls, and compares their answers.
+fn after(rt: &impl Abort, alloc: Global, sectors: u64, rows: &[Row]) -> NodeStore<MemDisk> {
+    let mut store = opened(rt, alloc, sectors);
+    for (call, want) in rows {
+        let found = make(rt, &mut store, *call);
+        assert!(rt; found == *want, "{call:?}");
+    }
+    store
+}
+
+// The fault of a mounting, if it is refused.
+fn refusal(alloc: Global, disk: MemDisk) -> Option<StoreFault> {
+    mount(alloc, disk).err().map(|refused| refused.fault)
+}
+
+fn mount(alloc: Global, disk: MemDisk) -> Result<NodeStore<MemDisk>, MountFault<MemDisk>> {
+    NodeStore::mount(alloc, disk)
+}
+
+fn raise(store: &mut NodeStore<MemDisk>) -> Result<u64, StoreFault> {
+    store.raise()
+}
+
+fn new_disk(rt: &impl Abort, alloc: Global, sectors: u64) -> MemDisk {
+    MemDisk::new(alloc, sectors).expect(rt, "memory for a disk")
+}
+
+// The counter, the next id and how many jobs are pending, or why a disk isn't mounted.
+type Mounting = Result<(u64, u64, usize), StoreFault>;
+
+// What a disk mounts as.
+fn mounts_as(alloc: Global, disk: MemDisk) -> Mounting {
+    let store = match mount(alloc, disk) {
+        Ok(store) => store,
+        Err(refused) => return Err(refused.fault),
+    };
+    let table = store.table();
+    Ok((store.counter(), table.next(), table.pending().len()))
 }
 
 // Formats in so many device calls at most, and crashes.
@@ -116,6 +130,27 @@ fn formatted_within(disk: &mut MemDisk, calls: u64, fill: &[u8]) -> Result<(), S
     answer
 }
 
+// Of 24 sectors an area has four slots: two jobs, a Base and a Done fit.
+#[test]
+fn smallest_disk(rt: HostRuntime) {
+    let mut small = new_disk(&rt, rt.alloc(), 23);
+    let answer = formatted_within(&mut small, 0, &[]);
+    assert!(rt; answer == Err(StoreFault::TooSmall));
+    assert!(rt; refusal(rt.alloc(), small) == Some(StoreFault::TooSmall));
+    let zeros = new_disk(&rt, rt.alloc(), 24);
+    assert!(rt; refusal(rt.alloc(), zeros) == Some(StoreFault::NotFormatted));
+    after(
+        &rt,
+        rt.alloc(),
+        24,
+        &[
+            (Call::Put, Ok(0)),
+            (Call::Put, Ok(1)),
+            (Call::Put, Err(StoreFault::Full)),
+        ],
+    );
+}
+
 // Formats a new disk in so many device calls at most, and crashes: whether the formatting is done, and what the disk mounts as.
 fn stopped_on_a_new_disk(
     rt: &impl Abort,
@@ -123,7 +158,7 @@ fn stopped_on_a_new_disk(
     calls: u64,
     fill: &[u8],
 ) -> (bool, Mounting) {
-    let mut disk = MemDisk::new(alloc, 24).expect(rt, "memory for a disk");
+    let mut disk = new_disk(rt, alloc, 24);
     let answer = formatted_within(&mut disk, calls, fill);
     (answer.is_ok(), mounts_as(alloc, disk))
 }
@@ -136,7 +171,7 @@ fn format_stopped_at_each_call(rt: HostRuntime) {
         for k in 0..=25 {
             let torn = seals && (k >= 17 && k <= 20 || k >= 23);
             let want = if k == 25 || torn {
-                Ok((0, 0))
+                Ok((0, 0, 0))
             } else {
                 Err(StoreFault::NotFormatted)
             };
@@ -144,6 +179,16 @@ fn format_stopped_at_each_call(rt: HostRuntime) {
             assert!(rt; found == (k == 25, want), "{k} calls");
         }
     }
+}
+
+// A disk whose counter is 2, in slot A over a 1 in slot B, and on which one job is pending.
+fn used(rt: &impl Abort, alloc: Global) -> MemDisk {
+    let rows = [
+        (Call::Put, Ok(0)),
+        (Call::Raise, Ok(1)),
+        (Call::Raise, Ok(2)),
+    ];
+    after(rt, alloc, 24, &rows).into_disk()
 }
 
 // The same of a disk in use, where the crash leaves nothing over.
@@ -156,12 +201,12 @@ fn stopped_on_a_used_disk(rt: &impl Abort, alloc: Global, calls: u64) -> (bool, 
 // What is found of a disk in use that was being formatted again, and stopped after so many calls.
 fn left_after(calls: u64) -> Mounting {
     match calls {
-        0..=8 => Ok((2, 1)),
-        9 | 10 | 17 | 18 => Ok((2, 0)),
+        0..=8 => Ok((2, 1, 1)),
+        9 | 10 | 17 | 18 => Ok((2, 0, 0)),
         11..=16 => Err(StoreFault::Damaged(5)),
-        19 | 20 => Ok((1, 0)),
+        19 | 20 => Ok((1, 0, 0)),
         21..=24 => Err(StoreFault::NotFormatted),
-        _ => Ok((0, 0)),
+        _ => Ok((0, 0, 0)),
     }
 }
 
@@ -178,95 +223,93 @@ fn used_disk_formatted_again(rt: HostRuntime) {
 // Areas of 4,096 slots, the most there are: the second one ends in the last sector.
 #[test]
 fn greatest_disk(rt: HostRuntime) {
-    let mut disk = MemDisk::new(rt.alloc(), 16392).expect(&rt, "memory for a disk");
-    format(&mut disk).expect(&rt, "a formatted disk");
-    let mut store = mounted(rt.alloc(), disk).expect(&rt, "a mounted store");
-    assert_eq!(rt; put(&mut store), Some(Ok(0)));
-    compact(&mut store).expect(&rt, "a compacted journal");
-    assert_eq!(rt; put(&mut store), Some(Ok(1)));
-    let mut disk = store.into_disk();
+    let rows = [
+        (Call::Put, Ok(0)),
+        (Call::Compact, Ok(0)),
+        (Call::Put, Ok(1)),
+    ];
+    let mut disk = after(&rt, rt.alloc(), 16392, &rows).into_disk();
     disk.crash(&[]);
-    assert_eq!(rt; mounts_as(rt.alloc(), disk), Ok((0, 2)));
+    assert!(rt; mounts_as(rt.alloc(), disk) == Ok((0, 2, 2)));
 }
 
 // Five commands for four slots: the last of them finds no free slot, and compacts.
 #[test]
 fn full_journal(rt: HostRuntime) {
-    let mut store = opened(&rt, rt.alloc());
-    assert_eq!(rt; put(&mut store), Some(Ok(0)));
-    assert_eq!(rt; put(&mut store), Some(Ok(1)));
-    assert_eq!(rt; put(&mut store), Some(Err(StoreFault::Full)));
-    assert_eq!(rt; done(&mut store, 0), Ok(0));
-    assert_eq!(rt; put(&mut store), Some(Ok(2)));
-    assert_eq!(rt; done(&mut store, 1), Ok(1));
-    assert_eq!(rt; store.table().pending().len(), 1);
+    let rows = [
+        (Call::Put, Ok(0)),
+        (Call::Put, Ok(1)),
+        (Call::Put, Err(StoreFault::Full)),
+        (Call::Done(0), Ok(0)),
+        (Call::Put, Ok(2)),
+        (Call::Done(1), Ok(1)),
+    ];
+    let store = after(&rt, rt.alloc(), 24, &rows);
+    assert!(rt; store.table().pending().len() == 1);
 }
 
 #[test]
 fn compacted_again_and_again(rt: HostRuntime) {
-    let mut store = opened(&rt, rt.alloc());
-    compact(&mut store).expect(&rt, "a compacted journal");
-    compact(&mut store).expect(&rt, "a compacted journal");
-    compact(&mut store).expect(&rt, "a compacted journal");
-    assert_eq!(rt; put(&mut store), Some(Ok(0)));
+    after(
+        &rt,
+        rt.alloc(),
+        24,
+        &[
+            (Call::Compact, Ok(0)),
+            (Call::Compact, Ok(0)),
+            (Call::Compact, Ok(0)),
+            (Call::Put, Ok(0)),
+        ],
+    );
 }
 
 #[test]
 fn commands_are_mounted_again(rt: HostRuntime) {
-    let mut store = opened(&rt, rt.alloc());
-    assert_eq!(rt; put(&mut store), Some(Ok(0)));
-    assert_eq!(rt; put(&mut store), Some(Ok(1)));
-    assert_eq!(rt; store.done(0), Ok(0));
-    assert_eq!(rt; store.raise(), Ok(1));
-    let mut disk = store.into_disk();
+    let rows = [
+        (Call::Put, Ok(0)),
+        (Call::Put, Ok(1)),
+        (Call::Done(0), Ok(0)),
+        (Call::Raise, Ok(1)),
+    ];
+    let mut disk = after(&rt, rt.alloc(), 24, &rows).into_disk();
     disk.crash(&[0xff; 512]);
-    let Ok(store) = NodeStore::mount(rt.alloc(), disk) else {
-        panic!(rt; "not mounted");
-    };
-    assert_eq!(rt; store.counter(), 1);
-    assert_eq!(rt; store.table().next(), 2);
-    assert_eq!(rt; store.table().pending().len(), 1);
+    assert!(rt; mounts_as(rt.alloc(), disk) == Ok((1, 2, 1)));
 }
 
 // Mounts a disk whose counter was raised in so many device calls at most, and then with enough of them: whether the first was enough.
 fn is_mounted_within(rt: &impl Abort, alloc: Global, calls: u64) -> bool {
-    let mut store = opened(rt, alloc);
-    store.raise().expect(rt, "a raised counter");
-    let mut disk = store.into_disk();
+    let mut disk = after(rt, alloc, 24, &[(Call::Raise, Ok(1))]).into_disk();
     disk.arm(calls);
-    let (is_mounted, mut disk) = match NodeStore::mount(alloc, disk) {
-        Ok(store) => (true, store.into_disk()),
-        Err(refused) => {
-            assert_eq!(rt; refused.fault, StoreFault::Device);
-            (false, refused.disk)
-        }
+    let (fault, mut disk) = match mount(alloc, disk) {
+        Ok(store) => (None, store.into_disk()),
+        Err(refused) => (Some(refused.fault), refused.disk),
     };
+    assert!(rt; matches!(fault, None | Some(StoreFault::Device)));
     disk.arm(9);
-    assert_eq!(rt; refusal(alloc, disk), None);
-    is_mounted
+    assert!(rt; refusal(alloc, disk).is_none());
+    fault.is_none()
 }
 
 // A sync; sectors 1, 0, 3 and 2 of the counter; 5, 4 and 7 of the area cell; and the gate in sector 9.
 #[test]
 fn mounting_fails_at_each_call(rt: HostRuntime) {
     for k in 0..=9 {
-        assert!(rt;
-            is_mounted_within(&rt, rt.alloc(), k) == (k == 9),
-            "{k} calls"
-        );
+        let is_mounted = is_mounted_within(&rt, rt.alloc(), k);
+        assert!(rt; is_mounted == (k == 9), "{k} calls");
     }
 }
 
 // The mounting takes eight calls, since the second slot of the counter isn't sealed, and the raise fails in its second.
 #[test]
 fn broken_after_a_device_fault(rt: HostRuntime) {
-    let mut disk = opened(&rt, rt.alloc()).into_disk();
+    let mut disk = after(&rt, rt.alloc(), 24, &[]).into_disk();
     disk.arm(9);
-    let Ok(mut store) = NodeStore::mount(rt.alloc(), disk) else {
+    let Ok(mut store) = mount(rt.alloc(), disk) else {
         panic!(rt; "not mounted");
     };
-    assert_eq!(rt; store.raise(), Err(StoreFault::Device));
-    assert_eq!(rt; store.raise(), Err(StoreFault::Broken));
+    for fault in [StoreFault::Device, StoreFault::Broken] {
+        assert!(rt; raise(&mut store) == Err(fault), "{fault}");
+    }
 }
 
 #[test]
@@ -282,11 +325,6 @@ fn faults_as_text(rt: HostRuntime) {
         (StoreFault::NoMemory, "out of memory"),
         (StoreFault::TooSmall, "the disk has too few sectors"),
     ] {
-        assert_eq!(rt;
-            format!(in rt.alloc(); "{fault}")
-                .expect(&rt, "memory for a text")
-                .as_str(),
-            text
-        );
+        expect_text(&rt, rt.alloc(), &fault, text);
     }
 }
