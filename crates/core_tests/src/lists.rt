@@ -2,7 +2,7 @@ use group_task::{GroupNo, Members, NodeId, share};
 use job_model::{Payload, Queue, Work};
 use message_list::*;
 use std::alloc::Global;
-use std::test::Fail;
+use std::process::Abort;
 use wire_msg::{Body, Message};
 
 /// How many messages there are to try.
@@ -49,28 +49,27 @@ fn work(priority: u8) -> Option<Work> {
 }
 
 /// Two messages of each kind, one kind after another.
-fn twice_each_kind(alloc: Global) -> Result<MessageList, Fail> {
+fn twice_each_kind(rt: &impl Abort, alloc: Global) -> MessageList {
     let mut list = MessageList::new(alloc);
     for place in 0..2 * MESSAGES {
-        let added = message(place % MESSAGES).ok_or("a message")?;
-        list.reserve(1)?;
+        let added = message(place % MESSAGES).expect(rt, "a message");
+        list.reserve(1).expect(rt, "memory");
         list.push(&added);
     }
-    Ok(list)
+    list
 }
 
 #[test]
-fn each_kind_comes_again(rt: HostRuntime) -> Result<(), Fail> {
-    let list = twice_each_kind(rt.alloc())?;
+fn each_kind_comes_again(rt: HostRuntime) {
+    let list = twice_each_kind(&rt, rt.alloc());
     assert_eq!(rt; list.len(), 2 * MESSAGES);
     for place in 0..2 * MESSAGES {
-        let added = message(place % MESSAGES).ok_or("a message")?;
+        let added = message(place % MESSAGES).expect(&rt, "a message");
         assert!(rt; list.ends(place) == Some((added.sender(), added.receiver())));
         assert!(rt; list.get(place) == Some(added));
     }
     assert!(rt; list.ends(2 * MESSAGES).is_none());
     assert!(rt; list.get(2 * MESSAGES).is_none());
-    Ok(())
 }
 
 /// The spellings of those messages: version, kind, sender, receiver, length, body.
@@ -110,31 +109,29 @@ fn wide_message(place: usize) -> Option<Message> {
 }
 
 #[test]
-fn wide_letters_are_spelled(rt: HostRuntime) -> Result<(), Fail> {
+fn wide_letters_are_spelled(rt: HostRuntime) {
     let mut list = MessageList::new(rt.alloc());
     let mut bytes = Vec::new(rt.alloc());
     for place in 0..3usize {
-        list.reserve(1)?;
-        list.push(&wide_message(place).ok_or("a message")?);
+        list.reserve(1).expect(&rt, "memory");
+        list.push(&wide_message(place).expect(&rt, "a message"));
     }
     for (place, expected) in WIDE_SPELLINGS.iter().enumerate() {
         assert!(rt; place < list.len());
-        list.spell(place, &mut bytes)?;
+        list.spell(place, &mut bytes).expect(&rt, "memory");
         assert_eq!(rt; bytes.as_slice(), *expected, "message {place}");
     }
-    Ok(())
 }
 
 #[test]
-fn each_kind_is_spelled(rt: HostRuntime) -> Result<(), Fail> {
-    let list = twice_each_kind(rt.alloc())?;
+fn each_kind_is_spelled(rt: HostRuntime) {
+    let list = twice_each_kind(&rt, rt.alloc());
     let mut bytes = Vec::new(rt.alloc());
     let mut place = 0usize;
     for expected in SPELLINGS.iter().chain(SPELLINGS.iter()) {
         assert!(rt; place < list.len());
-        list.spell(place, &mut bytes)?;
+        list.spell(place, &mut bytes).expect(&rt, "memory");
         assert_eq!(rt; bytes.as_slice(), *expected, "message {place}");
         place += 1;
     }
-    Ok(())
 }

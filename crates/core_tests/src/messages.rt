@@ -2,7 +2,6 @@ use group_task::{GroupNo, Members, NODES, NodeId, share};
 use job_model::{Payload, Queue, Work};
 use std::alloc::{AllocError, Global};
 use std::process::Abort;
-use std::test::Fail;
 use wire_msg::*;
 
 const MESSAGES: usize = 20;
@@ -143,13 +142,13 @@ fn non_message(place: usize) -> (&'static [u8], &'static str) {
 }
 
 #[test]
-fn vectors(rt: HostRuntime) -> Result<(), Fail> {
+fn vectors(rt: HostRuntime) {
     let mut again = Vec::new(rt.alloc());
     for place in 0..MESSAGES {
-        let message = message(place).ok_or("a message")?;
-        let bytes = encode(rt.alloc(), &message)?;
+        let message = message(place).expect(&rt, "a message");
+        let bytes = encode(rt.alloc(), &message).expect(&rt, "memory");
         assert_eq!(rt; bytes.as_slice(), spelling(place), "{place} is written");
-        encode_into(&mut again, &message)?;
+        encode_into(&mut again, &message).expect(&rt, "memory");
         assert_eq!(rt;
             again.as_slice(),
             spelling(place),
@@ -157,7 +156,6 @@ fn vectors(rt: HostRuntime) -> Result<(), Fail> {
         );
         assert!(rt; decode(spelling(place)) == Ok(message), "{place} is read");
     }
-    Ok(())
 }
 
 #[test]
@@ -170,30 +168,28 @@ fn non_messages(rt: HostRuntime) {
 
 /// A Work whose head tells of as many bytes as are left of it, cut at each place.
 #[test]
-fn work_cut_short(rt: HostRuntime) -> Result<(), Fail> {
+fn work_cut_short(rt: HostRuntime) {
     let whole = spelling(17);
     for end in 6..whole.len() {
         let mut bytes = Vec::new(rt.alloc());
-        bytes.extend_from_slice(&whole[..end])?;
-        bytes[5] = u8::try_from(end - 6).or(Err("a byte"))?;
+        bytes.extend_from_slice(&whole[..end]).expect(&rt, "memory");
+        bytes[5] = u8::try_from(end - 6).expect(&rt, "a byte");
         assert!(rt; decode(&whole[..end]) == Err(WireFault::Malformed), "{end}");
         assert!(rt; decode(&bytes) == Err(WireFault::Malformed), "{end}");
     }
-    Ok(())
 }
 
 /// The longest body is that of a Work with a priority and 400 bytes: 421 bytes.
 #[test]
-fn longest_work(rt: HostRuntime) -> Result<(), Fail> {
+fn longest_work(rt: HostRuntime) {
     let [zero, one] = [NodeId::numbered(0), NodeId::numbered(1)];
-    let body = work(GroupNo::numbered(zero, 2), 0, 9, &[0xa5; 400]).ok_or("a work")?;
+    let body = work(GroupNo::numbered(zero, 2), 0, 9, &[0xa5; 400]).expect(&rt, "a work");
     let message = Message::between(zero, one, body);
-    let bytes = encode(rt.alloc(), &message)?;
+    let bytes = encode(rt.alloc(), &message).expect(&rt, "memory");
     assert_eq!(rt; bytes.len(), 427);
     assert_eq!(rt; &bytes[..6], b"\x01\x0b\x00\x01\x01\xa5".as_slice());
     assert_eq!(rt; &bytes[23..27], b"\x01\x09\x01\x90".as_slice());
     assert!(rt; decode(&bytes) == Ok(message));
-    Ok(())
 }
 
 /// All of the spellings, one behind the other.
@@ -207,62 +203,58 @@ pub(crate) fn all_spellings(alloc: Global) -> Result<Vec<u8>, AllocError> {
 
 /// A task of all nodes is told in 138 bytes, and its whole spelling has six more.
 #[test]
-fn task_of_all_nodes(rt: HostRuntime) -> Result<(), Fail> {
+fn task_of_all_nodes(rt: HostRuntime) {
     let [zero, one] = [NodeId::numbered(0), NodeId::numbered(1)];
     let all = Members::below(NODES);
     assert!(rt; all.contains(zero));
     let task = share(GroupNo::numbered(zero, 2), all);
     let message = Message::between(zero, one, Body::Ready(task));
-    let bytes = encode(rt.alloc(), &message)?;
+    let bytes = encode(rt.alloc(), &message).expect(&rt, "memory");
     assert_eq!(rt; bytes.len(), 144);
     assert_eq!(rt; &bytes[..6], b"\x02\x07\x00\x01\x00\x8a".as_slice());
     assert_eq!(rt; bytes[143], 127);
     assert!(rt; decode(&bytes) == Ok(message));
-    Ok(())
 }
 
-pub(crate) fn expect_all(rt: &impl Abort, out: &[Message]) -> Result<(), Fail> {
+pub(crate) fn expect_all(rt: &impl Abort, out: &[Message]) {
     assert_eq!(rt; out.len(), MESSAGES);
     for (place, given) in out.iter().enumerate() {
         assert!(rt; Some(*given) == message(place), "{place}");
     }
-    Ok(())
 }
 
 #[test]
-fn cut_at_each_place(rt: HostRuntime) -> Result<(), Fail> {
-    let bytes = all_spellings(rt.alloc())?;
+fn cut_at_each_place(rt: HostRuntime) {
+    let bytes = all_spellings(rt.alloc()).expect(&rt, "memory");
     for cut in 0..=bytes.len() {
         let mut stream = Stream::new(rt.alloc());
         let mut out = Vec::new(rt.alloc());
         let (front, back) = bytes.split_at(cut);
-        stream.feed(front, &mut out)?;
-        stream.feed(back, &mut out)?;
-        expect_all(&rt, &out)?;
+        stream.feed(front, &mut out).expect(&rt, "messages");
+        stream.feed(back, &mut out).expect(&rt, "messages");
+        expect_all(&rt, &out);
         assert_eq!(rt; stream.rest(), 0);
     }
-    Ok(())
 }
 
 #[test]
-fn byte_by_byte(rt: HostRuntime) -> Result<(), Fail> {
-    let bytes = all_spellings(rt.alloc())?;
+fn byte_by_byte(rt: HostRuntime) {
+    let bytes = all_spellings(rt.alloc()).expect(&rt, "memory");
     let mut stream = Stream::new(rt.alloc());
     let mut out = Vec::new(rt.alloc());
     for byte in bytes.iter() {
-        stream.feed(&[*byte], &mut out)?;
+        stream.feed(&[*byte], &mut out).expect(&rt, "messages");
     }
-    expect_all(&rt, &out)?;
+    expect_all(&rt, &out);
     assert_eq!(rt; stream.rest(), 0);
-    Ok(())
 }
 
 #[test]
-fn rest_and_malformed(rt: HostRuntime) -> Result<(), Fail> {
+fn rest_and_malformed(rt: HostRuntime) {
     let mut stream = Stream::new(rt.alloc());
     let mut out = Vec::new(rt.alloc());
-    stream.feed(spelling(7), &mut out)?;
-    stream.feed(b"\x01\x01\x02", &mut out)?;
+    stream.feed(spelling(7), &mut out).expect(&rt, "a message");
+    stream.feed(b"\x01\x01\x02", &mut out).expect(&rt, "a part");
     assert_eq!(rt; out.len(), 1);
     assert_eq!(rt; stream.rest(), 3);
     assert!(rt;
@@ -272,43 +264,45 @@ fn rest_and_malformed(rt: HostRuntime) -> Result<(), Fail> {
     assert_eq!(rt; stream.rest(), 0);
     assert!(rt; stream.feed(spelling(0), &mut out) == Err(WireFault::Malformed));
     assert_eq!(rt; out.len(), 1);
-    Ok(())
 }
 
 #[test]
-fn malformed_behind_good_frames(rt: HostRuntime) -> Result<(), Fail> {
-    let mut bytes = all_spellings(rt.alloc())?;
-    bytes.extend_from_slice(
-        b"\x01\x07\x00\x01\x00\x0c\x00\x00\x00\x00\x00\x00\x00\x00\x02\x02\x01\x00",
-    )?;
+fn malformed_behind_good_frames(rt: HostRuntime) {
+    let mut bytes = all_spellings(rt.alloc()).expect(&rt, "memory");
+    bytes
+        .extend_from_slice(
+            b"\x01\x07\x00\x01\x00\x0c\x00\x00\x00\x00\x00\x00\x00\x00\x02\x02\x01\x00",
+        )
+        .expect(&rt, "memory");
     let mut stream = Stream::new(rt.alloc());
     let mut out = Vec::new(rt.alloc());
     assert!(rt; stream.feed(&bytes, &mut out) == Err(WireFault::Malformed));
-    expect_all(&rt, &out)?;
+    expect_all(&rt, &out);
     assert_eq!(rt; stream.rest(), 0);
-    Ok(())
 }
 
 #[test]
-fn frame_is_judged_once_it_is_whole(rt: HostRuntime) -> Result<(), Fail> {
+fn frame_is_judged_once_it_is_whole(rt: HostRuntime) {
     let mut stream = Stream::new(rt.alloc());
     let mut out = Vec::new(rt.alloc());
-    stream.feed(b"\xff\xff\xff\xff\x00\x02\x00", &mut out)?;
+    stream
+        .feed(b"\xff\xff\xff\xff\x00\x02\x00", &mut out)
+        .expect(&rt, "a part");
     assert_eq!(rt; stream.rest(), 7);
     assert!(rt; stream.feed(b"\x00", &mut out) == Err(WireFault::Malformed));
     assert_eq!(rt; stream.rest(), 0);
-    Ok(())
 }
 
 #[test]
-fn ends_and_faults(rt: HostRuntime) -> Result<(), Fail> {
-    let message = message(0).ok_or("a message")?;
+fn ends_and_faults(rt: HostRuntime) {
+    let message = message(0).expect(&rt, "a message");
     assert_eq!(rt; message.sender().number(), 2);
     assert_eq!(rt; message.receiver().number(), 0);
     assert!(rt; *message.body() == Body::AreYouCoordinator);
     let again = Message::new(message.sender(), message.sender(), Body::AreYouCoordinator);
     assert!(rt; again.is_none());
-    let text = format!(in rt.alloc(); "{}, {}", WireFault::Malformed, WireFault::NoMemory)?;
+    let text = format!(in rt.alloc(); "{}, {}", WireFault::Malformed, WireFault::NoMemory).expect(
+        &rt, "memory",
+    );
     assert_eq!(rt; text.as_str(), "malformed, no memory");
-    Ok(())
 }

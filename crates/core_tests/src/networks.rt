@@ -1,21 +1,23 @@
 use group_task::NodeId;
 use sim_net::*;
-use std::test::Fail;
 use wire_msg::{Body, Message};
 
 #[test]
-fn lost_and_cut(rt: HostRuntime) -> Result<(), Fail> {
-    let [zero, one] = [NodeId::new(0).ok_or("0")?, NodeId::new(1).ok_or("1")?];
-    let asks = Message::new(zero, one, Body::AreYouCoordinator).ok_or("a question")?;
-    let answers = Message::new(one, zero, Body::Coordinator(true)).ok_or("an answer")?;
+fn lost_and_cut(rt: HostRuntime) {
+    let [zero, one] = [
+        NodeId::new(0).expect(&rt, "0"),
+        NodeId::new(1).expect(&rt, "1"),
+    ];
+    let asks = Message::new(zero, one, Body::AreYouCoordinator).expect(&rt, "a question");
+    let answers = Message::new(one, zero, Body::Coordinator(true)).expect(&rt, "an answer");
     let mut net = Net::new(rt.alloc());
-    assert_eq!(rt; net.send(&asks)?, 0);
+    assert_eq!(rt; net.send(&asks).expect(&rt, "memory"), 0);
     net.cut(one, zero);
     assert!(rt; net.deliver(0) == Err(NetFault::Cut));
     net.mend(zero, one);
-    assert!(rt; net.deliver(0)? == asks);
-    assert_eq!(rt; net.send(&answers)?, 1);
-    net.lose(0)?;
+    assert!(rt; net.deliver(0).expect(&rt, "a message") == asks);
+    assert_eq!(rt; net.send(&answers).expect(&rt, "memory"), 1);
+    net.lose(0).expect(&rt, "a message");
     assert!(rt; net.deliver(0) == Err(NetFault::Lost));
     assert!(rt; net.lose(0) == Err(NetFault::Lost));
     assert!(rt; net.deliver(9) == Err(NetFault::NoSuch));
@@ -23,7 +25,6 @@ fn lost_and_cut(rt: HostRuntime) -> Result<(), Fail> {
     net.cut(zero, one);
     assert!(rt; net.deliver(0) == Err(NetFault::Lost));
     assert!(rt; net.deliver(1) == Err(NetFault::Cut));
-    Ok(())
 }
 
 /// The message of node 0 to node 1 that the job of this id is done.
@@ -32,29 +33,28 @@ fn done(id: u64) -> Message {
 }
 
 #[test]
-fn each_number_comes_again(rt: HostRuntime) -> Result<(), Fail> {
+fn each_number_comes_again(rt: HostRuntime) {
     let mut net = Net::new(rt.alloc());
-    net.reserve(20)?;
+    net.reserve(20).expect(&rt, "memory");
     for number in 0..20 {
-        assert_eq!(rt; net.send(&done(number))?, number);
+        assert_eq!(rt; net.send(&done(number)).expect(&rt, "memory"), number);
     }
     for number in 0..20 {
-        assert!(rt; net.deliver(number)? == done(number));
+        assert!(rt; net.deliver(number).expect(&rt, "a message") == done(number));
         assert!(rt; net.sent().get(number as usize) == Some(done(number)));
     }
     assert_eq!(rt; net.sent().len(), 20);
-    Ok(())
 }
 
 #[test]
-fn names_of_faults(rt: HostRuntime) -> Result<(), Fail> {
+fn names_of_faults(rt: HostRuntime) {
     let text = format!(in rt.alloc();
         "{}, {}, {}, {}",
         NetFault::NoSuch,
         NetFault::Lost,
         NetFault::Cut,
         NetFault::NoMemory
-    )?;
+    )
+    .expect(&rt, "memory");
     assert_eq!(rt; text.as_str(), "NoSuch, Lost, Cut, no memory");
-    Ok(())
 }

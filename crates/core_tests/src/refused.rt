@@ -1,5 +1,7 @@
 //! Pieces of a stream that are refused for want of memory and fed again. In a run of this test by itself there is memory, and no piece is
 //! refused; `tests/hostile/refused_tried.py` runs it again and again, and each time refuses one allocation more.
+ghost use Rattle.std.specs.Prelude.{◌<◌};
+
 use crate::messages::{all_spellings, expect_all, spelling};
 use std::alloc::Global;
 use std::io::Print;
@@ -53,19 +55,33 @@ fn refused_feed(rt: HostRuntime) -> Result<(), Fail> {
     for size in [3usize, 50, 1000] {
         let mut fed = Fed::new(rt.alloc());
         let mut twin = Fed::new(rt.alloc());
-        for piece in bytes.chunks(size) {
-            assert!(rt; fed.feed(&rt, piece)?);
-            assert!(rt; twin.feed(&rt, piece)?);
-            fed.expect_same(&rt, &twin);
-        }
-        expect_all(&rt, &fed.out)?;
-        // From a frame on that is malformed nothing comes.
-        for piece in [b"\x01\x01\x00\x00\x00\x00".as_slice(), spelling(0)] {
-            assert!(rt; !fed.feed(&rt, piece)?);
-            assert!(rt; !twin.feed(&rt, piece)?);
-            fed.expect_same(&rt, &twin);
-        }
-        expect_all(&rt, &fed.out)?;
+        feed_both(&rt, &bytes, size, &mut fed, &mut twin)?;
     }
+    Ok(())
+}
+
+/// Feeds two streams in pieces of this size.
+fn feed_both<R: Abort + Print>(
+    rt: &R,
+    bytes: &[u8],
+    size: usize,
+    fed: &mut Fed,
+    twin: &mut Fed,
+) -> Result<(), Fail>
+    requires { 0 < size }
+{
+    for piece in bytes.chunks(size) {
+        assert!(rt; fed.feed(rt, piece)?);
+        assert!(rt; twin.feed(rt, piece)?);
+        fed.expect_same(rt, twin);
+    }
+    expect_all(rt, &fed.out);
+    // From a frame on that is malformed nothing comes.
+    for piece in [b"\x01\x01\x00\x00\x00\x00".as_slice(), spelling(0)] {
+        assert!(rt; !fed.feed(rt, piece)?);
+        assert!(rt; !twin.feed(rt, piece)?);
+        fed.expect_same(rt, twin);
+    }
+    expect_all(rt, &fed.out);
     Ok(())
 }

@@ -26,28 +26,9 @@ const JOIN: [Act; 5] = [
     Act::Deliver(8),
 ];
 
-/// Node 2 accepts too late, asks its coordinator, and recovers.
-const LATE: [Act; 5] = [
-    Act::Deliver(5),
-    Act::Deliver(9),
-    Act::Coord(2),
-    Act::Deliver(10),
-    Act::Deliver(11),
-];
-
 const OPENING: &str = "node 0 Normal coord 0 group 0:1 up - members 0 count 1 pending - hand -
 node 1 Normal coord 1 group 1:1 up - members 1 count 1 pending - hand -
 node 2 Normal coord 2 group 2:1 up - members 2 count 1 pending - hand -
-";
-
-const JOINED: &str = "node 0 Normal coord 0 group 0:2 up 1 members 0,1 count 2 pending - hand -
-node 1 Normal coord 0 group 0:2 up - members 0,1 count 1 pending - hand -
-node 2 Normal coord 2 group 2:1 up - members 2 count 1 pending - hand -
-";
-
-const RECOVERED: &str = "node 0 Normal coord 0 group 0:2 up 1 members 0,1 count 2 pending - hand -
-node 1 Normal coord 0 group 0:2 up - members 0,1 count 1 pending - hand -
-node 2 Normal coord 2 group 2:2 up - members 2 count 2 pending - hand -
 ";
 
 /// Three nodes after these acts, of which nothing is printed.
@@ -58,6 +39,12 @@ fn three_after(rt: &impl Abort, alloc: Global, parts: &[&[Act]]) -> Result<Clust
     }
     cluster.text.clear();
     Ok(cluster)
+}
+
+/// A message of these bytes stands behind those that were sent.
+fn hear(rt: &impl Abort, cluster: &mut Cluster, bytes: &[u8]) {
+    let message = decode(bytes).expect(rt, "a message");
+    cluster.sent.push(message).expect(rt, "memory");
 }
 
 /// Makes these acts, and compares what they print, and the nodes after them.
@@ -76,125 +63,20 @@ fn check(
     Ok(())
 }
 
-#[test]
-fn merge_of_three(rt: HostRuntime) -> Result<(), Fail> {
-    let mut cluster = three_after(&rt, rt.alloc(), &[])?;
-    check(
-        &rt,
-        &mut cluster,
-        &MERGE,
-        "ok 0:010100010000 1:010100020000
-ok 2:01020100000101
-ok 3:01020200000101
-ok
-ok
-ok 4:010500010009000000000000000002 5:010500020009000000000000000002
-",
-        "node 0 Election coord 0 group 0:2 up - members - count 2 pending - hand -
-node 1 Normal coord 1 group 1:1 up - members 1 count 1 pending - hand -
-node 2 Normal coord 2 group 2:1 up - members 2 count 1 pending - hand -
-",
-    )
-}
-
-#[test]
-fn two_join(rt: HostRuntime) -> Result<(), Fail> {
-    let mut cluster = three_after(&rt, rt.alloc(), &[&MERGE])?;
-    check(
-        &rt,
-        &mut cluster,
-        &JOIN,
-        "ok 6:010601000009000000000000000002
-ok
-ok 7:01070001000c000000000000000002020001
-ok 8:010801000009000000000000000002
-ok
-",
-        JOINED,
-    )
-}
-
-#[test]
-fn late_accept(rt: HostRuntime) -> Result<(), Fail> {
-    let mut cluster = three_after(&rt, rt.alloc(), &[&MERGE, &JOIN])?;
-    check(
-        &rt,
-        &mut cluster,
-        &LATE,
-        "ok 9:010602000009000000000000000002
-ok
-ok 10:010302000009000000000000000002
-ok 11:01040002000a00000000000000000200
-ok
-",
-        RECOVERED,
-    )
-}
-
-/// After its accept node 2 is in Reorganization, and the accept changes nothing at node 0.
-#[test]
-fn late_accept_half_way(rt: HostRuntime) -> Result<(), Fail> {
-    let mut cluster = three_after(&rt, rt.alloc(), &[&MERGE, &JOIN])?;
-    check(
-        &rt,
-        &mut cluster,
-        &[Act::Deliver(5), Act::Deliver(9)],
-        "ok 9:010602000009000000000000000002\nok\n",
-        "node 0 Normal coord 0 group 0:2 up 1 members 0,1 count 2 pending - hand -
-node 1 Normal coord 0 group 0:2 up - members 0,1 count 1 pending - hand -
-node 2 Reorganization coord 0 group 0:2 up - members - count 1 pending - hand -
-",
-    )
-}
-
-#[test]
-fn repeated_ready(rt: HostRuntime) -> Result<(), Fail> {
-    let mut cluster = three_after(&rt, rt.alloc(), &[&MERGE, &JOIN, &LATE])?;
-    check(
-        &rt,
-        &mut cluster,
-        &[Act::Deliver(7)],
-        "ok 12:010801000009000000000000000002\n",
-        RECOVERED,
-    )
-}
-
-#[test]
-fn work_and_done(rt: HostRuntime) -> Result<(), Fail> {
-    let mut cluster = three_after(&rt, rt.alloc(), &[&MERGE, &JOIN])?;
-    check(
-        &rt,
-        &mut cluster,
-        &[
-            Act::Submit(1, 0, b"\0"),
-            Act::Submit(0, 1, b"hi"),
-            Act::Deliver(9),
-        ],
-        "refused NotCoordinator 0
-ok id 0 9:01090001001600000000000000000200000000000000000100026869
-ok
-",
-        "node 0 Normal coord 0 group 0:2 up 1 members 0,1 count 2 pending 0 hand -
-node 1 Normal coord 0 group 0:2 up - members 0,1 count 1 pending - hand 0:0
-node 2 Normal coord 2 group 2:1 up - members 2 count 1 pending - hand -
-",
-    )?;
-    cluster.text.clear();
-    check(
-        &rt,
-        &mut cluster,
-        &[Act::Finish(1, 0, 0), Act::Deliver(10)],
-        "ok 10:010a010000080000000000000000\nok\n",
-        JOINED,
-    )
-}
-
 /// An invitation into a node's own group changes nothing, and one into another node's group is accepted.
 #[test]
 fn own_invitation(rt: HostRuntime) -> Result<(), Fail> {
     let mut cluster = three_after(&rt, rt.alloc(), &[])?;
-    cluster.sent.push(decode(b"\x01\x05\x01\x00\x00\x09\x00\x00\x00\x00\x00\x00\x00\x00\x02")?)?;
-    cluster.sent.push(decode(b"\x01\x05\x01\x00\x00\x09\x01\x00\x00\x00\x00\x00\x00\x00\x02")?)?;
+    hear(
+        &rt,
+        &mut cluster,
+        b"\x01\x05\x01\x00\x00\x09\x00\x00\x00\x00\x00\x00\x00\x00\x02",
+    );
+    hear(
+        &rt,
+        &mut cluster,
+        b"\x01\x05\x01\x00\x00\x09\x01\x00\x00\x00\x00\x00\x00\x00\x02",
+    );
     check(
         &rt,
         &mut cluster,
@@ -202,35 +84,6 @@ fn own_invitation(rt: HostRuntime) -> Result<(), Fail> {
         "ok\nok 2:010600010009010000000000000002\n",
         "node 0 Reorganization coord 1 group 1:2 up - members - count 1 pending - hand -
 node 1 Normal coord 1 group 1:1 up - members 1 count 1 pending - hand -
-node 2 Normal coord 2 group 2:1 up - members 2 count 1 pending - hand -
-",
-    )
-}
-
-/// A coordinator whose member doesn't acknowledge gives the group up; the acknowledgement comes too late. ReadyTimer at another node
-/// changes nothing.
-#[test]
-fn ready_timer(rt: HostRuntime) -> Result<(), Fail> {
-    let accepted = [Act::Deliver(4), Act::Deliver(6), Act::Accept(0)];
-    let mut cluster = three_after(&rt, rt.alloc(), &[&MERGE, &accepted])?;
-    check(
-        &rt,
-        &mut cluster,
-        &[Act::Ready(1), Act::Ready(2), Act::Ready(0)],
-        "ok\nok\nok\n",
-        "node 0 Normal coord 0 group 0:3 up - members 0 count 3 pending - hand -
-node 1 Reorganization coord 0 group 0:2 up - members - count 1 pending - hand -
-node 2 Normal coord 2 group 2:1 up - members 2 count 1 pending - hand -
-",
-    )?;
-    cluster.text.clear();
-    check(
-        &rt,
-        &mut cluster,
-        &[Act::Deliver(7), Act::Deliver(8)],
-        "ok 8:010801000009000000000000000002\nok\n",
-        "node 0 Normal coord 0 group 0:3 up - members 0 count 3 pending - hand -
-node 1 Normal coord 0 group 0:2 up - members 0,1 count 1 pending - hand -
 node 2 Normal coord 2 group 2:1 up - members 2 count 1 pending - hand -
 ",
     )
@@ -255,22 +108,6 @@ fn merge_with_nothing_found(rt: HostRuntime) -> Result<(), Fail> {
     )?;
     assert_eq!(rt; cluster.merge_wait(0)?, None);
     Ok(())
-}
-
-/// A coordinator whose invitation nobody accepted in time is Normal at once, alone. An accept that comes later changes nothing.
-#[test]
-fn accept_timer_alone(rt: HostRuntime) -> Result<(), Fail> {
-    let mut cluster = three_after(&rt, rt.alloc(), &[&MERGE])?;
-    check(
-        &rt,
-        &mut cluster,
-        &[Act::Accept(0), Act::Deliver(4), Act::Deliver(6)],
-        "ok\nok 6:010601000009000000000000000002\nok\n",
-        "node 0 Normal coord 0 group 0:2 up - members 0 count 2 pending - hand -
-node 1 Reorganization coord 0 group 0:2 up - members - count 1 pending - hand -
-node 2 Normal coord 2 group 2:1 up - members 2 count 1 pending - hand -
-",
-    )
 }
 
 /// Of two pending jobs one is sent to its owner once more, and the other is in hand already. Once the node is alone, both are its own.
@@ -319,7 +156,7 @@ fn strangers(rt: HostRuntime) -> Result<(), Fail> {
         b"\x01\x05\x01\x00\x00\x09\x03\x00\x00\x00\x00\x00\x00\x00\x02",
         b"\x01\x07\x01\x00\x00\x0d\x01\x00\x00\x00\x00\x00\x00\x00\x02\x03\x00\x01\x03",
     ] {
-        cluster.sent.push(decode(bytes)?)?;
+        hear(&rt, &mut cluster, bytes);
     }
     check(
         &rt,
@@ -361,26 +198,6 @@ fn down_until_recovered(rt: HostRuntime) -> Result<(), Fail> {
 node 1 Normal coord 1 group 1:1 up - members 1 count 1 pending - hand -
 node 2 Normal coord 2 group 2:1 up - members 2 count 1 pending - hand -
 ",
-    )
-}
-
-/// A job is finished by its origin and its id, once.
-#[test]
-fn unknown_jobs(rt: HostRuntime) -> Result<(), Fail> {
-    let mut cluster = three_after(&rt, rt.alloc(), &[])?;
-    check(
-        &rt,
-        &mut cluster,
-        &[
-            Act::Finish(0, 0, 0),
-            Act::Submit(0, 0, b"a"),
-            Act::Finish(0, 1, 0),
-            Act::Finish(0, 0, 1),
-            Act::Finish(0, 0, 0),
-            Act::Finish(0, 0, 0),
-        ],
-        "refused UnknownJob\nok id 0\nrefused UnknownJob\nrefused UnknownJob\nok\nrefused UnknownJob\n",
-        OPENING,
     )
 }
 
@@ -451,15 +268,23 @@ node 2 Normal coord 2 group 2:1 up - members 2 count 1 pending - hand -
 /// How long a node of six waits that asked, and whom these answered that they coordinate.
 fn wait_after(rt: &impl Abort, alloc: Global, node: u8, found: &[u8]) -> Result<Option<u64>, Fail> {
     let mut cluster = Cluster::new(rt, alloc, 6)?;
+    answer(rt, &mut cluster, node, found)?;
+    cluster.merge_wait(node)
+}
+
+fn answer(rt: &impl Abort, cluster: &mut Cluster, node: u8, found: &[u8]) -> Result<(), Fail> {
     cluster.run(&[Act::Check(node)])?;
-    let receiver = NodeId::new(node).ok_or("no id of a node")?;
+    let receiver = NodeId::new(node).expect(rt, "a node");
     for (place, other) in found.iter().enumerate() {
-        let sender = NodeId::new(*other).ok_or("no id of a node")?;
+        let sender = NodeId::new(*other).expect(rt, "a node");
         let answer = Message::new(sender, receiver, Body::Coordinator(true));
-        cluster.sent.push(answer.ok_or("no message")?)?;
+        cluster
+            .sent
+            .push(answer.expect(rt, "a message"))
+            .expect(rt, "memory");
         cluster.run(&[Act::Deliver(place.saturating_add(5))])?;
     }
-    cluster.merge_wait(node)
+    Ok(())
 }
 
 #[test]
@@ -474,39 +299,42 @@ fn merge_waits(rt: HostRuntime) -> Result<(), Fail> {
 #[test]
 fn greatest_group(rt: HostRuntime) -> Result<(), Fail> {
     let mut cluster = Cluster::new(&rt, rt.alloc(), NODES)?;
+    gather_all(&rt, rt.alloc(), &mut cluster)
+}
+
+fn gather_all(rt: &impl Abort, alloc: Global, cluster: &mut Cluster) -> Result<(), Fail> {
     cluster.run(&[Act::Check(0)])?;
     cluster.deliver_all(0, 254)?;
     cluster.run(&[Act::Merge(0)])?;
     cluster.deliver_all(254, 508)?;
     cluster.run(&[Act::Accept(0)])?;
-    check_task(&rt, rt.alloc(), &cluster)?;
+    check_task(rt, alloc, cluster);
     cluster.deliver_all(508, 762)?;
-    check_group(&rt, &cluster)
+    check_group(rt, cluster);
+    Ok(())
 }
 
 /// The first message that tells the task of 128 members: its length is 138.
-fn check_task(rt: &impl Abort, alloc: Global, cluster: &Cluster) -> Result<(), Fail> {
-    let ready = cluster.sent.get(508).ok_or("no task is sent")?;
-    let bytes = encode(alloc, ready)?;
+fn check_task(rt: &impl Abort, alloc: Global, cluster: &Cluster) {
+    let ready = cluster.sent.get(508).expect(rt, "a task");
+    let bytes = encode(alloc, ready).expect(rt, "memory");
     assert_eq!(rt; bytes.len(), 144);
     assert!(rt;
         bytes.starts_with(
             b"\x02\x07\x00\x01\x00\x8a\x00\x00\x00\x00\x00\x00\x00\x00\x02\x80\x00\x01\x02"
         )
     );
-    Ok(())
 }
 
-fn check_group(rt: &impl Abort, cluster: &Cluster) -> Result<(), Fail> {
+fn check_group(rt: &impl Abort, cluster: &Cluster) {
     assert_eq!(rt; cluster.sent.len(), 762);
-    let fifteen = Queue::new(15).ok_or("no such queue")?;
+    let fifteen = Queue::new(15).expect(rt, "a queue");
     for node in cluster.nodes.iter() {
         let vector = node.core.vector();
-        let task = vector.task.ok_or("no task")?;
+        let task = vector.task.expect(rt, "a task");
         assert!(rt; vector.phase == Phase::Normal);
         assert_eq!(rt; vector.coordinator.number(), 0);
         assert_eq!(rt; task.members().len(), 128);
         assert_eq!(rt; owner(&task, fifteen).number(), 15);
     }
-    Ok(())
 }

@@ -47,6 +47,8 @@ impl Node {
 
     /// One whole step: its plan, its command, and its commit.
     pub fn step(&mut self, event: &Event) -> Result<(), &'static str> {
+        // the last list is given back before the next one is taken
+        self.sent = Vec::new(self.alloc);
         let Ok(plan) = self.core.plan_step(event, &self.table) else {
             return Err("a step was refused");
         };

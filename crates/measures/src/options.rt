@@ -81,7 +81,10 @@ impl Options {
             "coordinator" => self.setting.coordinator = units,
             "coordinator_jitter" => self.setting.coordinator_jitter = units,
             "answer" => self.setting.answer = units,
-            "silent_checks" => self.setting.silent_checks = (units % 256) as u8,
+            "silent_checks" => match u8::try_from(units) {
+                Ok(checks) => self.setting.silent_checks = checks,
+                Err(_) => return Err("no number"),
+            },
             _ => return Err("no such option"),
         }
         Ok(())

@@ -16,11 +16,15 @@ pub fn raise(alloc: Global, raises: u64, between: u64) -> Result<u64, &'static s
     if format(&mut disk, 0, 0).is_err() {
         return Err("no format");
     }
-    for round in 0..raises / between.max(1) {
+    let between = between.max(1);
+    for round in 0..raises / between {
         disk.crash(&[]);
         if !raise_mounted(&mut disk, between) {
             return Err("no raise");
         }
+    }
+    if !raise_mounted(&mut disk, raises % between) {
+        return Err("no raise");
     }
     disk.crash(&[]);
     match mount(&mut disk, 0) {

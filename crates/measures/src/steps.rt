@@ -9,7 +9,7 @@ use wire_msg::{Body, Message};
 /// How many nodes the measured cluster has.
 const CLUSTER: u8 = 64;
 
-/// Makes so many steps of a kind at node 0, and answers how many messages were sent. None where there is no such kind.
+/// Makes so many steps of a kind at node 0, and answers how many messages were sent.
 pub fn steps(alloc: Global, kind: &str, steps: u64) -> Result<u64, &'static str> {
     let mut node = Node::new(alloc, NodeId::numbered(0), CLUSTER, 4_096)?;
     node.step(&Event::Recover)?;

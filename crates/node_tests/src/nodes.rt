@@ -54,7 +54,7 @@ fn greatest_count(rt: HostRuntime) -> Result<(), Fail> {
     let mut node = DurableNode::down(rt.alloc(), NodeId::numbered(0), 1, disk);
     assert_eq!(rt; told(node.recover()), Err(NodeFault::Exhausted));
     assert_eq!(rt; node.vector().phase, Phase::Down);
-    let (found, _) = node.mounted().ok_or("a mounting")?;
+    let (found, _) = node.mounted().expect(&rt, "a mounting");
     assert_eq!(rt; found, 18446744073709551615);
     assert_eq!(rt; node.doubt(), None);
     assert_eq!(rt; node.into_disk().failures(), 0);

@@ -162,16 +162,25 @@ fn step<R: Abort + Print>(
 fn refused_step(rt: HostRuntime) -> Result<(), Fail> {
     let mut cluster = opened(rt.alloc())?;
     let mut twin = opened(rt.alloc())?;
+    step_both(&rt, rt.alloc(), &mut cluster, &mut twin)
+}
+
+fn step_both<R: Abort + Print>(
+    rt: &R,
+    alloc: Global,
+    cluster: &mut Cluster,
+    twin: &mut Cluster,
+) -> Result<(), Fail> {
     for line in ACTS {
-        let outcome = step(&rt, rt.alloc(), &mut cluster, line)?;
-        let other = step(&rt, rt.alloc(), &mut twin, line)?;
+        let outcome = step(rt, alloc, cluster, line)?;
+        let other = step(rt, alloc, twin, line)?;
         if (outcome == Came::Faulted) != (other == Came::Faulted) {
             return Ok(());
         }
         assert!(rt; outcome == other, "{line}");
-        expect_same(&rt, &cluster, &twin);
+        expect_same(rt, cluster, twin);
     }
-    let (phase, group, _, _, kept) = known(&cluster, 0).ok_or("node 0")?;
+    let (phase, group, _, _, kept) = known(cluster, 0).expect(rt, "node 0");
     assert!(rt; phase == Phase::Normal);
     assert_eq!(rt; (group.creator().number(), group.count()), (0, 3));
     assert_eq!(rt; kept, Some((3, 2, 1)));

@@ -83,8 +83,8 @@ fn expect(
     want: &str,
 ) -> Result<bool, Fail> {
     let mut session = begun(alloc, calls)?;
-    session.feed(first)?;
-    session.feed(second)?;
+    session.feed(first).expect(rt, "memory");
+    session.feed(second).expect(rt, "memory");
     assert_eq!(rt;
         session.text(),
         want.as_bytes(),
@@ -112,7 +112,7 @@ fn byte_by_byte(rt: HostRuntime) -> Result<(), Fail> {
     for (lines, want) in ROWS {
         let mut session = begun(rt.alloc(), u64::MAX)?;
         for byte in lines.as_bytes() {
-            session.feed(&[*byte])?;
+            session.feed(&[*byte]).expect(&rt, "memory");
         }
         assert_eq!(rt; session.text(), want.as_bytes(), "{lines}");
     }

@@ -1,8 +1,8 @@
 use group_task::NodeId;
 use job_model::{Payload, Queue, Work};
 use node_core::Event;
-use std::alloc::{AllocError, Global};
-use std::test::Fail;
+use std::alloc::Global;
+use std::process::Abort;
 use trace_check::{Deed, History, RecoverFault, Trace, Verdict, check};
 use wire_msg::{Body, Message};
 
@@ -21,23 +21,16 @@ fn answered(from: u8) -> Option<Message> {
     Message::new(node(number), node(1 - number), Body::Coordinator(true))
 }
 
-fn add(history: &mut History, deed: Deed, sent: Option<Message>) -> Result<(), AllocError> {
-    history.push(&deed, sent.as_slice())
+fn add(rt: &impl Abort, history: &mut History, deed: Deed, sent: Option<Message>) {
+    history.push(&deed, sent.as_slice()).expect(rt, "memory");
 }
 
 // the verdict of two histories
-fn told(alloc: Global, first: History, second: History) -> Result<Verdict, AllocError> {
+fn told(rt: &impl Abort, alloc: Global, first: History, second: History) -> Verdict {
     let mut histories = Vec::new(alloc);
-    histories.push(first)?;
-    histories.push(second)?;
-    check(alloc, &Trace::new(histories))
-}
-
-fn is_run(verdict: &Verdict, order: &[NodeId]) -> bool {
-    match verdict {
-        Verdict::Run(nodes) => nodes.as_slice() == order,
-        Verdict::NotARun(_, _) => false,
-    }
+    histories.push(first).expect(rt, "memory");
+    histories.push(second).expect(rt, "memory");
+    check(alloc, &Trace::new(histories)).expect(rt, "memory")
 }
 
 fn is_not_a_run(verdict: &Verdict, node: NodeId, index: usize) -> bool {
@@ -47,82 +40,23 @@ fn is_not_a_run(verdict: &Verdict, node: NodeId, index: usize) -> bool {
     }
 }
 
-// what node 1 does in a question that is answered
-fn answers(alloc: Global) -> Result<History, Fail> {
-    let mut entries = History::new(alloc);
-    let asked = asked(0).ok_or("a message")?;
-    add(&mut entries, Deed::Done(Event::Deliver(asked)), answered(1))?;
-    Ok(entries)
-}
-
-#[test]
-fn verdicts(rt: HostRuntime) -> Result<(), Fail> {
-    let alloc = rt.alloc();
-    let mut asks = History::new(alloc);
-    let told_yes = answered(1).ok_or("a message")?;
-    add(&mut asks, Deed::Done(Event::CheckTimer), asked(0))?;
-    add(&mut asks, Deed::Done(Event::Deliver(told_yes)), None)?;
-    let verdict = told(alloc, asks, answers(alloc)?)?;
-    assert!(rt; is_run(&verdict, &[node(0), node(1), node(0)]));
-    Ok(())
-}
-
-#[test]
-fn verdicts_without_the_question(rt: HostRuntime) -> Result<(), Fail> {
-    let alloc = rt.alloc();
-    let verdict = told(alloc, History::new(alloc), answers(alloc)?)?;
-    assert!(rt; is_not_a_run(&verdict, node(1), 0));
-    Ok(())
-}
-
-// node 0 answers node 1
-fn answers_back(alloc: Global) -> Result<History, Fail> {
-    let mut entries = History::new(alloc);
-    let asked = asked(1).ok_or("a message")?;
-    add(&mut entries, Deed::Done(Event::Deliver(asked)), answered(0))?;
-    Ok(entries)
-}
-
-#[test]
-fn circle_is_no_run(rt: HostRuntime) -> Result<(), Fail> {
-    let alloc = rt.alloc();
-    let mut asks = History::new(alloc);
-    let told_yes = answered(0).ok_or("a message")?;
-    add(&mut asks, Deed::Done(Event::Deliver(told_yes)), None)?;
-    add(&mut asks, Deed::Done(Event::CheckTimer), asked(1))?;
-    let verdict = told(alloc, answers_back(alloc)?, asks)?;
-    assert!(rt; is_not_a_run(&verdict, node(0), 0));
-    Ok(())
-}
-
-#[test]
-fn half_circle_is_a_run(rt: HostRuntime) -> Result<(), Fail> {
-    let alloc = rt.alloc();
-    let mut asks = History::new(alloc);
-    add(&mut asks, Deed::Done(Event::CheckTimer), asked(1))?;
-    let verdict = told(alloc, answers_back(alloc)?, asks)?;
-    assert!(rt; is_run(&verdict, &[node(1), node(0)]));
-    Ok(())
-}
-
 // node 0 falls with a raise in doubt, and recovers with it or without
-fn falls(alloc: Global, kept: bool) -> Result<History, Fail> {
+fn falls(rt: &impl Abort, alloc: Global, kept: bool) -> History {
     let mut entries = History::new(alloc);
-    add(&mut entries, Deed::Faulted(Event::Recover), None)?;
-    add(&mut entries, Deed::Recovered(kept), None)?;
-    add(&mut entries, Deed::Crashed, None)?;
-    add(&mut entries, Deed::Recovered(false), None)?;
-    Ok(entries)
+    add(rt, &mut entries, Deed::Faulted(Event::Recover), None);
+    add(rt, &mut entries, Deed::Recovered(kept), None);
+    add(rt, &mut entries, Deed::Crashed, None);
+    add(rt, &mut entries, Deed::Recovered(false), None);
+    entries
 }
 
 #[test]
-fn a_doubt_is_settled_once(rt: HostRuntime) -> Result<(), Fail> {
+fn a_doubt_is_settled_once(rt: HostRuntime) {
     let alloc = rt.alloc();
-    let mut again = falls(alloc, true)?;
-    add(&mut again, Deed::Recovered(true), None)?;
-    let verdict = told(alloc, falls(alloc, false)?, again)?;
+    let mut again = falls(&rt, alloc, true);
+    add(&rt, &mut again, Deed::Recovered(true), None);
+    let verdict = told(&rt, alloc, falls(&rt, alloc, false), again);
     assert!(rt; is_not_a_run(&verdict, node(1), 4));
-    Ok(())
 }
 
 // one deed of each kind
@@ -154,14 +88,14 @@ fn deed(place: usize) -> Option<Deed> {
 }
 
 // each kind twice, every second entry with a message
-fn twice_each_deed(alloc: Global) -> Result<History, Fail> {
+fn twice_each_deed(rt: &impl Abort, alloc: Global) -> History {
     let mut entries = History::new(alloc);
     for place in 0..32 {
-        let deed = deed(place % 16).ok_or("a deed")?;
+        let deed = deed(place % 16).expect(rt, "a deed");
         let sent = if place % 2 == 1 { answered(1) } else { None };
-        add(&mut entries, deed, sent)?;
+        add(rt, &mut entries, deed, sent);
     }
-    Ok(entries)
+    entries
 }
 
 fn is_at(entries: &History, place: usize) -> bool {
@@ -173,12 +107,11 @@ fn is_at(entries: &History, place: usize) -> bool {
 }
 
 #[test]
-fn each_deed_comes_again(rt: HostRuntime) -> Result<(), Fail> {
-    let entries = twice_each_deed(rt.alloc())?;
+fn each_deed_comes_again(rt: HostRuntime) {
+    let entries = twice_each_deed(&rt, rt.alloc());
     assert_eq!(rt; entries.len(), 32);
     for place in 0..32 {
         assert!(rt; is_at(&entries, place), "entry {place}");
     }
     assert!(rt; entries.entry(32).is_none());
-    Ok(())
 }

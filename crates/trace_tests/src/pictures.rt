@@ -1,7 +1,6 @@
 use console_text::Source;
 use std::alloc::Global;
 use std::process::Abort;
-use std::test::Fail;
 use trace_draw::draw;
 
 // What is drawn for a trace, and whether the status is 0.
@@ -29,7 +28,7 @@ fn refused(rt: &impl Abort, alloc: Global, trace: &[u8], want: &[u8]) {
 
 // Node 0 asks node 1, and is answered: turns at 110, 136 and 162, lines at 80 and 150.
 #[test]
-fn question_and_answer(rt: HostRuntime) -> Result<(), Fail> {
+fn question_and_answer(rt: HostRuntime) {
     expect(
         &rt,
         rt.alloc(),
@@ -46,12 +45,11 @@ fn question_and_answer(rt: HostRuntime) -> Result<(), Fail> {
 </svg>
 "#,
     );
-    Ok(())
 }
 
 // A node crashes, and comes back in its second group; it recovers while it is up, in its third; then it is refused something.
 #[test]
-fn crash_and_recovery(rt: HostRuntime) -> Result<(), Fail> {
+fn crash_and_recovery(rt: HostRuntime) {
     expect(
         &rt,
         rt.alloc(),
@@ -66,12 +64,11 @@ fn crash_and_recovery(rt: HostRuntime) -> Result<(), Fail> {
 </svg>
 "#,
     );
-    Ok(())
 }
 
 // Of two questions that are the same, the answer's arrow comes from the later one.
 #[test]
-fn the_last_sender(rt: HostRuntime) -> Result<(), Fail> {
+fn the_last_sender(rt: HostRuntime) {
     expect(
         &rt,
         rt.alloc(),
@@ -85,11 +82,10 @@ fn the_last_sender(rt: HostRuntime) -> Result<(), Fail> {
 </svg>
 "#,
     );
-    Ok(())
 }
 
 #[test]
-fn no_picture(rt: HostRuntime) -> Result<(), Fail> {
+fn no_picture(rt: HostRuntime) {
     let alloc = rt.alloc();
     refused(
         &rt,
@@ -104,5 +100,4 @@ fn no_picture(rt: HostRuntime) -> Result<(), Fail> {
         b"bad trace 1 1\n",
     );
     refused(&rt, alloc, b"[]", b"bad trace\n");
-    Ok(())
 }

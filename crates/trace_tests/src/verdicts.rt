@@ -1,7 +1,6 @@
 use console_text::{Source, push_text};
-use std::alloc::{AllocError, Global};
+use std::alloc::Global;
 use std::process::Abort;
-use std::test::Fail;
 use trace_console::trace;
 
 // Expects this text for a trace, and that the status is 0 exactly where it is a Run.
@@ -231,13 +230,17 @@ const BAD: [&str; 47] = [
     r#"{"do":"finish","origin":0,"id":0,"fault":"mount","sent":[]}"#,
 ];
 
+fn push(rt: &impl Abort, text: &mut Vec<u8>, word: &str) {
+    push_text(text, word).expect(rt, "memory");
+}
+
 // The trace of a cluster of one node with these entries.
-fn of_one_node(alloc: Global, entries: &str) -> Result<Vec<u8>, AllocError> {
+fn of_one_node(rt: &impl Abort, alloc: Global, entries: &str) -> Vec<u8> {
     let mut text = Vec::new(alloc);
-    push_text(&mut text, "{\"nodes\":1,\"histories\":[[")?;
-    push_text(&mut text, entries)?;
-    push_text(&mut text, "]]}")?;
-    Ok(text)
+    push(rt, &mut text, "{\"nodes\":1,\"histories\":[[");
+    push(rt, &mut text, entries);
+    push(rt, &mut text, "]]}");
+    text
 }
 
 #[test]
@@ -248,47 +251,43 @@ fn whole_traces(rt: HostRuntime) {
 }
 
 #[test]
-fn table_of_entries(rt: HostRuntime) -> Result<(), Fail> {
+fn table_of_entries(rt: HostRuntime) {
     for (entries, want) in ENTRIES.iter() {
-        let text = of_one_node(rt.alloc(), entries)?;
+        let text = of_one_node(&rt, rt.alloc(), entries);
         expect(&rt, rt.alloc(), &text, want.as_bytes());
     }
-    Ok(())
 }
 
 #[test]
-fn bad_entries(rt: HostRuntime) -> Result<(), Fail> {
+fn bad_entries(rt: HostRuntime) {
     for entry in BAD.iter() {
-        let text = of_one_node(rt.alloc(), entry)?;
+        let text = of_one_node(&rt, rt.alloc(), entry);
         expect(&rt, rt.alloc(), &text, b"bad trace 0 0\n");
     }
-    Ok(())
 }
 
 // The word, so many times.
-fn push_times(text: &mut Vec<u8>, word: &str, times: u32) -> Result<(), AllocError> {
+fn push_times(rt: &impl Abort, text: &mut Vec<u8>, word: &str, times: u32) {
     for _time in 0..times {
-        push_text(text, word)?;
+        push(rt, text, word);
     }
-    Ok(())
 }
 
 // The trace of a node with no entries, with a list nested so deep under a key that isn't named.
-fn nested(alloc: Global, depth: u32) -> Result<Vec<u8>, AllocError> {
+fn nested(rt: &impl Abort, alloc: Global, depth: u32) -> Vec<u8> {
     let mut text = Vec::new(alloc);
-    push_text(&mut text, "{\"nodes\":1,\"histories\":[[]],\"x\":")?;
-    push_times(&mut text, "[", depth)?;
-    push_times(&mut text, "]", depth)?;
-    push_text(&mut text, "}")?;
-    Ok(text)
+    push(rt, &mut text, "{\"nodes\":1,\"histories\":[[]],\"x\":");
+    push_times(rt, &mut text, "[", depth);
+    push_times(rt, &mut text, "]", depth);
+    push(rt, &mut text, "}");
+    text
 }
 
 #[test]
-fn levels(rt: HostRuntime) -> Result<(), Fail> {
+fn levels(rt: HostRuntime) {
     let alloc = rt.alloc();
-    expect(&rt, alloc, &nested(alloc, 126)?, b"Run\n");
-    expect(&rt, alloc, &nested(alloc, 127)?, b"bad trace\n");
-    Ok(())
+    expect(&rt, alloc, &nested(&rt, alloc, 126), b"Run\n");
+    expect(&rt, alloc, &nested(&rt, alloc, 127), b"bad trace\n");
 }
 
 #[test]
@@ -303,42 +302,41 @@ fn no_utf8(rt: HostRuntime) {
 }
 
 // The trace of a node that submits a job of so many bytes.
-fn submitted(alloc: Global, bytes: u32) -> Result<Vec<u8>, AllocError> {
+fn submitted(rt: &impl Abort, alloc: Global, bytes: u32) -> Vec<u8> {
     let mut text = Vec::new(alloc);
-    push_text(
+    push(
+        rt,
         &mut text,
         "{\"nodes\":1,\"histories\":[[{\"do\":\"submit\",\"queue\":0,\"payload\":\"",
-    )?;
-    push_times(&mut text, "61", bytes)?;
-    push_text(&mut text, "\",\"sent\":[]}]]}")?;
-    Ok(text)
+    );
+    push_times(rt, &mut text, "61", bytes);
+    push(rt, &mut text, "\",\"sent\":[]}]]}");
+    text
 }
 
 #[test]
-fn payload_limit(rt: HostRuntime) -> Result<(), Fail> {
+fn payload_limit(rt: HostRuntime) {
     let alloc = rt.alloc();
-    expect(&rt, alloc, &submitted(alloc, 400)?, b"Run 0\n");
-    expect(&rt, alloc, &submitted(alloc, 401)?, b"bad trace 0 0\n");
-    Ok(())
+    expect(&rt, alloc, &submitted(&rt, alloc, 400), b"Run 0\n");
+    expect(&rt, alloc, &submitted(&rt, alloc, 401), b"bad trace 0 0\n");
 }
 
 // The trace of a node that rests so many times and once more, and what is printed for it.
-fn rests(alloc: Global, times: u32) -> Result<(Vec<u8>, Vec<u8>), AllocError> {
+fn rests(rt: &impl Abort, alloc: Global, times: u32) -> (Vec<u8>, Vec<u8>) {
     let mut text = Vec::new(alloc);
-    push_text(&mut text, "{\"nodes\":1,\"histories\":[[")?;
-    push_times(&mut text, "{\"do\":\"none\",\"sent\":[]},", times)?;
-    push_text(&mut text, "{\"do\":\"none\",\"sent\":[]}]]}")?;
+    push(rt, &mut text, "{\"nodes\":1,\"histories\":[[");
+    push_times(rt, &mut text, "{\"do\":\"none\",\"sent\":[]},", times);
+    push(rt, &mut text, "{\"do\":\"none\",\"sent\":[]}]]}");
     let mut want = Vec::new(alloc);
-    push_text(&mut want, "Run 0")?;
-    push_times(&mut want, " 0", times)?;
-    push_text(&mut want, "\n")?;
-    Ok((text, want))
+    push(rt, &mut want, "Run 0");
+    push_times(rt, &mut want, " 0", times);
+    push(rt, &mut want, "\n");
+    (text, want)
 }
 
 #[test]
-fn many_entries(rt: HostRuntime) -> Result<(), Fail> {
+fn many_entries(rt: HostRuntime) {
     let alloc = rt.alloc();
-    let (text, want) = rests(alloc, 65_536)?;
+    let (text, want) = rests(&rt, alloc, 65_536);
     expect(&rt, alloc, &text, &want);
-    Ok(())
 }
