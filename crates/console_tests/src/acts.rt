@@ -2,7 +2,6 @@ use line_words::LineFault;
 use schedule::{Act, Fill, MOST_ACTS, Schedule, read_schedule};
 use std::alloc::Global;
 use std::process::Abort;
-use std::test::Fail;
 
 const CLUSTER: &str = "cluster 3 8\n";
 
@@ -40,16 +39,37 @@ fn ends(one: u8, other: u8) -> [u64; 3] {
     [u64::from(one), u64::from(other), 0]
 }
 
+fn add(rt: &impl Abort, input: &mut Vec<u8>, text: &str) {
+    input
+        .extend_from_slice(text.as_bytes())
+        .expect(rt, "memory for a text");
+}
+
+fn read(alloc: Global, input: &[u8]) -> Result<Schedule, LineFault> {
+    read_schedule(alloc, input)
+}
+
 /// The schedule of a cluster's line and this text.
-fn read_behind_cluster(alloc: Global, text: &str) -> Result<Result<Schedule, LineFault>, Fail> {
+fn read_behind_cluster(rt: &impl Abort, alloc: Global, text: &str) -> Result<Schedule, LineFault> {
     let mut input = Vec::new(alloc);
-    input.extend_from_slice(CLUSTER.as_bytes())?;
-    input.extend_from_slice(text.as_bytes())?;
-    Ok(read_schedule(alloc, &input))
+    add(rt, &mut input, CLUSTER);
+    add(rt, &mut input, text);
+    read(alloc, &input)
+}
+
+/// What is told of the one act in this line.
+type Row<'a> = (&'a str, [u64; 3], &'a str);
+
+fn expect_act(rt: &impl Abort, alloc: Global, line: &str, want: Row<'_>) {
+    let schedule = read_behind_cluster(rt, alloc, line).expect(rt, "a schedule");
+    assert!(rt; schedule.acts.len() == 1, "{line}");
+    let (name, numbers, bytes) = told(schedule.acts.first().expect(rt, "an act"));
+    assert!(rt; name == want.0 && numbers == want.1, "{line}");
+    assert!(rt; bytes == want.2.as_bytes(), "{line}");
 }
 
 #[test]
-fn acts_with_their_fields(rt: HostRuntime) -> Result<(), Fail> {
+fn acts_with_their_fields(rt: HostRuntime) {
     for (line, want) in [
         ("check 0", ("check", [0, 0, 0], "")),
         ("merge 1", ("merge", [1, 0, 0], "")),
@@ -81,19 +101,13 @@ fn acts_with_their_fields(rt: HostRuntime) -> Result<(), Fail> {
         ("recover 2", ("recover", [2, 0, 0], "")),
         ("compact 127", ("compact", [127, 0, 0], "")),
     ] {
-        let schedule = read_behind_cluster(rt.alloc(), line)??;
-        assert_eq!(rt; schedule.acts.len(), 1, "{line}");
-        let (name, numbers, bytes) = told(schedule.acts.first().ok_or("an act")?);
-        assert_eq!(rt; name, want.0, "{line}");
-        assert!(rt; numbers == want.1, "{line}");
-        assert_eq!(rt; bytes, want.2.as_bytes(), "{line}");
+        expect_act(&rt, rt.alloc(), line, want);
     }
-    Ok(())
 }
 
 fn check_lines(rt: &impl Abort, alloc: Global, rows: &[(&str, Option<u64>)]) {
     for (input, bad) in rows {
-        let fault = read_schedule(alloc, input.as_bytes()).err();
+        let fault = read(alloc, input.as_bytes()).err();
         assert!(rt; fault == bad.map(LineFault::BadLine), "{input}");
     }
 }
@@ -127,16 +141,15 @@ fn lines_of_clusters(rt: HostRuntime) {
     );
 }
 
-fn check_bad_lines(rt: &impl Abort, alloc: Global, rows: &[(&str, u64)]) -> Result<(), Fail> {
+fn check_bad_lines(rt: &impl Abort, alloc: Global, rows: &[(&str, u64)]) {
     for (text, bad) in rows {
-        let fault = read_behind_cluster(alloc, text)?.err();
+        let fault = read_behind_cluster(rt, alloc, text).err();
         assert!(rt; fault == Some(LineFault::BadLine(*bad)), "{text}");
     }
-    Ok(())
 }
 
 #[test]
-fn bad_fields(rt: HostRuntime) -> Result<(), Fail> {
+fn bad_fields(rt: HostRuntime) {
     check_bad_lines(
         &rt,
         rt.alloc(),
@@ -176,7 +189,7 @@ fn bad_fields(rt: HostRuntime) -> Result<(), Fail> {
 }
 
 #[test]
-fn bad_shapes(rt: HostRuntime) -> Result<(), Fail> {
+fn bad_shapes(rt: HostRuntime) {
     check_bad_lines(
         &rt,
         rt.alloc(),
@@ -212,64 +225,77 @@ fn bad_shapes(rt: HostRuntime) -> Result<(), Fail> {
     )
 }
 
+/// Expects a schedule of three nodes and so many acts.
+fn expect_count(rt: &impl Abort, alloc: Global, text: &str, count: usize) {
+    let schedule = read_behind_cluster(rt, alloc, text).expect(rt, "a schedule");
+    assert!(rt; schedule.size.nodes == 3 && schedule.size.slots == 8);
+    assert!(rt; schedule.acts.len() == count, "{text}");
+}
+
 #[test]
-fn lines_end(rt: HostRuntime) -> Result<(), Fail> {
-    for text in ["", "\n", "check 1", "check 1\n", "\n\ncheck 1\n\n\n"] {
-        let schedule = read_behind_cluster(rt.alloc(), text)??;
-        assert_eq!(rt; schedule.size.nodes, 3);
-        assert_eq!(rt; schedule.size.slots, 8);
-        let count = usize::from(text.contains("check"));
-        assert_eq!(rt; schedule.acts.len(), count, "{text}");
+fn lines_end(rt: HostRuntime) {
+    for (text, count) in [
+        ("", 0),
+        ("\n", 0),
+        ("check 1", 1),
+        ("check 1\n", 1),
+        ("\n\ncheck 1\n\n\n", 1),
+    ] {
+        expect_count(&rt, rt.alloc(), text, count);
     }
-    Ok(())
 }
 
 /// What comes of a payload of so many bytes.
-fn payload_of(alloc: Global, count: usize) -> Result<Option<LineFault>, Fail> {
+fn payload_of(rt: &impl Abort, alloc: Global, count: usize) -> Option<LineFault> {
     let mut line = Vec::new(alloc);
-    line.extend_from_slice(b"cluster 3 8\nsubmit 0 0 ")?;
+    add(rt, &mut line, "cluster 3 8\nsubmit 0 0 ");
     for _digit in 0..count {
-        line.extend_from_slice(b"a5")?;
+        add(rt, &mut line, "a5");
     }
-    Ok(read_schedule(alloc, &line).err())
+    read(alloc, &line).err()
 }
 
 #[test]
-fn payload_limit(rt: HostRuntime) -> Result<(), Fail> {
-    assert!(rt; payload_of(rt.alloc(), 400)?.is_none());
-    assert!(rt; payload_of(rt.alloc(), 401)? == Some(LineFault::BadLine(2)));
-    Ok(())
+fn payload_limit(rt: HostRuntime) {
+    assert!(rt; payload_of(&rt, rt.alloc(), 400).is_none());
+    assert!(rt; payload_of(&rt, rt.alloc(), 401) == Some(LineFault::BadLine(2)));
 }
 
 /// A cluster's line and so many acts, each with its line feed.
-fn many_acts(alloc: Global, count: u32) -> Result<Vec<u8>, Fail> {
+fn many_acts(rt: &impl Abort, alloc: Global, count: u32) -> Vec<u8> {
     let mut input = Vec::new(alloc);
-    input.extend_from_slice(CLUSTER.as_bytes())?;
+    add(rt, &mut input, CLUSTER);
     for _act in 0..count {
-        input.extend_from_slice(b"lose 0\n")?;
+        add(rt, &mut input, "lose 0\n");
     }
-    Ok(input)
+    input
+}
+
+/// How many acts an input has, or what is wrong with it.
+fn count_of(alloc: Global, input: &[u8]) -> Result<usize, LineFault> {
+    match read(alloc, input) {
+        Ok(schedule) => Ok(schedule.acts.len()),
+        Err(fault) => Err(fault),
+    }
 }
 
 #[test]
-fn acts_limit(rt: HostRuntime) -> Result<(), Fail> {
-    assert_eq!(rt; MOST_ACTS, 65_536);
-    let mut input = many_acts(rt.alloc(), 65_536)?;
-    assert_eq!(rt; read_schedule(rt.alloc(), &input)?.acts.len(), 65_536);
-    input.extend_from_slice(b"\nlose 0\n")?;
-    let fault = read_schedule(rt.alloc(), &input).err();
-    assert!(rt; fault == Some(LineFault::BadLine(65_539)));
-    let more = many_acts(rt.alloc(), 65_537)?;
-    let fault = read_schedule(rt.alloc(), &more).err();
-    assert!(rt; fault == Some(LineFault::BadLine(65_538)));
-    Ok(())
+fn acts_limit(rt: HostRuntime) {
+    assert!(rt; MOST_ACTS == 65_536);
+    let mut input = many_acts(&rt, rt.alloc(), 65_536);
+    assert!(rt; count_of(rt.alloc(), &input) == Ok(65_536));
+    add(&rt, &mut input, "\nlose 0\n");
+    assert!(rt; count_of(rt.alloc(), &input) == Err(LineFault::BadLine(65_539)));
+    let more = many_acts(&rt, rt.alloc(), 65_537);
+    assert!(rt; count_of(rt.alloc(), &more) == Err(LineFault::BadLine(65_538)));
 }
 
 #[test]
-fn fill_keeps_its_bytes(rt: HostRuntime) -> Result<(), Fail> {
+fn fill_keeps_its_bytes(rt: HostRuntime) {
     let mut bytes = Vec::new(rt.alloc());
-    bytes.extend_from_slice(b"\xa5\x37")?;
+    bytes
+        .extend_from_slice(b"\xa5\x37")
+        .expect(&rt, "memory for bytes");
     let fill = Fill::new(bytes);
-    assert_eq!(rt; fill.as_slice(), b"\xa5\x37".as_slice());
-    Ok(())
+    assert!(rt; fill.as_slice() == b"\xa5\x37".as_slice());
 }

@@ -6,6 +6,8 @@
 #[cfg(test)]
 mod acts;
 #[cfg(test)]
+mod printed;
+#[cfg(test)]
 mod records;
 #[cfg(test)]
 mod schedules;

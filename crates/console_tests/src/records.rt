@@ -1,8 +1,6 @@
-use console_text::Source;
-use invite_console::record;
+use crate::printed::recorded;
 use std::alloc::Global;
 use std::process::Abort;
-use std::test::Fail;
 use trace_check::{Verdict, check};
 use trace_text::read;
 
@@ -28,10 +26,9 @@ const RECORDED: [(&str, &str); 4] = [
 
 // Expects this text for a schedule, and status 0 exactly where it is a trace.
 fn expect(rt: &impl Abort, alloc: Global, schedule: &[u8], want: &[u8]) {
-    let mut output = Vec::new(alloc);
-    let ended = record(alloc, &mut Source::new(schedule), &mut output);
-    assert_eq!(rt; output.as_slice().strip_suffix(b"\n"), Some(want));
-    assert_eq!(rt; ended.ending.status() == 0, want.starts_with(b"{"));
+    let printed = recorded(alloc, schedule);
+    assert!(rt; printed.text.as_slice().strip_suffix(b"\n") == Some(want));
+    assert!(rt; (printed.ended.ending.status() == 0) == want.starts_with(b"{"));
 }
 
 #[test]
@@ -42,12 +39,15 @@ fn schedules_are_recorded(rt: HostRuntime) {
     expect(&rt, rt.alloc(), b"cluster 1 4\nchek 0\n", b"bad line 2");
 }
 
+fn is_run(rt: &impl Abort, alloc: Global, text: &str) -> bool {
+    let trace = read(alloc, text.as_bytes()).ok().expect(rt, "a trace");
+    let verdict = check(alloc, &trace).expect(rt, "memory for a verdict");
+    matches!(verdict, Verdict::Run(_))
+}
+
 #[test]
-fn what_is_recorded_is_a_run(rt: HostRuntime) -> Result<(), Fail> {
-    let alloc = rt.alloc();
-    for (_, text) in RECORDED {
-        let trace = read(alloc, text.as_bytes()).or(Err("a trace"))?;
-        assert!(rt; matches!(check(alloc, &trace)?, Verdict::Run(_)));
+fn what_is_recorded_is_a_run(rt: HostRuntime) {
+    for (schedule, text) in RECORDED {
+        assert!(rt; is_run(&rt, rt.alloc(), text), "{schedule}");
     }
-    Ok(())
 }

@@ -1,12 +1,12 @@
 //! Schedules that can't be read, or of which acts are refused or cut off, and what they print. Whole ones stand in the folder `schedules` at the top of
 //! the repository, where they are to be read; `tests/schedules.sh` runs them.
+use crate::printed::{sim_from, simulated};
 use console_text::{Ending, Sink, Source};
-use invite_console::{Telling, sim};
+use invite_console::Telling;
 use std::alloc::Global;
 use std::io;
 use std::io::{Read, Write};
 use std::process::Abort;
-use std::test::Fail;
 
 /// Schedules of which a line can't be read, with what is printed, and what standard error says.
 const BAD_LINES: [(&str, &str, &str); 9] = [
@@ -64,11 +64,7 @@ const REFUSED: (&str, &str) = (
 );
 
 fn check(rt: &impl Abort, alloc: Global, input: &str, want: &str, status: u8) {
-    let mut source = Source::new(input.as_bytes());
-    let mut output = Vec::new(alloc);
-    let ended = sim(alloc, PLAIN, &mut source, &mut output);
-    assert_eq!(rt; output.as_slice(), want.as_bytes());
-    assert_eq!(rt; ended.ending.status(), status);
+    simulated(alloc, PLAIN, input).expect(rt, want, status);
 }
 
 const PLAIN: Telling = Telling {
@@ -102,16 +98,13 @@ const TOLD: (&str, [(Telling, &str); 3]) = (
 );
 
 #[test]
-fn told_in_three_ways(rt: HostRuntime) -> Result<(), Fail> {
+fn told_in_three_ways(rt: HostRuntime) {
     for (telling, want) in TOLD.1 {
-        let mut source = Source::new(TOLD.0.as_bytes());
-        let mut output = Vec::new(rt.alloc());
-        let ended = sim(rt.alloc(), telling, &mut source, &mut output);
-        assert_eq!(rt; output.as_slice(), want.as_bytes());
-        assert_eq!(rt; ended.ending, Ending::Done);
-        assert_eq!(rt; ended.why.as_slice(), b"".as_slice());
+        let printed = simulated(rt.alloc(), telling, TOLD.0);
+        printed.expect(&rt, want, 0);
+        printed.expect_why(&rt, "");
+        assert!(rt; printed.ended.ending == Ending::Done);
     }
-    Ok(())
 }
 
 /// Fails at each call.
@@ -135,81 +128,70 @@ impl Write for Broken {
 }
 
 #[test]
-fn streams_that_fail(rt: HostRuntime) -> Result<(), Fail> {
+fn reader_that_fails(rt: HostRuntime) {
     let mut output = Sink::new(Vec::new(rt.alloc()));
     let mut source = Source::new(Broken);
-    let ended = sim(rt.alloc(), PLAIN, &mut source, &mut output);
-    assert_eq!(rt; ended.ending, Ending::Unread);
-    assert!(rt; source.fault().is_some());
-    assert!(rt; output.fault().is_none());
+    let ended = sim_from(rt.alloc(), PLAIN, &mut source, &mut output);
+    assert!(rt; ended.ending == Ending::Unread);
+    assert!(rt; source.fault().is_some() && output.fault().is_none());
+}
 
+#[test]
+fn writer_that_fails(rt: HostRuntime) {
     let mut source = Source::new(b"cluster 1 4\n".as_slice());
     let mut output = Sink::new(Broken);
-    let ended = sim(rt.alloc(), PLAIN, &mut source, &mut output);
-    assert_eq!(rt; ended.ending, Ending::Unwritten);
+    let ended = sim_from(rt.alloc(), PLAIN, &mut source, &mut output);
+    assert!(rt; ended.ending == Ending::Unwritten);
     assert!(rt; source.fault().is_none());
-    let fault = output.fault().ok_or("the error of the write is lost")?;
-    assert_eq!(rt; fault.kind(), io::ErrorKind::StorageFull);
-    Ok(())
+    let fault = output.fault().expect(&rt, "the error of the write");
+    assert!(rt; fault.kind() == io::ErrorKind::StorageFull);
 }
 
 #[test]
-fn lines_that_cannot_be_read(rt: HostRuntime) -> Result<(), Fail> {
+fn lines_that_cannot_be_read(rt: HostRuntime) {
     for (input, want, why) in BAD_LINES {
-        let mut source = Source::new(input.as_bytes());
-        let mut output = Vec::new(rt.alloc());
-        let ended = sim(rt.alloc(), PLAIN, &mut source, &mut output);
-        assert_eq!(rt; output.as_slice(), want.as_bytes());
-        assert_eq!(rt; ended.ending, Ending::Refused);
-        assert_eq!(rt; ended.why.as_slice(), why.as_bytes());
+        let printed = simulated(rt.alloc(), PLAIN, input);
+        printed.expect(&rt, want, 1);
+        printed.expect_why(&rt, why);
+        assert!(rt; printed.ended.ending == Ending::Refused);
     }
-    Ok(())
 }
 
 #[test]
-fn acts_outside_the_cluster(rt: HostRuntime) -> Result<(), Fail> {
+fn acts_outside_the_cluster(rt: HostRuntime) {
     check(&rt, rt.alloc(), REFUSED.0, REFUSED.1, 0);
-    Ok(())
 }
 
 /// A full journal, of which the last act compacts. It is cut off after so many device calls, and the node recovers after a
 /// crash with this fill.
-fn cut_compaction(alloc: Global, calls: u8, fill: &str) -> Result<String, Fail> {
-    Ok(format!(in alloc;
+fn cut_compaction(rt: &impl Abort, alloc: Global, calls: u8, fill: &str) -> String {
+    format!(in alloc;
         "cluster 1 4\nsubmit 0 0 61\nsubmit 0 0 62\nsubmit 0 0 63\nfinish 0 0 0\nsubmit 0 0 64\narm 0 {calls}\nfinish 0 0 1\ncrash 0{fill}\nrecover 0\n"
-    )?)
+    ).expect(rt, "memory for a schedule")
 }
 
 /// What is printed then.
-fn cut_output(alloc: Global, act: &str, pending: &str) -> Result<String, Fail> {
-    Ok(format!(in alloc;
+fn cut_output(rt: &impl Abort, alloc: Global, act: &str, pending: &str) -> String {
+    format!(in alloc;
         "0 ok id 0\n1 ok id 1\n2 refused Full\n3 ok\n4 ok id 2\n5 ok\n6 {act}\n7 ok\n8 ok\nnode 0 Normal coord 0 group 0:2 up - members 0 count 2 pending {pending} hand -\n"
-    )?)
+    ).expect(rt, "memory for a text")
 }
 
-fn check_cut(
-    rt: &impl Abort,
-    alloc: Global,
-    calls: u8,
-    fill: &str,
-    act: &str,
-    pending: &str,
-) -> Result<(), Fail> {
-    let input = cut_compaction(alloc, calls, fill)?;
-    let want = cut_output(alloc, act, pending)?;
+fn check_cut(rt: &impl Abort, alloc: Global, calls: u8, fill: &str, act: &str, pending: &str) {
+    let input = cut_compaction(rt, alloc, calls, fill);
+    let want = cut_output(rt, alloc, act, pending);
     check(rt, alloc, input.as_str(), want.as_str(), 0);
-    Ok(())
 }
 
 /// 8 calls to unseal, 6 to fill, 6 to seal, 4 to raise the area cell and 4 for the job that is done. Only a gate of that
 /// last record that is torn shut keeps it.
 #[test]
-fn stops_in_a_compaction(rt: HostRuntime) -> Result<(), Fail> {
+fn stops_in_a_compaction(rt: HostRuntime) {
     for calls in 0..28 {
-        check_cut(&rt, rt.alloc(), calls, "", "fault Device", "1,2")?;
+        check_cut(&rt, rt.alloc(), calls, "", "fault Device", "1,2");
         let pending = if calls < 26 { "1,2" } else { "2" };
-        check_cut(&rt, rt.alloc(), calls, " a5", "fault Device", pending)?;
+        check_cut(&rt, rt.alloc(), calls, " a5", "fault Device", pending);
     }
-    check_cut(&rt, rt.alloc(), 28, "", "ok", "2")?;
-    check_cut(&rt, rt.alloc(), 28, " a5", "ok", "2")
+    check_cut(&rt, rt.alloc(), 28, "", "ok", "2");
+    check_cut(&rt, rt.alloc(), 28, " a5", "ok", "2");
 }

@@ -1,18 +1,33 @@
-use console_text::Source;
+ghost use Rattle.std.specs.Prelude.{◌≤◌};
+
+use crate::printed::stored;
 use file_disk::FileDisk;
 use std::alloc::Global;
 use std::fs::{File, Files};
 use std::os::unix::fs::FileExt;
 use std::path::{Path, PathBuf};
 use std::process::Abort;
-use std::test::Fail;
-use std::{env, fs, process};
-use store_console::store;
+use std::{env, fs, io, process};
 
 // A path in the folder for temporary files that no other process takes.
-fn temporary(rt: &HostRuntime, name: &str) -> Result<PathBuf, Fail> {
+fn temporary(rt: &HostRuntime, name: &str) -> io::Result<PathBuf> {
     let name = format!(in rt.alloc(); "store-{}-{name}", process::id(rt.process()))?;
     Ok(env::temp_dir(rt)?.join(rt.alloc(), name.as_str())?)
+}
+
+fn remove(rt: &(impl Abort + Files<File = File>), path: Path<'_>) {
+    fs::remove_file(rt, path).expect(rt, "a file to remove");
+}
+
+fn write_at(rt: &impl Abort, file: &File, bytes: &[u8], at: u64) {
+    file.write_all_at(bytes, at).expect(rt, "a written file");
+}
+
+fn resize(rt: &impl Abort, file: &File, sectors: u64)
+    requires { sectors ≤ 100 }
+{
+    file.set_len(sectors * 512)
+        .expect(rt, "a file of this length");
 }
 
 // Expects that these lines over the file print this text, and end with this status.
@@ -24,16 +39,14 @@ fn expect(
     want: &str,
     status: u8,
 ) {
-    let mut output = Vec::new(alloc);
-    let mut input = Source::new(lines.as_bytes());
-    let ended = store(rt, alloc, path, &mut input, &mut output);
-    assert_eq!(rt; output.as_slice(), want.as_bytes(), "{lines}");
-    assert_eq!(rt; ended.ending.status(), status, "{lines}");
+    let printed = stored(rt, alloc, path, lines);
+    assert!(rt; printed.text.as_slice() == want.as_bytes(), "{lines}");
+    assert!(rt; printed.ended.ending.status() == status, "{lines}");
 }
 
 #[test]
-fn session(rt: HostRuntime) -> Result<(), Fail> {
-    let path = temporary(&rt, "session")?;
+fn session(rt: HostRuntime) {
+    let path = temporary(&rt, "session").expect(&rt, "a path");
     expect(
         &rt,
         rt.alloc(),
@@ -52,13 +65,12 @@ fn session(rt: HostRuntime) -> Result<(), Fail> {
         "ok\nok 2\nok 1\nok 2\ncount 2 next 3\njob 1 15 -\njob 2 1 62 7\n",
         0,
     );
-    fs::remove_file(&rt, path.as_path())?;
-    Ok(())
+    remove(&rt, path.as_path());
 }
 
 #[test]
-fn full_and_compacted(rt: HostRuntime) -> Result<(), Fail> {
-    let path = temporary(&rt, "full")?;
+fn full_and_compacted(rt: HostRuntime) {
+    let path = temporary(&rt, "full").expect(&rt, "a path");
     expect(
         &rt,
         rt.alloc(),
@@ -67,13 +79,12 @@ fn full_and_compacted(rt: HostRuntime) -> Result<(), Fail> {
         "ok\nok\nok 0\nok 1\nrefused Full\nok\nok 2\nok\ncount 0 next 3\njob 2 0 64\nok\ncount 0 next 3\njob 2 0 64\nok\ncount 0 next 3\njob 2 0 64\n",
         0,
     );
-    fs::remove_file(&rt, path.as_path())?;
-    Ok(())
+    remove(&rt, path.as_path());
 }
 
 #[test]
-fn nothing_mounted(rt: HostRuntime) -> Result<(), Fail> {
-    let path = temporary(&rt, "unmounted")?;
+fn nothing_mounted(rt: HostRuntime) {
+    let path = temporary(&rt, "unmounted").expect(&rt, "a path");
     expect(
         &rt,
         rt.alloc(),
@@ -82,26 +93,26 @@ fn nothing_mounted(rt: HostRuntime) -> Result<(), Fail> {
         "refused Broken\nrefused Broken\nrefused Broken\nrefused Broken\nrefused Device\nrefused Broken\nok\nrefused Broken\nok\nok\nrefused Broken\n",
         0,
     );
-    assert_eq!(rt; fs::metadata(&rt, path.as_path())?.len(), 28 * 512);
-    fs::remove_file(&rt, path.as_path())?;
-    Ok(())
+    let found = fs::metadata(&rt, path.as_path()).expect(&rt, "a file");
+    assert!(rt; found.len() == 28 * 512);
+    remove(&rt, path.as_path());
 }
 
 #[test]
-fn what_cannot_be_mounted(rt: HostRuntime) -> Result<(), Fail> {
-    let path = temporary(&rt, "damaged")?;
+fn what_cannot_be_mounted(rt: HostRuntime) {
+    let path = temporary(&rt, "damaged").expect(&rt, "a path");
     let alloc = rt.alloc();
     let path = path.as_path();
-    let file = File::create_new(&rt, path)?;
-    file.set_len(23 * 512)?;
+    let file = File::create_new(&rt, path).expect(&rt, "a new file");
+    resize(&rt, &file, 23);
     expect(&rt, alloc, path, "mount\n", "refused TooSmall\n", 0);
-    file.set_len(24 * 512)?;
+    resize(&rt, &file, 24);
     expect(&rt, alloc, path, "mount\n", "refused NotFormatted\n", 0);
 
     // The first slot of the journal is sealed over a sector that is no record.
     expect(&rt, alloc, path, "format 4\n", "ok\n", 0);
-    file.write_all_at(&[9], 8 * 512)?;
-    file.write_all_at(&[0xa5], 9 * 512)?;
+    write_at(&rt, &file, &[9], 8 * 512);
+    write_at(&rt, &file, &[0xa5], 9 * 512);
     expect(
         &rt,
         alloc,
@@ -113,8 +124,8 @@ fn what_cannot_be_mounted(rt: HostRuntime) -> Result<(), Fail> {
 
     // Slot B of the counter is sealed over the greatest number.
     expect(&rt, alloc, path, "format 4\n", "ok\n", 0);
-    file.write_all_at(&[0xff; 8], 2 * 512)?;
-    file.write_all_at(&[0xa5], 3 * 512)?;
+    write_at(&rt, &file, &[0xff; 8], 2 * 512);
+    write_at(&rt, &file, &[0xa5], 3 * 512);
     expect(
         &rt,
         alloc,
@@ -123,13 +134,12 @@ fn what_cannot_be_mounted(rt: HostRuntime) -> Result<(), Fail> {
         "ok\nrefused Exhausted\ncount 18446744073709551615 next 0\n",
         0,
     );
-    fs::remove_file(&rt, path)?;
-    Ok(())
+    remove(&rt, path);
 }
 
 #[test]
-fn file_of_another_disk(rt: HostRuntime) -> Result<(), Fail> {
-    let path = temporary(&rt, "locked")?;
+fn file_of_another_disk(rt: HostRuntime) {
+    let path = temporary(&rt, "locked").expect(&rt, "a path");
     let alloc = rt.alloc();
     let path = path.as_path();
     expect(
@@ -140,7 +150,7 @@ fn file_of_another_disk(rt: HostRuntime) -> Result<(), Fail> {
         "ok\nok\nok 1\n",
         0,
     );
-    let disk = FileDisk::open(&rt, path)?;
+    let disk = FileDisk::open(&rt, path).expect(&rt, "a disk");
     expect(
         &rt,
         alloc,
@@ -151,14 +161,13 @@ fn file_of_another_disk(rt: HostRuntime) -> Result<(), Fail> {
     );
     drop(disk);
     expect(&rt, alloc, path, "mount\nlist\n", "ok\ncount 1 next 0\n", 0);
-    fs::remove_file(&rt, path)?;
-    Ok(())
+    remove(&rt, path);
 }
 
 // What standard error says of a line that can't be read.
 #[test]
-fn reasons(rt: HostRuntime) -> Result<(), Fail> {
-    let path = temporary(&rt, "why")?;
+fn reasons(rt: HostRuntime) {
+    let path = temporary(&rt, "why").expect(&rt, "a path");
     for (lines, want) in [
         ("mount\nmout\n", "line 2: no such request: mout"),
         ("\nput 16 61", "line 2: not of the form put QUEUE HEX [P]"),
@@ -167,18 +176,21 @@ fn reasons(rt: HostRuntime) -> Result<(), Fail> {
         (" list", "line 1: no such request: "),
         ("mount\r\n", "line 1: no such request: mount\\x0d"),
     ] {
-        let mut output = Vec::new(rt.alloc());
-        let mut input = Source::new(lines.as_bytes());
-        let ended = store(&rt, rt.alloc(), path.as_path(), &mut input, &mut output);
-        assert_eq!(rt; ended.why.as_slice(), want.as_bytes(), "{lines}");
+        let printed = stored(&rt, rt.alloc(), path.as_path(), lines);
+        printed.expect_why(&rt, want);
     }
-    Ok(())
+}
+
+fn expect_bad(rt: &(impl Abort + Files<File = File>), alloc: Global, path: Path<'_>, line: &str) {
+    let lines = format!(in alloc; "format 4\n\n{line}\nput 16 61\n");
+    let lines = lines.expect(rt, "memory for a text");
+    expect(rt, alloc, path, lines.as_str(), "bad line 3\n", 1);
 }
 
 // A line that can't be read is named, and then nothing is done.
 #[test]
-fn bad_lines(rt: HostRuntime) -> Result<(), Fail> {
-    let path = temporary(&rt, "bad")?;
+fn bad_lines(rt: HostRuntime) {
+    let path = temporary(&rt, "bad").expect(&rt, "a path");
     for line in [
         "format",
         "format 3",
@@ -210,17 +222,9 @@ fn bad_lines(rt: HostRuntime) -> Result<(), Fail> {
         "check 0",
         "-",
     ] {
-        let lines = format!(in rt.alloc(); "format 4\n\n{line}\nput 16 61\n")?;
-        expect(
-            &rt,
-            rt.alloc(),
-            path.as_path(),
-            lines.as_str(),
-            "bad line 3\n",
-            1,
-        );
+        expect_bad(&rt, rt.alloc(), path.as_path(), line);
     }
-    assert!(rt; !fs::exists(&rt, path.as_path())?);
+    let exists = fs::exists(&rt, path.as_path()).expect(&rt, "a folder to look into");
+    assert!(rt; !exists);
     expect(&rt, rt.alloc(), path.as_path(), "", "", 0);
-    Ok(())
 }

@@ -1,11 +1,9 @@
+use crate::printed::{answered, show_from, shown};
 use console_text::{Ending, MAX_READS, Source};
-use group_task::{NODES, NodeId};
-use invite_console::{answer, show};
 use std::alloc::Global;
 use std::io;
 use std::io::{Read, Write};
 use std::process::Abort;
-use std::test::Fail;
 
 /// Answers at most so many bytes at each call, and fails once it was called often enough.
 #[derive(Drop)]
@@ -68,36 +66,22 @@ fn check_answer<R: Read>(
     input: &mut R,
     want: &str,
     status: u8,
-) -> Result<(), Fail> {
-    let id = NodeId::new(id).ok_or("no id of a node")?;
-    assert!(rt; nodes <= NODES);
-    assert!(rt; id.number() < nodes);
-    let mut output = Vec::new(alloc);
-    let mut source = Source::new(input);
-    let ended = answer(alloc, id, nodes, &mut source, &mut output);
-    assert_eq!(rt; output.as_slice(), want.as_bytes());
-    assert_eq!(rt; ended.ending.status(), status);
-    Ok(())
+) {
+    answered(rt, alloc, id, nodes, input).expect(rt, want, status);
 }
 
 fn check_show<R: Read>(rt: &impl Abort, alloc: Global, input: &mut R, want: &str, status: u8) {
-    let mut output = Vec::new(alloc);
-    let mut source = Source::new(input);
-    let ended = show(alloc, &mut source, &mut output);
-    assert_eq!(rt; output.as_slice(), want.as_bytes());
-    assert_eq!(rt; ended.ending.status(), status);
+    shown(alloc, input).expect(rt, want, status);
 }
 
-fn check_answers(rt: &impl Abort, alloc: Global, rows: &[(&str, &str, u8)]) -> Result<(), Fail> {
+fn check_answers(rt: &impl Abort, alloc: Global, rows: &[(&str, &str, u8)]) {
     for (input, want, status) in rows {
-        let mut reader = input.as_bytes();
-        check_answer(rt, alloc, 0, 3, &mut reader, want, *status)?;
+        check_answer(rt, alloc, 0, 3, &mut input.as_bytes(), want, *status);
     }
-    Ok(())
 }
 
 #[test]
-fn first_answer(rt: HostRuntime) -> Result<(), Fail> {
+fn first_answer(rt: HostRuntime) {
     check_answers(
         &rt,
         rt.alloc(),
@@ -109,7 +93,7 @@ fn first_answer(rt: HostRuntime) -> Result<(), Fail> {
 }
 
 #[test]
-fn rest_and_malformed(rt: HostRuntime) -> Result<(), Fail> {
+fn rest_and_malformed(rt: HostRuntime) {
     check_answers(
         &rt,
         rt.alloc(),
@@ -126,7 +110,7 @@ fn rest_and_malformed(rt: HostRuntime) -> Result<(), Fail> {
 }
 
 #[test]
-fn own_invitation(rt: HostRuntime) -> Result<(), Fail> {
+fn own_invitation(rt: HostRuntime) {
     check_answers(
         &rt,
         rt.alloc(),
@@ -147,7 +131,7 @@ fn own_invitation(rt: HostRuntime) -> Result<(), Fail> {
 }
 
 #[test]
-fn second_wire_version(rt: HostRuntime) -> Result<(), Fail> {
+fn second_wire_version(rt: HostRuntime) {
     for (id, nodes, input, want, status) in [
         (64, 128, "020102400000", "02024002000101\n", 0),
         (0, 128, "020102000000", "malformed\n", 1),
@@ -155,13 +139,12 @@ fn second_wire_version(rt: HostRuntime) -> Result<(), Fail> {
         (0, 3, "020140000000", "refused Stranger\n", 1),
     ] {
         let mut reader = input.as_bytes();
-        check_answer(&rt, rt.alloc(), id, nodes, &mut reader, want, status)?;
+        check_answer(&rt, rt.alloc(), id, nodes, &mut reader, want, status);
     }
-    Ok(())
 }
 
 #[test]
-fn stranger_after_an_answer(rt: HostRuntime) -> Result<(), Fail> {
+fn stranger_after_an_answer(rt: HostRuntime) {
     check_answers(
         &rt,
         rt.alloc(),
@@ -182,7 +165,7 @@ fn stranger_after_an_answer(rt: HostRuntime) -> Result<(), Fail> {
 }
 
 #[test]
-fn bad_lines(rt: HostRuntime) -> Result<(), Fail> {
+fn bad_lines(rt: HostRuntime) {
     check_answers(
         &rt,
         rt.alloc(),
@@ -196,13 +179,13 @@ fn bad_lines(rt: HostRuntime) -> Result<(), Fail> {
             ("010103000000\n\n\u{e9}", "bad line 3\n", 1),
             ("01010200000100\n0", "bad line 2\n", 1),
         ],
-    )?;
+    );
     let mut not_utf8 = b"0101\n\xff\n".as_slice();
     check_answer(&rt, rt.alloc(), 0, 3, &mut not_utf8, "bad line 2\n", 1)
 }
 
 #[test]
-fn lines_are_pieces(rt: HostRuntime) -> Result<(), Fail> {
+fn lines_are_pieces(rt: HostRuntime) {
     check_answers(
         &rt,
         rt.alloc(),
@@ -217,7 +200,7 @@ fn lines_are_pieces(rt: HostRuntime) -> Result<(), Fail> {
                 0,
             ),
         ],
-    )?;
+    );
     let inner = b"010102000000\n\n010101000000".as_slice();
     let mut slow = Halting {
         inner,
@@ -299,8 +282,7 @@ fn ends_of_show(rt: HostRuntime) {
 
 /// What standard error says of messages that can't be read, or are refused.
 #[test]
-fn reasons(rt: HostRuntime) -> Result<(), Fail> {
-    let id = NodeId::new(0).ok_or("no id of a node")?;
+fn reasons(rt: HostRuntime) {
     for (input, want) in [
         ("010102000000", ""),
         (
@@ -313,34 +295,33 @@ fn reasons(rt: HostRuntime) -> Result<(), Fail> {
             "a message is for another node, or names one outside of the cluster",
         ),
     ] {
-        let mut output = Vec::new(rt.alloc());
-        let mut source = Source::new(input.as_bytes());
-        let ended = answer(rt.alloc(), id, 3, &mut source, &mut output);
-        assert_eq!(rt; ended.why.as_slice(), want.as_bytes(), "{input}");
+        let printed = answered(&rt, rt.alloc(), 0, 3, &mut input.as_bytes());
+        printed.expect_why(&rt, want);
     }
+}
+
+/// What it says of what can't be shown.
+#[test]
+fn reasons_of_show(rt: HostRuntime) {
     for (input, want) in [
         ("010103000000", ""),
         ("0", "line 1: neither pairs of hex digits nor a dash"),
         ("00", ""),
         ("01020002000102", "a message can't be read"),
     ] {
-        let mut output = Vec::new(rt.alloc());
-        let mut source = Source::new(input.as_bytes());
-        let ended = show(rt.alloc(), &mut source, &mut output);
-        assert_eq!(rt; ended.why.as_slice(), want.as_bytes(), "{input}");
+        shown(rt.alloc(), &mut input.as_bytes()).expect_why(&rt, want);
     }
-    Ok(())
 }
 
 #[test]
-fn reader_fails_in_mid_stream(rt: HostRuntime) -> Result<(), Fail> {
+fn reader_fails_in_mid_stream(rt: HostRuntime) {
     let inner = b"010102000000\n010102000000\n".as_slice();
     let mut broken = Halting {
         inner,
         step: 13,
         calls_left: 1,
     };
-    check_answer(&rt, rt.alloc(), 0, 3, &mut broken, "", 1)?;
+    check_answer(&rt, rt.alloc(), 0, 3, &mut broken, "", 1);
     let inner = b"010102000000\n".as_slice();
     let mut broken = Halting {
         inner,
@@ -348,7 +329,6 @@ fn reader_fails_in_mid_stream(rt: HostRuntime) -> Result<(), Fail> {
         calls_left: 3,
     };
     check_show(&rt, rt.alloc(), &mut broken, "", 1);
-    Ok(())
 }
 
 #[test]
@@ -359,10 +339,9 @@ fn writer_fails_in_mid_stream(rt: HostRuntime) {
         step: 4,
         calls_left: 2,
     };
-    let ended = show(rt.alloc(), &mut input, &mut broken);
-    assert_eq!(rt; broken.inner.as_slice(), b"2>0 AreY".as_slice());
-    assert_eq!(rt; ended.ending, Ending::Unwritten);
-    assert_eq!(rt; ended.ending.status(), 1);
+    let ended = show_from(rt.alloc(), &mut input, &mut broken);
+    assert!(rt; broken.inner.as_slice() == b"2>0 AreY".as_slice());
+    assert!(rt; ended.ending == Ending::Unwritten && ended.ending.status() == 1);
 }
 
 #[test]

@@ -1,5 +1,31 @@
 use line_words::{bytes, cut_line, cut_word, number};
-use std::test::Fail;
+use std::alloc::Global;
+use std::process::Abort;
+
+fn number_of(word: &str) -> Option<u64> {
+    number(word.as_bytes())
+}
+
+// A part of a text, and what stands behind it.
+type Parts<'a> = Option<(&'a str, &'a str)>;
+
+fn expect_parts(rt: &impl Abort, found: Option<(&[u8], &[u8])>, want: Parts<'_>, text: &str) {
+    match (found, want) {
+        (Some((part, behind)), Some((first, rest))) => {
+            assert!(rt;
+                part == first.as_bytes() && behind == rest.as_bytes(),
+                "{text}"
+            );
+        }
+        (None, None) => {}
+        _ => panic!(rt; "{text}"),
+    }
+}
+
+fn expect_bytes(rt: &impl Abort, alloc: Global, word: &str, want: Option<&[u8]>) {
+    let found = bytes(alloc, word.as_bytes()).expect(rt, "memory for bytes");
+    assert!(rt; found.as_deref() == want, "{word}");
+}
 
 #[test]
 fn numbers(rt: HostRuntime) {
@@ -25,7 +51,7 @@ fn numbers(rt: HostRuntime) {
         ("/", None),
         (":", None),
     ] {
-        assert!(rt; number(word.as_bytes()) == want, "{word}");
+        assert!(rt; number_of(word) == want, "{word}");
     }
 }
 
@@ -40,13 +66,12 @@ fn first_words(rt: HostRuntime) {
         ("cut ", Some(("cut", ""))),
         ("cut\t1\r", None),
     ] {
-        let want = want.map(|(word, behind): (&str, &str)| (word.as_bytes(), behind.as_bytes()));
-        assert!(rt; cut_word(line.as_bytes()) == want, "{line}");
+        expect_parts(&rt, cut_word(line.as_bytes()), want, line);
     }
 }
 
 #[test]
-fn bytes_of_words(rt: HostRuntime) -> Result<(), Fail> {
+fn bytes_of_words(rt: HostRuntime) {
     for (word, want) in [
         ("-", Some(b"".as_slice())),
         ("a5", Some(b"\xa5".as_slice())),
@@ -62,10 +87,8 @@ fn bytes_of_words(rt: HostRuntime) -> Result<(), Fail> {
         ("g0", None),
         (" a5", None),
     ] {
-        let found = bytes(rt.alloc(), word.as_bytes())?;
-        assert!(rt; found.as_deref() == want, "{word}");
+        expect_bytes(&rt, rt.alloc(), word, want);
     }
-    Ok(())
 }
 
 #[test]
@@ -77,7 +100,6 @@ fn first_lines(rt: HostRuntime) {
         ("cut 1 2\n", Some(("cut 1 2", ""))),
         ("cut 1 2\r\n\nmend", Some(("cut 1 2\r", "\nmend"))),
     ] {
-        let want = want.map(|(line, behind): (&str, &str)| (line.as_bytes(), behind.as_bytes()));
-        assert!(rt; cut_line(text.as_bytes()) == want, "{text}");
+        expect_parts(&rt, cut_line(text.as_bytes()), want, text);
     }
 }
