@@ -14,6 +14,3 @@ pub use gathering::{LinkEnd, Unpaired, gather};
 pub use opening::link;
 pub use put_end::PutEnd;
 pub use take_end::TakeEnd;
-
-#[cfg(test)]
-mod tests;

@@ -27,6 +27,3 @@ pub use order::{Fill, Order, Timer};
 pub use plans::Plans;
 pub use run::Run;
 pub use worker::{Turns, Worker};
-
-#[cfg(test)]
-mod tests;

@@ -18,6 +18,3 @@ pub use reading::{Setup, read_plans};
 pub use running::threads;
 pub use telling::trace_of;
 pub use turn::Turn;
-
-#[cfg(test)]
-mod tests;

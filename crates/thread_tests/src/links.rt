@@ -1,5 +1,9 @@
-use super::*;
+//! Links between two nodes.
+
+ghost use Rattle.std.specs.Prelude.{◌<◌};
+
 use group_task::NodeId;
+use link_ring::{LinkEnd, PutEnd, TakeEnd, Unpaired, gather, link};
 use message_list::MessageList;
 use std::alloc::{AllocError, Global};
 use std::process::Abort;
@@ -53,84 +57,130 @@ fn expect_done(rt: &impl Abort, messages: &MessageList, ids: &[u64]) {
     }
 }
 
+/// What is done at an end of a link, with the message of a job, or which messages the end lists.
+#[derive(Clone, Copy)]
+enum Step {
+    Put(u64),
+    PutInVain(u64),
+    Take(u64),
+    TakeInVain,
+    HasPut(&'static [u64]),
+    HasTaken(&'static [u64]),
+}
+
+fn walk_step(rt: &impl Abort, put_end: &mut PutEnd, take_end: &mut TakeEnd, step: Step) {
+    match step {
+        Step::Put(id) => put(rt, put_end, id),
+        Step::PutInVain(id) => put_in_vain(rt, put_end, id),
+        Step::Take(id) => take(rt, take_end, id),
+        Step::TakeInVain => take_in_vain(rt, take_end),
+        Step::HasPut(ids) => expect_done(rt, put_end.messages(), ids),
+        Step::HasTaken(ids) => expect_done(rt, take_end.messages(), ids),
+    }
+}
+
+/// Goes these steps over a link of so many slots, and gives its ends.
+fn walk(rt: &impl Abort, alloc: Global, capacity: usize, steps: &[Step]) -> (PutEnd, TakeEnd) {
+    let (mut put_end, mut take_end) = link_of(rt, alloc, capacity);
+    for step in steps {
+        walk_step(rt, &mut put_end, &mut take_end, *step);
+    }
+    (put_end, take_end)
+}
+
 #[test]
 fn taken_in_the_order_of_putting(rt: HostRuntime) {
-    let (mut put_end, mut take_end) = link_of(&rt, rt.alloc(), 3);
-    take_in_vain(&rt, &mut take_end);
-    for id in [5, 7, 5] {
-        put(&rt, &mut put_end, id);
-    }
-    for id in [5, 7, 5] {
-        take(&rt, &mut take_end, id);
-    }
-    take_in_vain(&rt, &mut take_end);
+    let steps = [
+        Step::TakeInVain,
+        Step::Put(5),
+        Step::Put(7),
+        Step::Put(5),
+        Step::Take(5),
+        Step::Take(7),
+        Step::Take(5),
+        Step::TakeInVain,
+    ];
+    let _ = walk(&rt, rt.alloc(), 3, &steps);
 }
 
 #[test]
 fn full_link_hands_the_message_back(rt: HostRuntime) {
-    let (mut put_end, mut take_end) = link_of(&rt, rt.alloc(), 2);
-    put(&rt, &mut put_end, 1);
-    put(&rt, &mut put_end, 2);
-    put_in_vain(&rt, &mut put_end, 3);
-    expect_done(&rt, put_end.messages(), &[1, 2]);
-    take(&rt, &mut take_end, 1);
-    put(&rt, &mut put_end, 3);
-    take(&rt, &mut take_end, 2);
-    take(&rt, &mut take_end, 3);
-    expect_done(&rt, put_end.messages(), &[1, 2, 3]);
-    expect_done(&rt, take_end.messages(), &[1, 2, 3]);
+    let steps = [
+        Step::Put(1),
+        Step::Put(2),
+        Step::PutInVain(3),
+        Step::HasPut(&[1, 2]),
+        Step::Take(1),
+        Step::Put(3),
+        Step::Take(2),
+        Step::Take(3),
+        Step::HasPut(&[1, 2, 3]),
+        Step::HasTaken(&[1, 2, 3]),
+    ];
+    let _ = walk(&rt, rt.alloc(), 2, &steps);
+}
+
+/// Fills an empty ring of three slots, and empties it again.
+fn fill_and_empty(rt: &impl Abort, put_end: &mut PutEnd, take_end: &mut TakeEnd, round: u64)
+    requires { round < 1000 }
+{
+    for id in 3 * round..3 * round + 3 {
+        put(rt, put_end, id);
+    }
+    put_in_vain(rt, put_end, 0);
+    for id in 3 * round..3 * round + 3 {
+        take(rt, take_end, id);
+    }
+    take_in_vain(rt, take_end);
 }
 
 #[test]
 fn emptied_ring_takes_messages_again(rt: HostRuntime) {
     let (mut put_end, mut take_end) = link_of(&rt, rt.alloc(), 3);
     for round in 0..1000 {
-        for id in 3 * round..3 * round + 3 {
-            put(&rt, &mut put_end, id);
-        }
-        put_in_vain(&rt, &mut put_end, 0);
-        for id in 3 * round..3 * round + 3 {
-            take(&rt, &mut take_end, id);
-        }
-        take_in_vain(&rt, &mut take_end);
+        fill_and_empty(&rt, &mut put_end, &mut take_end, round);
     }
     assert_eq!(rt; put_end.messages().len(), 3000);
 }
 
+/// Expects the messages of these jobs, and that the link is from node 0 to node 1.
+fn expect_gathered(rt: &impl Abort, link: &LinkEnd, put: &[u64], taken: &[u64]) {
+    assert_eq!(rt; link.sender.number(), 0);
+    assert_eq!(rt; link.receiver.number(), 1);
+    expect_done(rt, &link.put, put);
+    expect_done(rt, &link.taken, taken);
+}
+
 #[test]
 fn gathered_with_messages_in_the_ring(rt: HostRuntime) {
-    let (mut put_end, mut take_end) = link_of(&rt, rt.alloc(), 3);
-    for id in 1..4 {
-        put(&rt, &mut put_end, id);
-    }
-    take(&rt, &mut take_end, 1);
-    let gathered = gather(put_end, take_end).expect(&rt, "a pair");
-    assert_eq!(rt; gathered.sender.number(), 0);
-    assert_eq!(rt; gathered.receiver.number(), 1);
-    expect_done(&rt, &gathered.put, &[1, 2, 3]);
-    expect_done(&rt, &gathered.taken, &[1]);
+    let steps = [Step::Put(1), Step::Put(2), Step::Put(3), Step::Take(1)];
+    let (put_end, take_end) = walk(&rt, rt.alloc(), 3, &steps);
+    let link = gather(put_end, take_end).expect(&rt, "a pair");
+    expect_gathered(&rt, &link, &[1, 2, 3], &[1]);
 }
 
 #[test]
 fn ends_of_two_links(rt: HostRuntime) {
-    let (mut first_put, first_take) = link_of(&rt, rt.alloc(), 3);
-    let (mut second_put, mut second_take) = link_of(&rt, rt.alloc(), 3);
-    put(&rt, &mut first_put, 1);
-    put(&rt, &mut second_put, 2);
-    take(&rt, &mut second_take, 2);
+    let (first_put, first_take) = walk(&rt, rt.alloc(), 3, &[Step::Put(1)]);
+    let steps = [Step::Put(2), Step::Take(2)];
+    let (second_put, second_take) = walk(&rt, rt.alloc(), 3, &steps);
     assert!(rt; gather(first_put, second_take).err() == Some(Unpaired));
-    let gathered = gather(second_put, first_take).expect(&rt, "nothing was taken");
-    expect_done(&rt, &gathered.put, &[2]);
-    expect_done(&rt, &gathered.taken, &[]);
+    let link = gather(second_put, first_take).expect(&rt, "nothing was taken");
+    expect_gathered(&rt, &link, &[2], &[]);
+}
+
+/// A putting end from node 0 to node 1.
+fn first_put(rt: &impl Abort, alloc: Global) -> PutEnd {
+    let (put_end, _) = link_of(rt, alloc, 1);
+    put_end
 }
 
 /// Whether a putting end from node 0 to node 1 is paired with a taking end of these nodes.
 fn is_paired(rt: &impl Abort, alloc: Global, sender: u8, receiver: u8) -> bool {
     let sender = NodeId::new(sender).expect(rt, "an id");
     let receiver = NodeId::new(receiver).expect(rt, "an id");
-    let (put_end, _) = link_of(rt, alloc, 1);
     let (_, take_end) = link(alloc, sender, receiver, 1).expect(rt, "memory for a link");
-    gather(put_end, take_end).is_ok()
+    gather(first_put(rt, alloc), take_end).is_ok()
 }
 
 #[test]
@@ -158,6 +208,14 @@ fn take_some(mut end: TakeEnd) -> Result<TakeEnd, AllocError> {
     Ok(end)
 }
 
+/// Expects the messages of 100 jobs, in the order of their ids.
+fn expect_all_done(rt: &impl Abort, messages: &MessageList) {
+    assert_eq!(rt; messages.len(), 100);
+    for place in 0..100 {
+        assert!(rt; is_done(messages, place, place as u64), "message {place}");
+    }
+}
+
 #[test]
 fn ends_in_two_threads(rt: HostRuntime) {
     let (put_end, take_end) = link_of(&rt, rt.alloc(), 100);
@@ -169,31 +227,20 @@ fn ends_in_two_threads(rt: HostRuntime) {
     // what the other thread didn't find yet is found now
     let put_end = put_end.expect(&rt, "memory to put");
     let take_end = take_some(take_end.expect(&rt, "memory to take")).expect(&rt, "memory to take");
-    let gathered = gather(put_end, take_end).expect(&rt, "a pair");
-    for list in [&gathered.put, &gathered.taken] {
-        assert_eq!(rt; list.len(), 100);
-        for place in 0..100 {
-            assert!(rt;
-                list.get(place) == Some(done(place as u64)),
-                "message {place}"
-            );
-        }
-    }
+    let link = gather(put_end, take_end).expect(&rt, "a pair");
+    expect_all_done(&rt, &link.put);
+    expect_all_done(&rt, &link.taken);
+}
+
+/// Whether there is no memory for a link of the greatest capacity.
+fn is_link_refused(alloc: Global) -> bool {
+    link(alloc, NodeId::numbered(0), NodeId::numbered(1), usize::MAX).is_err()
 }
 
 #[test]
 fn want_of_memory_changes_nothing(rt: HostRuntime) {
-    assert!(rt;
-        link(
-            rt.alloc(),
-            NodeId::numbered(0),
-            NodeId::numbered(1),
-            usize::MAX
-        )
-        .is_err()
-    );
-    let (mut put_end, mut take_end) = link_of(&rt, rt.alloc(), 2);
-    put(&rt, &mut put_end, 1);
+    assert!(rt; is_link_refused(rt.alloc()));
+    let (mut put_end, mut take_end) = walk(&rt, rt.alloc(), 2, &[Step::Put(1)]);
     assert!(rt; put_end.reserve(usize::MAX).is_err());
     assert!(rt; take_end.reserve(usize::MAX).is_err());
     put(&rt, &mut put_end, 2);

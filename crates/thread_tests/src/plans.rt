@@ -1,12 +1,13 @@
-use super::{read_plans, threads};
+//! Plans as text, and the traces of their runs.
+
 use console_text::{Source, push_text};
 use node_lock::Timer;
 use std::alloc::Global;
 use std::process::Abort;
 use std::sync::Wait;
-use std::test::Fail;
 use std::thread::Threads;
-use trace_check::{Verdict, check};
+use threads_console::{Setup, read_plans, threads};
+use trace_check::{Trace, Verdict, check};
 use trace_text::read;
 
 /// Expects this line for plans, and status 0 and nothing wrong exactly where it is a trace.
@@ -83,40 +84,44 @@ fn runs_are_told(rt: HostRuntime) {
     }
 }
 
+/// The answer to an input whose line of this number can't be read.
+fn bad_line(rt: &impl Abort, alloc: Global, number: &str) -> Vec<u8> {
+    let mut text = Vec::new(alloc);
+    push_text(&mut text, "bad line ").expect(rt, "memory for a text");
+    push_text(&mut text, number).expect(rt, "memory for a text");
+    text
+}
+
 #[test]
-fn lines_that_are_no_turns(rt: HostRuntime) -> Result<(), Fail> {
-    let alloc = rt.alloc();
+fn lines_that_are_no_turns(rt: HostRuntime) {
     for (plans, number) in BAD {
-        let mut want = Vec::new(alloc);
-        push_text(&mut want, "bad line ")?;
-        push_text(&mut want, number)?;
-        expect(&rt, alloc, plans.as_bytes(), &want);
+        let want = bad_line(&rt, rt.alloc(), number);
+        expect(&rt, rt.alloc(), plans.as_bytes(), &want);
     }
-    Ok(())
+}
+
+/// Expects a run of two nodes, of which the first has two entries and the second one.
+fn expect_run(rt: &impl Abort, alloc: Global, trace: &Trace) {
+    assert_eq!(rt; trace.histories().len(), 2);
+    assert_eq!(rt; trace.histories()[0].len(), 2);
+    assert_eq!(rt; trace.histories()[1].len(), 1);
+    let verdict = check(alloc, trace).expect(rt, "memory for a check");
+    assert!(rt; matches!(verdict, Verdict::Run(_)));
 }
 
 // What the answer is depends on who looks first; the entries are three, and an order of them is a run.
 #[test]
-fn a_question_is_a_run(rt: HostRuntime) -> Result<(), Fail> {
-    let alloc = rt.alloc();
+fn a_question_is_a_run(rt: HostRuntime) {
     let plans = b"cluster 2 8\nlinks 8\n0 clock check\n1 intake 0\n0 intake 1\n".as_slice();
-    let mut output = Vec::new(alloc);
-    let ended = threads(&rt, alloc, &mut Source::new(plans), &mut output);
+    let mut output = Vec::new(rt.alloc());
+    let ended = threads(&rt, rt.alloc(), &mut Source::new(plans), &mut output);
     assert_eq!(rt; ended.ending.status(), 0);
-    let trace = read(alloc, &output).or(Err("a trace"))?;
-    assert_eq!(rt; trace.histories().len(), 2);
-    assert_eq!(rt; trace.histories()[0].len(), 2);
-    assert_eq!(rt; trace.histories()[1].len(), 1);
-    assert!(rt; matches!(check(alloc, &trace)?, Verdict::Run(_)));
-    Ok(())
+    let trace = read(rt.alloc(), &output).ok().expect(&rt, "a trace");
+    expect_run(&rt, rt.alloc(), &trace);
 }
 
-#[test]
-fn plans_are_read(rt: HostRuntime) -> Result<(), Fail> {
-    let alloc = rt.alloc();
-    let input =
-        b"cluster 3 9\nlinks 7\n2 clock ready\n0 intake 2\n2 operator recover\n2 clock merge\n";
-    let setup = read_plans(alloc, input.as_slice()).or(Err("plans"))?;
+/// Expects a run of three nodes, on disks of nine slots, with room for seven messages on each link.
+fn expect_setup(rt: &impl Abort, setup: &Setup) {
     assert_eq!(rt;
         (setup.size.nodes, setup.size.slots, setup.size.capacity),
         (3, 9, 7)
@@ -129,5 +134,14 @@ fn plans_are_read(rt: HostRuntime) -> Result<(), Fail> {
         [Timer::Ready, Timer::Merge].as_slice()
     );
     assert_eq!(rt; setup.plans[2].operator().len(), 1);
-    Ok(())
+}
+
+#[test]
+fn plans_are_read(rt: HostRuntime) {
+    let input =
+        b"cluster 3 9\nlinks 7\n2 clock ready\n0 intake 2\n2 operator recover\n2 clock merge\n";
+    let setup = read_plans(rt.alloc(), input.as_slice())
+        .ok()
+        .expect(&rt, "plans");
+    expect_setup(&rt, &setup);
 }

@@ -1,18 +1,19 @@
-//! Turns at nodes, in one thread.
+//! Turns at locked nodes, in one thread.
 
 ghost use Rattle.std.specs.Prelude.{◌≡◌, ◌<◌, ◌-◌, [], ◌∷◌, IfOk};
 ghost use Rattle.link_ring.specs.Sides.{unused};
 
-use super::*;
 use group_task::NodeId;
 use histories::{Rest, What};
 use link_ring::{PutEnd, TakeEnd, link};
 use message_list::MessageList;
 use node_core::Event;
+use node_lock::{
+    Gate, Held, HeldFault, History, NodeLock, Parts, Plans, Run, Timer, TurnFault, Worker,
+};
 use std::alloc::{AllocError, Global};
 use std::io::Print;
 use std::process::Abort;
-use std::test::Fail;
 use wire_msg::{Body, Message};
 
 /// The only node of a run, which checks so often.
@@ -79,6 +80,14 @@ fn asked(alloc: Global) -> Result<Held, AllocError> {
     paired(alloc, 0, 1, 2, put, take)
 }
 
+/// The same, asked for once more where there was no memory.
+fn asked_again(rt: &impl Abort, alloc: Global) -> Held {
+    match asked(alloc) {
+        Ok(held) => held,
+        Err(_) => asked(alloc).expect(rt, "memory for a node"),
+    }
+}
+
 /// What node 0 tells node 1.
 fn from_first(body: Body) -> Message {
     Message::between(NodeId::numbered(0), NodeId::numbered(1), body)
@@ -106,7 +115,7 @@ fn take<R: Abort + Print>(rt: &R, held: &mut Held, worker: Worker, turns: usize)
 }
 
 /// What came of the turn at this place, where it is that of this worker and has this number in its plan.
-fn came(history: &History, place: usize, worker: Worker, index: u64) -> Option<What> {
+pub(crate) fn came(history: &History, place: usize, worker: Worker, index: u64) -> Option<What> {
     let entry = history.entry(place)?;
     if entry.worker == worker && entry.index == index {
         Some(entry.what)
@@ -251,15 +260,11 @@ fn expect_answered_once(rt: &impl Abort, parts: &Parts) {
 /// In a run of this test by itself no turn is refused; `tests/hostile/refused_tried.py` runs it again and again, and each time refuses one
 /// allocation more.
 #[test]
-fn refused_next(rt: HostRuntime) -> Result<(), Fail> {
-    let mut held = match asked(rt.alloc()) {
-        Ok(held) => held,
-        Err(_) => asked(rt.alloc())?,
-    };
+fn refused_next(rt: HostRuntime) {
+    let mut held = asked_again(&rt, rt.alloc());
     take(&rt, &mut held, Worker::Intake, 1);
     take(&rt, &mut held, Worker::Clock, 1);
     let parts = held.into_parts();
     assert_eq!(rt; parts.history.len(), 2);
     expect_answered_once(&rt, &parts);
-    Ok(())
 }
