@@ -1,5 +1,5 @@
 -- What calls of a store leave of what its disk stands for.
-use Rattle.std.proofs.Common.{◌≡◌, ◌+◌, ◌*◌, ◌≤◌, inl, ⊎_elim, ℕ, true, false, Bool, Option, Some, None, sym, ◌∙◌, ap, subst, refl, arith, IsTrue}
+use Rattle.std.proofs.Common.{◌≡◌, ◌+◌, ◌*◌, ◌≤◌, inl, ⊎_elim, ℕ, true, false, Bool, Option, Some, None, sym, ◌∙◌, ap, subst, refl, arith, IsTrue, IsFalse}
 use Rattle.sector_disk.specs.Disk.{Image, DiskState, IsImage, Laws, SameBut, nothing}
 use Rattle.sector_disk.specs.Run.{Run, Each}
 use Rattle.safe_cell.specs.Cell.{cell_at}
@@ -7,7 +7,8 @@ use Rattle.job_model.specs.Command.{Command}
 use Rattle.job_model.specs.Durable.{Durable}
 use Rattle.job_journal.specs.Journal.{jobs_by, jobs_in, IsSound}
 use Rattle.job_journal.proofs.Frames.{SameFrom, cell_same_from, found_same_from}
-use Rattle.node_store.specs.Store.{StoreState, durable_by, stands_for, slots_for, AllStandFor}
+use Rattle.job_journal.specs.Journal.{ImagesSince}
+use Rattle.node_store.specs.Store.{StoreState, durable_by, durable_of, stands_for, slots_for, AllStandFor, Lasts, BeforeOrAfter as StoreBeforeOrAfter}
 use Rattle.histories.specs.NodeState.{NodeState, settled}
 use Rattle.histories.specs.Possible.{IsWanted, IsSettling}
 use Rattle.durable_node.specs.Carrying.{BeforeOrAfter, KeepsSound, Writes}
@@ -32,6 +33,17 @@ pub unwritten : {Disk : Type 0} (disks : Disk → DiskState) (store : StoreState
 unwritten disks store wants done laws = record {
   images = λ honest all image since. inl (all image ((laws honest).only_now image since));
   after = λ honest all _. all;
+}
+
+-- a store that took a command
+pub written : {Disk : Type 0} (disks : Disk → DiskState) (old new : StoreState Disk) (command : Command) (done : Type 0)
+    → IsFalse old.broken → new.journal.slots ≡ old.journal.slots
+    → (IsTrue (disks old.disk).honest → IsFalse old.broken → ImagesSince old.journal.slots (disks old.disk) (disks new.disk) (StoreBeforeOrAfter old command))
+    → (IsTrue (disks old.disk).honest → done → Lasts new.journal.slots (durable_of new) (disks new.disk))
+    → Writes disks old new (Some command) done
+written disks old new command done whole slots images after = record {
+  images = λ honest all. (images honest whole).each;
+  after = λ honest all ok. subst (λ (n : ℕ). AllStandFor n (durable_of new) (disks new.disk)) slots (after honest ok).stands;
 }
 
 -- calls that wrote nothing leave what was left

@@ -1,5 +1,5 @@
 -- What an append leaves of the journal.
-use Rattle.std.proofs.Common.{◌≡◌, ◌+◌, ◌*◌, ◌<◌, ◌≤◌, ◌⊎◌, inl, inr, ⊎_elim, ℕ, List, [], ◌∷◌, ◌++◌, length, Bool, true, false, not, ◌==◌, ◌&&◌, nat_le, Some, None, is_some, sym, ◌∙◌, ap, subst, refl, arith, if◌then◌else◌}
+use Rattle.std.proofs.Common.{◌≡◌, ◌+◌, ◌*◌, ◌<◌, ◌≤◌, ◌⊎◌, inl, inr, ⊎_elim, ℕ, List, [], ◌∷◌, ◌++◌, length, Bool, true, false, not, ◌==◌, ◌&&◌, nat_le, Some, None, is_some, sym, ◌∙◌, ap, subst, refl, arith, if◌then◌else◌, IsTrue}
 use Rattle.std.proofs.lemmas.Bool.Decides.{nat_tests}
 use Rattle.std.proofs.lemmas.List.{length-append}
 use Rattle.std.proofs.lemmas.List.Sums.{length-filter, count_by-le-length}
@@ -20,7 +20,7 @@ use Rattle.job_journal.specs.Readings.{Reading, Reads, fresh, fitting, taken, fo
 use Rattle.job_journal.specs.declared.place.Place.{Place}
 use Rattle.job_journal.specs.declared.place.Place.TheVariants.{Running}
 use Rattle.job_journal.specs.Areas.{slots_from, sealed_prefix, IsPrefix}
-use Rattle.job_journal.specs.Journal.{IsSoundImage, InJournal}
+use Rattle.job_journal.specs.Journal.{IsSound, IsSoundImage, ImagesSince, InJournal}
 use Rattle.job_journal.specs.Mounted.{JournalState, Holds, AllHold, IsJournal, first_sector, next_slot}
 use Rattle.job_journal.specs.Appending.{Admitted, BeforeOrAfter, appended, is_full, record_for}
 use Rattle.job_journal.proofs.Frames.{first_within, jobs_are, sound_of_prefix, prefix_of_sound}
@@ -185,21 +185,16 @@ append_step journal command content old new is can written all sound images c si
     f.step
 
 -- in each image while the slot is stored
-pub append_images : (journal : JournalState) (command : Command) (content : List ℕ) (old new : DiskState) → IsJournal journal → Admitted journal command
-    → record_of content ≡ Some (record_for (jobs_of journal.table) command) → AllHold journal old → ((d : Image) → IsImage old d → IsSoundImage journal.slots d)
+pub append_since : (journal : JournalState) (command : Command) (content : List ℕ) (old new : DiskState) → IsTrue old.honest → IsJournal journal → Admitted journal command
+    → record_of content ≡ Some (record_for (jobs_of journal.table) command) → AllHold journal old → IsSound journal.slots old
     → (Knows old (next_slot journal) false → Each old new (Follows (InSlot (next_slot journal)) old (next_slot journal) (IsStored content)))
-    → Each old new (BeforeOrAfter journal command)
-append_images journal command content old new is can written all sound images c since =
-    ⊎_elim (λ was. inl (jobs_are journal c was.holds)) (λ now. inr (jobs_are (appended journal command) c now.holds))
-    (append_step journal command content old new is can written all sound images c since)
-
-pub append_sound : (journal : JournalState) (command : Command) (content : List ℕ) (old new : DiskState) → IsJournal journal → Admitted journal command
-    → record_of content ≡ Some (record_for (jobs_of journal.table) command) → AllHold journal old → ((d : Image) → IsImage old d → IsSoundImage journal.slots d)
-    → (Knows old (next_slot journal) false → Each old new (Follows (InSlot (next_slot journal)) old (next_slot journal) (IsStored content)))
-    → Each old new (IsSoundImage journal.slots)
-append_sound journal command content old new is can written all sound images c since =
-    ⊎_elim (λ was. sound_of_prefix journal c was.holds was.prefix) (λ now. sound_of_prefix (appended journal command) c now.holds now.prefix)
-    (append_step journal command content old new is can written all sound images c since)
+    → ImagesSince journal.slots old new (BeforeOrAfter journal command)
+append_since journal command content old new honest is can written all sound images = record {
+  each = λ c since. ⊎_elim (λ was. inl (jobs_are journal c was.holds)) (λ now. inr (jobs_are (appended journal command) c now.holds))
+      (append_step journal command content old new is can written all (sound honest) images c since);
+  sound = λ good c since. ⊎_elim (λ was. sound_of_prefix journal c was.holds was.prefix) (λ now. sound_of_prefix (appended journal command) c now.holds now.prefix)
+      (append_step journal command content old new is can written all (good honest) images c since);
+}
 
 -- once all of it is synced
 pub append_after : (journal : JournalState) (command : Command) (content : List ℕ) (old new : DiskState) → IsJournal journal → Admitted journal command

@@ -1,7 +1,7 @@
 -- What a compaction leaves, in each image.
-use Rattle.std.proofs.Common.{◌≡◌, ◌+◌, ◌*◌, ◌%◌, ◌<◌, ◌≤◌, ◌⊎◌, ⊎_elim, ℕ, List, length, Bool, true, false, ◌==◌, Option, Some, None, is_none, sym, ◌∙◌, ap, subst, refl, arith, Ok, Err, IsOk, IfOk, Result, if◌then◌else◌}
+use Rattle.std.proofs.Common.{◌≡◌, ◌+◌, ◌*◌, ◌%◌, ◌<◌, ◌≤◌, ◌⊎◌, ⊎_elim, ℕ, List, length, Bool, true, false, ◌==◌, Option, Some, None, is_none, sym, ◌∙◌, ap, subst, refl, arith, Ok, Err, IsOk, IfOk, Result, if◌then◌else◌, IsTrue}
 use Rattle.std.proofs.lemmas.Bool.Decides.{nat_tests}
-use Rattle.sector_disk.specs.Disk.{Image, DiskState, IsImage, SameBut, AllSettled}
+use Rattle.sector_disk.specs.Disk.{Image, DiskState, IsImage, SameBut, AllSettled, Laws}
 use Rattle.sector_disk.specs.Run.{Run, Each}
 use Rattle.sector_disk.proofs.Runs.{run_widen, each_of_two, run_of_two}
 use Rattle.slot_gate.specs.Slot.{slot_at, InSlot, InSlots}
@@ -13,7 +13,7 @@ use Rattle.job_model.specs.Order.{IsInOrder}
 use Rattle.job_journal.specs.Jobs.{jobs_of}
 use Rattle.job_journal.specs.declared.place.Place.TheVariants.{Keeping}
 use Rattle.job_journal.specs.Areas.{slots_from, sealed_prefix, IsPrefix, area_of, first_of}
-use Rattle.job_journal.specs.Journal.{found_from, found_by, found_in, jobs_by, jobs_in, damage_of, IsSoundArea, IsSoundImage, InJournal}
+use Rattle.job_journal.specs.Journal.{found_from, found_by, found_in, jobs_by, jobs_in, damage_of, IsSoundArea, IsSoundImage, ImagesSince, InJournal}
 use Rattle.job_journal.specs.Readings.{Reads, fresh, replayed}
 use Rattle.job_journal.specs.Mounted.{JournalState, Holds, AllHold, IsJournal, first_sector}
 use Rattle.job_journal.specs.Compacting.{IsWritten, records_for, compacted, other_sector}
@@ -103,7 +103,7 @@ area_holds journal old mid all run c since =
     let f = run.follows c since in
     holds_beside journal f.0 c f.2 (all f.0 f.1)
 
-pub area_images : (journal : JournalState) (old mid : DiskState) → AllHold journal old → Run (InSlots (other_sector journal) journal.slots) old mid
+area_images : (journal : JournalState) (old mid : DiskState) → AllHold journal old → Run (InSlots (other_sector journal) journal.slots) old mid
     → Each old mid (λ c. jobs_in journal.slots c ≡ Some (jobs_of journal.table))
 area_images journal old mid all run c since = jobs_are journal c (area_holds journal old mid all run c since)
 
@@ -113,10 +113,26 @@ area_prefix journal old mid all sound run c since =
     let f = run.follows c since in
     prefix_beside journal f.0 c f.2 (prefix_of_sound journal f.0 (all f.0 f.1) (sound f.0 f.1))
 
-pub area_sound : (journal : JournalState) (old mid : DiskState) → AllHold journal old → ((d : Image) → IsImage old d → IsSoundImage journal.slots d)
+area_sound : (journal : JournalState) (old mid : DiskState) → AllHold journal old → ((d : Image) → IsImage old d → IsSoundImage journal.slots d)
     → Run (InSlots (other_sector journal) journal.slots) old mid → Each old mid (IsSoundImage journal.slots)
 area_sound journal old mid all sound run c since =
     sound_of_prefix journal c (area_holds journal old mid all run c since) (area_prefix journal old mid all sound run c since)
+
+-- while nothing is done
+pub still_since : (journal : JournalState) (disk : DiskState) → IsTrue disk.honest → Laws disk → AllHold journal disk
+    → ImagesSince journal.slots disk disk (λ c. jobs_in journal.slots c ≡ Some (jobs_of journal.table))
+still_since journal disk honest laws all = record {
+  each = λ c since. jobs_are journal c (all c (laws.only_now c since));
+  sound = λ sound c since. sound honest c (laws.only_now c since);
+}
+
+-- while the other area is written
+pub area_since : (journal : JournalState) (old mid : DiskState) → IsTrue old.honest → AllHold journal old → Run (InSlots (other_sector journal) journal.slots) old mid
+    → ImagesSince journal.slots old mid (λ c. jobs_in journal.slots c ≡ Some (jobs_of journal.table))
+area_since journal old mid honest all run = record {
+  each = area_images journal old mid all run;
+  sound = λ sound. area_sound journal old mid all (sound honest) run;
+}
 
 -- what the disk has once the other area is written
 pub record BothAreas (journal : JournalState) (c : Image) : Type 0 where
@@ -200,20 +216,15 @@ in_cell journal old new is run =
 pub compact_run : (journal : JournalState) (old mid new : DiskState) → IsJournal journal → Run (InSlots (other_sector journal) journal.slots) old mid → Run (InSlot journal.area.spare) mid new → Run (InJournal journal.slots) old new
 compact_run journal old mid new is first second = run_of_two (InJournal journal.slots) old mid new (in_areas journal old mid first) (in_cell journal mid new is second)
 
-pub compact_images : (journal : JournalState) (old mid new : DiskState) → IsJournal journal → AllHold journal old → Written journal old mid → Run (InSlot journal.area.spare) mid new
-    → Each mid new (λ c. (cell_at c 4 ≡ Some journal.area.value) ⊎ (cell_at c 4 ≡ Some (journal.area.value + 1)))
-    → Each old new (λ c. jobs_in journal.slots c ≡ Some (jobs_of journal.table))
-compact_images journal old mid new is all w run values =
-    each_of_two (InSlot journal.area.spare) old mid new (λ c. jobs_in journal.slots c ≡ Some (jobs_of journal.table)) w.run.later run
-    (area_images journal old mid all w.run) (raise_images journal old mid new is all w run values)
-
-pub compact_sound : (journal : JournalState) (old mid new : DiskState) → IsJournal journal → AllHold journal old → ((d : Image) → IsImage old d → IsSoundImage journal.slots d)
-    → Written journal old mid → Run (InSlot journal.area.spare) mid new
-    → Each mid new (λ c. (cell_at c 4 ≡ Some journal.area.value) ⊎ (cell_at c 4 ≡ Some (journal.area.value + 1)))
-    → Each old new (IsSoundImage journal.slots)
-compact_sound journal old mid new is all sound w run values =
-    each_of_two (InSlot journal.area.spare) old mid new (IsSoundImage journal.slots) w.run.later run
-    (area_sound journal old mid all sound w.run) (raise_sound journal old mid new is all sound w run values)
+pub compact_since : (journal : JournalState) (old mid new : DiskState) → IsTrue old.honest → IsJournal journal → AllHold journal old → Written journal old mid
+    → Run (InSlot journal.area.spare) mid new → Each mid new (λ c. (cell_at c 4 ≡ Some journal.area.value) ⊎ (cell_at c 4 ≡ Some (journal.area.value + 1)))
+    → ImagesSince journal.slots old new (λ c. jobs_in journal.slots c ≡ Some (jobs_of journal.table))
+compact_since journal old mid new honest is all w run values = record {
+  each = each_of_two (InSlot journal.area.spare) old mid new (λ c. jobs_in journal.slots c ≡ Some (jobs_of journal.table)) w.run.later run
+      (area_images journal old mid all w.run) (raise_images journal old mid new is all w run values);
+  sound = λ sound. each_of_two (InSlot journal.area.spare) old mid new (IsSoundImage journal.slots) w.run.later run
+      (area_sound journal old mid all (sound honest) w.run) (raise_sound journal old mid new is all (sound honest) w run values);
+}
 
 -- the disk in the end
 pub compact_after : (journal : JournalState) (old mid new : DiskState) → IsJournal journal → AllHold journal old → Written journal old mid → Run (InSlot journal.area.spare) mid new

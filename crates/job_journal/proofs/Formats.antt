@@ -1,8 +1,8 @@
 -- What is found in areas that are unsealed.
-use Rattle.std.proofs.Common.{◌≡◌, ◌+◌, ◌*◌, ◌<◌, ◌≤◌, ◌⊎◌, inl, inr, ⊎_elim, ℕ, zero, suc, ◌∷◌, Some, None, sym, ◌∙◌, ap, subst, refl, arith, IsTrue}
-use Rattle.sector_disk.specs.Disk.{Image, DiskState, IsImage, Laws, Counts, AllSettled}
+use Rattle.std.proofs.Common.{◌≡◌, ◌+◌, ◌*◌, ◌<◌, ◌≤◌, inl, ⊎_elim, ℕ, zero, suc, ◌∷◌, Some, None, sym, ◌∙◌, ap, subst, refl, arith}
+use Rattle.sector_disk.specs.Disk.{Image, DiskState, IsImage, AllSettled}
 use Rattle.sector_disk.specs.Run.{Run}
-use Rattle.sector_disk.proofs.Runs.{same_image, run_of_two, run_widen}
+use Rattle.sector_disk.proofs.Runs.{run_widen}
 use Rattle.slot_gate.specs.Slot.{slot_at, InSlot, InSlots}
 use Rattle.slot_gate.proofs.Slots.{slot_same, slot_settled}
 use Rattle.safe_cell.specs.Cell.{InCell}

@@ -3,11 +3,12 @@ use Rattle.std.specs.Prelude.{◌≡◌, ◌<◌, ◌≤◌, ℕ, ◌+◌, ◌*�
 use Rattle.sector_disk.specs.Disk.{Image, sector_at}
 use Rattle.slot_gate.specs.Slot.{slot_at}
 use Rattle.safe_cell.specs.Mounted.{raised}
+use Rattle.job_model.specs.declared.command.Command.{Command}
 use Rattle.job_model.specs.declared.record.Record.{Record}
 use Rattle.job_model.specs.declared.record.Record.TheVariants.{Base, Keep}
 use Rattle.job_model.specs.Records.{record_of}
-use Rattle.job_journal.specs.Jobs.{Jobs}
-use Rattle.job_journal.specs.Appending.{is_last}
+use Rattle.job_journal.specs.Jobs.{Jobs, jobs_of, with_jobs, jobs_after, id_of}
+use Rattle.job_journal.specs.Appending.{is_last, appended}
 use Rattle.job_journal.specs.Areas.{first_of}
 use Rattle.job_journal.specs.Mounted.{JournalState}
 use Rattle.job_journal.specs.declared.fault.JournalFault.{JournalFault}
@@ -30,6 +31,18 @@ compacted journal = record journal { area = raised journal.area; used = length j
 -- the journal with a free slot: compacted where there was none
 abbrev pub with_slot : JournalState → JournalState
 with_slot journal = if journal.used == journal.slots then compacted journal else journal
+
+-- the jobs stay, and how many slots an area has
+pub record KeepsJobs (old new : JournalState) : Type 0 where
+  pub slots : new.slots ≡ old.slots
+  pub table : new.table ≡ old.table
+
+-- What an append has done once it gives an id: its record is the last, behind a compaction where no slot was free.
+pub record HasAppended (old new : JournalState) (command : Command) (answer : ℕ) : Type 0 where
+  pub id : answer ≡ id_of (jobs_of old.table) command
+  pub table : new.table ≡ with_jobs (jobs_after (jobs_of old.table) command) old.table
+  pub unbroken : new.broken ≡ old.broken
+  pub whole : new ≡ appended (with_slot old) command
 
 -- After `Device` the journal is broken. It has the jobs of before, and what else it knows is of no use.
 pub record IsGivenUp (old new : JournalState) : Type 0 where

@@ -1,6 +1,7 @@
 -- What an image stands for as a journal of jobs.
 use Rattle.std.specs.Prelude.{◌≡◌, ◌<◌, ◌≤◌, ℕ, ◌+◌, ◌*◌, Bool, false, List, Option, Some, None, is_none, if◌then◌else◌, IsTrue}
 use Rattle.sector_disk.specs.Disk.{Image, DiskState, IsImage}
+use Rattle.sector_disk.specs.Run.{Each}
 use Rattle.slot_gate.specs.Slot.{slot_at}
 use Rattle.safe_cell.specs.Body.{body_value}
 use Rattle.safe_cell.specs.Cell.{cell_at}
@@ -53,6 +54,11 @@ IsSoundImage slots image = IsSoundArea slots image (area_of slots (cell_at image
 -- in no image is a gate of the present area past the journal's end sealed; a disk that isn't honest is sound
 abbrev pub IsSound : ℕ → DiskState → Type 0
 IsSound slots disk = IsTrue disk.honest → (image : Image) → IsImage disk image → IsSoundImage slots image
+
+-- Each image since a change began stands for what is said, and on a sound disk it is sound.
+pub record ImagesSince (slots : ℕ) (old new : DiskState) (Stands : Image → Type 0) : Type 0 where
+  pub each : Each old new Stands
+  pub sound : IsSound slots old → Each old new (IsSoundImage slots)
 
 -- the sectors of the area cell and of both areas
 abbrev pub InJournal : ℕ → ℕ → Type 0

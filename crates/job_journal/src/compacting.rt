@@ -1,13 +1,13 @@
 // A journal moved into its other area, with no record in it but those of the pending jobs.
-ghost use Rattle.std.specs.Prelude.{◌≡◌, ◌⊎◌, ◌<◌, ◌≤◌, ◌+◌, ◌-◌, ◌*◌, ◌^◌, ℕ, IsTrue, IsOk, IsErrOf, IsSome, Some, None};
-ghost use Rattle.sector_disk.specs.Disk.{Image, Counts, AllSettled};
-ghost use Rattle.sector_disk.specs.Run.{Run, Each};
+ghost use Rattle.std.specs.Prelude.{◌≡◌, ◌⊎◌, ◌<◌, ◌≤◌, ◌+◌, ◌-◌, ◌*◌, ◌^◌, IsTrue, IsOk, IsErrOf, IsSome, Some, None};
+ghost use Rattle.sector_disk.specs.Disk.{Counts};
+ghost use Rattle.sector_disk.specs.Run.{Run};
 ghost use Rattle.job_journal.specs.Appending.{Answers};
 ghost use Rattle.job_journal.specs.Areas.{first_of};
-ghost use Rattle.job_journal.specs.Compacting.{compaction_refusal, compacted, with_slot, IsGivenUp};
+ghost use Rattle.job_journal.specs.Compacting.{compaction_refusal, compacted, with_slot, KeepsJobs, IsGivenUp};
 ghost use Rattle.job_journal.specs.Jobs.{jobs_of};
-ghost use Rattle.job_journal.specs.Journal.{jobs_in, IsSound, IsSoundImage, InJournal};
-ghost use Rattle.job_journal.specs.Mounted.{AllHold, IsJournal};
+ghost use Rattle.job_journal.specs.Journal.{jobs_in, ImagesSince, InJournal};
+ghost use Rattle.job_journal.specs.Mounted.{AllHold, Lasts, IsJournal};
 
 use crate::area::write_area;
 use crate::fault::JournalFault;
@@ -31,8 +31,7 @@ impl JobJournal {
             → (disk.new ≡ disk.old) × (self.new ≡ self.old) }
         ensures device { IsErrOf result JournalFault.Device → IsGivenUp self.old self.new }
         ensures ok { IsOk result → self.new ≡ compacted self.old }
-        ensures slots { self.new.slots ≡ self.old.slots }
-        ensures table { self.new.table ≡ self.old.table }
+        ensures kept { KeepsJobs self.old self.new }
 
         // No sector outside the journal changes in any image.
         ensures run { IsTrue (D.state disk.old).honest
@@ -40,17 +39,12 @@ impl JobJournal {
 
         // Each image since the start stands for the jobs of before, and on a sound disk it is sound.
         ensures images { IsTrue (D.state disk.old).honest → AllHold self.old (D.state disk.old)
-            → Each (D.state disk.old) (D.state disk.new)
+            → ImagesSince self.old.slots (D.state disk.old) (D.state disk.new)
             (λ image. jobs_in self.old.slots image ≡ Some (jobs_of self.old.table)) }
-        ensures sound { IsTrue (D.state disk.old).honest → IsSound self.old.slots (D.state disk.old)
-            → AllHold self.old (D.state disk.old)
-            → Each (D.state disk.old) (D.state disk.new) (IsSoundImage self.old.slots) }
 
         // After `Ok` each image has the new area, and nothing is unsynced.
-        ensures after { IsTrue (D.state disk.old).honest → AllHold self.old (D.state disk.old) → IsOk result
-            → AllHold self.new (D.state disk.new) }
-        ensures settled { IsTrue (D.state disk.old).honest → IsOk result
-            → AllSettled (D.state disk.new) }
+        ensures after { IsTrue (D.state disk.old).honest → IsOk result
+            → Lasts (AllHold self.old (D.state disk.old)) self.new (D.state disk.new) }
     {
         if let Some(fault) = self.refuse_compaction() {
             return Err(fault);
@@ -81,11 +75,8 @@ impl JobJournal {
         ensures run { IsTrue (D.state disk.old).honest
             → Run (InJournal self.old.slots) (D.state disk.old) (D.state disk.new) }
         ensures images { IsTrue (D.state disk.old).honest → AllHold self.old (D.state disk.old)
-            → Each (D.state disk.old) (D.state disk.new)
+            → ImagesSince self.old.slots (D.state disk.old) (D.state disk.new)
             (λ image. jobs_in self.old.slots image ≡ Some (jobs_of self.old.table)) }
-        ensures sound { IsTrue (D.state disk.old).honest → IsSound self.old.slots (D.state disk.old)
-            → AllHold self.old (D.state disk.old)
-            → Each (D.state disk.old) (D.state disk.new) (IsSoundImage self.old.slots) }
         ensures after { IsTrue (D.state disk.old).honest → AllHold self.old (D.state disk.old) → IsOk result
             → AllHold self.new (D.state disk.new) }
     {

@@ -1,6 +1,7 @@
 -- What a disk with a counter and a journal stands for, and what a mounted store knows of it.
-use Rattle.std.specs.Prelude.{◌≡◌, ◌⊎◌, ◌<◌, ◌≤◌, ℕ, ◌+◌, ◌-◌, ◌*◌, ◌/◌, ◌^◌, ◌==◌, min, Bool, IsTrue, IsFalse, Option, Some, None, if◌then◌else◌, Result, IsOk, IsErrOf, Err}
-use Rattle.sector_disk.specs.Disk.{Image, DiskState, IsImage, sector_at}
+use Rattle.std.specs.Prelude.{◌≡◌, ◌⊎◌, ◌<◌, ◌≤◌, ℕ, ◌+◌, ◌-◌, ◌*◌, ◌/◌, ◌^◌, ◌==◌, min, Bool, IsTrue, IsFalse, Option, Some, None, if◌then◌else◌, Result}
+use Rattle.sector_disk.specs.Disk.{Image, DiskState, IsImage, AllSettled, sector_at}
+use Rattle.safe_cell.specs.Answered.{AnswersOr}
 use Rattle.safe_cell.specs.Cell.{cell_at}
 use Rattle.safe_cell.specs.Mounted.{CellState, IsCellAt, AllStand}
 use Rattle.job_model.specs.Answer.{answer_of}
@@ -10,7 +11,7 @@ use Rattle.job_model.specs.Fold.{after_command}
 use Rattle.job_model.specs.declared.command.Command.{Command as Change}
 use Rattle.job_journal.specs.declared.fault.JournalFault.{JournalFault}
 use Rattle.job_journal.specs.Jobs.{Jobs, jobs_of, kept}
-use Rattle.job_journal.specs.Journal.{jobs_in, IsFormatted}
+use Rattle.job_journal.specs.Journal.{jobs_in, IsFormatted, IsSound}
 use Rattle.job_journal.specs.Mounted.{JournalState, AllHold}
 use Rattle.job_journal.specs.Appending.{refusal}
 use Rattle.job_journal.specs.Compacting as Journal
@@ -32,6 +33,11 @@ stands_for slots image = durable_by (cell_at image 0) (jobs_in slots image)
 -- each image that a crash now may leave stands for this state
 abbrev pub AllStandFor : ℕ → Durable → DiskState → Type 0
 AllStandFor slots state disk = (image : Image) → IsImage disk image → stands_for slots image ≡ Some state
+
+-- What a disk has after Ok: nothing is unsynced, and each image stands for this state.
+pub record Lasts (slots : ℕ) (state : Durable) (disk : DiskState) : Type 0 where
+  pub settled : AllSettled disk
+  pub stands : AllStandFor slots state disk
 
 -- What a program that has mounted a store knows of it.
 pub record StoreState (Disk : Type 0) : Type 0 where
@@ -91,13 +97,22 @@ raise_refusal store = if store.broken then Some StoreFault.Broken else (if store
 
 -- a call answers its refusal, or else what it does or `Device`
 abbrev pub Answers : {A : Type 0} → Option StoreFault → Result A StoreFault → Type 0
-Answers (Some fault) result = result ≡ Err fault
-Answers None result = IsOk result ⊎ IsErrOf result StoreFault.Device
+Answers refusal result = AnswersOr StoreFault.Device refusal result
 
 -- what a change has done once it answers
 abbrev pub Changed : {Disk : Type 0} → StoreState Disk → StoreState Disk → Command → ℕ → Type 0
 Changed old new command answer =
     (answer ≡ answer_of (durable_of old) command) × (durable_of new ≡ after_command (durable_of old) command) × IsFalse new.broken
+
+-- After `Device` the store is broken, and has the state of before.
+pub record HasFailed {Disk : Type 0} (old new : StoreState Disk) : Type 0 where
+  pub broken : IsTrue new.broken
+  pub kept : durable_of new ≡ durable_of old
+
+-- The areas of a store stay, whatever a call answers: they have as many slots, and a sound disk is still sound.
+pub record KeepsAreas {Disk : Type 0} (state : Disk → DiskState) (old new : StoreState Disk) : Type 0 where
+  pub slots : new.journal.slots ≡ old.journal.slots
+  pub sound : IsSound old.journal.slots (state old.disk) → IsSound new.journal.slots (state new.disk)
 
 -- the sectors of a store
 abbrev pub InStore : ℕ → ℕ → Type 0

@@ -1,3 +1,4 @@
+pub mod ReadOnly
 pub mod Bodies
 pub mod Values
 pub mod Raised

@@ -141,3 +141,8 @@ pub if_made : (P Q R : CellState → Type 0) (fault : CellFault) (cell : Option 
     → IfSome cell P → IfSome cell Q → IfOk (ok_or cell fault) R
 if_made P Q R fault None step p q = tt
 if_made P Q R fault (Some cell) step p q = step cell p q
+
+-- two slots that were read are no fault of the device
+pub no_device : (cell : Option CellState) (answer : Result CellState CellFault) → answer ≡ ok_or cell NotFormatted → IsErrOf answer Device → ⊥
+no_device None answer is bad = cc
+no_device (Some cell) answer is bad = cc

@@ -1,5 +1,7 @@
+pub mod Answered
 pub mod Body
 pub mod Cell
 pub mod Mounted
 pub mod Told
+pub mod Raising
 pub mod Formatted

@@ -1,10 +1,12 @@
 // The cell: two slots, of which the one with the greater value counts.
-ghost use Rattle.std.specs.Prelude.{◌≡◌, ◌⊎◌, ◌↔◌, ◌<◌, ◌+◌, ◌-◌, ◌^◌, ℕ, IsTrue, IsFalse, IsOk, IfOk, IfSome, IsNone, IsErrOf, Some, None, true, false};
+ghost use Rattle.std.specs.Prelude.{◌≡◌, ◌⊎◌, ◌↔◌, ◌<◌, ◌+◌, ◌-◌, ◌^◌, ℕ, IsTrue, IsFalse, IsOk, IfOk, IsSome, IfSome, IsNone, IsErrOf, Some, None, true, false};
 ghost use Rattle.sector_disk.specs.Disk.{Image, Counts, AllSettled};
 ghost use Rattle.sector_disk.specs.Run.{Run, Each};
 ghost use Rattle.slot_gate.specs.Slot.{slot_at, InSlot};
+ghost use Rattle.safe_cell.specs.Answered.{AnswersOr};
 ghost use Rattle.safe_cell.specs.Cell.{cell_at, AllHave};
 ghost use Rattle.safe_cell.specs.Mounted.{CellState, IsCellAt, IsRead, Stands, AllStand, raised};
+ghost use Rattle.safe_cell.specs.Raising.{raise_refusal};
 
 use crate::body::body_for;
 use crate::fault::CellFault;
@@ -80,18 +82,16 @@ impl SafeCell {
     pub fn raise<D: SectorDisk>(&mut self, disk: &mut D) -> Result<u64, CellFault>
         requires { self.old.spare + 1 < (D.state disk.old).sectors }
 
-        ensures ok { IfOk result (λ v. (v ≡ self.old.value + 1) × (self.new ≡ raised self.old)) }
-        ensures broken { IsErrOf result CellFault.Broken ↔ IsTrue self.old.broken }
-        ensures exhausted { IsErrOf result CellFault.Exhausted
-            ↔ (IsFalse self.old.broken × (self.old.value ≡ 2 ^ 64 - 1)) }
-        ensures refused { (IsErrOf result CellFault.Broken ⊎ IsErrOf result CellFault.Exhausted)
+        ensures counts { Counts (D.state disk.old) (D.state disk.new)
+            (IsErrOf result CellFault.Device) (IsErrOf result CellFault.Device → ⊥) }
+
+        // Which answer comes when, and what it leaves.
+        ensures answers { AnswersOr CellFault.Device (raise_refusal self.old) result }
+        ensures refused { IsSome (raise_refusal self.old)
             → (disk.new ≡ disk.old) × (self.new ≡ self.old) }
         ensures device { IsErrOf result CellFault.Device
             → self.new ≡ record self.old { broken = true } }
-        ensures formatted { IsErrOf result CellFault.NotFormatted → ⊥ }
-        ensures damaged { (at : ℕ) → IsErrOf result (CellFault.Damaged at) → ⊥ }
-        ensures counts { Counts (D.state disk.old) (D.state disk.new)
-            (IsErrOf result CellFault.Device) (IsErrOf result CellFault.Device → ⊥) }
+        ensures ok { IfOk result (λ v. (v ≡ self.old.value + 1) × (self.new ≡ raised self.old)) }
 
         // No sector outside the spare slot changes in any image.
         ensures run { IsTrue (D.state disk.old).honest
@@ -103,13 +103,10 @@ impl SafeCell {
             → Each (D.state disk.old) (D.state disk.new) (λ c. (cell_at c at ≡ Some self.old.value)
             ⊎ (cell_at c at ≡ Some (self.old.value + 1))) }
 
-        // After `Ok` there is the next one alone, and nothing is unsynced.
-        ensures value { (at : ℕ) → IsTrue (D.state disk.old).honest
-            → IsCellAt at self.old → AllStand self.old (D.state disk.old) → IsOk result
-            → AllHave at (self.old.value + 1) (D.state disk.new) }
+        // After `Ok` there is the next one alone, as the cell knows it, and nothing is unsynced.
         ensures after { (at : ℕ) → IsTrue (D.state disk.old).honest
             → IsCellAt at self.old → AllStand self.old (D.state disk.old) → IsOk result
-            → AllStand self.new (D.state disk.new) }
+            → AllHave at (self.old.value + 1) (D.state disk.new) × AllStand self.new (D.state disk.new) }
         ensures settled { IsTrue (D.state disk.old).honest → IsOk result
             → AllSettled (D.state disk.new) }
     {

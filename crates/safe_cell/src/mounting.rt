@@ -1,11 +1,10 @@
 // A cell read from its disk.
-ghost use Rattle.std.specs.Prelude.{◌≡◌, ◌⊎◌, ◌<◌, ◌+◌, ◌^◌, ℕ, IsTrue, IsFalse, IsOk, IfOk, IsErrOf};
-ghost use Rattle.sector_disk.specs.Disk.{Counts, nothing};
-ghost use Rattle.sector_disk.specs.Run.{Run};
+ghost use Rattle.std.specs.Prelude.{◌⊎◌, ◌<◌, ◌+◌, ◌^◌, ℕ, IsTrue, IsFalse, IsOk, IfOk, IfErr, IsErrOf};
 ghost use Rattle.slot_gate.specs.Slot.{slot_at};
+ghost use Rattle.safe_cell.specs.Answered.{OnlyReads};
 ghost use Rattle.safe_cell.specs.Cell.{IsDamaged, InCell};
 ghost use Rattle.safe_cell.specs.Mounted.{IsCellAt, IsRead, Stands, AllStand};
-ghost use Rattle.safe_cell.specs.Told.{Tells};
+ghost use Rattle.safe_cell.specs.Told.{IsMountFault, Tells};
 
 use crate::body::value_in;
 use crate::cell::SafeCell;
@@ -34,15 +33,10 @@ pub fn mount<D: SectorDisk>(disk: &mut D, at: u64) -> Result<SafeCell, CellFault
         → ((k : ℕ) → InCell at k → (D.state disk.old).settled k)
         → IfOk result (λ cell. AllStand cell (D.state disk.new)) }
 
-    ensures broken { IsErrOf result CellFault.Broken → ⊥ }
-    ensures exhausted { IsErrOf result CellFault.Exhausted → ⊥ }
-    ensures damaged { (k : ℕ) → IsErrOf result (CellFault.Damaged k) → (k ≡ at) ⊎ (k ≡ at + 2) }
-    ensures counts { Counts (D.state disk.old) (D.state disk.new)
-        (IsErrOf result CellFault.Device) (IsErrOf result CellFault.Device → ⊥) }
-    ensures run { IsTrue (D.state disk.old).honest
-        → Run nothing (D.state disk.old) (D.state disk.new) }
-    ensures settled { IsTrue (D.state disk.old).honest
-        → (k : ℕ) → (D.state disk.old).settled k → (D.state disk.new).settled k }
+    ensures no_other { IfErr result (IsMountFault at) }
+
+    // It writes nothing.
+    ensures only_reads { OnlyReads (D.state disk.old) (D.state disk.new) (IsErrOf result CellFault.Device) }
 {
     let first = read_slot(disk, at)?;
     let second = read_slot(disk, at + 2)?;
@@ -59,12 +53,7 @@ fn read_slot<D: SectorDisk>(disk: &mut D, slot: u64) -> Result<Option<u64>, Cell
         → IsDamaged (slot_at (D.state disk.old).contents slot) }
     ensures no_other { IsErrOf result CellFault.Device
         ⊎ IsErrOf result (CellFault.Damaged slot) ⊎ IsOk result }
-    ensures counts { Counts (D.state disk.old) (D.state disk.new)
-        (IsErrOf result CellFault.Device) (IsErrOf result CellFault.Device → ⊥) }
-    ensures run { IsTrue (D.state disk.old).honest
-        → Run nothing (D.state disk.old) (D.state disk.new) }
-    ensures settled { IsTrue (D.state disk.old).honest
-        → (k : ℕ) → (D.state disk.old).settled k → (D.state disk.new).settled k }
+    ensures only_reads { OnlyReads (D.state disk.old) (D.state disk.new) (IsErrOf result CellFault.Device) }
 {
     match look(disk, slot) {
         Err(_) => Err(CellFault::Device),

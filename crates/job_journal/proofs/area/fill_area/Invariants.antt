@@ -1,4 +1,4 @@
-use Rattle.std.proofs.Common.{◌<◌, length, IsTrue}
+use Rattle.std.proofs.Common.{◌<◌, IsTrue}
 use Rattle.sector_disk.specs.Disk.{AllSettled}
 use Rattle.job_journal.specs.Jobs.{jobs_of}
 use Rattle.slot_gate.specs.Slot.{InSlots}

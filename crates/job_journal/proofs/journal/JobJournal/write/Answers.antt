@@ -2,10 +2,10 @@ use Rattle.std.proofs.Common.{◌≡◌, ◌+◌, false, sym, ◌∙◌, ap, sub
 use Rattle.sector_disk.specs.Run.{Run, Each}
 use Rattle.slot_gate.specs.Slot.{slot_at, InSlot}
 use Rattle.slot_gate.specs.Stored.{Knows, IsStored, Follows}
-use Rattle.job_journal.specs.Journal.{IsSound, IsSoundImage}
+use Rattle.job_journal.specs.Journal.{IsSound, ImagesSince}
 use Rattle.job_journal.specs.Mounted.{JournalState, AllHold, IsJournal, next_slot}
 use Rattle.job_journal.specs.Appending.{Admitted, BeforeOrAfter, appended}
-use Rattle.job_journal.proofs.Appends.{append_images, append_sound, append_after, append_run, appended_is}
+use Rattle.job_journal.proofs.Appends.{append_since, append_after, append_run, appended_is}
 use Rattle.job_journal.proofs.journal.JobJournal.write.Goals as goal
 
 pub returns-then-is_err-clause-run : goal.returns-then-is_err-clause-run
@@ -24,24 +24,9 @@ returns-then-is_err-clause-images g c = λ honest sound all.
     let command = c.args.command in
     let body = c.body_for-body.result in
     let slot = c.next_slot-slot.result in
-    let Q : JournalState → Type 0 = λ w. IsJournal w → Admitted w command → slot ≡ next_slot w → IsSound w.slots old → AllHold w old → Each old new (BeforeOrAfter w command) in
+    let Q : JournalState → Type 0 = λ w. IsJournal w → Admitted w command → slot ≡ next_slot w → IsSound w.slots old → AllHold w old → ImagesSince w.slots old new (BeforeOrAfter w command) in
     subst Q c.self.view_is
-    (λ is can at good held. append_images j command body old new is can c.body_for-body.ensures held (good honest)
-    (subst (λ s. Knows old s false → Each old new (Follows (InSlot s) old s (IsStored body))) at (c.store.ensures.images honest)))
-    (subst (λ w. IsJournal w) c.self.view_is c.self.invariant) c.requires.admitted c.next_slot-slot.ensures sound all
-
-pub returns-then-is_err-clause-sound : goal.returns-then-is_err-clause-sound
-returns-then-is_err-clause-sound g c = λ honest sound all.
-    let old = g.D.SectorDisk.state c.args.disk.now in
-    let new = g.D.SectorDisk.state c.store.new.disk in
-    let was = c.self.inside in
-    let j : JournalState = record { slots = was.slots; area = was.area; used = was.used; table = was.table; broken = was.broken } in
-    let command = c.args.command in
-    let body = c.body_for-body.result in
-    let slot = c.next_slot-slot.result in
-    let Q : JournalState → Type 0 = λ w. IsJournal w → Admitted w command → slot ≡ next_slot w → IsSound w.slots old → AllHold w old → Each old new (IsSoundImage w.slots) in
-    subst Q c.self.view_is
-    (λ is can at good held. append_sound j command body old new is can c.body_for-body.ensures held (good honest)
+    (λ is can at good held. append_since j command body old new honest is can c.body_for-body.ensures held good
     (subst (λ s. Knows old s false → Each old new (Follows (InSlot s) old s (IsStored body))) at (c.store.ensures.images honest)))
     (subst (λ w. IsJournal w) c.self.view_is c.self.invariant) c.requires.admitted c.next_slot-slot.ensures sound all
 
@@ -61,29 +46,14 @@ returns-clause-images g c = λ honest sound all.
     let command = c.args.command in
     let body = c.body_for-body.result in
     let slot = c.next_slot-slot.result in
-    let Q : JournalState → Type 0 = λ w. IsJournal w → Admitted w command → slot ≡ next_slot w → IsSound w.slots old → AllHold w old → Each old new (BeforeOrAfter w command) in
+    let Q : JournalState → Type 0 = λ w. IsJournal w → Admitted w command → slot ≡ next_slot w → IsSound w.slots old → AllHold w old → ImagesSince w.slots old new (BeforeOrAfter w command) in
     subst Q c.self.view_is
-    (λ is can at good held. append_images j command body old new is can c.body_for-body.ensures held (good honest)
-    (subst (λ s. Knows old s false → Each old new (Follows (InSlot s) old s (IsStored body))) at (c.store.ensures.images honest)))
-    (subst (λ w. IsJournal w) c.self.view_is c.self.invariant) c.requires.admitted c.next_slot-slot.ensures sound all
-
-pub returns-clause-sound : goal.returns-clause-sound
-returns-clause-sound g c = λ honest sound all.
-    let old = g.D.SectorDisk.state c.args.disk.now in
-    let new = g.D.SectorDisk.state c.store.new.disk in
-    let was = c.self.inside in
-    let j : JournalState = record { slots = was.slots; area = was.area; used = was.used; table = was.table; broken = was.broken } in
-    let command = c.args.command in
-    let body = c.body_for-body.result in
-    let slot = c.next_slot-slot.result in
-    let Q : JournalState → Type 0 = λ w. IsJournal w → Admitted w command → slot ≡ next_slot w → IsSound w.slots old → AllHold w old → Each old new (IsSoundImage w.slots) in
-    subst Q c.self.view_is
-    (λ is can at good held. append_sound j command body old new is can c.body_for-body.ensures held (good honest)
+    (λ is can at good held. append_since j command body old new honest is can c.body_for-body.ensures held good
     (subst (λ s. Knows old s false → Each old new (Follows (InSlot s) old s (IsStored body))) at (c.store.ensures.images honest)))
     (subst (λ w. IsJournal w) c.self.view_is c.self.invariant) c.requires.admitted c.next_slot-slot.ensures sound all
 
 pub returns-clause-after : goal.returns-clause-after
-returns-clause-after g c = λ honest sound all ok.
+returns-clause-after g c = λ honest ok.
     let old = g.D.SectorDisk.state c.args.disk.now in
     let new = g.D.SectorDisk.state c.store.new.disk in
     let was = c.self.inside in
@@ -93,13 +63,17 @@ returns-clause-after g c = λ honest sound all ok.
     let slot = c.next_slot-slot.result in
     let done = c.is_err.ensures.negation ∙ ap not c.if-is_err.false in
     let Q : JournalState → Type 0 = λ w. IsJournal w → Admitted w command → slot ≡ next_slot w → IsSound w.slots old → AllHold w old → AllHold (appended j command) new in
-    subst (λ t. AllHold (record { slots = was.slots; area = was.area; used = was.used + 1; table = t; broken = was.broken }) new) (sym c.apply.ensures.table)
-    (subst Q c.self.view_is
-    (λ is can at good held. append_after j command body old new is can c.body_for-body.ensures held (good honest)
-    (subst (λ s. Run (InSlot s) old new) at (c.store.ensures.run honest))
-    (c.store.ensures.settled honest done)
-    (subst (λ s. slot_at new.contents s ≡ Some body) at (c.store.ensures.sealed honest done)))
-    (subst (λ w. IsJournal w) c.self.view_is c.self.invariant) c.requires.admitted c.next_slot-slot.ensures sound all)
+    record {
+      settled = c.store.ensures.settled honest done;
+      holds = λ known.
+          subst (λ t. AllHold (record { slots = was.slots; area = was.area; used = was.used + 1; table = t; broken = was.broken }) new) (sym c.apply.ensures.table)
+          (subst Q c.self.view_is
+          (λ is can at good held. append_after j command body old new is can c.body_for-body.ensures held (good honest)
+          (subst (λ s. Run (InSlot s) old new) at (c.store.ensures.run honest))
+          (c.store.ensures.settled honest done)
+          (subst (λ s. slot_at new.contents s ≡ Some body) at (c.store.ensures.sealed honest done)))
+          (subst (λ w. IsJournal w) c.self.view_is c.self.invariant) c.requires.admitted c.next_slot-slot.ensures known.0 known.1);
+    }
 
 pub invariant_of-self-2 : goal.invariant_of-self-2
 invariant_of-self-2 g c =

@@ -32,18 +32,9 @@ returns-clause-after g c = λ at honest way all ok.
     let new = g.D.SectorDisk.state c.store.new.disk in
     let was = c.self.inside in
     let cell : CellState = record { present = was.present; spare = was.spare; spare_sealed = was.spare_sealed; value = was.value; broken = was.broken } in
-    let P : CellState → Type 0 = λ w. IsCellAt at w → AllStand w old → AllStand (raised cell) new in
+    let P : CellState → Type 0 = λ w. IsCellAt at w → AllStand w old → AllHave at (w.value + 1) new × AllStand (raised cell) new in
     let fits : was.value + 1 < 2 ^ 64 = omega (arith, c.if-self-2.false, c.self.ranges) in
     let done = c.is_err.ensures.negation ∙ ap not c.if-is_err.false in
-    subst P c.self.view_is (λ w a. raise_after at cell old new c.body_for.result c.body_for.ensures fits w a (c.store.ensures.run honest) (c.store.ensures.settled honest done) (c.store.ensures.sealed honest done)) way all
-
-pub returns-clause-value : goal.returns-clause-value
-returns-clause-value g c = λ at honest way all ok.
-    let old = g.D.SectorDisk.state c.args.disk.now in
-    let new = g.D.SectorDisk.state c.store.new.disk in
-    let was = c.self.inside in
-    let cell : CellState = record { present = was.present; spare = was.spare; spare_sealed = was.spare_sealed; value = was.value; broken = was.broken } in
-    let P : CellState → Type 0 = λ w. IsCellAt at w → AllStand w old → AllHave at (w.value + 1) new in
-    let fits : was.value + 1 < 2 ^ 64 = omega (arith, c.if-self-2.false, c.self.ranges) in
-    let done = c.is_err.ensures.negation ∙ ap not c.if-is_err.false in
-    subst P c.self.view_is (λ w a. all_have at (raised cell) new (raised_way at cell w) (raise_after at cell old new c.body_for.result c.body_for.ensures fits w a (c.store.ensures.run honest) (c.store.ensures.settled honest done) (c.store.ensures.sealed honest done))) way all
+    subst P c.self.view_is
+    (λ w a. let stands = raise_after at cell old new c.body_for.result c.body_for.ensures fits w a (c.store.ensures.run honest) (c.store.ensures.settled honest done) (c.store.ensures.sealed honest done) in
+    (all_have at (raised cell) new (raised_way at cell w) stands, stands)) way all

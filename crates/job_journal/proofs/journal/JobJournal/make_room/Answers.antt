@@ -1,0 +1,9 @@
+use Rattle.job_journal.proofs.Compactions.{still_since}
+use Rattle.job_journal.proofs.journal.JobJournal.make_room.Goals as goal
+
+pub returns-then-self-clause-after : goal.returns-then-self-clause-after
+returns-then-self-clause-after g c = λ honest all ok. (c.compact.ensures.after honest ok).holds all
+
+pub returns-clause-images : goal.returns-clause-images
+returns-clause-images g c = λ honest all.
+    still_since c.args.self.now (g.D.SectorDisk.state c.args.disk.now) honest (g.met.D.SectorDisk.laws c.args.disk.now honest) all

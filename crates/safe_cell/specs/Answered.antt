@@ -1,0 +1,15 @@
+-- What a call on a disk answers, and what a call that only reads leaves.
+use Rattle.std.specs.Prelude.{◌≡◌, ◌⊎◌, ℕ, Option, Some, None, Result, Err, IsTrue, IsOk, IsErrOf}
+use Rattle.sector_disk.specs.Disk.{DiskState, Counts, nothing}
+use Rattle.sector_disk.specs.Run.{Run}
+
+-- a call answers its refusal, or else what it does or the fault of the device
+abbrev pub AnswersOr : {A F : Type 0} → F → Option F → Result A F → Type 0
+AnswersOr device (Some fault) result = result ≡ Err fault
+AnswersOr device None result = IsOk result ⊎ IsErrOf result device
+
+-- A call that only reads counts its failures, writes nothing in any image, and leaves settled what was.
+pub record OnlyReads (old new : DiskState) (failed : Type 0) : Type 0 where
+  pub counts : Counts old new failed (failed → ⊥)
+  pub run : IsTrue old.honest → Run nothing old new
+  pub settled : IsTrue old.honest → (k : ℕ) → old.settled k → new.settled k
