@@ -6,3 +6,4 @@ pub mod Keyed
 pub mod Desks
 pub mod Turns
 pub mod KeptEntries
+pub mod Brought

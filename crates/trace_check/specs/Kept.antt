@@ -88,6 +88,28 @@ deed_said messages payloads (done.NotRecovered kept fault) = deed.NotRecovered k
 abbrev pub claim_said : List Envelope → List ℕ → KeptEntry → Claim
 claim_said messages payloads e = record { deed = deed_said messages payloads e.deed; sent = part e.start e.end messages }
 
+-- ---- where the message stands that it was brought
+
+abbrev pub delivered_at : KeptEvent → Option ℕ
+delivered_at kept.CheckTimer = None
+delivered_at kept.MergeTimer = None
+delivered_at kept.AcceptTimer = None
+delivered_at kept.ReadyTimer = None
+delivered_at kept.CoordTimer = None
+delivered_at kept.DispatchTimer = None
+delivered_at (kept.Deliver place) = Some place
+delivered_at (kept.Submit queue priority start len) = None
+delivered_at (kept.Finish origin id) = None
+delivered_at kept.Recover = None
+
+abbrev pub brought_at : KeptDeed → Option ℕ
+brought_at done.Nothing = None
+brought_at (done.Done event) = delivered_at event
+brought_at (done.Faulted event) = delivered_at event
+brought_at done.Crashed = None
+brought_at (done.Recovered kept) = None
+brought_at (done.NotRecovered kept fault) = None
+
 -- ---- what can be read back, from so many messages and bytes of payloads
 
 abbrev pub EventStands : ℕ → ℕ → KeptEvent → Type 0

@@ -8,3 +8,4 @@ pub mod Runs
 pub mod Traces
 pub mod Twins
 pub mod Verdicts
+pub mod Views

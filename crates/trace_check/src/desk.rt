@@ -1,17 +1,14 @@
-ghost use Rattle.std.specs.Prelude.{◌≡◌, ◌≤◌, ◌<◌, ◌+◌, ◌∷◌, [], ℕ, length, slice_get, Some, cond, IfOk, OnOk, IfSome, IsNone, IsTrue, true, false, MatchOption};
+ghost use Rattle.std.specs.Prelude.{◌≡◌, ◌≤◌, ◌<◌, ◌+◌, ◌∷◌, [], ℕ, length, slice_get, Some, cond, IfOk, OnOk, IfSome, IsNone, IsTrue, true, false};
 ghost use Rattle.group_task.specs.Ids.{has, with_id, without_id};
 ghost use Rattle.wire_msg.specs.Envelope.{Envelope};
-ghost use Rattle.trace_check.specs.Claims.{brought_by};
 ghost use Rattle.trace_check.specs.Desks.{Fits, Judges, PostsAll};
 
 use crate::history::Sent;
 use crate::posted::Posted;
 use crate::replica::Replica;
-use crate::trace::{Deed, Trace};
+use crate::trace::Trace;
 use group_task::{Members, NodeId};
-use node_core::Event;
 use std::alloc::AllocError;
-use wire_msg::Message;
 
 /// A node of the trace: its replica, and the index of its next entry.
 #[derive(Drop)]
@@ -52,33 +49,25 @@ pub(crate) fn judge(
     ensures posted { posted.new ≡ posted.old }
     ensures judges { IfOk result (Judges trace.now posted.old id seat.old seat.new) }
 {
-    let Some(entry) = trace.entry(id, seat.place) else {
+    let Some(brought) = trace.brought(id, seat.place) else {
         return Ok(Judgement::Stops);
     };
-    if let Some(message) = brought_by(&entry.deed) {
-        if message.receiver() != id {
+    if let Some(receiver) = brought.receiver(0) {
+        if receiver != id {
             return Ok(Judgement::Stops);
         }
-        if !posted.contains(message)? {
+        if !posted.contains(&brought, 0)? {
             return Ok(Judgement::Waits);
         }
     }
-    if !seat.replica.take(&entry)? {
+    let Some(kept) = trace.kept(id, seat.place) else {
+        unreachable!()
+    };
+    if !seat.replica.take_kept(&kept)? {
         return Ok(Judgement::Stops);
     }
     seat.place += 1;
     Ok(Judgement::Takes)
-}
-
-/// The message that a deed was brought.
-fn brought_by(deed: &Deed) -> Option<&Message>
-    ensures { MatchOption result (brought_by deed.now ≡ []) (λ message. brought_by deed.now ≡ message.now ∷ []) }
-{
-    match deed {
-        Deed::Done(Event::Deliver(message)) => Some(message),
-        Deed::Faulted(Event::Deliver(message)) => Some(message),
-        _ => None,
-    }
 }
 
 /// The messages are sent: who waits for one of them may go on.

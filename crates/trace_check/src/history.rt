@@ -1,10 +1,11 @@
 ghost use Rattle.std.specs.Prelude.{◌≡◌, ◌≤◌, ◌<◌, ◌+◌, ◌^◌, [], ◌∷◌, ◌++◌, length, slice_get, option_map, Some, None, IfSome, IsNone, IsTrue, ◌↔◌, OnOk, OnErr};
 ghost use Rattle.wire_msg.specs.Envelope.{Envelope};
 ghost use Rattle.wire_msg.specs.Spelling.{Spells};
-ghost use Rattle.trace_check.specs.Claims.{Claim};
+ghost use Rattle.trace_check.specs.Claims.{Claim, brought_by};
 ghost use Rattle.trace_check.specs.Traces.{claim, claim_seen};
+ghost use Rattle.trace_check.specs.Views.{Stands, claim_kept};
 
-use crate::kept::{KeptEntry, deed_said, keep_deed};
+use crate::kept::{KeptEntry, brought_at, deed_said, keep_deed};
 use crate::trace::Deed;
 use group_task::NodeId;
 use job_model::PAYLOAD_CAPACITY;
@@ -91,6 +92,21 @@ impl History {
         })
     }
 
+    /// The entry at this place, as it is kept.
+    pub(crate) fn kept(&self, place: usize) -> Option<KeptView<'_>>
+        ensures some { IfSome result (λ kept. slice_get self.now place ≡ Some (claim_kept kept)) }
+        ensures none { IsNone result → slice_get self.now place ≡ None }
+        ensures stands { IfSome result (λ kept. Stands kept) }
+        ensures fits { IfSome result (λ _. place + 1 < 2 ^ 64) }
+    {
+        let entry = self.entries.get(place)?;
+        Some(KeptView {
+            messages: &self.messages,
+            payloads: &self.payloads,
+            entry: *entry,
+        })
+    }
+
     /// The messages that the entry at this place sent.
     pub fn sent(&self, place: usize) -> Option<Sent<'_>>
         ensures { result ≡ option_map (λ (c : Claim). c.sent) (slice_get self.now place) }
@@ -101,6 +117,26 @@ impl History {
             start: kept.start,
             end: kept.end,
         })
+    }
+
+    /// The message that the entry at this place was brought, alone: none where it was brought none. It isn't made for this.
+    pub fn brought(&self, place: usize) -> Option<Sent<'_>>
+        ensures { result ≡ option_map (λ (c : Claim). brought_by c.deed) (slice_get self.now place) }
+    {
+        let kept = self.entries.get(place)?;
+        let _many = self.messages.len();
+        match brought_at(kept.deed) {
+            Some(start) => Some(Sent {
+                messages: &self.messages,
+                start,
+                end: start + 1,
+            }),
+            None => Some(Sent {
+                messages: &self.messages,
+                start: 0,
+                end: 0,
+            }),
+        }
     }
 }
 
@@ -121,7 +157,29 @@ pub struct EntryView<'a> {
     pub sent: Sent<'a>,
 }
 
-/// The messages that an entry sent, in their order, lent.
+/// An entry as it is kept, lent with what is kept beside it: no message of it is made.
+#[derive(Clone, Copy)]
+pub(crate) struct KeptView<'a> {
+    pub(crate) messages: &'a MessageList,
+    pub(crate) payloads: &'a [u8],
+    pub(crate) entry: KeptEntry,
+}
+
+impl<'a> KeptView<'a> {
+    /// The messages that the entry sent.
+    pub(crate) fn sent(&self) -> Sent<'a>
+        requires { Stands self.now }
+        ensures { result ≡ (claim_kept self.now).sent }
+    {
+        Sent {
+            messages: self.messages,
+            start: self.entry.start,
+            end: self.entry.end,
+        }
+    }
+}
+
+/// The messages that an entry sent, in their order, or the one that it was brought, lent.
 #[derive(Drop)]
 pub struct Sent<'a> {
     messages: &'a MessageList,

@@ -5,7 +5,7 @@ ghost use Rattle.std.specs.Prelude.{◌≡◌, ◌≤◌, ◌<◌, ◌+◌, ◌+
 ghost use Rattle.job_model.specs.declared.payload.TheConstants.{PAYLOAD_CAPACITY};
 ghost use Rattle.histories.specs.What.{brought};
 ghost use Rattle.trace_check.specs.Claims.{brought_by};
-ghost use Rattle.trace_check.specs.Kept.{kept_event, kept_deed, payload_of, payload_in, event_said, deed_said, EventStands, DeedStands};
+ghost use Rattle.trace_check.specs.Kept.{kept_event, kept_deed, payload_of, payload_in, event_said, deed_said, delivered_at, brought_at, EventStands, DeedStands};
 
 use crate::trace::{Deed, RecoverFault};
 use group_task::NodeId;
@@ -115,7 +115,8 @@ pub fn deed_said(messages: &MessageList, payloads: &[u8], deed: KeptDeed) -> Dee
     }
 }
 
-fn event_said(messages: &MessageList, payloads: &[u8], event: KeptEvent) -> Event
+/// An event, read back.
+pub fn event_said(messages: &MessageList, payloads: &[u8], event: KeptEvent) -> Event
     requires { EventStands (length messages.now.messages) (length payloads.now) event }
     ensures { result ≡ event_said messages.now.messages payloads.now event }
 {
@@ -141,5 +142,24 @@ fn event_said(messages: &MessageList, payloads: &[u8], event: KeptEvent) -> Even
         }
         KeptEvent::Finish(origin, id) => Event::Finish(origin, id),
         KeptEvent::Recover => Event::Recover,
+    }
+}
+
+/// Where the message stands that a deed was brought, if it was brought one.
+pub fn brought_at(deed: KeptDeed) -> Option<usize>
+    ensures { result ≡ brought_at deed }
+{
+    match deed {
+        KeptDeed::Done(event) | KeptDeed::Faulted(event) => delivered_at(event),
+        _ => None,
+    }
+}
+
+fn delivered_at(event: KeptEvent) -> Option<usize>
+    ensures { result ≡ delivered_at event }
+{
+    match event {
+        KeptEvent::Deliver(place) => Some(place),
+        _ => None,
     }
 }

@@ -1,6 +1,6 @@
-ghost use Rattle.std.specs.Prelude.{◌≡◌, ◌↔◌, ◌||◌, ◌<◌, ℕ, List, [], length, slice_get, Some, IfOk, OnOk, IsTrue, IsOk};
+ghost use Rattle.std.specs.Prelude.{◌≡◌, ◌↔◌, ◌||◌, ◌<◌, ℕ, List, [], length, slice_get, Some, IfOk, OnOk, IsTrue};
 ghost use Rattle.wire_msg.specs.Envelope.{Envelope};
-ghost use Rattle.wire_msg.specs.Spelling.{IsMessage, Spells};
+ghost use Rattle.wire_msg.specs.Spelling.{IsMessage};
 ghost use Rattle.trace_check.specs.Posts.{IsPosted, Posts, has_spelling};
 ghost use Rattle.trace_check.specs.Keys.{items_of};
 ghost use Rattle.std.specs.Str.{bytes_eq};
@@ -9,7 +9,6 @@ use crate::history::Sent;
 use std::alloc::{AllocError, Global};
 use std::collections::HashSet;
 use std::marker::Model;
-use wire_msg::{Message, encode_into};
 
 /// The messages that were sent, as a set of spellings.
 #[derive(Drop)]
@@ -41,13 +40,14 @@ impl Posted {
         }
     }
 
-    /// Whether the message was sent.
-    pub(crate) fn contains(&mut self, message: &Message) -> Result<bool, AllocError>
+    /// Whether the message at a place of these was sent.
+    pub(crate) fn contains(&mut self, these: &Sent<'_>, place: usize) -> Result<bool, AllocError>
+        requires { place < length these.now }
         ensures same { self.new ≡ self.old }
-        ensures found { IfOk result (λ found. IsTrue found ↔ IsPosted self.old message.now) }
-        ensures message { IsOk result → IsMessage message.now }
+        ensures found { (m : Envelope) → slice_get these.now place ≡ Some m → IfOk result (λ found. IsTrue found ↔ IsPosted self.old m) }
+        ensures message { (m : Envelope) → slice_get these.now place ≡ Some m → OnOk result (IsMessage m) }
     {
-        spell(&mut self.room, message)?;
+        these.spell(place, &mut self.room)?;
         Ok(self.spelled.contains(self.room.as_slice()))
     }
 
@@ -78,14 +78,4 @@ fn put(spelled: &mut HashSet<Vec<u8>>, spelling: Vec<u8>) -> Result<(), AllocErr
         return Err(AllocError);
     };
     Ok(())
-}
-
-/// Writes the spelling of a message in place of what `bytes` held.
-fn spell(bytes: &mut Vec<u8>, message: &Message) -> Result<(), AllocError>
-    ensures { OnOk result (Spells message.now bytes.new.items) }
-{
-    match encode_into(bytes, message) {
-        Ok(()) => Ok(()),
-        Err(_) => Err(AllocError),
-    }
 }

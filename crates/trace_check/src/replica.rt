@@ -9,9 +9,12 @@ ghost use Rattle.histories.specs.declared.what.What.TheVariants.{Rests, Did, Fau
 ghost use Rattle.histories.specs.declared.what.Rest.TheVariants.{Nothing};
 ghost use Rattle.histories.specs.Possible.{IsForNode};
 ghost use Rattle.trace_check.specs.Twins.{Judged, Taken, Settled, WantsOf};
-ghost use Rattle.trace_check.specs.Traces.{claim_seen};
+ghost use Rattle.trace_check.specs.Traces.{claim, claim_seen};
+ghost use Rattle.trace_check.specs.Views.{Stands, claim_kept};
+ghost use Rattle.trace_check.specs.declared.trace.Deed.TheVariants as deed;
 
-use crate::history::{EntryView, Sent};
+use crate::history::{EntryView, KeptView, Sent};
+use crate::kept::{KeptDeed, event_said};
 use crate::ledger::Ledger;
 use crate::trace::{Deed, RecoverFault};
 use group_task::NodeId;
@@ -77,27 +80,70 @@ impl Replica {
             Deed::Done(event) => self.handle(event, sent),
             Deed::Faulted(event) => self.fault(event, sent),
             Deed::Crashed => Ok(self.crash(sent)),
-            Deed::Recovered(kept) => {
-                if self.is_down() {
-                    self.rise(*kept, sent)
-                } else if *kept {
-                    Ok(false)
-                } else {
-                    self.handle(&Event::Recover, sent)
-                }
+            Deed::Recovered(kept) => self.recover(*kept, sent),
+            Deed::NotRecovered(kept, fault) => self.not_recover(*kept, *fault, sent),
+        }
+    }
+
+    /// Takes an entry as it is kept, as `take` does. Of what it says the event alone is made: a deed that has it would be a copy.
+    pub(crate) fn take_kept(&mut self, kept: &KeptView<'_>) -> Result<bool, AllocError>
+        requires { Stands kept.now }
+        ensures id { self.new.id ≡ self.old.id }
+        ensures nodes { self.new.nodes ≡ self.old.nodes }
+        ensures taken { IfOk result (Taken self.old self.new (claim_kept kept.now)) }
+    {
+        let sent = kept.sent();
+        match kept.entry.deed {
+            KeptDeed::Nothing => Ok(sent.is_empty()),
+            KeptDeed::Done(event) => {
+                let event = event_said(kept.messages, kept.payloads, event);
+                self.handle(&event, &sent)
             }
-            Deed::NotRecovered(kept, RecoverFault::Mount) => {
-                Ok(self.is_down() && !*kept && sent.is_empty())
+            KeptDeed::Faulted(event) => {
+                let event = event_said(kept.messages, kept.payloads, event);
+                self.fault(&event, &sent)
             }
-            Deed::NotRecovered(kept, RecoverFault::Raise) => {
-                if self.is_down() {
-                    self.fail_to_rise(*kept, sent)
-                } else if *kept {
-                    Ok(false)
-                } else {
-                    self.fault(&Event::Recover, sent)
-                }
-            }
+            KeptDeed::Crashed => Ok(self.crash(&sent)),
+            KeptDeed::Recovered(found) => self.recover(found, &sent),
+            KeptDeed::NotRecovered(found, fault) => self.not_recover(found, fault, &sent),
+        }
+    }
+
+    /// Recover, at a node that is down or isn't.
+    fn recover(&mut self, kept: bool, sent: &Sent<'_>) -> Result<bool, AllocError>
+        ensures id { self.new.id ≡ self.old.id }
+        ensures nodes { self.new.nodes ≡ self.old.nodes }
+        ensures taken { IfOk result (Taken self.old self.new (claim (deed.Recovered kept) sent.now)) }
+    {
+        if self.is_down() {
+            self.rise(kept, sent)
+        } else if kept {
+            Ok(false)
+        } else {
+            self.handle(&Event::Recover, sent)
+        }
+    }
+
+    /// Recover, which failed so.
+    fn not_recover(
+        &mut self,
+        kept: bool,
+        fault: RecoverFault,
+        sent: &Sent<'_>,
+    ) -> Result<bool, AllocError>
+        ensures id { self.new.id ≡ self.old.id }
+        ensures nodes { self.new.nodes ≡ self.old.nodes }
+        ensures taken { IfOk result (Taken self.old self.new (claim (deed.NotRecovered kept fault) sent.now)) }
+    {
+        if matches!(fault, RecoverFault::Mount) {
+            return Ok(self.is_down() && !kept && sent.is_empty());
+        }
+        if self.is_down() {
+            self.fail_to_rise(kept, sent)
+        } else if kept {
+            Ok(false)
+        } else {
+            self.fault(&Event::Recover, sent)
         }
     }
 

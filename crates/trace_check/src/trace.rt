@@ -1,10 +1,11 @@
 ghost use Rattle.std.specs.Prelude.{◌≡◌, ◌<◌, ◌≤◌, ◌+◌, ◌^◌, length, slice_get, option_map, Some, None, IfSome, IsNone, vec_len};
 ghost use Rattle.group_task.specs.declared.node.TheConstants.{NODES};
-ghost use Rattle.trace_check.specs.Claims.{Claim};
+ghost use Rattle.trace_check.specs.Claims.{Claim, brought_by};
 ghost use Rattle.trace_check.specs.Orders.{history};
 ghost use Rattle.trace_check.specs.Traces.{claim_seen};
+ghost use Rattle.trace_check.specs.Views.{Stands, claim_kept};
 
-use crate::history::{EntryView, History, Sent};
+use crate::history::{EntryView, History, KeptView, Sent};
 use group_task::NodeId;
 use node_core::Event;
 use std::marker::Model;
@@ -96,11 +97,30 @@ impl Trace {
         history.entry(place)
     }
 
+    /// The entry of a node at this place of its history, as it is kept.
+    pub(crate) fn kept(&self, node: NodeId, place: usize) -> Option<KeptView<'_>>
+        ensures some { IfSome result (λ kept. slice_get (history self.now node) place ≡ Some (claim_kept kept)) }
+        ensures none { IsNone result → slice_get (history self.now node) place ≡ None }
+        ensures stands { IfSome result (λ kept. Stands kept) }
+        ensures fits { IfSome result (λ _. place + 1 < 2 ^ 64) }
+    {
+        let history = self.histories.get(usize::from(node.number()))?;
+        history.kept(place)
+    }
+
     /// The messages that the entry of a node at this place of its history sent.
     pub fn sent(&self, node: NodeId, place: usize) -> Option<Sent<'_>>
         ensures { result ≡ option_map (λ (c : Claim). c.sent) (slice_get (history self.now node) place) }
     {
         let history = self.histories.get(usize::from(node.number()))?;
         history.sent(place)
+    }
+
+    /// The message that the entry of a node at this place of its history was brought, alone: none where it was brought none.
+    pub fn brought(&self, node: NodeId, place: usize) -> Option<Sent<'_>>
+        ensures { result ≡ option_map (λ (c : Claim). brought_by c.deed) (slice_get (history self.now node) place) }
+    {
+        let history = self.histories.get(usize::from(node.number()))?;
+        history.brought(place)
     }
 }

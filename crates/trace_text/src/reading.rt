@@ -1,4 +1,5 @@
-ghost use Rattle.std.specs.Prelude.{◌≡◌, ◌++◌, ◌∷◌, [], map, codes, IfOk, option_map, option_and_then, Some, None, MatchBool};
+ghost use Rattle.std.specs.Prelude.{◌≡◌, ◌++◌, ◌∷◌, [], map, codes, IfOk, option_map, option_and_then, Some, None, MatchBool, false};
+ghost use Rattle.std.specs.Str.{bytes_eq};
 ghost use Rattle.serde_json.specs.Find.{as_str};
 ghost use Rattle.serde_json.specs.View.{view, items_view};
 ghost use Rattle.hex.specs.Hex.{decode_of};
@@ -8,7 +9,7 @@ ghost use Rattle.job_model.specs.declared.queue.TheConstants.{QUEUES};
 ghost use Rattle.trace_text.specs.Fields.{data_of, found_by};
 ghost use Rattle.trace_text.specs.Entries.{claim_of, good, below, bytes_in, spelled_in, messages_in, number_in, priority_in, deliver_in, submit_in, finish_in, event_in, device_in, recover_in, deed_named, deed_in, claim_in};
 ghost use Rattle.trace_text.specs.Streams.{messages_of, claim_with};
-ghost use Rattle.trace_text.specs.Places.{IsRead, recovery_said};
+ghost use Rattle.trace_text.specs.Places.{IsRead, recovery_said, with_device};
 
 use crate::fields::{Field, Fields};
 use group_task::{NODES, NodeId};
@@ -184,6 +185,7 @@ fn read_deed(room: &mut Vec<u8>, fields: &Fields<'_>, deed: &mut Deed) -> Result
 }
 
 /// What was done, by its name.
+#[tactic(auto, using(crate::proofs::Named::deliver_named))]
 fn read_named(
     room: &mut Vec<u8>,
     fields: &Fields<'_>,
@@ -192,6 +194,9 @@ fn read_named(
 ) -> Result<bool, AllocError>
     ensures { IfOk result (λ some. IsRead some deed.new (deed_named (found_by fields.now) name.now)) }
 {
+    if name == "deliver" {
+        return read_deliver(room, fields, deed);
+    }
     if name == "none" {
         *deed = Deed::Nothing;
         return Ok(true);
@@ -203,6 +208,21 @@ fn read_named(
     if name == "recover" {
         return Ok(read_recover(fields, deed));
     }
+    read_done(room, fields, name, deed)
+}
+
+/// An event that was handled or in which the device failed, by its name, in place of another deed. It stands apart, as a whole event
+/// is one of its locals.
+#[inline(never)]
+fn read_done(
+    room: &mut Vec<u8>,
+    fields: &Fields<'_>,
+    name: &str,
+    deed: &mut Deed,
+) -> Result<bool, AllocError>
+    requires { bytes_eq name.now (codes "deliver") ≡ false }
+    ensures { IfOk result (λ some. IsRead some deed.new (with_device (found_by fields.now) (event_in (found_by fields.now) name.now))) }
+{
     let mut event = Event::Recover;
     if !read_event(room, fields, name, &mut event)? {
         return Ok(false);
@@ -261,13 +281,14 @@ fn recovery_of(fields: &Fields<'_>) -> Option<(bool, Option<RecoverFault>)>
     None
 }
 
-/// An event, by its name, in place of another. False where the fields say none.
+/// An event other than a delivery, by its name, in place of another. False where the fields say none.
 fn read_event(
     room: &mut Vec<u8>,
     fields: &Fields<'_>,
     name: &str,
     event: &mut Event,
 ) -> Result<bool, AllocError>
+    requires { bytes_eq name.now (codes "deliver") ≡ false }
     ensures { IfOk result (λ some. IsRead some event.new (event_in (found_by fields.now) name.now)) }
 {
     if name == "check" {
@@ -282,8 +303,6 @@ fn read_event(
         *event = Event::CoordTimer;
     } else if name == "dispatch" {
         *event = Event::DispatchTimer;
-    } else if name == "deliver" {
-        return read_deliver(room, fields, event);
     } else if name == "submit" {
         return read_submit(room, fields, event);
     } else if name == "finish" {
@@ -294,21 +313,29 @@ fn read_event(
     Ok(true)
 }
 
-/// It stands apart, as a whole message is one of its locals.
+/// A delivery, in place of another deed: the message is moved there once. False where the fields say none. It stands apart, as a whole
+/// message is one of its locals.
 #[inline(never)]
 fn read_deliver(
     room: &mut Vec<u8>,
     fields: &Fields<'_>,
-    event: &mut Event,
+    deed: &mut Deed,
 ) -> Result<bool, AllocError>
-    ensures { IfOk result (λ some. IsRead some event.new (deliver_in (found_by fields.now))) }
+    ensures { IfOk result (λ some. IsRead some deed.new (with_device (found_by fields.now) (deliver_in (found_by fields.now)))) }
 {
+    let Some(failed) = read_device(fields.fault) else {
+        return Ok(false);
+    };
     if !bytes_of(room, fields.message)? {
         return Ok(false);
     }
     match decode(room) {
         Ok(message) => {
-            *event = Event::Deliver(message);
+            *deed = if failed {
+                Deed::Faulted(Event::Deliver(message))
+            } else {
+                Deed::Done(Event::Deliver(message))
+            };
             Ok(true)
         }
         Err(_) => Ok(false),
