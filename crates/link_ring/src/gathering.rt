@@ -68,5 +68,8 @@ fn begins(taken: &MessageList, put: &MessageList) -> bool
 fn is_same_at(taken: &MessageList, put: &MessageList, place: usize) -> bool
     ensures { IsTrue result ↔ (slice_get taken.now.messages place ≡ slice_get put.now.messages place) }
 {
-    taken.get(place) == put.get(place)
+    match taken.get(place) {
+        Some(message) => put.holds(place, &message),
+        None => put.len() <= place,
+    }
 }

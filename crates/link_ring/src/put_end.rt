@@ -1,4 +1,4 @@
-ghost use Rattle.std.specs.Prelude.{◌≡◌, ◌<◌, [], length, max, IfSome, IfNone, IsNone, OnOk, OnErr};
+ghost use Rattle.std.specs.Prelude.{◌≡◌, ◌<◌, [], length, max, false, true, IfSome, IfNone, IsNone, IsTrue, OnOk, OnErr};
 ghost use Rattle.rtrb.specs.Ring.{sent, known_free, producer_capacity};
 ghost use Rattle.link_ring.specs.Sides.{unused, with_message, with_room};
 
@@ -92,6 +92,20 @@ impl PutEnd {
         }
         self.put.push(&message);
         None
+    }
+
+    /// Puts a message on the link, or answers false where the ring is full. The message is only looked at.
+    pub fn offer(&mut self, message: &Message) -> bool
+        requires { 0 < self.old.room }
+        ensures put { result ≡ true → self.new ≡ with_message self.old message.now }
+        ensures full { result ≡ false → self.new ≡ self.old }
+        ensures first { length self.old.messages < self.old.capacity → IsTrue result }
+    {
+        if self.producer.push(*message).is_err() {
+            return false;
+        }
+        self.put.push(message);
+        true
     }
 
     /// All that was put, in order, once the end is given up.

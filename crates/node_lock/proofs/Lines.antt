@@ -1,8 +1,8 @@
 -- A turn that was kept is that turn again, and stays so whatever is kept after it.
-use Rattle.std.proofs.Common.{◌≡◌, ℕ, zero, suc, ◌+◌, ◌-◌, ◌<◌, ◌≤◌, List, [], ◌∷◌, ◌++◌, length, take, drop, map, All, slice_get, Option, None, refl, sym, ap, ◌∙◌, subst, arith}
+use Rattle.std.proofs.Common.{◌≡◌, ℕ, zero, suc, ◌+◌, ◌-◌, ◌<◌, ◌≤◌, List, [], ◌∷◌, ◌++◌, length, take, drop, map, All, slice_get, Option, Some, None, option_map, refl, sym, ap, ◌∙◌, subst, arith}
 use Rattle.std.proofs.lemmas.List.{map-append, length-append, length-drop, length-take, length-take-le}
 use Rattle.std.proofs.Math.Nat.{min-le_left}
-use Rattle.std.proofs.lemmas.Option.{slice_get_past}
+use Rattle.std.proofs.lemmas.Option.{slice_get_past, slice_get-map}
 use Rattle.std.proofs.lemmas.List.Elements.{All-head, All-tail, All-push, All-weaker}
 use Rattle.wire_msg.specs.Envelope.{Envelope}
 use Rattle.node_core.specs.declared.event.Event.{Event}
@@ -15,7 +15,7 @@ use Rattle.node_lock.specs.declared.line.Told.{Told}
 use Rattle.node_lock.specs.declared.line.Told.TheVariants as told
 use Rattle.node_lock.specs.declared.line.Line.{Line}
 use Rattle.node_lock.specs.History.{Turn}
-use Rattle.node_lock.specs.Kept.{what_quiet, what_came, what_in, part, turn_in, ToldStands, LineStands}
+use Rattle.node_lock.specs.Kept.{IsQuietAt, what_quiet, what_came, what_in, part, turn_in, ToldStands, LineStands}
 use Rattle.node_lock.proofs.Events.{get_same, get_again, part_same, part_again}
 
 abbrev pub line_by : Worker → ℕ → Told → ℕ → ℕ → Line
@@ -93,6 +93,14 @@ turns_quiet ls ms es worker index q = map-append (turn_in ms es) ls (quiet_line 
 
 pub all_stand_quiet : (n m : ℕ) (ls : List Line) (worker : Worker) (index : ℕ) (q : Quiet) → All (LineStands n m) ls → All (LineStands n m) (ls ++ quiet_line worker index q ∷ [])
 all_stand_quiet n m ls worker index q h = All-push (LineStands n m) ls (quiet_line worker index q) h (record { sent = (omega arith, omega arith); told = tt })
+
+pub quiet_at : (ls : List Line) (ms : List Envelope) (es : List Event) (place : ℕ) (l : Line) (q : Quiet) → slice_get ls place ≡ Some l → l.told ≡ told.Quiet q → l.start ≡ l.end → IsQuietAt place q (map (turn_in ms es) ls)
+quiet_at ls ms es place l q at told same = record {
+  turn = turn_in ms es l;
+  at = slice_get-map (turn_in ms es) ls place ∙ ap (λ (o : Option Line). option_map (turn_in ms es) o) at;
+  what = ap (λ (t : Told). what_in es t) told;
+  sent = ap (λ (k : ℕ). take k (drop l.start ms)) (let none : l.end - l.start ≡ 0 = omega (arith, same) in none);
+}
 
 -- ---- the messages of a turn, by their place
 

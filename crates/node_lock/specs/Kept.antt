@@ -1,5 +1,5 @@
 -- How the turns of a history are kept: a short line for each, and the events and the messages that they sent in lists beside.
-use Rattle.std.specs.Prelude.{ℕ, ◌-◌, ◌<◌, ◌≤◌, ⊤, List, take, drop, Option, Some, None, slice_get}
+use Rattle.std.specs.Prelude.{ℕ, ◌≡◌, ◌-◌, ◌<◌, ◌≤◌, ⊤, List, [], take, drop, Option, Some, None, slice_get}
 use Rattle.wire_msg.specs.Envelope.{Envelope}
 use Rattle.node_core.specs.declared.event.Event.{Event}
 use Rattle.histories.specs.declared.fate.Fate.{Fate}
@@ -43,6 +43,13 @@ part start end ms = take (end - start) (drop start ms)
 -- the turn that a line says, by the list of messages and that of events
 abbrev pub turn_in : List Envelope → List Event → Line → Turn
 turn_in ms events l = record { worker = l.worker; index = l.index; entry = record { what = what_in events l.told; sent = part l.start l.end ms } }
+
+-- the turn at this place sent nothing, and this came of it
+pub record IsQuietAt (place : ℕ) (q : Quiet) (turns : List Turn) : Type 0 where
+  pub turn : Turn
+  pub at : slice_get turns place ≡ Some turn
+  pub what : turn.entry.what ≡ what_quiet q
+  pub sent : turn.entry.sent ≡ []
 
 -- the event of a line is among so many
 abbrev pub ToldStands : ℕ → Told → Type 0

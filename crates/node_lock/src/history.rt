@@ -2,7 +2,7 @@
 
 ghost use Rattle.std.specs.Prelude.{◌≡◌, ◌≤◌, ◌<◌, ◌+◌, ◌↔◌, [], ◌∷◌, ◌++◌, length, slice_get, None, Some, IfSome, IsNone, IsTrue, OnOk};
 ghost use Rattle.histories.specs.Fates.{what_of};
-ghost use Rattle.node_lock.specs.Kept.{ToldStands, what_in, what_quiet};
+ghost use Rattle.node_lock.specs.Kept.{IsQuietAt, ToldStands, what_in, what_quiet};
 ghost use Rattle.node_lock.specs.Seen.{turn_seen};
 
 use crate::event_list::EventList;
@@ -108,6 +108,18 @@ impl History {
             start: 0,
             end: 0,
         });
+    }
+
+    /// What came of the turn at this place, where no event was handed to its node. Most turns are such, and it is small, which
+    /// an [`Entry`] isn't.
+    pub fn quiet(&self, place: usize) -> Option<Quiet>
+        ensures { IfSome result (λ quiet. IsQuietAt place quiet self.now.turns) }
+    {
+        let line = self.lines.get(place)?;
+        match line.told {
+            Told::Quiet(quiet) if line.start == line.end => Some(quiet),
+            _ => None,
+        }
     }
 
     /// The turn at this place.

@@ -2,8 +2,8 @@
 
 ghost use Rattle.std.specs.Prelude.{◌≡◌, ◌↔◌, IfOk, IsTrue};
 
+use crate::new_job::NewJob;
 use group_task::NodeId;
-use job_model::Work;
 use std::alloc::{AllocError, Global};
 use std::marker::Model;
 
@@ -74,7 +74,7 @@ impl Fill {
 /// What the operator does.
 #[derive(Drop)]
 pub enum Order {
-    Submit(Work),
+    Submit(NewJob),
     /// The origin of a job in hand, and its id there.
     Finish(NodeId, u64),
     /// So many more calls of the disk pass.
@@ -90,7 +90,7 @@ impl Order {
         ensures { IfOk result (λ order. order ≡ self.now) }
     {
         match self {
-            Order::Submit(work) => Ok(Order::Submit(*work)),
+            Order::Submit(job) => Ok(Order::Submit(job.try_clone(alloc)?)),
             Order::Finish(origin, id) => Ok(Order::Finish(*origin, *id)),
             Order::Arm(calls) => Ok(Order::Arm(*calls)),
             Order::Crash(fill) => Ok(Order::Crash(fill.try_clone(alloc)?)),
@@ -103,7 +103,7 @@ impl Order {
         ensures { IsTrue result ↔ (self.now ≡ other.now) }
     {
         match (self, other) {
-            (Order::Submit(work), Order::Submit(theirs)) => work == theirs,
+            (Order::Submit(job), Order::Submit(theirs)) => job.is_same(theirs),
             (Order::Finish(origin, id), Order::Finish(their_origin, their_id)) => {
                 origin == their_origin && id == their_id
             }

@@ -75,7 +75,7 @@ pub(crate) fn operate(
     ensures memory { IfErr result (λ fault. (fault ≡ NoMemory) × TookNone (site node.old puts.old.items history.old.turns) (site node.new puts.new.items history.new.turns)) }
 {
     let event = match order {
-        Order::Submit(work) => Event::Submit(*work),
+        Order::Submit(job) => Event::Submit(job.work()),
         Order::Finish(origin, id) => Event::Finish(*origin, *id),
         Order::Recover => Event::Recover,
         Order::Arm(calls) => {

@@ -18,6 +18,3 @@ pub use fault::ThreadsFault;
 pub use plans::poll_others;
 pub use run::{Gathered, run_threads};
 pub use size::Size;
-
-#[cfg(test)]
-mod tests;

@@ -5,7 +5,7 @@ use Rattle.schedule.specs.Fields.{number_below}
 use Rattle.schedule.specs.Text.{size_of}
 use Rattle.threads_console.specs.declared.turn.Turn.{Turn}
 use Rattle.threads_console.specs.declared.turn.Turn.TheVariants.{Poll, Fire, Do}
-use Rattle.threads_console.specs.Turns.{line_of, of_one, order_of, turn_at, turn_of}
+use Rattle.threads_console.specs.Turns.{line_of, of_one, order_of, turn_at}
 use Rattle.threads_console.specs.Scripts.{capacity_of}
 
 -- a worker needs a field

@@ -1,5 +1,5 @@
 -- The lines of a text, when the first is cut off.
-use Rattle.std.proofs.Common.{◌≡◌, ℕ, ◌+◌, ◌<◌, List, [], ◌∷◌, length, Option, Some, None, refl, ap, ◌∙◌, arith}
+use Rattle.std.proofs.Common.{◌≡◌, ℕ, ◌+◌, ◌<◌, List, [], ◌∷◌, length, Some, None, refl, ap, ◌∙◌, arith}
 use Rattle.std.proofs.lemmas.List.Splits.{length-slice_split}
 use Rattle.line_words.specs.Lines.{CutsLine, is_line_feed, lines_of}
 use Rattle.threads_console.specs.Lines.{LinesLeft, end_from, left_behind, numbered_from}

@@ -1,5 +1,5 @@
 -- Plans that turns are added to, one after another.
-use Rattle.std.proofs.Common.{◌≡◌, ◌≢◌, ◌==◌, ℕ, zero, suc, ◌+◌, ◌<◌, Bool, true, false, List, [], ◌∷◌, ◌++◌, length, flat_map, replicate, slice_get, slice_set, slice_index_or, if◌then◌else◌, Option, Some, None, Result, Ok, Err, refl, sym, ap, subst, ◌∙◌, append_assoc, append-nil, arith}
+use Rattle.std.proofs.Common.{◌≡◌, ◌≢◌, ◌==◌, ℕ, zero, suc, ◌+◌, ◌<◌, Bool, true, false, List, [], ◌∷◌, ◌++◌, length, flat_map, replicate, slice_get, slice_set, slice_index_or, if◌then◌else◌, Some, Result, Ok, Err, refl, sym, ap, subst, ◌∙◌, append_assoc, append-nil, arith}
 use Rattle.std.proofs.lemmas.Bool.Decides.{nat_tests}
 use Rattle.std.proofs.lemmas.List.{length-replicate, length-set, replicate-append-replicate}
 use Rattle.std.proofs.lemmas.Option.{get_or_from_slice_get}
@@ -11,7 +11,7 @@ use Rattle.node_lock.specs.Planned.{Planned}
 use Rattle.node_threads.proofs.Places.{place_of}
 use Rattle.threads_console.specs.declared.turn.Turn.{Turn}
 use Rattle.threads_console.specs.declared.turn.Turn.TheVariants.{Poll, Fire, Do}
-use Rattle.threads_console.specs.Planning.{AddsLine, ArePlanned, IsPlaced, done_in, fired_in, no_plans, planned, polled_in, turns_at, with_turn}
+use Rattle.threads_console.specs.Planning.{AddsLine, ArePlanned, IsPlaced, done_in, fired_in, no_plans, polled_in, turns_at, with_turn}
 use Rattle.threads_console.specs.Scripts.{AreRead, in_front, turns_of}
 use Rattle.threads_console.specs.Turns.{line_of}
 

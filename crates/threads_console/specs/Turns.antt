@@ -1,5 +1,5 @@
 -- The turn that a line gives to a worker of a node.
-use Rattle.std.specs.Prelude.{ℕ, List, [], ◌∷◌, ◌==◌, Bool, not, bytes_eq, codes, if◌then◌else◌, Option, Some, None, option_map}
+use Rattle.std.specs.Prelude.{ℕ, List, [], ◌∷◌, ◌==◌, not, bytes_eq, codes, if◌then◌else◌, Option, Some, None, option_map}
 use Rattle.line_words.specs.Words.{number_of}
 use Rattle.line_words.specs.Lines.{bytes_of}
 use Rattle.schedule.specs.Fields.{kept_if, node_of, number_below, payload_of, priority_of, queue_of}

@@ -16,5 +16,5 @@ mod turn;
 
 pub use reading::{Setup, read_plans};
 pub use running::threads;
-pub use telling::trace_of;
+pub use telling::{into_trace, trace_of};
 pub use turn::Turn;

@@ -12,7 +12,7 @@ use crate::turn::Turn;
 use group_task::NodeId;
 use job_model::Work;
 use line_words::{bytes, cut_word, number};
-use node_lock::{Fill, Order, Timer};
+use node_lock::{Fill, NewJob, Order, Timer};
 use std::alloc::{AllocError, Global};
 
 /// The node and the turn of a line, in a cluster of so many nodes.
@@ -201,5 +201,5 @@ fn submit(
         priority,
         payload,
     };
-    Ok(Some(Order::Submit(work)))
+    Ok(Some(Order::Submit(NewJob::new(alloc, &work)?)))
 }

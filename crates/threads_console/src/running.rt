@@ -9,7 +9,7 @@ ghost use Rattle.threads_console.specs.Scripts.{CanRun};
 
 use crate::reading::{Setup, read_plans};
 use crate::reasons::bad_plans;
-use crate::telling::trace_of;
+use crate::telling::into_trace;
 use console_text::{
     Ended, Printout, Source, Told, Trouble, push_number, push_text, read_source, tell,
 };
@@ -87,18 +87,18 @@ fn run<T: Threads + Wait + Sync>(
     ensures { IfOk result (λ printout. TellsRun setup.now.size setup.now.plans.items (outcome_of printout)) }
 {
     match run_threads(rt, alloc, setup.size, &setup.plans, &Open) {
-        Ok(run) => tell_run(alloc, &run),
+        Ok(run) => tell_run(alloc, run),
         Err(ThreadsFault::NoMemory) => Err(AllocError),
         Err(fault) => refuse(alloc, fault),
     }
 }
 
 /// The line of the trace of a run.
-fn tell_run(alloc: Global, run: &Gathered) -> Result<Printout, AllocError>
-    requires { vec_len run.now.histories ≤ NODES }
-    ensures { IfOk result (λ printout. outcome_of printout ≡ told run.now.histories.items) }
+fn tell_run(alloc: Global, run: Gathered) -> Result<Printout, AllocError>
+    requires { vec_len run.histories ≤ NODES }
+    ensures { IfOk result (λ printout. outcome_of printout ≡ told run.histories.items) }
 {
-    let trace = trace_of(alloc, run)?;
+    let trace = into_trace(alloc, run)?;
     let mut text = write(alloc, &trace)?;
     push_text(&mut text, "\n")?;
     Ok(Printout { text, good: true })

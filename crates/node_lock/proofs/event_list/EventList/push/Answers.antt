@@ -1,4 +1,4 @@
-use Rattle.std.proofs.Common.{◌≡◌, List, [], ◌∷◌, ◌++◌, length, refl, ap, ◌∙◌, arith}
+use Rattle.std.proofs.Common.{◌≡◌, [], ◌∷◌, ◌++◌, length, refl, ap, ◌∙◌, arith}
 use Rattle.node_lock.specs.declared.event_list.KeptEvent.{KeptEvent}
 use Rattle.node_lock.specs.Events.{kept_event}
 use Rattle.node_lock.proofs.Events.{events_more, all_read_more}

@@ -1,12 +1,10 @@
-use Rattle.std.proofs.Common.{◌≡◌, ◌+◌, ℕ, List, [], ◌∷◌, ◌++◌, length, map, ap, ◌∙◌}
+use Rattle.std.proofs.Common.{◌≡◌, ◌+◌, List, [], ◌∷◌, ◌++◌, length, ap, ◌∙◌}
 use Rattle.std.proofs.lemmas.List.{length-append}
 use Rattle.wire_msg.specs.Envelope.{Envelope}
-use Rattle.node_core.specs.declared.event.Event.{Event}
 use Rattle.histories.specs.Fates.{what_of}
-use Rattle.node_lock.specs.declared.line.Line.{Line}
 use Rattle.node_lock.specs.declared.line.Told.TheVariants.{Came}
 use Rattle.node_lock.specs.Events.{EventsKept}
-use Rattle.node_lock.specs.Kept.{Log, turn_in}
+use Rattle.node_lock.specs.Kept.{Log}
 use Rattle.node_lock.proofs.Lines.{line_by, line_for, turn_by, turns_more, all_stand_more}
 use Rattle.node_lock.proofs.history.History.push.Goals as goal
 

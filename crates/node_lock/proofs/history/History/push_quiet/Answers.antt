@@ -1,4 +1,4 @@
-use Rattle.std.proofs.Common.{[], ◌∷◌, ◌++◌, length, ap, ◌∙◌}
+use Rattle.std.proofs.Common.{[], ◌∷◌, ◌++◌, length, ap}
 use Rattle.node_lock.specs.Kept.{Log, what_quiet}
 use Rattle.node_lock.proofs.Lines.{turn_by, turns_quiet, all_stand_quiet}
 use Rattle.node_lock.proofs.history.History.push_quiet.Goals as goal

@@ -1,4 +1,4 @@
-use Rattle.std.proofs.Common.{◌≡◌, ◌+◌, ◌<◌, ◌^◌, option_map, suc}
+use Rattle.std.proofs.Common.{◌≡◌, ◌+◌, ◌<◌, ◌^◌, option_map}
 use Rattle.threads_console.specs.Lines.{left_behind, length_left}
 use Rattle.threads_console.proofs.lines.Lines.next.Given as goal
 

@@ -1,0 +1,73 @@
+//! The jobs that the operator submits.
+
+ghost use Rattle.std.specs.Prelude.{◌≡◌, ◌↔◌, IfOk, IsTrue};
+
+use job_model::{Payload, Queue, Work};
+use std::alloc::{AllocError, Global};
+use std::marker::Model;
+
+/// The work of a new job. It takes 32 bytes and those of its payload, where a `Work` takes over 400: most of an operator's orders
+/// submit nothing.
+#[derive(Drop)]
+pub struct NewJob {
+    queue: Queue,
+    priority: u8,
+    payload: Vec<u8>,
+}
+
+impl Model for NewJob {
+    ghost use Rattle.std.specs.Prelude.{◌≤◌, length};
+    ghost use Rattle.job_model.specs.declared.payload.TheConstants.{PAYLOAD_CAPACITY};
+    ghost use Rattle.job_model.specs.declared.work.Work.{Work};
+
+    ghost Value = { Work };
+
+    ghost view = { λ a. record { queue = a.queue; priority = a.priority; payload = a.payload.items } };
+
+    ghost invariant = { λ a. length a.payload.items ≤ PAYLOAD_CAPACITY };
+}
+
+impl NewJob {
+    pub fn new(alloc: Global, work: &Work) -> Result<NewJob, AllocError>
+        ensures { IfOk result (λ job. job ≡ work.now) }
+    {
+        let payload = Vec::from_slice(alloc, work.payload.as_slice())?;
+        Ok(NewJob {
+            queue: work.queue,
+            priority: work.priority,
+            payload,
+        })
+    }
+
+    /// What it asks for.
+    pub fn work(&self) -> Work
+        ensures { result ≡ self.now }
+    {
+        Work {
+            queue: self.queue,
+            priority: self.priority,
+            payload: Payload::new(&self.payload).unwrap(),
+        }
+    }
+
+    /// The same job once more.
+    pub fn try_clone(&self, alloc: Global) -> Result<NewJob, AllocError>
+        ensures { IfOk result (λ job. job ≡ self.now) }
+    {
+        let payload = Vec::from_slice(alloc, &self.payload)?;
+        Ok(NewJob {
+            queue: self.queue,
+            priority: self.priority,
+            payload,
+        })
+    }
+
+    /// Whether both ask for the same.
+    pub fn is_same(&self, other: &NewJob) -> bool
+        ensures { IsTrue result ↔ (self.now ≡ other.now) }
+    {
+        self.queue == other.queue
+            && self.priority == other.priority
+            && self.payload.as_slice() == other.payload.as_slice()
+    }
+}
