@@ -77,7 +77,7 @@ has 'the second call says nothing' "$room/err"
 touch "$room/repo/crates/wire_msg/lib.rt"
 call ./invite show
 has 'a source that changed' <(tail -n 1 "$room/log") 'invite: run -- show'
-touch "$room/repo/crates/node_tests/lib.rt"
+touch "$room/repo/crates/thread_tests/lib.rt"
 call ./invite show
 has 'a source that the program does not stand on' "$room/log"
 

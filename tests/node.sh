@@ -71,10 +71,18 @@ ask 'a second life' 'recover\n' 'group Normal 0 0:2 0\nkeeps 2 0 0\nok 1\n'
 fresh
 ask 'check' 'recover\ncheck\n' "${alone}send 1 010100010000\nsend 2 010100020000\nok 2\n"
 fresh
+ask 'own invitation' 'recover\ndeliver 010501000009000000000000000002\ndeliver 010501000009010000000000000002\nstate\n' \
+    "${alone}ok 2\nsend 1 010600010009010000000000000002\ngroup Reorganization 1 1:2 -\nok 3\nstate Reorganization coord 1 group 1:2 members - found - unready - checking no probing no count 1 pending 0 hand 0\nok 4\n"
+fresh
 ask 'deliver' 'recover\ndeliver 010101000000\ndeliver 010101020000\n' "${alone}send 1 01020001000101\nok 2\nrefused 3 Stranger\n"
 fresh
 ask 'a job' 'recover\nsubmit 3 6869\njobs\ndispatch\njobs\nfinish 0 0\njobs\n' \
     "${alone}take 0 0 3 6869\nok 2 id 0\npending 0 3 6869\nhand 0 0 3 6869\nok 3\nok 4\npending 0 3 6869\nhand 0 0 3 6869\nok 5\ngone 0\nok 6\nok 7\n"
+fresh
+ask 'equal priorities' 'recover\nsubmit 0 61\nsubmit 0 62 255\nsubmit 3 63 7\nsubmit 1 64 255\nsubmit 2 65\nrecover\ndispatch\n' \
+    "${alone}take 0 0 0 61\nok 2 id 0\ntake 0 1 0 62 255\nok 3 id 1\ntake 0 2 3 63 7\nok 4 id 2\ntake 0 3 1 64 255\nok 5 id 3\ntake 0 4 2 65\nok 6 id 4\n$(
+    )group Normal 0 0:2 0\ndrop 0 0\ndrop 0 1\ndrop 0 2\ndrop 0 3\ndrop 0 4\nkeeps 2 5 5\nok 7\n$(
+    )take 0 1 0 62 255\ntake 0 3 1 64 255\ntake 0 2 3 63 7\ntake 0 0 0 61\ntake 0 4 2 65\nok 8\n"
 fresh
 ask 'refusals' 'submit 0 -\nrecover\nfinish 0 7\nsubmit 16 -\nsubmit 0 f\n' \
     'refused 1 Down\ngroup Normal 0 0:1 0\nkeeps 1 0 0\nok 2\nrefused 3 UnknownJob\nbad 4\nbad 5\n'
@@ -164,23 +172,35 @@ if command -v python3 >/dev/null; then
     example 'three processes' 'groups [1-9].* answered [1-9].* gone [1-9]' python3 "$three" "$program" 5 1
     example 'three processes and their enemy' 'groups [1-9].* answered [1-9].* gone [1-9]' python3 "$three" "$program" 5 1 kill cut lose
 
-    # three machines, all of them this one: they become one group
-    base=$((20000 + RANDOM % 20000))
-    addresses="127.0.0.1:$base 127.0.0.1:$((base + 1)) 127.0.0.1:$((base + 2))"
-    for i in 0 1 2; do
-        "$program" format "$room/machine$i" 64 "$i" 3
-        # shellcheck disable=SC2086
-        timeout 6 python3 "$top/examples/three_machines/machine.py" "$program" "$room/machine$i" "$i" $addresses </dev/null >"$room/machine$i.out" 2>&1 &
+    # three machines, all of them this one: they become one group, within some seconds where nothing else keeps them from it
+    for seconds in 6 20 60; do
+        rm -f "$room"/machine*
+        base=$((20000 + RANDOM % 20000))
+        addresses="127.0.0.1:$base 127.0.0.1:$((base + 1)) 127.0.0.1:$((base + 2))"
+        for i in 0 1 2; do
+            "$program" format "$room/machine$i" 64 "$i" 3
+            # shellcheck disable=SC2086
+            timeout "$seconds" python3 "$top/examples/three_machines/machine.py" "$program" "$room/machine$i" "$i" $addresses </dev/null >"$room/machine$i.out" 2>&1 &
+        done
+        wait
+        problem=''
+        [ "$(for i in 0 1 2; do grep '^group Normal' "$room/machine$i.out" | tail -n 1; done | sort -u | grep -c ' 0,1,2$')" -eq 1 ] || problem=$(tail -n 2 "$room"/machine?.out)
+        [ "$(for i in 0 1 2; do grep '^group Normal' "$room/machine$i.out" | tail -n 1; done | sort -u | wc -l)" -eq 1 ] || problem=$(tail -n 2 "$room"/machine?.out)
+        [ -n "$problem" ] || break
     done
-    wait
-    problem=''
-    [ "$(for i in 0 1 2; do grep '^group Normal' "$room/machine$i.out" | tail -n 1; done | sort -u | grep -c ' 0,1,2$')" -eq 1 ] || problem=$(tail -n 2 "$room"/machine?.out)
-    [ "$(for i in 0 1 2; do grep '^group Normal' "$room/machine$i.out" | tail -n 1; done | sort -u | wc -l)" -eq 1 ] || problem=$(tail -n 2 "$room"/machine?.out)
     tell "$problem" 'three machines'
 
     rm -f "$file"
     "$program" format "$file" 64 0 1
-    { printf 'recover\nsubmit 0 %s\n' "$(printf 'echo hello' | od -An -tx1 | tr -d ' \n')"; sleep 3; } |
+    : >"$room/err"
+    {
+        printf 'recover\nsubmit 0 %s\n' "$(printf 'echo hello' | od -An -tx1 | tr -d ' \n')"
+        for _ in {1..200}; do
+            [ ! -s "$room/err" ] || break
+            sleep 0.3
+        done
+        sleep 3
+    } |
         python3 "$top/examples/worker/worker.py" "$program" "$file" 0 1 >"$room/out" 2>"$room/err"
     problem=''
     printf 'group Normal 0 0:1 0\nkeeps 1 0 0\nok 1\ntake 0 0 0 6563686f2068656c6c6f\nok 2 id 0\ngone 0\nok 3\n' | cmp -s - "$room/out" || problem=$(cat "$room/out")

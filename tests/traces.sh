@@ -97,20 +97,6 @@ awk 'BEGIN {
 judge threads "$room/polls.txt" polls
 has "$((300 * 8 * 9))" polls
 
-# unread NUMBER TEXT: the line of this number can't be read
-unread() {
-    local problem=''
-    printf "$2" | "$program" threads >"$room/out" 2>"$room/err" && problem='it ends well'
-    [ "$(cat "$room/out")" = "bad line $1" ] || problem="it prints $(head -c 200 "$room/out") in place of bad line $1"
-    grep -q "^invite: line $1: " "$room/err" || problem="it says $(head -c 200 "$room/err") of line $1"
-    tell "$problem" "bad line $1"
-}
-unread 1 ''
-unread 3 'cluster 2 8\n\n'
-unread 2 'cluster 2 8\nlinks 0\n'
-unread 5 'cluster 2 8\nlinks 8\n\n0 clock check\n0 intake 0\n1 intake 7\n'
-unread 4 'cluster 2 8\nlinks 8\n1 operator crash\n1 operator crash 0\n'
-
 # The picture in docs/ is the one that is drawn of its schedule; each picture of a schedule is well-formed, with a dot for each entry.
 problem=''
 "$program" draw <"$room/record-partition_heals.json" | cmp -s - docs/partition_heals.svg || problem='docs/partition_heals.svg is another picture'

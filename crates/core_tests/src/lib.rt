@@ -1,10 +1,8 @@
-//! Tests of groups, messages, lists of messages, the network and the protocol's table, through their public calls: bytes against values from
-//! outside, and whole runs of a few cores, with what each step sends and what each node then knows. The crate has no code beside its
-//! tests. They stand apart from the crates that they try, each of which would else be proved twice.
+//! Tests of groups, messages, lists of messages and the network, through their public calls, against values from outside.
+//! The crate has no code beside its tests. They stand apart from the crates that they try, each of which would else be proved twice. Rows of the
+//! protocol's table are schedules, which the built program runs.
 #![tactic(auto)]
 
-#[cfg(test)]
-mod cluster;
 #[cfg(test)]
 mod groups;
 #[cfg(test)]
@@ -15,7 +13,3 @@ mod messages;
 mod networks;
 #[cfg(test)]
 mod refused;
-#[cfg(test)]
-mod rows;
-#[cfg(test)]
-mod texts;

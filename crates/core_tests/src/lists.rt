@@ -10,8 +10,8 @@ const MESSAGES: usize = 11;
 
 /// One message of each kind between nodes 0 and 1.
 fn message(place: usize) -> Option<Message> {
-    let [zero, one] = [NodeId::new(0)?, NodeId::new(1)?];
-    let group = GroupNo::new(zero, 2)?;
+    let [zero, one] = [NodeId::numbered(0), NodeId::numbered(1)];
+    let group = GroupNo::numbered(zero, 2);
     let members = Members::new().with(zero).with(one);
     if !members.contains(group.creator()) {
         return None;
@@ -95,8 +95,12 @@ const WIDE_SPELLINGS: [&[u8]; 3] = [
 ];
 
 fn wide_message(place: usize) -> Option<Message> {
-    let [zero, one, high] = [NodeId::new(0)?, NodeId::new(1)?, NodeId::new(64)?];
-    let group = GroupNo::new(high, 2)?;
+    let [zero, one, high] = [
+        NodeId::numbered(0),
+        NodeId::numbered(1),
+        NodeId::numbered(64),
+    ];
+    let group = GroupNo::numbered(high, 2);
     let members = Members::new().with(zero).with(high);
     if !members.contains(group.creator()) {
         return None;

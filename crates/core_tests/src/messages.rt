@@ -9,9 +9,13 @@ const MESSAGES: usize = 20;
 /// One message of each kind, and both answers of a coordinator, in the order of the kinds; and then some that name node 64,
 /// and some Work with a priority.
 fn message(place: usize) -> Option<Message> {
-    let [zero, one, two] = [NodeId::new(0)?, NodeId::new(1)?, NodeId::new(2)?];
-    let high = NodeId::new(64)?;
-    let group = GroupNo::new(zero, 2)?;
+    let [zero, one, two] = [
+        NodeId::numbered(0),
+        NodeId::numbered(1),
+        NodeId::numbered(2),
+    ];
+    let high = NodeId::numbered(64);
+    let group = GroupNo::numbered(zero, 2);
     match place {
         0 => Message::new(two, zero, Body::AreYouCoordinator),
         1 => Message::new(zero, two, Body::Coordinator(true)),
@@ -26,7 +30,7 @@ fn message(place: usize) -> Option<Message> {
         10 => Message::new(one, zero, Body::Done(0)),
         11 => Message::new(two, high, Body::AreYouCoordinator),
         12 => Message::new(high, two, Body::Coordinator(true)),
-        13 => Message::new(one, zero, Body::Accept(GroupNo::new(high, 2)?)),
+        13 => Message::new(one, zero, Body::Accept(GroupNo::numbered(high, 2))),
         14 => Message::new(zero, one, ready(group, high)?),
         15 => Message::new(zero, high, work(group, 0, 0, b"hi")?),
         16 => Message::new(zero, one, work(group, 1, 7, b"b")?),

@@ -4,12 +4,9 @@ use wire_msg::{Body, Message};
 
 #[test]
 fn lost_and_cut(rt: HostRuntime) {
-    let [zero, one] = [
-        NodeId::new(0).expect(&rt, "0"),
-        NodeId::new(1).expect(&rt, "1"),
-    ];
-    let asks = Message::new(zero, one, Body::AreYouCoordinator).expect(&rt, "a question");
-    let answers = Message::new(one, zero, Body::Coordinator(true)).expect(&rt, "an answer");
+    let [zero, one] = [NodeId::numbered(0), NodeId::numbered(1)];
+    let asks = Message::between(zero, one, Body::AreYouCoordinator);
+    let answers = Message::between(one, zero, Body::Coordinator(true));
     let mut net = Net::new(rt.alloc());
     assert_eq!(rt; net.send(&asks).expect(&rt, "memory"), 0);
     net.cut(one, zero);

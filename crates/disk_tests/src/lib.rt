@@ -6,6 +6,8 @@
 #[cfg(test)]
 mod cells;
 #[cfg(test)]
+mod files;
+#[cfg(test)]
 mod gates;
 #[cfg(test)]
 mod jobs;

@@ -5,14 +5,8 @@ mod disk;
 mod fault;
 mod label;
 mod making;
-#[cfg(test)]
-mod making_tests;
 mod places;
-#[cfg(test)]
-mod places_tests;
 mod stride;
-#[cfg(test)]
-mod tests;
 mod zeros;
 
 pub use disk::FileDisk;

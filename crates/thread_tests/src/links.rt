@@ -2,7 +2,8 @@
 
 ghost use Rattle.std.specs.Prelude.{◌<◌};
 
-use group_task::NodeId;
+use group_task::{GroupNo, NodeId};
+use job_model::{Payload, Queue, Work};
 use link_ring::{LinkEnd, PutEnd, TakeEnd, Unpaired, gather, link};
 use message_list::MessageList;
 use std::alloc::{AllocError, Global};
@@ -10,9 +11,28 @@ use std::process::Abort;
 use std::thread;
 use wire_msg::{Body, Message};
 
-/// The message of node 0 to node 1 that the job of this id is done.
-fn done(id: u64) -> Message {
-    Message::between(NodeId::numbered(0), NodeId::numbered(1), Body::Done(id))
+/// A message of node 0 to node 1 about the job of this id: the job itself where the id is divisible by 3, and else that it is done. So
+/// long messages and short ones go over a link by turns.
+fn about(id: u64) -> Message {
+    let body = if id % 3 == 0 {
+        work(id)
+    } else {
+        Body::Done(id)
+    };
+    Message::between(NodeId::numbered(0), NodeId::numbered(1), body)
+}
+
+/// The job of this id, for a member of node 0's first group.
+fn work(id: u64) -> Body {
+    Body::Work {
+        group: GroupNo::numbered(NodeId::numbered(0), 1),
+        id,
+        work: Work {
+            queue: Queue::new(3).unwrap(),
+            priority: 0,
+            payload: Payload::new(b"hi").unwrap(),
+        },
+    }
 }
 
 /// A link from node 0 to node 1.
@@ -23,19 +43,19 @@ fn link_of(rt: &impl Abort, alloc: Global, capacity: usize) -> (PutEnd, TakeEnd)
 /// Puts the message of this job, and expects that the ring takes it.
 fn put(rt: &impl Abort, end: &mut PutEnd, id: u64) {
     end.reserve(1).expect(rt, "memory for a message");
-    assert!(rt; end.put(done(id)).is_none(), "message {id}");
+    assert!(rt; end.put(about(id)).is_none(), "message {id}");
 }
 
 /// Puts the message of this job, and expects it back.
 fn put_in_vain(rt: &impl Abort, end: &mut PutEnd, id: u64) {
     end.reserve(1).expect(rt, "memory for a message");
-    assert!(rt; end.put(done(id)) == Some(done(id)), "message {id}");
+    assert!(rt; end.put(about(id)) == Some(about(id)), "message {id}");
 }
 
 /// Expects the message of this job.
 fn take(rt: &impl Abort, end: &mut TakeEnd, id: u64) {
     end.reserve(1).expect(rt, "memory for a message");
-    assert!(rt; end.take() == Some(done(id)), "message {id}");
+    assert!(rt; end.take() == Some(about(id)), "message {id}");
 }
 
 /// Expects no message.
@@ -45,15 +65,15 @@ fn take_in_vain(rt: &impl Abort, end: &mut TakeEnd) {
 }
 
 /// Whether the message at this place is that of this job.
-fn is_done(messages: &MessageList, place: usize, id: u64) -> bool {
-    messages.get(place) == Some(done(id))
+fn is_about(messages: &MessageList, place: usize, id: u64) -> bool {
+    messages.get(place) == Some(about(id))
 }
 
 /// Expects the messages of these jobs, in this order.
-fn expect_done(rt: &impl Abort, messages: &MessageList, ids: &[u64]) {
+fn expect_about(rt: &impl Abort, messages: &MessageList, ids: &[u64]) {
     assert_eq!(rt; messages.len(), ids.len());
     for (place, id) in ids.iter().enumerate() {
-        assert!(rt; is_done(messages, place, *id), "message {place}");
+        assert!(rt; is_about(messages, place, *id), "message {place}");
     }
 }
 
@@ -74,8 +94,8 @@ fn walk_step(rt: &impl Abort, put_end: &mut PutEnd, take_end: &mut TakeEnd, step
         Step::PutInVain(id) => put_in_vain(rt, put_end, id),
         Step::Take(id) => take(rt, take_end, id),
         Step::TakeInVain => take_in_vain(rt, take_end),
-        Step::HasPut(ids) => expect_done(rt, put_end.messages(), ids),
-        Step::HasTaken(ids) => expect_done(rt, take_end.messages(), ids),
+        Step::HasPut(ids) => expect_about(rt, put_end.messages(), ids),
+        Step::HasTaken(ids) => expect_about(rt, take_end.messages(), ids),
     }
 }
 
@@ -147,8 +167,8 @@ fn emptied_ring_takes_messages_again(rt: HostRuntime) {
 fn expect_gathered(rt: &impl Abort, link: &LinkEnd, put: &[u64], taken: &[u64]) {
     assert_eq!(rt; link.sender.number(), 0);
     assert_eq!(rt; link.receiver.number(), 1);
-    expect_done(rt, &link.put, put);
-    expect_done(rt, &link.taken, taken);
+    expect_about(rt, &link.put, put);
+    expect_about(rt, &link.taken, taken);
 }
 
 #[test]
@@ -194,7 +214,7 @@ fn ends_of_other_nodes(rt: HostRuntime) {
 fn put_all(mut end: PutEnd) -> Result<PutEnd, AllocError> {
     for id in 0..100 {
         end.reserve(1)?;
-        let _ = end.put(done(id));
+        let _ = end.put(about(id));
     }
     Ok(end)
 }
@@ -209,10 +229,10 @@ fn take_some(mut end: TakeEnd) -> Result<TakeEnd, AllocError> {
 }
 
 /// Expects the messages of 100 jobs, in the order of their ids.
-fn expect_all_done(rt: &impl Abort, messages: &MessageList) {
+fn expect_all(rt: &impl Abort, messages: &MessageList) {
     assert_eq!(rt; messages.len(), 100);
     for place in 0..100 {
-        assert!(rt; is_done(messages, place, place as u64), "message {place}");
+        assert!(rt; is_about(messages, place, place as u64), "message {place}");
     }
 }
 
@@ -228,8 +248,8 @@ fn ends_in_two_threads(rt: HostRuntime) {
     let put_end = put_end.expect(&rt, "memory to put");
     let take_end = take_some(take_end.expect(&rt, "memory to take")).expect(&rt, "memory to take");
     let link = gather(put_end, take_end).expect(&rt, "a pair");
-    expect_all_done(&rt, &link.put);
-    expect_all_done(&rt, &link.taken);
+    expect_all(&rt, &link.put);
+    expect_all(&rt, &link.taken);
 }
 
 /// Whether there is no memory for a link of the greatest capacity.
@@ -245,8 +265,8 @@ fn want_of_memory_changes_nothing(rt: HostRuntime) {
     assert!(rt; take_end.reserve(usize::MAX).is_err());
     put(&rt, &mut put_end, 2);
     take(&rt, &mut take_end, 1);
-    expect_done(&rt, put_end.messages(), &[1, 2]);
-    expect_done(&rt, take_end.messages(), &[1]);
+    expect_about(&rt, put_end.messages(), &[1, 2]);
+    expect_about(&rt, take_end.messages(), &[1]);
 }
 
 #[test]

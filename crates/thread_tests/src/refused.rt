@@ -1,0 +1,125 @@
+//! Events of a node over its disk that are refused for want of memory and made again. In a run of this test by itself there is memory, and no event
+//! is refused; `tests/hostile/refused_tried.py` runs it again and again, and each time refuses one allocation more.
+use durable_node::{Came, DurableNode};
+use group_task::{GroupNo, Members, NodeId, Task};
+use job_model::{Payload, Queue, Work};
+use node_core::{Event, Phase};
+use sector_disk::MemDisk;
+use std::alloc::Global;
+use std::io::Print;
+use std::process::Abort;
+use wire_msg::{Body, Message};
+
+/// Node 0 of two, opened once more where there was no memory.
+fn opened(rt: &impl Abort, alloc: Global) -> DurableNode<MemDisk> {
+    let id = NodeId::numbered(0);
+    match DurableNode::open(alloc, id, 2, 4) {
+        Ok(node) => node,
+        Err(_) => DurableNode::open(alloc, id, 2, 4).expect(rt, "memory for a node"),
+    }
+}
+
+/// What node 1 tells node 0.
+fn told(body: Body) -> Event {
+    Event::Deliver(Message::between(NodeId::numbered(1), NodeId::numbered(0), body))
+}
+
+fn submitted(rt: &impl Abort, queue: u8, priority: u8, bytes: &[u8]) -> Event {
+    Event::Submit(Work {
+        queue: Queue::new(queue).expect(rt, "a queue"),
+        priority,
+        payload: Payload::new(bytes).expect(rt, "a payload"),
+    })
+}
+
+/// An election, a job that is handed over and done, and one that isn't.
+fn first_life(rt: &impl Abort) -> [Event; 10] {
+    let group = GroupNo::numbered(NodeId::numbered(0), 2);
+    [
+        Event::CheckTimer,
+        told(Body::Coordinator(true)),
+        Event::MergeTimer,
+        told(Body::Accept(group)),
+        Event::AcceptTimer,
+        told(Body::ReadyAck(group)),
+        submitted(rt, 1, 7, b"hi"),
+        told(Body::Done(0)),
+        submitted(rt, 0, 0, b"a"),
+        Event::DispatchTimer,
+    ]
+}
+
+/// After a crash.
+fn second_life() -> [Event; 4] {
+    [
+        Event::Recover,
+        told(Body::AreYouCoordinator),
+        Event::CheckTimer,
+        Event::DispatchTimer,
+    ]
+}
+
+/// What is known of a node: its phase, its group, its task and who accepted, and the count, the next id and the number of jobs that its disk keeps.
+type Known = (
+    Phase,
+    GroupNo,
+    Option<Task>,
+    Members,
+    Option<(u64, u64, usize)>,
+);
+
+fn known(node: &DurableNode<MemDisk>) -> Known {
+    let vector = node.vector();
+    let kept = match node.durable() {
+        Some((count, table)) => Some((count, table.next(), table.pending().len())),
+        None => None,
+    };
+    (vector.phase, vector.group, vector.task, vector.up, kept)
+}
+
+/// An event. One that is refused for want of memory changes nothing, and is made again.
+fn step<R: Abort + Print>(rt: &R, node: &mut DurableNode<MemDisk>, event: &Event) -> Came {
+    let before = known(node);
+    if let Ok(came) = node.step(event) {
+        return came;
+    }
+    let _ = println!(rt; "refused");
+    assert!(rt; known(node) == before);
+    node.step(event).expect(rt, "memory for an event")
+}
+
+/// Events at two nodes, of which one at most is refused one. Whether they still go the same way: where a disk finds no memory for its own record,
+/// that is a fault of the device, and no refusal.
+fn take<R: Abort + Print>(
+    rt: &R,
+    node: &mut DurableNode<MemDisk>,
+    twin: &mut DurableNode<MemDisk>,
+    events: &[Event],
+) -> bool {
+    for event in events {
+        let came = step(rt, node, event);
+        let other = step(rt, twin, event);
+        if came.fault() != other.fault() {
+            return false;
+        }
+        assert!(rt; came.fate == other.fate && came.answer == other.answer);
+        assert!(rt; came.sent == other.sent);
+        assert!(rt; known(node) == known(twin));
+    }
+    true
+}
+
+#[test]
+fn refused_step(rt: HostRuntime) {
+    let mut node = opened(&rt, rt.alloc());
+    let mut twin = opened(&rt, rt.alloc());
+    if take(&rt, &mut node, &mut twin, &first_life(&rt)) {
+        node.crash(b"");
+        twin.crash(b"");
+        if take(&rt, &mut node, &mut twin, &second_life()) {
+            let (phase, group, _, _, kept) = known(&node);
+            assert!(rt; phase == Phase::Normal && group.creator().number() == 0);
+            assert_eq!(rt; (group.count(), kept), (3, Some((3, 2, 1))));
+        }
+    }
+}

@@ -1,0 +1,238 @@
+#!/usr/bin/env python3
+"""Sessions of `node`: what it answers wherever its input is cut, when its timers fire, and what comes of a file whose calls fail.
+
+    node_rows.py PROGRAM
+
+The input comes through a pipe whose reads give one written piece each. What is expected was worked out from docs/NODE.md, TIMERS.md and DISK.md. The
+last line counts the checks."""
+import errno, os, re, shutil, subprocess, sys, tempfile
+
+HERE = os.path.dirname(os.path.abspath(__file__))
+UP = "group Normal 0 0:1 0\nkeeps 1 0 0\nok 1\n"
+
+# Lines to node 0 of three over an empty store of four slots, and what they are answered.
+ROWS = [
+    # a recovery, the state, and a check
+    ("recover\nstate\ncheck\n",
+     UP + "state Normal coord 0 group 0:1 members 0 found - unready - checking no probing no count 1 pending 0 hand 0\nok 2\nsend 1 010100010000\nsend 2 010100020000\nok 3\n"),
+    # a job comes, is in hand, and is done; a second one is there after a compaction
+    ("recover\nsubmit 3 6869 7\njobs\nfinish 0 0\nsubmit 0 -\ncompact\njobs\n",
+     UP + "take 0 0 3 6869 7\nok 2 id 0\npending 0 3 6869 7\nhand 0 0 3 6869 7\nok 3\ngone 0\nok 4\ntake 0 1 0 -\nok 5 id 1\nok 6\npending 1 0 -\nhand 0 1 0 -\nok 7\n"),
+    # a question, one for another node, and the loss of nodes that aren't in the group
+    ("recover\ndeliver 010101000000\ndeliver 010101020000\nlost 0\nlost 1\n", UP + "send 1 01020001000101\nok 2\nrefused 3 Stranger\nok 4\nok 5\n"),
+    # the first tick sets the timers, a check is due after 400 ms and at most 200 more, and its questions are sent again from the second round trip on
+    ("tick 0\nrecover\ntick 2000\ntick 2620\ntick 2620\ntick 2640\ntick 2660\n",
+     "ok 1\ngroup Normal 0 0:1 0\nkeeps 1 0 0\nok 2\nfired dispatch\nok 3\nfired check\nsend 1 010100010000\nsend 2 010100020000\nfired dispatch\nok 4\nok 5\nok 6\n"
+     "send 1 010100010000\nsend 2 010100020000\nok 7\n"),
+    # lines that can't be read, empty ones, and a last one that isn't whole
+    ("x\n\n\nrecover \ndeliver 00\ntick x\nlost 128\nsubmit 16 -\nstate\r\nrecover", "bad 1\nbad 2\nbad 3\nbad 4\nbad 5\nbad 6\nbad 7\n"),
+    # refusals
+    ("submit 0 -\ncheck\nrecover\nfinish 0 7\n", "refused 1 Down\nok 2\ngroup Normal 0 0:1 0\nkeeps 1 0 0\nok 3\nrefused 4 UnknownJob\n"),
+]
+
+# A timer: the node and how many there are, the lines before it, the word of its event, and at which times it is fired and at which not. Each time is
+# that of one tick, or of one after a line. A round trip is 20 ms.
+INVITING = "recover;check;deliver 01020100000101;merge"
+LEADING = INVITING + ";deliver 010601000009000000000000000002;accept"
+IN_STEP = LEADING + ";deliver 010801000009000000000000000002"
+JOINING = "recover;deliver 010500010009000000000000000002"
+JOINED = JOINING + ";deliver 01070001000c000000000000000002020001"
+TIMERS = [
+    (0, 3, "state", "dispatch", [(0, False), (1000, False), (2**64 - 1, False)]),
+    # 20 round trips, and up to 10 more; it fires once
+    (0, 1, "recover", "check", [(100, False), (100, False), (499, False), (700, True), (700, False)]),
+    # 5, and up to 5 more, and 10 for each step by which the greatest coordinator found is above the node
+    (0, 3, "recover;check", "merge", [(0, False), (99, False), (200, True), (200, False)]),
+    (0, 2, "recover;check;deliver 01020100000101", "merge", [(5, False), (304, False), (405, True)]),
+    (2, 6, "recover;check;deliver 01020002000101;deliver 01020502000101", "merge", [(0, False), (699, False), (800, True)]),
+    (5, 6, "recover;check;deliver 01020005000101;deliver 01020205000101", "merge", [(0, False), (99, False), (200, True)]),
+    # 5
+    (0, 2, INVITING, "accept", [(7, False), (106, False), (107, True), (107, False)]),
+    # 10
+    (0, 2, LEADING, "ready", [(7, False), (206, False), (207, True), (207, False)]),
+    # 20 for the task, and then 10 for the coordinator's answer
+    (1, 2, JOINING, "coord", [(7, False), (406, False), (407, True), (407, False), (606, False), (607, True), (607, False)]),
+    # 20, and up to 10 more, and then 10
+    (1, 2, JOINED, "coord", [(7, False), (406, False), (607, True), (607, False), (806, False), (807, True), (807, False)]),
+    # what is heard of the coordinator puts its question off no further
+    (1, 2, JOINED, "coord", [(7, False), ("deliver 010100010000", None), (406, False), ("deliver 010100010000", None), (607, True)]),
+    # at once, and then after 20, 40, 80 and so on up to 300
+    (0, 1, "recover", "dispatch", [(0, True), (379, False), (400, True), (1199, False), (1200, True), (2799, False), (2800, True), (5999, False), (6000, True),
+                                   (11_999, False), (12_000, True), (17_999, False), (18_000, True), ("submit 0 -", None), (18_001, True), (18_400, False), (18_401, True)]),
+    # each check is counted, and a member that was silent in three of them is given up in place of the next
+    (0, 2, IN_STEP, "check", [(0, False), (600, True), (800, False), (1400, True), (1600, False), (2200, True), (2400, False), (3000, False)]),
+    (0, 2, IN_STEP, "recover", [(0, False), (600, False), (800, False), (1400, False), (1600, False), (2200, False), (2400, False), (3000, True), (3000, False)]),
+    (0, 2, IN_STEP, "recover", [(0, False), (600, False), (800, False), (1400, False), (1600, False), (2200, False), ("deliver 01020100000100", None),
+                                (2400, False), (3000, False), (3200, False), (3800, False), (4000, False), (4600, False), (4800, False), (5400, True)]),
+    # the clock's end
+    (0, 1, "recover", "check", [(2**64 - 1, False), (2**64 - 1, False)]),
+    (0, 2, "recover;check;deliver 01020100000101", "merge", [(2**64 - 1, False), (2**64 - 1, False)]),
+]
+
+# A session whose calls on the file fail one after another, what it answers then, and how many calls do so. In front of them stand those that open the
+# file. A mounting of an empty store makes eight calls; a raise makes six, nine where the slot is sealed, and so does a job six: a look at the length for
+# each write, and a sync.
+FAILING = "recover\n\nsubmit 0 -\nrecover\n"
+TAKEN = "take 0 0 0 -\nok 2 id 0\n"
+FAILED = [
+    ("fault 1 Device\n", 14),
+    (UP + "group Down\nfault 2 Device\n", 6),
+    (UP + TAKEN + "group Down\ndrop 0 0\nfault 3 Device\n", 9),
+]
+UNFAILED = UP + TAKEN + "group Normal 0 0:2 0\ndrop 0 0\nkeeps 2 1 1\nok 3\n"
+
+
+class Tried:
+    def __init__(self, program, folder):
+        self.program, self.folder, self.passed, self.failed = program, folder, 0, 0
+        self.path, self.made = os.path.join(folder, "node"), {}
+
+    def tell(self, wrong, name):
+        if wrong:
+            self.failed += 1
+            print(f"node_rows.py: {name!r:.200}: {wrong}")
+        else:
+            self.passed += 1
+
+    def same(self, found, wanted, name):
+        self.tell("" if found == wanted else f"there is {found!r:.500} in place of {wanted!r:.500}", name)
+
+    def fresh(self, own=0, nodes=3):
+        """A file as `format` makes it."""
+        if (own, nodes) not in self.made:
+            made = os.path.join(self.folder, f"{own}-{nodes}")
+            subprocess.run([self.program, "format", made, "4", str(own), str(nodes)], check=True, timeout=60)
+            with open(made, "rb") as file:
+                self.made[own, nodes] = file.read()
+        with open(self.path, "wb") as file:
+            file.write(self.made[own, nodes])
+
+    def serve(self, pieces, own=0, nodes=3, **more):
+        """What a node answers to these pieces, each the whole of what one read gives, and its status."""
+        reading, writing = os.pipe2(os.O_DIRECT)
+        with open(os.path.join(self.folder, "out"), "w+b") as out:
+            child = subprocess.Popen([self.program, "node", self.path, str(own), str(nodes)], stdin=reading, stdout=out, stderr=subprocess.DEVNULL, **more)
+            os.close(reading)
+            try:
+                for piece in pieces:
+                    os.write(writing, piece)
+            except BrokenPipeError:
+                pass
+            os.close(writing)
+            status = child.wait(timeout=60)
+            out.seek(0)
+            return out.read().decode(), status
+
+
+def try_cuts(tried):
+    """Each input in one piece, byte by byte, and cut in two at each place."""
+    for lines, answers in ROWS:
+        fed = lines.encode()
+        whole = [[fed], [fed[at:at + 1] for at in range(len(fed))]]
+        for pieces in whole + [[fed[:cut], fed[cut:]] for cut in range(1, len(fed))]:
+            tried.fresh()
+            tried.same(tried.serve(pieces), (answers, 0), pieces)
+
+
+def fired(answer):
+    return re.findall("^fired (.*)$", answer, re.MULTILINE)
+
+
+def try_timers(tried):
+    for own, nodes, before, event, times in TIMERS:
+        before = before.split(";")
+        lines = before + [f"tick {time}" if due is not None else time for time, due in times]
+        tried.fresh(own, nodes)
+        text, status = tried.serve(["".join(line + "\n" for line in lines).encode()], own, nodes)
+        answers = re.split(r"^ok .*\n", text, flags=re.MULTILINE)
+        tried.tell("" if status == 0 and len(answers) == len(lines) + 1 and answers[-1] == "" else f"status {status}, it answers {text!r}", lines)
+        for answer, (time, due) in zip(answers[len(before):], times):
+            if due is not None:
+                tried.tell("" if (event in fired(answer)) == due else f"{event} at {time}: {fired(answer)}", lines)
+
+
+def try_jitter(tried):
+    """When nodes look for others first, and when they then merge: each within its bounds, and no two nodes at the same times."""
+    seen = {}
+    for own in range(4):
+        tried.fresh(own, 4)
+        text, _ = tried.serve([b"recover\n"] + ["".join(f"tick {time}\n" for time in range(at, at + 50)).encode() for at in range(0, 900, 50)], own, 4)
+        answers = re.split(r"^ok .*\n", text, flags=re.MULTILINE)[1:]
+        at = [next((time for time, answer in enumerate(answers) if event in fired(answer)), -1) for event in ("check", "merge")]
+        tried.tell("" if 400 <= at[0] <= 600 and 100 <= at[1] - at[0] <= 200 else f"it checks and merges at {at}", ("jitter of node", own))
+        seen[tuple(at)] = own
+    tried.tell("" if len(seen) == 4 else f"the times are {seen}", "jitter of four nodes")
+
+
+def try_greatest(tried):
+    """No count is left: the node stays Down, and its file as it was."""
+    tried.fresh()
+    with open(tried.path, "r+b") as file:
+        file.seek(2 * 512)
+        file.write(b"\xff" * 8)
+        file.seek(3 * 512)
+        file.write(b"\xa5")
+    with open(tried.path, "rb") as file:
+        before = file.read()
+    tried.same(tried.serve([b"recover\nstate\nrecover\n"]), ("refused 1 Exhausted\nstate Down\nok 2\nrefused 3 Exhausted\n", 0), "the greatest count")
+    with open(tried.path, "rb") as file:
+        tried.same(file.read(), before, "the file of the greatest count")
+
+
+def try_failing(tried):
+    """Each call on the file fails in turn. Then the process ends; another one finds what was answered, and of the last line all or nothing."""
+    library, told = os.path.join(tried.folder, "faults.so"), os.path.join(tried.folder, "told")
+    subprocess.run(["cc", "-shared", "-fPIC", "-O1", "-o", library, os.path.join(HERE, "shim", "faults.c"), "-ldl"], check=True)
+    fed, at, came = FAILING.encode(), 0, []
+    while not came or came[-1] != (UNFAILED, 0):
+        at += 1
+        env = {**os.environ, "LD_PRELOAD": library, "FAULT_FILE": tried.path, "FAULT_AT": str(at), "FAULT": str(errno.EIO), "FAULT_COUNT": told}
+        tried.fresh()
+        cut = at % (len(fed) - 1) + 1
+        came.append(tried.serve([fed[:cut], fed[cut:]], env=env))
+        found, status = tried.serve([b"recover\n"])
+        counts, jobs = {"": ((1,), (0,)), **dict(zip((text for text, _ in FAILED), (((1, 2), (0,)), ((2,), (0, 1)), ((2, 3), (1,)))))}.get(came[-1][0], ((3,), (1,)))
+        allowed = [f"group Normal 0 0:{count} 0\nkeeps {count} {job} {job}\nok 1\n" for count in counts for job in jobs]
+        tried.tell("" if status == 0 and found in allowed else f"then there is {found!r}", ("call that fails", at))
+        if at > 100:
+            break
+    opening = came.count(("", 3))
+    wanted = [("", 3)] * opening + [(text, 3) for text, calls in FAILED for _ in range(calls)] + [(UNFAILED, 0)]
+    tried.tell("" if opening > 0 else "no call opens the file", "the calls that open the file")
+    tried.same(len(came), len(wanted), "the number of calls")
+    for at, (found, want) in enumerate(zip(came, wanted)):
+        tried.same(found, want, ("call that fails", at + 1))
+
+
+def try_disks_in_memory(tried):
+    """No call of a disk in memory fails that wasn't told to."""
+    for slots in (4, 8, 4096):
+        schedule = f"cluster 1 {slots}\nsubmit 0 0 61\ncompact 0\nrecover 0\nfinish 0 0 0\ncompact 0\ncrash 0\nrecover 0\n"
+        found = subprocess.run([tried.program, "sim"], input=schedule.encode(), capture_output=True, timeout=60)
+        answers = ["ok id 0", "ok", "ok", "refused UnknownJob", "ok", "ok", "ok"]
+        text = "".join(f"{at} {answer}\n" for at, answer in enumerate(answers)) + "node 0 Normal coord 0 group 0:3 up - members 0 count 3 pending 0 hand -\n"
+        tried.same((found.stdout.decode(), found.returncode), (text, 0), schedule)
+
+
+def main():
+    program = os.path.abspath(sys.argv[1])
+    if not os.access(program, os.X_OK):
+        print(f"node_rows.py: there is no program {program}\n0 passed, 1 failed")
+        return 1
+    with tempfile.TemporaryDirectory() as folder:
+        tried = Tried(program, folder)
+        try_cuts(tried)
+        try_timers(tried)
+        try_jitter(tried)
+        try_greatest(tried)
+        try_disks_in_memory(tried)
+        if shutil.which("cc") is None:
+            print("node_rows.py: there is no C compiler cc, so no call was failed")
+        else:
+            try_failing(tried)
+    print(f"{tried.passed} passed, {tried.failed} failed")
+    return 0 if tried.failed == 0 and tried.passed > 0 else 1
+
+
+if __name__ == "__main__":
+    sys.exit(main())

@@ -1,0 +1,454 @@
+#!/usr/bin/env python3
+"""Traces, schedules and plans, each with all that the program prints for it: verdicts, pictures, and the traces of runs.
+
+    trace_rows.py PROGRAM
+
+A text that is no trace of a run is given to `trace` and to `draw`, which print the same for it; each trace that a run is expected to have is judged
+too. The status and what stands on standard error are compared as well. What is expected was written by hand, from the pages under docs/. The last
+line counts the checks."""
+import os, subprocess, sys
+from typing import NamedTuple
+
+
+class Row(NamedTuple):
+    """What is printed is one of these texts; where it can't be foreseen which one, there are more."""
+
+    name: str
+    command: str
+    fed: bytes
+    status: int
+    printed: tuple
+    said: bytes = b""
+
+
+ASKED = r'{"nodes":2,"histories":[[{"do":"check","sent":["010100010000"]},{"do":"deliver","msg":"01020100000101","sent":[]}],[{"do":"deliver","msg":"010100010000","sent":["01020100000101"]}]]}'
+NOBODY_ASKED = r'{"nodes":2,"histories":[[],[{"do":"deliver","msg":"010100010000","sent":["01020100000101"]}]]}'
+
+# Whole traces.
+WHOLE = [
+    ("a question and its answer", ASKED, "Run 0 1 0\n"),
+    ("an answer, and nobody asked", NOBODY_ASKED, "NotARun 1 0\n"),
+    # each history by itself is lawful
+    (
+        "a circle",
+        r'{"nodes":2,"histories":[[{"do":"deliver","msg":"010101000000","sent":["01020001000101"]}],[{"do":"deliver","msg":"01020001000101","sent":[]},{"do":"check","sent":["010101000000"]}]]}',
+        "NotARun 0 0\n",
+    ),
+    (
+        "half of the circle",
+        r'{"nodes":2,"histories":[[{"do":"deliver","msg":"010101000000","sent":["01020001000101"]}],[{"do":"check","sent":["010101000000"]}]]}',
+        "Run 1 0\n",
+    ),
+    (
+        "a message that isn't for its node",
+        r'{"nodes":2,"histories":[[{"do":"check","sent":["010100010000"]},{"do":"deliver","msg":"010100010000","sent":[]}],[]]}',
+        "NotARun 0 1\n",
+    ),
+    # both fall with a raise in doubt, recover with it or without, fall and recover; the second finds its raise once more
+    (
+        "a doubt is settled once",
+        r'{"nodes":2,"histories":[[{"do":"recover","kept":false,"fault":"raise","sent":[]},{"do":"recover","kept":false,"sent":[]},{"do":"crash","sent":[]},{"do":"recover","kept":false,"sent":[]}],'
+        r'[{"do":"recover","kept":false,"fault":"raise","sent":[]},{"do":"recover","kept":true,"sent":[]},{"do":"crash","sent":[]},{"do":"recover","kept":false,"sent":[]},{"do":"recover","kept":true,"sent":[]}]]}',
+        "NotARun 1 4\n",
+    ),
+    ("no entries", r'{"nodes":1,"histories":[[]]}', "Run\n"),
+    ("space, and a key that isn't named", r' { "x" : [ 1.5 ] , "histories" : [ [ ] , [ ] ] , "nodes" : 2 } ', "Run\n"),
+    ("equal keys", r'{"nodes":3,"nodes":1,"histories":7,"histories":[[]]}', "Run\n"),
+    ("the most nodes", '{"nodes":128,"histories":[' + ",".join(["[]"] * 128) + "]}", "Run\n"),
+    # another shape, which is judged before any entry
+    ("no text", r"", "bad trace\n"),
+    ("a list", r"[]", "bad trace\n"),
+    ("no nodes", r'{"nodes":0,"histories":[]}', "bad trace\n"),
+    ("a node too many", '{"nodes":129,"histories":[' + ",".join(["[]"] * 129) + "]}", "bad trace\n"),
+    ("a history too few", r'{"nodes":2,"histories":[[]]}', "bad trace\n"),
+    ("nodes with a point", r'{"nodes":1.0,"histories":[[]]}', "bad trace\n"),
+    ("nodes as a string", r'{"nodes":"1","histories":[[]]}', "bad trace\n"),
+    ("nodes missing", r'{"histories":[[]]}', "bad trace\n"),
+    ("histories missing", r'{"nodes":1}', "bad trace\n"),
+    ("histories as an object", r'{"nodes":1,"histories":{}}', "bad trace\n"),
+    ("a history that is none, behind a bad entry", r'{"nodes":2,"histories":[[{"do":1}],3]}', "bad trace\n"),
+    ("more behind the whole", r'{"nodes":1,"histories":[[]]} 1', "bad trace\n"),
+    ("the end missing", r'{"nodes":1,"histories":[[]]', "bad trace\n"),
+    ("not UTF-8", b'{"nodes":1,"histories":[[]],"x":"\xff"}', "bad trace\n"),
+    # the outermost object is the first level
+    ("127 levels", '{"nodes":1,"histories":[[]],"x":' + "[" * 126 + "]" * 126 + "}", "Run\n"),
+    ("128 levels", '{"nodes":1,"histories":[[]],"x":' + "[" * 127 + "]" * 127 + "}", "bad trace\n"),
+    # of several bad entries the one of the least node, and there of the least index
+    ("bad entries of two nodes", r'{"nodes":3,"histories":[[],[{"do":"none","sent":[]},1,{}],[{}]]}', "bad trace 1 1\n"),
+    ("a bad entry", r'{"nodes":2,"histories":[[],[{"do":"none","sent":[]},{"do":"crash"}]]}', "bad trace 1 1\n"),
+]
+
+# Entries of the one node of a cluster.
+ENTRIES = [
+    (r'{"do":"none","sent":[]}', "Run 0\n"),
+    (r'{"do":"none","sent":["010100010000"]}', "NotARun 0 0\n"),
+    (r'{"do":"none","sent":[],"kept":7,"fault":null,"msg":{"a":[1.5]}}', "Run 0\n"),
+    (r'{"do":"what","do":"none","sent":[]}', "Run 0\n"),
+    (r'{"do":"check","sent":[]}', "Run 0\n"),
+    (r'{"do":"merge","sent":[]}', "Run 0\n"),
+    (r'{"do":"accept","sent":[]}', "Run 0\n"),
+    (r'{"do":"ready","sent":[]}', "Run 0\n"),
+    (r'{"do":"coord","sent":[]}', "Run 0\n"),
+    (r'{"do":"dispatch","sent":[]}', "Run 0\n"),
+    (r'{"do":"check","fault":"device","sent":[]}', "NotARun 0 0\n"),
+    (r'{"do":"deliver","msg":"010101000000","sent":["01020001000101"]}', "NotARun 0 0\n"),
+    (r'{"do":"submit","queue":0,"payload":"","sent":[]}', "Run 0\n"),
+    (r'{"do":"submit","queue":15,"payload":"fF","fault":"device","sent":[]}', "Run 0\n"),
+    (r'{"do":"submit","queue":0,"priority":1,"payload":"","sent":[]},{"do":"submit","queue":0,"priority":255,"payload":"","sent":[]}', "Run 0 0\n"),
+    (r'{"do":"crash","sent":[]},{"do":"submit","queue":0,"payload":"","sent":[]}', "NotARun 0 1\n"),
+    (r'{"do":"submit","queue":0,"payload":"","sent":[]},{"do":"finish","origin":0,"id":0,"sent":[]}', "Run 0 0\n"),
+    (r'{"do":"submit","queue":0,"payload":"","sent":[]},{"do":"finish","origin":0,"id":0,"fault":"device","sent":[]},{"do":"recover","kept":true,"sent":[]}', "Run 0 0 0\n"),
+    (r'{"do":"finish","origin":0,"id":0,"sent":[]}', "NotARun 0 0\n"),
+    (r'{"do":"finish","origin":63,"id":18446744073709551615,"sent":[]}', "NotARun 0 0\n"),
+    (r'{"do":"finish","origin":127,"id":0,"sent":[]}', "NotARun 0 0\n"),
+    (r'{"do":"crash","sent":[]}', "Run 0\n"),
+    (r'{"do":"crash","sent":["010100010000"]}', "NotARun 0 0\n"),
+    (r'{"do":"crash","sent":[]},{"do":"recover","kept":false,"sent":[]}', "Run 0 0\n"),
+    (r'{"do":"crash","sent":[]},{"do":"recover","kept":true,"sent":[]}', "NotARun 0 1\n"),
+    (r'{"do":"recover","kept":false,"sent":[]}', "Run 0\n"),
+    (r'{"do":"recover","kept":true,"sent":[]}', "NotARun 0 0\n"),
+    (r'{"do":"recover","kept":false,"fault":"mount","sent":[]}', "NotARun 0 0\n"),
+    (r'{"do":"crash","sent":[]},{"do":"recover","kept":false,"fault":"mount","sent":[]}', "Run 0 0\n"),
+    (r'{"do":"crash","sent":[]},{"do":"recover","kept":true,"fault":"mount","sent":[]}', "NotARun 0 1\n"),
+    (r'{"do":"recover","kept":false,"fault":"raise","sent":[]}', "Run 0\n"),
+    (r'{"do":"recover","kept":true,"fault":"raise","sent":[]}', "NotARun 0 0\n"),
+    (r'{"do":"recover","kept":false,"fault":"raise","sent":["010100010000"]}', "NotARun 0 0\n"),
+    # a command in doubt is settled once, and stays in doubt where the disk isn't mounted or the node crashes again
+    (r'{"do":"recover","kept":false,"fault":"raise","sent":[]},{"do":"recover","kept":true,"sent":[]}', "Run 0 0\n"),
+    (
+        r'{"do":"recover","kept":false,"fault":"raise","sent":[]},{"do":"recover","kept":false,"fault":"mount","sent":[]},{"do":"crash","sent":[]},{"do":"recover","kept":true,"sent":[]}',
+        "Run 0 0 0 0\n",
+    ),
+    (
+        r'{"do":"recover","kept":false,"fault":"raise","sent":[]},{"do":"recover","kept":false,"sent":[]},{"do":"crash","sent":[]},{"do":"recover","kept":true,"sent":[]}',
+        "NotARun 0 3\n",
+    ),
+    (r'{"do":"crash","sent":[]},{"do":"recover","kept":false,"fault":"raise","sent":[]},{"do":"recover","kept":true,"sent":[]}', "Run 0 0 0\n"),
+    (r'{"do":"recover","kept":false,"fault":"raise","sent":[]},{"do":"recover","kept":true,"fault":"raise","sent":[]},{"do":"recover","kept":true,"sent":[]}', "Run 0 0 0\n"),
+    ('{"do":"submit","queue":0,"payload":"' + "61" * 400 + '","sent":[]}', "Run 0\n"),
+    # more than the most turns of a node in threads
+    (",".join([r'{"do":"none","sent":[]}'] * 65_537), "Run" + " 0" * 65_537 + "\n"),
+]
+
+# Entries of which each is a bad one: a field is missing, of another type, or out of its range.
+BAD = [
+    r"1",
+    r"null",
+    r"[]",
+    r"{}",
+    r'{"sent":[]}',
+    r'{"do":1,"sent":[]}',
+    r'{"do":"Crash","sent":[]}',
+    r'{"do":"none"}',
+    r'{"do":"none","sent":""}',
+    r'{"do":"none","sent":[1]}',
+    r'{"do":"none","sent":["-"]}',
+    r'{"do":"none","sent":["0"]}',
+    r'{"do":"none","sent":["0x"]}',
+    r'{"do":"none","sent":["010100000000"]}',
+    r'{"do":"none","sent":["01010001000000"]}',
+    r'{"do":"deliver","sent":[]}',
+    r'{"do":"deliver","msg":1,"sent":[]}',
+    r'{"do":"deliver","msg":"","sent":[]}',
+    r'{"do":"deliver","msg":"0102000200010","sent":[]}',
+    r'{"do":"deliver","msg":"01020002000102","sent":[]}',
+    r'{"do":"submit","payload":"","sent":[]}',
+    r'{"do":"submit","queue":"0","payload":"","sent":[]}',
+    r'{"do":"submit","queue":16,"payload":"","sent":[]}',
+    r'{"do":"submit","queue":-1,"payload":"","sent":[]}',
+    r'{"do":"submit","queue":-0,"payload":"","sent":[]}',
+    r'{"do":"submit","queue":1.0,"payload":"","sent":[]}',
+    r'{"do":"submit","queue":1e0,"payload":"","sent":[]}',
+    r'{"do":"submit","queue":0,"sent":[]}',
+    r'{"do":"submit","queue":0,"priority":0,"payload":"","sent":[]}',
+    r'{"do":"submit","queue":0,"priority":256,"payload":"","sent":[]}',
+    r'{"do":"submit","queue":0,"priority":-1,"payload":"","sent":[]}',
+    r'{"do":"submit","queue":0,"priority":"1","payload":"","sent":[]}',
+    r'{"do":"submit","queue":0,"priority":null,"payload":"","sent":[]}',
+    r'{"do":"submit","queue":0,"payload":"-","sent":[]}',
+    r'{"do":"submit","queue":0,"payload":[],"sent":[]}',
+    '{"do":"submit","queue":0,"payload":"' + "61" * 401 + '","sent":[]}',
+    r'{"do":"finish","id":0,"sent":[]}',
+    r'{"do":"finish","origin":"0","id":0,"sent":[]}',
+    r'{"do":"finish","origin":128,"id":0,"sent":[]}',
+    r'{"do":"finish","origin":256,"id":0,"sent":[]}',
+    r'{"do":"finish","origin":0,"sent":[]}',
+    r'{"do":"finish","origin":0,"id":"0","sent":[]}',
+    r'{"do":"finish","origin":0,"id":18446744073709551616,"sent":[]}',
+    r'{"do":"recover","sent":[]}',
+    r'{"do":"recover","kept":0,"sent":[]}',
+    r'{"do":"recover","kept":null,"sent":[]}',
+    r'{"do":"recover","kept":false,"fault":"device","sent":[]}',
+    r'{"do":"recover","kept":false,"fault":null,"sent":[]}',
+    r'{"do":"check","fault":"raise","sent":[]}',
+    r'{"do":"check","fault":true,"sent":[]}',
+    r'{"do":"finish","origin":0,"id":0,"fault":"mount","sent":[]}',
+]
+
+# How all pictures are drawn, as the definition of the picture says it (crates/trace_draw/specs/Picture.antt).
+STYLE = r"""" font-family="sans-serif" font-size="11" text-anchor="middle">
+<style>.life{stroke:#bbb}.message{stroke:#47a;marker-end:url(#tip)}.done{fill:#333}.rest{fill:#bbb}.fail{fill:#c22}.rise,.group{fill:#183}.deed{text-anchor:start;transform:translate(3px,-7px) rotate(-35deg)}text{paint-order:stroke;stroke:#fff;stroke-width:3px}</style>
+<defs><marker id="tip" orient="auto" refX="12" refY="3" markerWidth="9" markerHeight="6"><path d="M0 0L8 3L0 6z" fill="#47a"/></marker></defs>
+<rect width="100%" height="100%" fill="#fff"/>
+<text x="16" y="18" style="text-anchor:start">dot: an entry; arrow: a message that came</text>
+<text x="16" y="33" class="group" style="text-anchor:start">green: the group that a node is in from here on</text>
+"""
+
+# Traces, and in front of and behind the style their pictures.
+PICTURES = [
+    # turns at 110, 136 and 162, lines at 80 and 150
+    (
+        "a question and its answer",
+        ASKED,
+        r'<svg xmlns="http://www.w3.org/2000/svg" width="208" height="220',
+        r"""<path class="life" d="M70 80H188"/><g transform="translate(40 80)"><text y="4">node 0</text><text class="group" y="19">0:1</text></g>
+<path class="life" d="M70 150H188"/><g transform="translate(40 150)"><text y="4">node 1</text><text class="group" y="19">1:1</text></g>
+<path class="message" d="M110 80L136 150"/>
+<path class="message" d="M136 150L162 80"/>
+<g transform="translate(110 80)"><circle r="4" class="done"/><text class="deed">check</text></g>
+<g transform="translate(136 150)"><circle r="4" class="done"/></g>
+<g transform="translate(162 80)"><circle r="4" class="done"/></g>
+</svg>
+""",
+    ),
+    # a node crashes, and comes back in its second group; it recovers while it is up, in its third; then it is refused something
+    (
+        "a crash and recoveries",
+        r'{"nodes":1,"histories":[[{"do":"crash","sent":[]},{"do":"recover","kept":false,"sent":[]},{"do":"recover","kept":false,"sent":[]},{"do":"none","sent":[]}]]}',
+        r'<svg xmlns="http://www.w3.org/2000/svg" width="234" height="150',
+        r"""<path class="life" d="M70 80H214"/><g transform="translate(40 80)"><text y="4">node 0</text><text class="group" y="19">0:1</text></g>
+<g transform="translate(110 80)"><circle r="4" class="fail"/><text class="deed">crash</text></g>
+<g transform="translate(136 80)"><circle r="4" class="rise"/><text class="deed">recover</text><text class="group" y="19">0:2</text></g>
+<g transform="translate(162 80)"><circle r="4" class="rise"/><text class="deed">recover</text><text class="group" y="19">0:3</text></g>
+<g transform="translate(188 80)"><circle r="4" class="rest"/></g>
+</svg>
+""",
+    ),
+    # what was done stands at each mark but of what was refused; a node that is down is in no group, and a raise that is found counts
+    (
+        "each kind of entry",
+        r'{"nodes":1,"histories":[[{"do":"none","sent":[]},{"do":"check","sent":[]},{"do":"merge","sent":[]},{"do":"accept","sent":[]},{"do":"ready","sent":[]},{"do":"coord","sent":[]},{"do":"dispatch","sent":[]},'
+        r'{"do":"submit","queue":3,"priority":255,"payload":"6869","sent":[]},{"do":"finish","origin":0,"id":0,"sent":[]},{"do":"submit","queue":0,"payload":"","fault":"device","sent":[]},'
+        r'{"do":"recover","kept":false,"fault":"mount","sent":[]},{"do":"recover","kept":false,"fault":"raise","sent":[]},{"do":"crash","sent":[]},{"do":"recover","kept":true,"sent":[]}]]}',
+        r'<svg xmlns="http://www.w3.org/2000/svg" width="494" height="150',
+        r"""<path class="life" d="M70 80H474"/><g transform="translate(40 80)"><text y="4">node 0</text><text class="group" y="19">0:1</text></g>
+<g transform="translate(110 80)"><circle r="4" class="rest"/></g>
+<g transform="translate(136 80)"><circle r="4" class="done"/><text class="deed">check</text></g>
+<g transform="translate(162 80)"><circle r="4" class="done"/><text class="deed">merge</text></g>
+<g transform="translate(188 80)"><circle r="4" class="done"/><text class="deed">accept</text></g>
+<g transform="translate(214 80)"><circle r="4" class="done"/><text class="deed">ready</text></g>
+<g transform="translate(240 80)"><circle r="4" class="done"/><text class="deed">coord</text></g>
+<g transform="translate(266 80)"><circle r="4" class="done"/><text class="deed">dispatch</text></g>
+<g transform="translate(292 80)"><circle r="4" class="done"/><text class="deed">submit</text></g>
+<g transform="translate(318 80)"><circle r="4" class="done"/><text class="deed">finish</text></g>
+<g transform="translate(344 80)"><circle r="4" class="fail"/><text class="deed">submit</text></g>
+<g transform="translate(370 80)"><circle r="4" class="fail"/><text class="deed">recover</text></g>
+<g transform="translate(396 80)"><circle r="4" class="fail"/><text class="deed">recover</text></g>
+<g transform="translate(422 80)"><circle r="4" class="fail"/><text class="deed">crash</text></g>
+<g transform="translate(448 80)"><circle r="4" class="rise"/><text class="deed">recover</text><text class="group" y="19">0:3</text></g>
+</svg>
+""",
+    ),
+    # of two questions that are the same, the answer's arrow comes from the later one
+    (
+        "the last sender",
+        r'{"nodes":2,"histories":[[{"do":"check","sent":["010100010000"]},{"do":"check","sent":["010100010000"]}],[{"do":"deliver","msg":"010100010000","sent":["01020100000101"]}]]}',
+        r'<svg xmlns="http://www.w3.org/2000/svg" width="208" height="220',
+        r"""<path class="life" d="M70 80H188"/><g transform="translate(40 80)"><text y="4">node 0</text><text class="group" y="19">0:1</text></g>
+<path class="life" d="M70 150H188"/><g transform="translate(40 150)"><text y="4">node 1</text><text class="group" y="19">1:1</text></g>
+<path class="message" d="M136 80L162 150"/>
+<g transform="translate(110 80)"><circle r="4" class="done"/><text class="deed">check</text></g>
+<g transform="translate(136 80)"><circle r="4" class="done"/><text class="deed">check</text></g>
+<g transform="translate(162 150)"><circle r="4" class="done"/></g>
+</svg>
+""",
+    ),
+]
+
+# Schedules, the trace that `record` writes of each (with no spaces, and the keys of each object in order), and the verdict on it.
+RECORDED = [
+    (
+        "a question and its answer",
+        "cluster 2 8\ncheck 0\ndeliver 0\ndeliver 1\n",
+        r'{"histories":[[{"do":"check","sent":["010100010000"]},{"do":"deliver","msg":"01020100000101","sent":[]}],[{"do":"deliver","msg":"010100010000","sent":["01020100000101"]}]],"nodes":2}',
+        "Run 0 1 0\n",
+    ),
+    (
+        "priorities",
+        "cluster 1 4\nsubmit 0 0 - 1\nsubmit 0 3 00 255\n",
+        r'{"histories":[[{"do":"submit","payload":"","priority":1,"queue":0,"sent":[]},{"do":"submit","payload":"00","priority":255,"queue":3,"sent":[]}]],"nodes":1}',
+        "Run 0 0\n",
+    ),
+    # the last of the four calls of an append fails, and then a mounting at its first call; one of a journal with one record makes eleven calls and finds the
+    # job; then the raise fails, which leaves nothing once the node has crashed; at last the end of the job is found, whose last call failed
+    (
+        "each fault of a disk",
+        "cluster 1 4\nfinish 0 3 18446744073709551615\narm 0 3\nsubmit 0 15 6869\nrecover 0\narm 0 11\nrecover 0\ncrash 0\nrecover 0\ndispatch 0\narm 0 3\nfinish 0 0 0\narm 0 1000\nrecover 0\n",
+        r'{"histories":[[{"do":"none","sent":[]},{"do":"none","sent":[]},{"do":"submit","fault":"device","payload":"6869","queue":15,"sent":[]},{"do":"recover","fault":"mount","kept":false,"sent":[]},'
+        r'{"do":"none","sent":[]},{"do":"recover","fault":"raise","kept":true,"sent":[]},{"do":"crash","sent":[]},{"do":"recover","kept":false,"sent":[]},{"do":"dispatch","sent":[]},'
+        r'{"do":"none","sent":[]},{"do":"finish","fault":"device","id":0,"origin":0,"sent":[]},{"do":"none","sent":[]},{"do":"recover","kept":true,"sent":[]}]],"nodes":1}',
+        "Run" + " 0" * 13 + "\n",
+    ),
+]
+
+# Plans, each trace that a run of them in threads can have, and the verdict on it.
+PLANS = [
+    ("no turns", "cluster 1 4\nlinks 1\n", [(r'{"histories":[[]],"nodes":1}', "Run\n")]),
+    (
+        "empty lines, and no line feed at the end",
+        "\ncluster 1 4\n\n\nlinks 65536\n\n0 clock merge",
+        [(r'{"histories":[[{"do":"merge","sent":[]}]],"nodes":1}', "Run 0\n")],
+    ),
+    # one worker's turns stand in the order of their lines
+    (
+        "the operator alone",
+        "cluster 1 4\nlinks 1\n0 operator submit 3 6869 7\n0 operator arm 0\n0 operator submit 0 -\n0 operator crash\n0 operator recover\n0 operator finish 0 0\n0 operator finish 63 18446744073709551615\n0 operator crash a5\n",
+        [
+            (
+                r'{"histories":[[{"do":"submit","payload":"6869","priority":7,"queue":3,"sent":[]},{"do":"none","sent":[]},{"do":"submit","fault":"device","payload":"","queue":0,"sent":[]},{"do":"crash","sent":[]},{"do":"recover","kept":false,"sent":[]},{"do":"none","sent":[]},{"do":"none","sent":[]},{"do":"crash","sent":[]}]],"nodes":1}',
+                "Run 0 0 0 0 0 0 0 0\n",
+            )
+        ],
+    ),
+    (
+        "the clock alone",
+        "cluster 1 4\nlinks 1\n0 clock check\n0 clock accept\n0 clock ready\n0 clock coord\n0 clock dispatch\n",
+        [
+            (
+                r'{"histories":[[{"do":"check","sent":[]},{"do":"accept","sent":[]},{"do":"ready","sent":[]},{"do":"coord","sent":[]},{"do":"dispatch","sent":[]}]],"nodes":1}',
+                "Run 0 0 0 0 0\n",
+            )
+        ],
+    ),
+    # nine slots have room for seven pending jobs
+    (
+        "a full journal",
+        "cluster 1 9\nlinks 7\n" + "0 operator submit 0 -\n" * 8,
+        [('{"histories":[[' + r'{"do":"submit","payload":"","queue":0,"sent":[]},' * 7 + r'{"do":"none","sent":[]}]],"nodes":1}', "Run 0 0 0 0 0 0 0 0\n")],
+    ),
+    # the operator's turn comes before, between or behind those of the clock
+    (
+        "three workers of two nodes",
+        "cluster 3 9\nlinks 7\n2 clock ready\n0 intake 2\n2 operator recover\n2 clock merge\n",
+        [
+            (r'{"histories":[[{"do":"none","sent":[]}],[],[' + turns + r']],"nodes":3}', "Run 0 2 2 2\n")
+            for turns in (
+                r'{"do":"recover","kept":false,"sent":[]},{"do":"ready","sent":[]},{"do":"merge","sent":[]}',
+                r'{"do":"ready","sent":[]},{"do":"recover","kept":false,"sent":[]},{"do":"merge","sent":[]}',
+                r'{"do":"ready","sent":[]},{"do":"merge","sent":[]},{"do":"recover","kept":false,"sent":[]}',
+            )
+        ],
+    ),
+    # node 1 looks before it is asked or answers, node 0 looks before it asks, before it is answered, or is brought the answer
+    (
+        "a question",
+        "cluster 2 8\nlinks 8\n0 clock check\n1 intake 0\n0 intake 1\n",
+        [
+            (r'{"histories":[[' + first + "],[" + second + r']],"nodes":2}', verdict)
+            for first, second, verdict in (
+                (r'{"do":"none","sent":[]},{"do":"check","sent":["010100010000"]}', r'{"do":"none","sent":[]}', "Run 0 0 1\n"),
+                (r'{"do":"none","sent":[]},{"do":"check","sent":["010100010000"]}', r'{"do":"deliver","msg":"010100010000","sent":["01020100000101"]}', "Run 0 0 1\n"),
+                (r'{"do":"check","sent":["010100010000"]},{"do":"none","sent":[]}', r'{"do":"none","sent":[]}', "Run 0 0 1\n"),
+                (r'{"do":"check","sent":["010100010000"]},{"do":"none","sent":[]}', r'{"do":"deliver","msg":"010100010000","sent":["01020100000101"]}', "Run 0 0 1\n"),
+                (r'{"do":"check","sent":["010100010000"]},{"do":"deliver","msg":"01020100000101","sent":[]}', r'{"do":"deliver","msg":"010100010000","sent":["01020100000101"]}', "Run 0 1 0\n"),
+            )
+        ],
+    ),
+]
+
+INTAKE = "not of the form N intake J, where J is another node"
+
+# Inputs that are no plans, the line that can't be read, and what is wrong with it; command_lines.sh has more.
+NO_PLANS = [
+    ("cluster 1 4", 2, "there is no line links CAPACITY"),
+    ("cluster 1 4\n\n", 3, "there is no line links CAPACITY"),
+    ("links 1\n", 1, "not of the form cluster NODES SLOTS"),
+    ("cluster 0 4\nlinks 1\n", 1, "not of the form cluster NODES SLOTS"),
+    ("cluster 129 4\nlinks 1\n", 1, "not of the form cluster NODES SLOTS"),
+    ("cluster 1 3\nlinks 1\n", 1, "not of the form cluster NODES SLOTS"),
+    ("cluster 1 4097\nlinks 1\n", 1, "not of the form cluster NODES SLOTS"),
+    ("cluster 1 4 1\nlinks 1\n", 1, "not of the form cluster NODES SLOTS"),
+    ("\ncluster 1 4\n\n0 clock check\n", 4, "not of the form links CAPACITY"),
+    ("cluster 1 4\nlinks 65537\n", 2, "not of the form links CAPACITY"),
+    ("cluster 1 4\nlinks\n", 2, "not of the form links CAPACITY"),
+    ("cluster 1 4\nlinks 1 1\n", 2, "not of the form links CAPACITY"),
+    ("cluster 1 4\nlinks 1\ncluster 1 4\n", 3, "no such node: cluster"),
+    ("cluster 1 4\nlinks 1\n1 clock check\n", 3, "no such node: 1"),
+    ("cluster 1 4\nlinks 1\n0 clock recover\n", 3, "no such timer: recover"),
+    ("cluster 1 4\nlinks 1\n0 clock check 0\n", 3, "not of the form N clock TIMER"),
+    ("cluster 1 4\nlinks 1\n0 clock check \n", 3, "not of the form N clock TIMER"),
+    ("cluster 2 4\nlinks 1\n0 intake 2\n", 3, INTAKE),
+    ("cluster 2 4\nlinks 1\n0 intake 1 1\n", 3, INTAKE),
+    ("cluster 1 4\nlinks 1\n0 operator submit 0 - 0\n", 3, "not of the form N operator submit QUEUE HEX [P]"),
+    ("cluster 1 4\nlinks 1\n0 operator finish 128 0\n", 3, "not of the form N operator finish ORIGIN ID"),
+    ("cluster 2 8\nlinks 8\n1 operator crash\n1 operator crash 0\n", 4, "not of the form N operator crash [HEX]"),
+    # of several the first
+    ("cluster 2 8\nlinks 8\n\n0 clock check\n0 intake 0\n1 intake 7\n", 5, INTAKE),
+    ("cluster 1 4\nlinks 1\n0 clock check\n\nx\ny\n", 5, "no such node: x"),
+]
+
+
+def judged(name, trace, verdict):
+    """The verdict on a trace; `draw` prints it too where it is no run."""
+    fed = trace if isinstance(trace, bytes) else trace.encode()
+    status = 0 if verdict.startswith("Run") else 1
+    commands = ["trace"] if status == 0 else ["trace", "draw"]
+    return [Row(name, command, fed, status, (verdict.encode(),)) for command in commands]
+
+
+def of_one_node(entries):
+    return '{"nodes":1,"histories":[[' + entries + "]]}"
+
+
+def all_rows():
+    for name, trace, verdict in WHOLE:
+        yield from judged(name, trace, verdict)
+    for entries, verdict in ENTRIES:
+        yield from judged(entries[:200], of_one_node(entries), verdict)
+    for entry in BAD:
+        yield from judged(entry[:200], of_one_node(entry), "bad trace 0 0\n")
+    for name, trace, size, lines in PICTURES:
+        yield Row(name, "draw", trace.encode(), 0, ((size + STYLE + lines).encode(),))
+    for name, schedule, trace, verdict in RECORDED:
+        yield Row(name, "record", schedule.encode(), 0, (f"{trace}\n".encode(),))
+        yield from judged(name, trace, verdict)
+    for name, plans, traces in PLANS:
+        yield Row(name, "threads", plans.encode(), 0, tuple(f"{trace}\n".encode() for trace, _ in traces))
+        for trace, verdict in traces:
+            yield from judged(name, trace, verdict)
+    for plans, number, flaw in NO_PLANS:
+        yield Row(repr(plans), "threads", plans.encode(), 1, (f"bad line {number}\n".encode(),), f"invite: line {number}: {flaw}\n".encode())
+
+
+def problem_of(program, row):
+    """What is wrong with what the program makes of a row; an empty text if nothing is."""
+    try:
+        ended = subprocess.run([program, row.command], input=row.fed, capture_output=True, timeout=60)
+    except subprocess.TimeoutExpired:
+        return "no end within a minute"
+    if ended.returncode != row.status:
+        return f"status {ended.returncode} in place of {row.status}, it prints {ended.stdout[:300]!r}"
+    if ended.stdout not in row.printed:
+        return f"it prints {ended.stdout[:300]!r} in place of {' or '.join(repr(text[:300]) for text in row.printed)}"
+    if ended.stderr != row.said:
+        return f"it says {ended.stderr[:300]!r} in place of {row.said!r}"
+    return ""
+
+
+def main(program):
+    if not os.access(program, os.X_OK):
+        print(f"trace_rows.py: there is no program {program}\n0 passed, 1 failed")
+        return 1
+    passed = failed = 0
+    for row in all_rows():
+        problem = problem_of(program, row)
+        passed += not problem
+        failed += bool(problem)
+        if problem:
+            print(f"trace_rows.py: {row.command}, {row.name}: {problem}")
+    print(f"{passed} passed, {failed} failed")
+    return 0 if failed == 0 and passed > 0 else 1
+
+
+if __name__ == "__main__":
+    sys.exit(main(*sys.argv[1:]))
