@@ -1,5 +1,5 @@
 -- What the words of a command line ask for.
-use Rattle.std.specs.Prelude.{ℕ, List, [], nat_le, nat_lt, ◌&&◌, Bool, false, bytes_eq, codes, if◌then◌else◌, option_map, Option, Some, None, string_bytes}
+use Rattle.std.specs.Prelude.{ℕ, List, nat_le, nat_lt, Bool, false, bytes_eq, codes, if◌then◌else◌, option_map, Option, Some, None, string_bytes}
 use Rattle.group_task.specs.declared.node.TheConstants.{NODES}
 use Rattle.node_console.specs.declared.making.TheConstants.{LEAST_SLOTS, MOST_SLOTS}
 use Rattle.line_words.specs.Words.{number_of}

@@ -1,7 +1,9 @@
-// Messages over one link.
+// Messages over one link, and over what it stands on.
 use crate::steps::letter;
 use group_task::NodeId;
 use link_ring::{PutEnd, TakeEnd, link as link_of};
+use message_list::MessageList;
+use rtrb::{Consumer, Producer, RingBuffer};
 use std::alloc::Global;
 use wire_msg::{Body, Message};
 
@@ -35,4 +37,38 @@ fn pass(
         }
     }
     Ok(take_end.messages().len() as u64)
+}
+
+/// What a link stands on, by itself: a message is put into a ring, taken from it and added to a list, so many times.
+pub fn ring(alloc: Global, steps: u64) -> Result<u64, &'static str> {
+    let message = letter(1, Body::Done(7))?;
+    match RingBuffer::new(alloc, SLOTS) {
+        Ok((mut producer, mut consumer)) => {
+            pass_bare(alloc, &mut producer, &mut consumer, &message, steps)
+        }
+        Err(_) => Err("no memory"),
+    }
+}
+
+fn pass_bare(
+    alloc: Global,
+    producer: &mut Producer<Message>,
+    consumer: &mut Consumer<Message>,
+    message: &Message,
+    steps: u64,
+) -> Result<u64, &'static str> {
+    let mut taken = MessageList::new(alloc);
+    for _step in 0..steps {
+        if taken.reserve(1).is_err() {
+            return Err("no memory");
+        }
+        if producer.push(*message).is_err() {
+            return Err("the ring is full");
+        }
+        match consumer.pop() {
+            Ok(message) => taken.push(&message),
+            Err(_) => return Err("the ring is empty"),
+        }
+    }
+    Ok(taken.len() as u64)
 }

@@ -9,6 +9,7 @@
 //! - `dispatch STEPS`: DispatchTimer at the coordinator of a group of 64, with 4,096 jobs pending. It owns one queue of sixteen.
 //! - `hand STEPS`: DispatchTimer at a node that is alone, with 2,048 jobs pending, all of them in hand.
 //! - `link STEPS`: a message is put on a link and taken from it.
+//! - `ring STEPS`: the same by the two calls of `rtrb` and one push on a list, which a link stands on.
 //!
 //! A journal and a cell on a disk in memory:
 //!
@@ -95,6 +96,7 @@ fn run(rt: &HostRuntime, words: &[String]) -> Result<(), &'static str> {
             raises::raise(alloc, number(rest, 0)?, number(rest, 1)?)?,
         ),
         "link" => print(rt, links::link(alloc, number(rest, 0)?)?),
+        "ring" => print(rt, links::ring(alloc, number(rest, 0)?)?),
         kind => print(rt, steps::steps(alloc, kind, number(rest, 0)?)?),
     }
 }

@@ -1,5 +1,5 @@
 -- How long a history is, by the turns that were taken of the plans.
-use Rattle.std.proofs.Common.{◌≡◌, ℕ, ◌+◌, ◌<◌, ◌≤◌, List, [], ◌∷◌, length, slice_get, Some, refl, ap, sym, ◌∙◌, subst, inl, inr, arith, ◌⊎◌}
+use Rattle.std.proofs.Common.{◌≡◌, ℕ, ◌+◌, ◌<◌, ◌≤◌, List, [], ◌∷◌, length, slice_get, Some, ap, sym, ◌∙◌, subst, inl, inr, arith, ◌⊎◌}
 use Rattle.std.proofs.lemmas.Option.{same_Some}
 use Rattle.node_lock.specs.declared.held.TheConstants.{MOST_ENTRIES}
 use Rattle.node_lock.specs.declared.run.Run.{Run}

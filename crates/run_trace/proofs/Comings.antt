@@ -1,20 +1,17 @@
 -- An act that comes to a node is a step of that node.
-use Rattle.std.proofs.Common.{◌≡◌, ◌≢◌, ◌&&◌, ℕ, Bool, true, false, List, [], ◌∷◌, length, slice_get, Option, Some, None, Result, Ok, Err, refl, sym, ap, subst, ◌∙◌, ne_eqb, eq-eqb}
-use Rattle.std.specs.Prelude.{nat_lt, if◌then◌else◌, option_and_then, ◌==◌}
+use Rattle.std.proofs.Common.{◌≡◌, ◌≢◌, ◌&&◌, ℕ, Bool, true, false, [], ◌∷◌, slice_get, Option, Some, None, Result, Ok, Err, refl, sym, ap, subst, ne_eqb, eq-eqb}
+use Rattle.std.specs.Prelude.{nat_lt, if◌then◌else◌, option_and_then}
 use Rattle.wire_msg.specs.Envelope.{Envelope}
-use Rattle.node_core.specs.declared.event.Event.{Event as NodeEvent}
 use Rattle.node_core.specs.declared.event.Event.TheVariants as on
 use Rattle.histories.specs.declared.what.What.{What}
-use Rattle.histories.specs.declared.what.What.TheVariants.{Did, Refused, Faulted, Rests, Crashed, Recovered, MountFailed, RaiseFailed, RaiseRefused}
-use Rattle.histories.specs.What.{Entry}
 use Rattle.schedule.specs.declared.act.Act.{Act}
 use Rattle.schedule.specs.declared.act.Act.TheVariants as act
 use Rattle.sim_net.specs.declared.fault.NetFault.{NetFault}
 use Rattle.sim_net.specs.Network.{found, delivery}
 use Rattle.runs.specs.World.{World}
-use Rattle.runs.specs.Step.{Step, Takes, Loses, Cuts, Mends, Denies, Stranger, OfNet, sent_after}
+use Rattle.runs.specs.Step.{Step, Takes, Cuts, Mends, Denies, Stranger, sent_after}
 use Rattle.runs.specs.Run.{entry_at}
-use Rattle.runs.specs.Acts.{At, Brings, IsOf, IsRecovery, IsCompaction, IsStepOf, lost_step, if_known, ActOutcome, is_compaction, if_compaction, fall_outcome}
+use Rattle.runs.specs.Acts.{At, Brings, IsStepOf, lost_step, if_known, ActOutcome, is_compaction, if_compaction, fall_outcome}
 use Rattle.run_trace.specs.declared.bringing.Brought.{Brought}
 use Rattle.run_trace.specs.declared.bringing.Brought.TheVariants.{Event, Recovery, Arming, Crash, Compaction}
 use Rattle.run_trace.specs.Bringing.{delivered, brought_by, CameOf}

@@ -1,5 +1,5 @@
 -- What an entry of a run's trace says may come where its step did, and leaves the same state.
-use Rattle.std.proofs.Common.{◌≡◌, ℕ, Bool, true, false, List, [], ◌∷◌, Option, Some, None, refl, sym, ap, subst, ◌∙◌}
+use Rattle.std.proofs.Common.{◌≡◌, ℕ, Bool, true, false, List, [], Some, refl, sym, subst}
 use Rattle.std.specs.Prelude.{IsSomeAnd}
 use Rattle.wire_msg.specs.Envelope.{Envelope}
 use Rattle.node_core.specs.declared.event.Event.{Event}
@@ -11,7 +11,6 @@ use Rattle.histories.specs.declared.what.What.TheVariants.{Did, Refused, Faulted
 use Rattle.histories.specs.What.{event_of, brought}
 use Rattle.histories.specs.After.{after, sent_at}
 use Rattle.histories.specs.Possible.{IsPossible}
-use Rattle.trace_check.specs.declared.trace.Deed.{Deed}
 use Rattle.trace_check.specs.Claims.{Claim, what_of, MayCome, after_what, after_claim, brought_by}
 use Rattle.trace_check.specs.Traces.{claim}
 use Rattle.run_trace.specs.Traced.{deed_of, done, failed}

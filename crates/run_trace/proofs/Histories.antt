@@ -1,17 +1,16 @@
 -- The trace of a run that goes on by a step.
-use Rattle.std.proofs.Common.{◌≡◌, ◌≢◌, ◌≤◌, ◌<◌, ℕ, zero, suc, ◌+◌, List, [], ◌∷◌, ◌++◌, map, length, slice_get, slice_set, drop, replicate, Option, Some, None, refl, sym, ap, ◌∙◌, arith, append_assoc}
+use Rattle.std.proofs.Common.{◌≡◌, ◌≢◌, ◌≤◌, ℕ, zero, suc, ◌+◌, List, [], ◌∷◌, ◌++◌, map, length, slice_get, slice_set, drop, replicate, Some, refl, sym, ap, ◌∙◌, arith, append_assoc}
 use Rattle.std.proofs.lemmas.List.{append-nil, map-append, replicate-append-replicate}
 use Rattle.histories.specs.What.{Entry}
 use Rattle.schedule.specs.declared.act.Act.{Act}
 use Rattle.runs.specs.World.{World, start}
 use Rattle.runs.specs.Step.{Step, world_after}
-use Rattle.runs.specs.Run.{entry_at, history_in, histories_from, histories_of, world_at}
+use Rattle.runs.specs.Run.{entry_at, history_in, histories_from, world_at}
 use Rattle.runs.specs.Acts.{IsRunOf}
 use Rattle.runs.specs.Growth.{IsNext}
 use Rattle.wire_msg.specs.Envelope.{Envelope}
 use Rattle.trace_check.specs.Claims.{Claim}
 use Rattle.trace_text.proofs.Printing.{drop_get, drop_all}
-use Rattle.run_trace.specs.Telling.{IsNoted}
 use Rattle.run_trace.specs.Traced.{claim_of, trace_in}
 
 pub acts_go_on : (nodes slots : ℕ) (acts : List Act) (steps : List Step) (w : World) (a : Act) (step : Step) → IsRunOf nodes slots w acts steps → IsNext nodes slots (world_at nodes w steps) a step

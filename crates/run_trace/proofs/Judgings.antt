@@ -6,20 +6,20 @@ use Rattle.std.proofs.lemmas.Bool.{cases_lt}
 use Rattle.std.proofs.lemmas.Option.{slice_get_within}
 use Rattle.wire_msg.specs.Envelope.{Envelope}
 use Rattle.histories.specs.Lists.{IsAmong, Each}
-use Rattle.histories.specs.NodeState.{NodeState, opening}
+use Rattle.histories.specs.NodeState.{NodeState}
 use Rattle.histories.specs.What.{AreAddressed, Entry, brought, event_of}
 use Rattle.histories.specs.After.{after, sent_at}
 use Rattle.histories.specs.declared.what.What.{What}
 use Rattle.schedule.specs.declared.act.Act.{Act}
 use Rattle.runs.specs.World.{World, openings, start}
 use Rattle.runs.specs.Step.{Step, Takes, Loses, Cuts, Mends, Denies, sent_after, world_after}
-use Rattle.runs.specs.Run.{IsAllowed, RunFrom, entry_at, history_in, histories_from, histories_of}
+use Rattle.runs.specs.Run.{IsAllowed, RunFrom, history_in, histories_of}
 use Rattle.runs.proofs.Exact.{all_acts_run}
 use Rattle.runs.proofs.Grown.{step_length}
 use Rattle.runs.proofs.Opened.{length_openings}
 use Rattle.runs.proofs.Runs.{at_place, brought_sent, history_at, how_many, opened, state_elsewhere, state_here}
-use Rattle.trace_check.specs.Claims.{Claim, MayCome, after_claim, brought_by}
-use Rattle.trace_check.specs.Orders.{claims_of, history, taken, state_of, IsSent, MayTake, IsLegal, IsComplete}
+use Rattle.trace_check.specs.Claims.{Claim, MayCome, after_claim}
+use Rattle.trace_check.specs.Orders.{claims_of, history, taken, state_of, IsSent, MayTake, IsLegal}
 use Rattle.trace_check.specs.Traces.{claim}
 use Rattle.trace_check.specs.Verdicts.{IsRun, Turned}
 use Rattle.trace_check.proofs.Turning.{turns}

@@ -1,5 +1,5 @@
 -- The trace so far, one act further.
-use Rattle.std.proofs.Common.{◌≡◌, ◌<◌, ℕ, ◌+◌, List, [], ◌∷◌, ◌++◌, map, length, drop, slice_get, slice_set, replicate, Option, Some, None, refl, sym, ap, subst, ◌∙◌, arith}
+use Rattle.std.proofs.Common.{◌≡◌, ◌<◌, ℕ, ◌+◌, List, [], ◌∷◌, ◌++◌, map, length, drop, slice_get, slice_set, replicate, Option, Some, None, sym, ap, subst, ◌∙◌, arith}
 use Rattle.std.proofs.lemmas.List.{length-map}
 use Rattle.std.proofs.lemmas.Option.{slice_get_within}
 use Rattle.std.proofs.Math.Seq.{drop-append_seam}
@@ -10,13 +10,13 @@ use Rattle.sim_net.specs.Network.{Network, after_all_sent}
 use Rattle.durable_node.specs.Node.{Node, Stands}
 use Rattle.histories.specs.NodeState.{NodeState}
 use Rattle.histories.specs.declared.what.What.{What}
-use Rattle.histories.specs.What.{AreAddressed, Entry, brought, event_of}
+use Rattle.histories.specs.What.{AreAddressed, Entry}
 use Rattle.histories.specs.After.{after, sent_at}
 use Rattle.schedule.specs.declared.act.Act.{Act}
 use Rattle.runs.specs.World.{World, start}
 use Rattle.runs.specs.Step.{Step, Takes, sent_after, state_after, world_after}
-use Rattle.runs.specs.Run.{IsAllowed, IsBrought, entry_at, histories_of, world_at}
-use Rattle.runs.specs.Acts.{IsStepOf, IsOfSlotsAt, StepOfSlots, node_outcome, what_outcome, outcome_of, act_outcome}
+use Rattle.runs.specs.Run.{IsAllowed, IsBrought, histories_of, world_at}
+use Rattle.runs.specs.Acts.{IsOfSlotsAt, StepOfSlots, node_outcome, what_outcome, outcome_of, act_outcome}
 use Rattle.runs.specs.Growth.{IsNext}
 use Rattle.runs.proofs.Grown.{step_length}
 use Rattle.runs.proofs.Opened.{length_openings}
@@ -30,11 +30,11 @@ use Rattle.trace_check.specs.Traces.{claim}
 use Rattle.run_trace.specs.declared.bringing.Brought.{Brought}
 use Rattle.run_trace.specs.declared.telling.Ended.{Ended}
 use Rattle.run_trace.specs.declared.telling.Rise.{Rise}
-use Rattle.run_trace.specs.Bringing.{brought_by, CameOf}
+use Rattle.run_trace.specs.Bringing.{brought_by}
 use Rattle.run_trace.specs.Telling.{ActedAs, IsRise, IsNoted, ended, deed_told}
-use Rattle.run_trace.specs.Traced.{deed_of, claim_of, trace_in, IsTraceOf, IsSoFar, HasWorld}
+use Rattle.run_trace.specs.Traced.{deed_of, claim_of, trace_in, IsSoFar, HasWorld}
 use Rattle.run_trace.proofs.Histories.{acts_go_on, world_goes_on, histories_stay, histories_grow, begun}
-use Rattle.run_trace.proofs.Comings.{as_told, IsQuiet, none_comes, step_at, entry_here, entry_elsewhere}
+use Rattle.run_trace.proofs.Comings.{as_told, none_comes, step_at, entry_here, entry_elsewhere}
 use Rattle.run_trace.proofs.Recoveries.{retold}
 
 -- ---- one step of a node

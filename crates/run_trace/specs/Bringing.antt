@@ -1,5 +1,5 @@
 -- What an act brings to a node, and what may come of it.
-use Rattle.std.specs.Prelude.{ℕ, ◌≡◌, Bool, List, nat_lt, if◌then◌else◌, Option, Some, None, option_and_then, Result, Ok, Err}
+use Rattle.std.specs.Prelude.{ℕ, ◌≡◌, nat_lt, if◌then◌else◌, Option, Some, None, option_and_then, Result, Ok, Err}
 use Rattle.wire_msg.specs.Envelope.{Envelope}
 use Rattle.node_core.specs.declared.event.Event.TheVariants as on
 use Rattle.histories.specs.declared.what.What.{What}

@@ -1,5 +1,5 @@
 -- The trace of a run: each entry of the nodes' histories, as a trace tells it.
-use Rattle.std.specs.Prelude.{ℕ, ◌≡◌, true, false, List, map, length}
+use Rattle.std.specs.Prelude.{ℕ, ◌≡◌, false, List, map, length}
 use Rattle.node_core.specs.declared.event.Event.{Event}
 use Rattle.node_core.specs.declared.event.Event.TheVariants as on
 use Rattle.histories.specs.declared.what.What.{What}

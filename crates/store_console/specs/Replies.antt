@@ -1,9 +1,8 @@
 -- What a request is answered, by what is mounted.
-use Rattle.std.specs.Prelude.{◌≡◌, ◌⊎◌, ℕ, ◌==◌, if◌then◌else◌, List, [], ◌++◌, flat_map, Option, Some, None, IsTrue, IsFalse, Result, Ok, Err, codes, decimal}
+use Rattle.std.specs.Prelude.{◌≡◌, ◌⊎◌, ℕ, List, [], ◌++◌, flat_map, Option, Some, None, IsTrue, IsFalse, Result, Ok, Err, codes, decimal}
 use Rattle.job_model.specs.Command.{Command, Raise, Put, Done}
 use Rattle.job_model.specs.Durable.{Durable}
 use Rattle.job_model.specs.declared.job.Job.{Job}
-use Rattle.job_model.specs.declared.work.Work.{Work}
 use Rattle.job_model.specs.declared.command.Command.TheVariants as change
 use Rattle.file_disk.specs.File.{FileState}
 use Rattle.node_store.specs.Store.{StoreState, durable_of, append_refusal, compaction_refusal, raise_refusal, Changed}

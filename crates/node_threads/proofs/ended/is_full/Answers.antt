@@ -1,4 +1,4 @@
-use Rattle.std.proofs.Common.{◌≡◌, ◌≤◌, length, rules, arith}
+use Rattle.std.proofs.Common.{◌≡◌, ◌≤◌, length, rules}
 use Rattle.node_lock.specs.declared.held.TheConstants.{MOST_ENTRIES}
 use Rattle.node_lock.specs.Planned.{plan_len, turns_of}
 use Rattle.node_threads.proofs.Fitting.{is_more_as}

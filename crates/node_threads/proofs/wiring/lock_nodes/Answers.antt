@@ -1,4 +1,4 @@
-use Rattle.std.proofs.Common.{ℕ, ◌≡◌, ◌∙◌, ◌≢◌, vec_len, arith, rules}
+use Rattle.std.proofs.Common.{◌∙◌, ◌≢◌, arith, rules}
 use Rattle.std.proofs.lemmas.List.{length-set, get_or-set_other}
 use Rattle.node_threads.proofs.Places.{polls_of}
 use Rattle.node_threads.proofs.wiring.lock_nodes.Goals as goal

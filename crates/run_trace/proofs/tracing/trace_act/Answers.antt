@@ -1,4 +1,4 @@
-use Rattle.std.proofs.Common.{◌≡◌, ℕ, sym, ap, ◌∙◌}
+use Rattle.std.proofs.Common.{ℕ, sym, ap, ◌∙◌}
 use Rattle.sim_net.specs.Network.{Network}
 use Rattle.run_trace.specs.Bringing.{brought_by}
 use Rattle.run_trace.proofs.Tracings.{none_noted}

@@ -1,4 +1,4 @@
-use Rattle.std.proofs.Common.{rules, ◌≡◌, ℕ, Bool, List, Option, subst}
+use Rattle.std.proofs.Common.{rules, ℕ, Bool, List, Option, subst}
 use Rattle.std.proofs.lemmas.Result.{on_ok_weaker}
 use Rattle.wire_msg.specs.Envelope.{Envelope}
 use Rattle.node_core.specs.declared.durable.Durable.{Durable as Wanted}

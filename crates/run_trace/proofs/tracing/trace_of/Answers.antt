@@ -1,4 +1,4 @@
-use Rattle.std.proofs.Common.{◌≡◌, [], List, length, sym, ap, subst, ◌∙◌}
+use Rattle.std.proofs.Common.{[], List, length, sym, ap, subst, ◌∙◌}
 use Rattle.std.proofs.lemmas.List.{length-replicate}
 use Rattle.schedule.specs.declared.act.Act.{Act}
 use Rattle.runs.proofs.Opened.{length_openings}
