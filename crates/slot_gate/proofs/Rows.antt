@@ -1,9 +1,11 @@
 -- Unsealing slots one behind another.
-use Rattle.std.proofs.Common.{◌≡◌, ◌+◌, ◌*◌, ◌<◌, ◌≤◌, ◌⊎◌, inl, inr, ⊎_elim, ℕ, zero, suc, None, sym, ◌∙◌, ap, subst, refl, arith, IsTrue}
-use Rattle.sector_disk.specs.Disk.{DiskState, Laws, Counts, Touches}
+use Rattle.std.proofs.Common.{◌≡◌, ◌+◌, ◌*◌, ◌<◌, ◌≤◌, inl, ℕ, None, sym, ◌∙◌, ap, subst, refl, arith, IsTrue}
+use borrow.Author.Count.{below_more}
+use Rattle.sector_disk.specs.Disk.{DiskState, Laws, Counts}
 use Rattle.sector_disk.specs.Run.{Run}
-use Rattle.sector_disk.proofs.Runs.{same_image, run_of_two, run_widen, write_run}
+use Rattle.sector_disk.proofs.Runs.{same_image}
 use Rattle.slot_gate.specs.Slot.{slot_at, InSlots}
+use Rattle.slot_gate.proofs.Calls.{run_on}
 use Rattle.slot_gate.proofs.Slots.{slot_same}
 
 -- the disk after so many slots were unsealed
@@ -33,9 +35,8 @@ erased_start first slots disk laws = record {
 
 pub erased_run : (first slots erased : ℕ) (old mid new : DiskState) → erased < slots → Erased first slots old mid erased
     → (IsTrue mid.honest → Run (λ k. k ≡ first + 2 * erased + 1) mid new) → IsTrue old.honest → Run (InSlots first slots) old new
-erased_run first slots erased old mid new less so_far run honest =
-    run_of_two (InSlots first slots) old mid new (so_far.run honest)
-    (run_widen (λ k. k ≡ first + 2 * erased + 1) (InSlots first slots) mid new (λ k is. (omega (arith, is), omega (arith, is, less))) (run (subst (λ b. IsTrue b) (sym so_far.honest) honest)))
+erased_run first slots erased old mid new less so_far run =
+    run_on (InSlots first slots) (λ k is. (omega (arith, is), omega (arith, is, less))) so_far.honest so_far.run run
 
 others_kept : (first erased k : ℕ) (mid new : DiskState) → k < erased → Run (λ j. j ≡ first + 2 * erased + 1) mid new → slot_at new.contents (first + 2 * k) ≡ slot_at mid.contents (first + 2 * k)
 others_kept first erased k mid new less run =
@@ -48,18 +49,6 @@ erased_more first slots erased old mid new failed done ok less so_far counts run
   honest = counts.honest ∙ so_far.honest;
   failures = counts.unchanged ok ∙ so_far.failures;
   run = erased_run first slots erased old mid new less so_far run;
-  unsealed = λ honest k within. (let still = subst (λ b. IsTrue b) (sym so_far.honest) honest in
-      ⊎_elim
-      (λ before. others_kept first erased k mid new before (run still) ∙ so_far.unsealed honest k before)
-      (λ here. ap (λ j. slot_at new.contents (first + 2 * j)) here ∙ none still)
-      (below_or_here k erased within));
+  unsealed = λ honest. (let still = subst (λ b. IsTrue b) (sym so_far.honest) honest in
+      below_more (λ k. slot_at new.contents (first + 2 * k) ≡ None) erased (λ k before. others_kept first erased k mid new before (run still) ∙ so_far.unsealed honest k before) (none still));
 }
-  where
-    below_or_here : (k n : ℕ) → k < n + 1 → (k < n) ⊎ (k ≡ n)
-    below_or_here k n less = ⊎_elim (λ h. inl h) (λ h. inr h) (split k n less)
-      where
-        split : (k n : ℕ) → k < n + 1 → (k < n) ⊎ (k ≡ n)
-        split zero zero less = inr refl
-        split zero (suc n) less = inl (omega arith)
-        split (suc k) zero less = absurd (omega (arith, less))
-        split (suc k) (suc n) less = ⊎_elim (λ h. inl (omega (arith, h))) (λ h. inr (ap (λ m. suc m) h)) (split k n (omega (arith, less)))

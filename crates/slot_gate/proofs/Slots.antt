@@ -8,19 +8,13 @@ use Rattle.slot_gate.specs.Slot.{slot_at, is_gate_sealed, sealed_gate, unsealed_
 abbrev pub slot_by : Bool → List ℕ → Option (List ℕ)
 slot_by sealed body = if sealed then Some body else None
 
-pub sealed_is : is_gate_sealed sealed_gate ≡ true
-unfolding sealed_gate
-sealed_is = refl
-
-pub unsealed_is : is_gate_sealed unsealed_gate ≡ false
-unfolding unsealed_gate
-unsealed_is = refl
-
 pub slot_sealed : (c : Image) (body : ℕ) → sector_at c (body + 1) ≡ sealed_gate → slot_at c body ≡ Some (sector_at c body)
-slot_sealed c body is = ap (λ g. slot_by (is_gate_sealed g) (sector_at c body)) is ∙ ap (λ b. slot_by b (sector_at c body)) sealed_is
+unfolding sealed_gate
+slot_sealed c body is = ap (λ g. slot_by (is_gate_sealed g) (sector_at c body)) is
 
 pub slot_unsealed : (c : Image) (body : ℕ) → sector_at c (body + 1) ≡ unsealed_gate → slot_at c body ≡ None
-slot_unsealed c body is = ap (λ g. slot_by (is_gate_sealed g) (sector_at c body)) is ∙ ap (λ b. slot_by b (sector_at c body)) unsealed_is
+unfolding unsealed_gate
+slot_unsealed c body is = ap (λ g. slot_by (is_gate_sealed g) (sector_at c body)) is
 
 by_either : (b : Bool) (body : List ℕ) → (slot_by b body ≡ None) ⊎ (slot_by b body ≡ Some body)
 by_either true body = inr refl
