@@ -1,5 +1,5 @@
 -- Unsealing slots one behind another.
-use Rattle.std.proofs.Common.{◌≡◌, ◌+◌, ◌*◌, ◌<◌, ◌≤◌, inl, ℕ, None, sym, ◌∙◌, ap, subst, refl, arith, IsTrue}
+use Rattle.std.proofs.Common.{◌≡◌, ◌+◌, ◌*◌, ◌<◌, inl, ℕ, None, sym, ◌∙◌, subst, refl, arith, IsTrue}
 use borrow.Author.Count.{below_more}
 use Rattle.sector_disk.specs.Disk.{DiskState, Laws, Counts}
 use Rattle.sector_disk.specs.Run.{Run}

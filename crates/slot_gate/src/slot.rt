@@ -10,6 +10,7 @@ const SEALED: u8 = 0xa5;
 
 /// Opens the gate of a slot, in two device calls. Meant for a slot that is sealed: over a gate that
 /// is unsealed already, a torn write could seal whatever bytes the body holds.
+#[tactic(auto, unfolding(crate::specs::Slot::unsealed_gate))]
 pub fn unseal<D: SectorDisk>(disk: &mut D, slot: u64) -> Result<(), DiskFault>
     requires on_disk { slot + 1 < (D.state disk.old).sectors }
     requires fits { slot + 1 < 2 ^ 64 }
@@ -127,6 +128,7 @@ fn settle<D: SectorDisk>(disk: &mut D, at: u64, sector: &Sector) -> Result<(), D
     disk.sync()
 }
 
+#[tactic(auto, unfolding(crate::specs::Slot::sealed_gate))]
 fn sealed_gate_bytes() -> Sector
     ensures { result ≡ sealed_gate }
 {
