@@ -1,7 +1,8 @@
 //! The history of a node: what came of the turns of its workers.
 
-ghost use Rattle.std.specs.Prelude.{◌≡◌, ◌≤◌, ◌<◌, ◌+◌, ◌↔◌, [], ◌∷◌, ◌++◌, length, slice_get, None, Some, IfSome, IsNone, IsTrue, OnOk};
+ghost use Rattle.std.specs.Prelude.{◌≡◌, ◌≤◌, ◌<◌, ◌+◌, ◌↔◌, [], ◌∷◌, ◌++◌, length, slice_get, None, Some, IfSome, IsNone, IsTrue, OnOk, OnErr};
 ghost use Rattle.histories.specs.Fates.{what_of};
+ghost use Rattle.wire_msg.specs.Spelling.{Spells};
 ghost use Rattle.node_lock.specs.Kept.{IsQuietAt, ToldStands, what_in, what_quiet};
 ghost use Rattle.node_lock.specs.Seen.{turn_seen};
 
@@ -223,5 +224,19 @@ impl<'a> Sent<'a> {
         } else {
             None
         }
+    }
+
+    /// Writes the spelling of the message at this place in place of what `bytes` held.
+    #[tactic(auto, using(crate::proofs::Lines::part_length))]
+    pub fn spell(&self, place: usize, bytes: &mut Vec<u8>) -> Result<(), AllocError>
+        requires { place < length self.now }
+        ensures spelled { IfSome (slice_get self.now place) (λ message. OnOk result (Spells message bytes.new.items)) }
+        ensures refused { OnErr result (bytes.new.items ≡ []) }
+    {
+        let many = self.end - self.start;
+        if place >= many {
+            unreachable!()
+        }
+        self.messages.spell(self.start + place, bytes)
     }
 }
