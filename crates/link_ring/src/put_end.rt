@@ -72,6 +72,7 @@ impl PutEnd {
     }
 
     /// Makes room for so many more messages, whatever they say. It is room in the list of what was put, not in the ring.
+    #[inline]
     pub fn reserve(&mut self, more: usize) -> Result<(), AllocError>
         ensures reserved { OnOk result (self.new ≡ with_room self.old (max self.old.room more)) }
         ensures refused { OnErr result ((self.old.room < more) × (self.new ≡ self.old)) }
@@ -101,9 +102,10 @@ impl PutEnd {
         ensures full { result ≡ false → self.new ≡ self.old }
         ensures first { length self.old.messages < self.old.capacity → IsTrue result }
     {
-        if self.producer.push(*message).is_err() {
+        if self.producer.is_full() {
             return false;
         }
+        self.producer.push_reserved(*message);
         self.put.push(message);
         true
     }

@@ -1,4 +1,4 @@
-ghost use Rattle.std.specs.Prelude.{◌≡◌, ◌<◌, [], max, IfSome, IfNone, OnOk, OnErr};
+ghost use Rattle.std.specs.Prelude.{◌≡◌, ◌<◌, [], length, max, IfSome, IfNone, IsSome, None, OnOk, OnErr};
 ghost use Rattle.rtrb.specs.Ring.{received, known_items, consumer_capacity};
 ghost use Rattle.link_ring.specs.Sides.{unused, with_room, TookNext};
 
@@ -71,6 +71,7 @@ impl TakeEnd {
     }
 
     /// Makes room for so many more messages, whatever they say. It is room in the list of what was taken, not in the ring.
+    #[inline]
     pub fn reserve(&mut self, more: usize) -> Result<(), AllocError>
         ensures reserved { OnOk result (self.new ≡ with_room self.old (max self.old.room more)) }
         ensures refused { OnErr result ((self.old.room < more) × (self.new ≡ self.old)) }
@@ -88,6 +89,32 @@ impl TakeEnd {
         let message = self.consumer.pop().ok()?;
         self.taken.push(&message);
         Some(message)
+    }
+
+    /// The same into a place with no message, which stays so where none is found. It is short, and a message is made only where
+    /// one is found.
+    #[inline]
+    pub fn take_into(&mut self, place: &mut Option<Message>)
+        requires room { 0 < self.old.room }
+        requires none { place.old ≡ None }
+        ensures taken { IfSome place.new (λ message. TookNext message self.old self.new) }
+        ensures empty { IfNone place.new ((self.old.seen ≡ []) × (self.new ≡ self.old)) }
+    {
+        if !self.consumer.is_empty() {
+            self.take_seen(place);
+        }
+    }
+
+    // Takes a message that was seen in the ring. It stands apart, since most looks find none.
+    #[inline(never)]
+    fn take_seen(&mut self, place: &mut Option<Message>)
+        requires room { 0 < self.old.room }
+        requires seen { 0 < length self.old.seen }
+        ensures { IsSome place.new × IfSome place.new (λ message. TookNext message self.old self.new) }
+    {
+        let message = self.consumer.pop_known();
+        self.taken.push(&message);
+        *place = Some(message);
     }
 
     /// All that was taken, in order, once the end is given up.
