@@ -1,12 +1,12 @@
 -- What a poll takes.
-use Rattle.std.proofs.Common.{◌≡◌, ℕ, ◌+◌, ◌<◌, ◌==◌, cond, Option, Some, None, IfSome, IfNone, List, [], ◌∷◌, ◌++◌, length, slice_index, slice_index_or, slice_set, Bool, true, false, refl, ap, sym, ◌∙◌, subst, inl, inr, arith}
+use Rattle.std.proofs.Common.{◌≡◌, ℕ, ◌+◌, ◌<◌, ◌==◌, cond, Option, Some, None, IfSome, IfNone, OnOk, Result, Ok, Err, is_err, List, [], ◌∷◌, ◌++◌, length, slice_index, slice_index_or, slice_set, Bool, true, false, refl, ap, sym, ◌∙◌, subst, inl, inr, arith}
 use Rattle.std.proofs.lemmas.List.{append-nil, get_or_read, get_or-set_other, length-set}
 use Rattle.std.proofs.lemmas.Grind.{get_or-set_at}
 use Rattle.std.proofs.lemmas.Bool.{cases_eq}
 use Rattle.std.proofs.lemmas.Bool.Decides.{nat_tests}
 use Rattle.wire_msg.specs.Envelope.{Envelope}
 use Rattle.histories.specs.What.{brought, event_of}
-use Rattle.link_ring.specs.Sides.{Side, TookNext}
+use Rattle.link_ring.specs.Sides.{Side, TookNext, with_room}
 use Rattle.node_lock.specs.Asking.{asked_by}
 use Rattle.node_lock.specs.Doing.{Gives}
 use Rattle.node_lock.specs.Sending.{SameLink, SameSides, IsFirst, TookAt, Brings}
@@ -21,8 +21,8 @@ use Rattle.node_lock.proofs.Telling.{brought_found}
 abbrev IsSideWith : Envelope → Side → Side → Bool → Type 0
 IsSideWith m old new b = SameLink old new × (new.messages ≡ old.messages ++ cond b (m ∷ []) [])
 
-side_with : (m : Envelope) (was new : Side) → TookNext m was new → IsSideWith m was new true
-side_with m was new took = (
+side_with : (m : Envelope) (was : Side) (room : ℕ) (new : Side) → TookNext m (with_room was room) new → IsSideWith m was new true
+side_with m was room new took = (
   record { sender = ap (λ (s : Side). s.sender) took.taken; receiver = ap (λ (s : Side). s.receiver) took.taken; capacity = ap (λ (s : Side). s.capacity) took.taken },
   ap (λ (s : Side). s.messages) took.taken,
 )
@@ -30,8 +30,8 @@ side_with m was new took = (
 side_same : (m : Envelope) (s : Side) → IsSideWith m s s false
 side_same m s = (record { sender = refl; receiver = refl; capacity = refl }, sym (append-nil s.messages))
 
-took_at : (place : ℕ) (m : Envelope) (sides : List Side) (was new : Side) → place < length sides → was ≡ slice_index_or sides place was → TookNext m was new → TookAt place m sides (slice_set sides place new)
-took_at place m sides was new lt is took = record {
+took_at : (place : ℕ) (m : Envelope) (sides : List Side) (was : Side) (room : ℕ) (new : Side) → place < length sides → was ≡ slice_index_or sides place was → TookNext m (with_room was room) new → TookAt place m sides (slice_set sides place new)
+took_at place m sides was room new lt is took = record {
   len = length-set sides place new;
   each = λ k d within. elim (cases_eq k place) [
     | inl at ↦ (
@@ -39,7 +39,7 @@ took_at place m sides was new lt is took = record {
         let old : slice_index_or sides k d ≡ was = ap (λ (i : ℕ). slice_index_or sides i d) at ∙ sym (get_or_read sides place was lt is d) in
         let test : (k == place) ≡ true = grind (arith, nat_tests, at) in
         subst (λ (s : Side). IsSideWith m s (slice_index_or (slice_set sides place new) k d) (k == place)) (sym old)
-        (subst (λ (s : Side). IsSideWith m was s (k == place)) (sym here) (subst (IsSideWith m was new) (sym test) (side_with m was new took))))
+        (subst (λ (s : Side). IsSideWith m was s (k == place)) (sym here) (subst (IsSideWith m was new) (sym test) (side_with m was room new took))))
     | inr far ↦ (
         let there : slice_index_or (slice_set sides place new) k d ≡ slice_index_or sides k d = get_or-set_other sides place k new d far in
         let test : (k == place) ≡ false = grind (arith, nat_tests, far) in
@@ -49,10 +49,40 @@ took_at place m sides was new lt is took = record {
 }
 
 -- what was taken at a place is what the poll brings
-pub takes_at : (r : Option Envelope) (place : ℕ) (waiting : Option Envelope) (sides : List Side) (was new : Side) → waiting ≡ None → place < length sides → was ≡ slice_index_or sides place was → IfSome r (λ m. TookNext m was new)
-    → IfSome r (λ m. Brings place m waiting sides (slice_set sides place new))
-takes_at None place waiting sides was new none lt is took = tt
-takes_at (Some m) place waiting sides was new none lt is took = inr (none, took_at place m sides was new lt is took)
+pub takes_at : (r : Option Envelope) (place : ℕ) (waiting : Option Envelope) (sides : List Side) (was : Side) (room : ℕ) (mid new : Side) → waiting ≡ None → place < length sides → was ≡ slice_index_or sides place was → mid ≡ with_room was room
+    → IfSome r (λ m. TookNext m mid new) → IfSome r (λ m. Brings place m waiting sides (slice_set sides place new))
+takes_at None place waiting sides was room mid new none lt is made took = tt
+takes_at (Some m) place waiting sides was room mid new none lt is made took = inr (none, took_at place m sides was room new lt is (subst (λ (s : Side). TookNext m s new) made took))
+
+-- where none was taken, only room was made
+abbrev IsSideSame : Side → Side → Type 0
+IsSideSame old new = SameLink old new × (new.messages ≡ old.messages) × (new.seen ≡ old.seen)
+
+pub rooms_at : (place : ℕ) (sides : List Side) (was : Side) (room : ℕ) → place < length sides → was ≡ slice_index_or sides place was → SameSides sides (slice_set sides place (with_room was room))
+rooms_at place sides was room lt is =
+    let new = with_room was room in
+    record {
+      len = length-set sides place new;
+      each = λ k d within. elim (cases_eq k place) [
+        | inl at ↦ (
+            let here : slice_index_or (slice_set sides place new) k d ≡ new = get_or-set_at sides place k new d at lt in
+            let old : slice_index_or sides k d ≡ was = ap (λ (i : ℕ). slice_index_or sides i d) at ∙ sym (get_or_read sides place was lt is d) in
+            subst (λ (s : Side). IsSideSame s (slice_index_or (slice_set sides place new) k d)) (sym old)
+            (subst (IsSideSame was) (sym here) (record { sender = refl; receiver = refl; capacity = refl }, refl, refl)))
+        | inr far ↦ (
+            let there : slice_index_or (slice_set sides place new) k d ≡ slice_index_or sides k d = get_or-set_other sides place k new d far in
+            subst (IsSideSame (slice_index_or sides k d)) (sym there) (record { sender = refl; receiver = refl; capacity = refl }, refl, refl))
+      ];
+    }
+
+pub empty_at : (r : Option Envelope) (place : ℕ) (waiting : Option Envelope) (sides : List Side) (was : Side) (room : ℕ) (mid new : Side) → waiting ≡ None → place < length sides → was ≡ slice_index_or sides place was → mid ≡ with_room was room
+    → IfNone r ((mid.seen ≡ []) × (new ≡ mid)) → IfNone r ((waiting ≡ None) × SameSides sides (slice_set sides place new))
+empty_at None place waiting sides was room mid new none lt is made empty = (none, subst (λ (s : Side). SameSides sides (slice_set sides place s)) (sym (empty.1 ∙ made)) (rooms_at place sides was room lt is))
+empty_at (Some m) place waiting sides was room mid new none lt is made empty = tt
+
+pub in_ok : {A E : Type 0} (r : Result A E) (P : Type 0) → is_err r ≡ false → OnOk r P → P
+in_ok (Ok a) P is p = p
+in_ok (Err e) P is p = absurd (let bad = is in cc)
 
 -- places and nodes go with each other
 pub same_other : (own k j place from : ℕ) → IsOther own k j → IsOther own place from → (k == place) ≡ (from == j)

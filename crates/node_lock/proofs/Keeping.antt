@@ -1,5 +1,5 @@
 -- A turn keeps what is always true.
-use Rattle.std.proofs.Common.{◌≡◌, ℕ, ◌<◌, ◌==◌, Option, Some, None, IsSome, IfOk, IfErr, Result, Ok, Err, Bool, true, false, cond, List, [], ◌∷◌, ◌++◌, length, slice_index, slice_index_or, refl, ap, sym, ◌∙◌, subst, inl, inr, arith, append_assoc}
+use Rattle.std.proofs.Common.{◌≡◌, ℕ, ◌<◌, ◌==◌, IsSome, IfOk, IfErr, Result, Ok, Err, Bool, true, false, cond, List, [], ◌∷◌, ◌++◌, length, slice_index, slice_index_or, refl, ap, sym, ◌∙◌, subst, arith, append_assoc}
 use Rattle.std.proofs.lemmas.List.{append-nil, map-append, length-append}
 use Rattle.wire_msg.specs.Envelope.{Envelope}
 use Rattle.sector_disk.specs.Memory.{Memory, state_of}
@@ -12,19 +12,17 @@ use Rattle.histories.specs.History.{replay, sent_in}
 use Rattle.histories.specs.Possible.{IsPossible}
 use Rattle.histories.proofs.Growing.{history_goes_on}
 use Rattle.node_lock.specs.declared.run.Run.{Run}
-use Rattle.node_lock.specs.declared.worker.Turns.{Turns}
 use Rattle.node_lock.specs.declared.worker.Worker.{Worker}
-use Rattle.node_lock.specs.declared.worker.Worker.TheVariants.{Intake, Clock, Operator}
-use Rattle.node_lock.specs.Asking.{Asked, IsAsked}
+use Rattle.node_lock.specs.Asking.{Asked}
 use Rattle.node_lock.specs.Doing.{Gives, StandsForSome, TurnDid}
 use Rattle.node_lock.specs.Path.{Path}
-use Rattle.node_lock.specs.Planned.{Planned, no_turns, turns_of, with_turn}
-use Rattle.node_lock.specs.Sending.{PutsSome, addressed_to, SameLink, SameSides, IsFirst, TookAt, SentTo, SentOn}
+use Rattle.node_lock.specs.Planned.{no_turns}
+use Rattle.node_lock.specs.Sending.{PutsSome, addressed_to, SameLink, SameSides, SentTo, SentOn}
 use Rattle.node_lock.specs.History.{Turn, IsReplay, PlanStep, entries_of, polled, from_link, listed}
 use Rattle.node_lock.specs.declared.held.TheConstants.{MOST_ENTRIES}
 use Rattle.node_lock.specs.declared.held.HeldFault.{HeldFault}
 use Rattle.node_lock.specs.declared.held.HeldFault.TheVariants.{NoMemory}
-use Rattle.node_lock.specs.HeldView.{HeldView, Kept, IsPutLink, IsTakeLink, IsOther, OfPolled, Finds, Polls, Takes, Unchanged, Unserved, WaitsSince}
+use Rattle.node_lock.specs.HeldView.{HeldView, Kept, IsPutLink, IsTakeLink, IsOther, Takes, Unserved}
 use Rattle.node_lock.proofs.Carried.{puts_append, addressed-append}
 use Rattle.node_lock.proofs.Telling.{Comes, turn_comes}
 
@@ -146,80 +144,38 @@ keeps_past h n asked e k run plans history id nodes plan did sent takes turns wa
     let still : IsSome n.waiting → n.turns.intake < length n.plans.intake = rw (waiting, turns, plans) k.waiting in
     keeps h n asked e k run plans history id nodes plan did sent (ap length takes) all still few
 
--- room alone was made before the turn
-polled_since : (old mid : HeldView) (P : List Envelope → Type 0) → Unchanged old mid → OfPolled mid P → OfPolled old P
-polled_since old mid P u all k d lt other =
-    subst P (u.takes.each k d lt).2
-    (all k d (let len = u.takes.len in omega (arith, lt, len)) (rw (u.same.run, u.same.plans, u.turns) other))
+-- ---- what a worker's turn answers
 
-finds_since : (old mid : HeldView) (found : Option Envelope) → Unchanged old mid → Finds mid found → Finds old found
-finds_since old mid None u f = (sym u.waiting ∙ f.0, polled_since old mid (λ seen. seen ≡ []) u f.1)
-finds_since old mid (Some m) u f = elim f [ inl x ↦ inl (sym u.waiting ∙ x) | inr y ↦ inr (sym u.waiting ∙ y.0, polled_since old mid (IsFirst m) u y.1) ]
+pub taken_by : {F : Type 0} (old new : HeldView) (w w' : Worker) (r : Result Bool F) → w' ≡ w → IfOk r (λ b. (b ≡ true) × ((e : Turn) × Takes old w e new)) → r ≡ Ok true → (e : Turn) × Takes old w' e new
+taken_by old new w w' (Ok b) is h ok = subst (λ (x : Worker). (e : Turn) × Takes old x e new) (sym is) h.1
+taken_by old new w w' (Err f) is h ok = absurd cc
 
-polls_since : (old mid : HeldView) (w : Worker) (e : Turn) → Unchanged old mid → Polls mid w e → Polls old w e
-polls_since old mid Intake e u p = (p.0, p.1, finds_since old mid p.0 u p.2)
-polls_since old mid Clock e u p = tt
-polls_since old mid Operator e u p = tt
+pub unserved_in : (old new : HeldView) (r : Result Bool HeldFault) → IfErr r (λ f. (f ≡ NoMemory) × Unserved old new) → r ≡ Err NoMemory → Unserved old new
+unserved_in old new (Ok b) h is = absurd cc
+unserved_in old new (Err f) h is = h.1
 
-takes_since : (old mid new : HeldView) (w w' : Worker) (e : Turn) → Unchanged old mid → w' ≡ w → Takes mid w e new → Takes old w' e new
-takes_since old mid new w w' e u is t = record {
-  history = t.history ∙ ap (λ l. l ++ e ∷ []) u.history;
-  worker = t.worker ∙ sym is;
-  plan = record {
-    asked = t.plan.asked;
-    asks = subst (λ (p : Planned). IsAsked p e.worker e.index t.plan.asked) u.same.plans t.plan.asks;
-    gives = t.plan.gives;
-    index = t.plan.index ∙ ap (λ (c : Turns). turns_of c e.worker) u.turns;
-    turns = t.plan.turns ∙ ap (λ (c : Turns). with_turn c e.worker) u.turns;
-  };
-  did = subst (λ (n : Node Memory). TurnDid n t.plan.asked e.entry.what e.entry.sent new.node) u.node t.did;
-  polls = subst (λ (x : Worker). Polls old x e) (sym is) (polls_since old mid w e u t.polls);
-}
-
-pub taken_since : {F : Type 0} (old mid new : HeldView) (w w' : Worker) (r : Result Bool F) → Unchanged old mid → w' ≡ w → IfOk r (λ b. (b ≡ true) × ((e : Turn) × Takes mid w e new)) → r ≡ Ok true
-    → (e : Turn) × Takes old w' e new
-taken_since old mid new w w' (Ok b) u is h ok = (h.1.0, takes_since old mid new w w' h.1.0 u is h.1.1)
-taken_since old mid new w w' (Err f) u is h ok = absurd cc
-
--- ---- want of memory
+-- ---- room alone was made before the turn
 
 same_link : (a b c : Side) → SameLink a b → SameLink b c → SameLink a c
 same_link a b c p q = record { sender = q.sender ∙ p.sender; receiver = q.receiver ∙ p.receiver; capacity = q.capacity ∙ p.capacity }
 
-same_sides : (a b c : List Side) → SameSides a b → SameSides b c → SameSides a c
-same_sides a b c p q = record {
+pub same_again : (sides : List Side) → SameSides sides sides
+same_again sides = record { len = refl; each = λ k d lt. (record { sender = refl; receiver = refl; capacity = refl }, refl, refl) }
+
+pub sent_since : (sent : List Envelope) (a b c : List Side) → SameSides a b → SentOn sent b c → SentOn sent a c
+sent_since sent a b c p q = record {
   len = q.len ∙ p.len;
   each = λ k d lt.
       let one = p.each k d lt in
       let two = q.each k d (let len = p.len in omega (arith, lt, len)) in
-      (same_link (slice_index_or a k d) (slice_index_or b k d) (slice_index_or c k d) one.0 two.0, two.1 ∙ one.1, two.2 ∙ one.2);
+      let was = slice_index_or a k d in
+      let mid = slice_index_or b k d in
+      let new = slice_index_or c k d in
+      record {
+        same = same_link was mid new one.0 two.same;
+        messages =
+            subst (λ (n : ℕ). PutsSome n was.messages (addressed_to was.receiver sent) new.messages) one.0.capacity
+            (subst (λ (xs : List Envelope). PutsSome mid.capacity xs (addressed_to was.receiver sent) new.messages) one.1
+            (subst (λ (j : ℕ). PutsSome mid.capacity mid.messages (addressed_to j sent) new.messages) one.0.receiver two.messages));
+      };
 }
-
-took_since : (place : ℕ) (m : Envelope) (a b c : List Side) → SameSides a b → TookAt place m b c → TookAt place m a c
-took_since place m a b c p q = record {
-  len = q.len ∙ p.len;
-  each = λ k d lt.
-      let one = p.each k d lt in
-      let two = q.each k d (let len = p.len in omega (arith, lt, len)) in
-      (same_link (slice_index_or a k d) (slice_index_or b k d) (slice_index_or c k d) one.0 two.0, two.1 ∙ ap (λ (ms : List Envelope). ms ++ cond (k == place) (m ∷ []) []) one.1);
-  first = λ d lt. subst (IsFirst m) (p.each place d lt).2 (q.first d (let len = p.len in omega (arith, lt, len)));
-}
-
-waits_since : (a b c : List Side) (before now : Option Envelope) → SameSides a b → WaitsSince b c before now → WaitsSince a c before now
-waits_since a b c before None p w = (w.0, same_sides a b c p w.1)
-waits_since a b c before (Some m) p w =
-    (w.0, elim w.1 [ inl x ↦ inl (x.0, same_sides a b c p x.1) | inr y ↦ inr (y.0, took_since w.0 m a b c p y.1) ])
-
-unserved_since : (old mid new : HeldView) → Unchanged old mid → Unserved mid new → Unserved old new
-unserved_since old mid new u s = record {
-  same = record { run = s.same.run ∙ u.same.run; plans = s.same.plans ∙ u.same.plans };
-  node = s.node ∙ ap (λ (n : Node Memory). record n { found = new.node.found }) u.node;
-  turns = s.turns ∙ u.turns;
-  history = s.history ∙ u.history;
-  puts = same_sides old.puts mid.puts new.puts u.puts s.puts;
-  takes = waits_since old.takes mid.takes new.takes old.waiting new.waiting u.takes (subst (λ (o : Option Envelope). WaitsSince mid.takes new.takes o new.waiting) u.waiting s.takes);
-}
-
-pub memory_since : (old mid new : HeldView) (r : Result Bool HeldFault) → Unchanged old mid → IfErr r (λ f. (f ≡ NoMemory) × Unserved mid new) → r ≡ Err NoMemory → Unserved old new
-memory_since old mid new (Ok b) u h is = absurd cc
-memory_since old mid new (Err f) u h is = unserved_since old mid new u h.1

@@ -1,16 +1,19 @@
 -- A turn that was kept is that turn again, and stays so whatever is kept after it.
-use Rattle.std.proofs.Common.{◌≡◌, ℕ, zero, suc, ◌+◌, ◌-◌, ◌<◌, ◌≤◌, List, [], ◌∷◌, ◌++◌, length, take, drop, map, All, slice_get, Option, Some, None, option_map, refl, sym, ap, ◌∙◌, subst, arith}
+use Rattle.std.proofs.Common.{◌≡◌, ℕ, zero, suc, ◌+◌, ◌-◌, ◌<◌, ◌≤◌, List, [], ◌∷◌, ◌++◌, length, take, drop, map, All, slice_get, Option, Some, None, option_map, Bool, true, false, refl, sym, ap, ◌∙◌, subst, arith}
 use Rattle.std.proofs.lemmas.List.{map-append, length-append, length-drop, length-take, length-take-le}
 use Rattle.std.proofs.Math.Nat.{min-le_left}
-use Rattle.std.proofs.lemmas.Option.{slice_get_past, slice_get-map}
+use Rattle.std.proofs.lemmas.Option.{slice_get_past, slice_get-map, same_Some}
 use Rattle.std.proofs.lemmas.List.Elements.{All-head, All-tail, All-push, All-weaker}
 use Rattle.wire_msg.specs.Envelope.{Envelope}
 use Rattle.node_core.specs.declared.event.Event.{Event}
 use Rattle.histories.specs.declared.fate.Fate.{Fate}
+use Rattle.histories.specs.declared.fate.Fate.TheVariants as fate
 use Rattle.histories.specs.declared.what.What.{What}
+use Rattle.histories.specs.declared.what.What.TheVariants as what
 use Rattle.histories.specs.Fates.{what_of}
 use Rattle.node_lock.specs.declared.worker.Worker.{Worker}
 use Rattle.node_lock.specs.declared.line.Quiet.{Quiet}
+use Rattle.node_lock.specs.declared.line.Quiet.TheVariants as quiet
 use Rattle.node_lock.specs.declared.line.Told.{Told}
 use Rattle.node_lock.specs.declared.line.Told.TheVariants as told
 use Rattle.node_lock.specs.declared.line.Line.{Line}
@@ -126,3 +129,53 @@ part_past ms start end place past =
 pub part_length : (ms : List Envelope) (start end : ℕ) → start ≤ end → end ≤ length ms → length (part start end ms) ≡ end - start
 part_length ms start end first last =
     let left = length-drop start ms in length-take-le (end - start) (drop start ms) (omega (arith, first, last, left))
+
+-- ---- a turn that handed over an event, or sent some, is not quiet
+
+abbrev is_quiet : What → Bool
+is_quiet (what.Rests rest) = true
+is_quiet what.Crashed = true
+is_quiet w = false
+
+came_of : (e : Event) (fate : Fate) → is_quiet (what_of e fate) ≡ false
+came_of e fate.Done = refl
+came_of e (fate.Refused why) = refl
+came_of e fate.Faulted = refl
+came_of e (fate.Recovered kept) = refl
+came_of e fate.MountFailed = refl
+came_of e (fate.RaiseFailed kept) = refl
+came_of e (fate.RaiseRefused kept) = refl
+
+came_in : (es : List Event) (place : ℕ) (f : Fate) → place < length es → is_quiet (what_in es (told.Came place f)) ≡ false
+came_in [] place f within = absurd (omega (arith, within))
+came_in (e ∷ es) zero f within = came_of e f
+came_in (e ∷ es) (suc place) f within = came_in es place f (omega (arith, within))
+
+quiet_of : (q : Quiet) → is_quiet (what_quiet q) ≡ true
+quiet_of quiet.Rested = refl
+quiet_of quiet.Crashed = refl
+
+stands_at : (P : Line → Type 0) (ls : List Line) (place : ℕ) (l : Line) → All P ls → slice_get ls place ≡ Some l → P l
+stands_at P [] place l all at = absurd (let bad = at in cc)
+stands_at P (x ∷ ls) zero l all at = subst P (same_Some x l at) (All-head P x ls all)
+stands_at P (x ∷ ls) (suc place) l all at = stands_at P ls place l (All-tail P x ls all) at
+
+turn_at : (ls : List Line) (ms : List Envelope) (es : List Event) (place : ℕ) (l : Line) (q : Quiet) → slice_get ls place ≡ Some l → (h : IsQuietAt place q (map (turn_in ms es) ls)) → h.turn ≡ turn_in ms es l
+turn_at ls ms es place l q at h =
+    same_Some h.turn (turn_in ms es l) (sym h.at ∙ (slice_get-map (turn_in ms es) ls place ∙ ap (λ (o : Option Line). option_map (turn_in ms es) o) at))
+
+pub event_at : (ls : List Line) (ms : List Envelope) (es : List Event) (place : ℕ) (l : Line) (q : Quiet) (k : ℕ) (f : Fate) → All (LineStands (length ms) (length es)) ls → slice_get ls place ≡ Some l → l.told ≡ told.Came k f → IsQuietAt place q (map (turn_in ms es) ls) → ⊥
+event_at ls ms es place l q k f all at is h =
+    let stands : k < length es = subst (ToldStands (length es)) is (stands_at (LineStands (length ms) (length es)) ls place l all at).told in
+    let what : what_in es (told.Came k f) ≡ what_quiet q = ap (λ (t : Told). what_in es t) (sym is) ∙ (ap (λ (t : Turn). t.entry.what) (sym (turn_at ls ms es place l q at h)) ∙ h.what) in
+    let bad : false ≡ true = sym (came_in es k f stands) ∙ (ap is_quiet what ∙ quiet_of q) in
+    absurd cc
+
+pub sent_at : (ls : List Line) (ms : List Envelope) (es : List Event) (place : ℕ) (l : Line) (q : Quiet) → All (LineStands (length ms) (length es)) ls → slice_get ls place ≡ Some l → (l.start ≡ l.end → ⊥) → IsQuietAt place q (map (turn_in ms es) ls) → ⊥
+sent_at ls ms es place l q all at some h =
+    let stands = stands_at (LineStands (length ms) (length es)) ls place l all at in
+    let first = stands.sent.0 in
+    let none : part l.start l.end ms ≡ [] = ap (λ (t : Turn). t.entry.sent) (sym (turn_at ls ms es place l q at h)) ∙ h.sent in
+    let long : length (part l.start l.end ms) ≡ l.end - l.start = part_length ms l.start l.end stands.sent.0 stands.sent.1 in
+    let short : length (part l.start l.end ms) ≡ 0 = ap (λ (xs : List Envelope). length xs) none in
+    some (omega (arith, first, long, short))

@@ -1,5 +1,5 @@
 -- A turn that was taken is the next of its worker's plan, and keeps what is always true.
-use Rattle.std.proofs.Common.{◌≡◌, ℕ, ◌<◌, List, [], Option, Some, None, IsSome, IfSome, IfNone, length, slice_index_or, refl, ap, sym, ◌∙◌, subst}
+use Rattle.std.proofs.Common.{◌≡◌, ℕ, ◌<◌, List, [], Option, Some, None, IsSome, IfSome, IfNone, length, slice_index_or, refl, ap, sym, ◌∙◌}
 use Rattle.wire_msg.specs.Envelope.{Envelope}
 use Rattle.node_lock.specs.Sending.{Brings, SameSides, SentOn}
 use Rattle.sector_disk.specs.Memory.{Memory}
@@ -62,14 +62,18 @@ pub waits_since : (place : ℕ) (found was : Option Envelope) (old new : List Si
 waits_since place None was old new none some = none
 waits_since place (Some m) was old new none some = (place, some)
 
+-- where no mounting is told, it is told so
+pub found_told : (old new : Node Memory) → new ≡ record old { found = None } → new ≡ record old { found = new.found }
+found_told old new is = is ∙ ap (λ f. record old { found = f }) (sym (ap (λ (d : Node Memory). d.found) is))
+
 -- no turn was taken
 pub unserved_by : (h n : HeldView) → n.run ≡ h.run → n.plans ≡ h.plans → n.turns ≡ h.turns → TookNone (site h.node h.puts h.history) (site n.node n.puts n.history) → WaitsSince h.takes n.takes h.waiting n.waiting
     → Unserved h n
 unserved_by h n run plans turns none waits = record {
   same = record { run = run; plans = plans };
-  node = none.node ∙ ap (λ f. record h.node { found = f }) (sym (ap (λ (d : Node Memory). d.found) none.node));
+  node = none.node;
   turns = turns;
   history = none.turns;
-  puts = subst (SameSides h.puts) (sym none.puts) (record { len = refl; each = λ k d lt. (record { sender = refl; receiver = refl; capacity = refl }, refl, refl) });
+  puts = none.puts;
   takes = waits;
 }

@@ -4,7 +4,6 @@ use Rattle.wire_msg.specs.Envelope.{Envelope}
 use Rattle.sector_disk.specs.Memory.{Memory}
 use Rattle.link_ring.specs.Sides.{Side}
 use Rattle.durable_node.specs.Node.{Node}
-use Rattle.durable_node.specs.Stepping.{most_by}
 use Rattle.histories.specs.History.{sent_in}
 use Rattle.histories.specs.What.{brought, event_of}
 use Rattle.node_lock.specs.declared.held.TheConstants.{MOST_ENTRIES}
@@ -14,7 +13,7 @@ use Rattle.node_lock.specs.declared.worker.Worker.{Worker}
 use Rattle.node_lock.specs.declared.worker.Worker.TheVariants.{Intake, Clock, Operator}
 use Rattle.node_lock.specs.Doing.{TurnDid}
 use Rattle.node_lock.specs.Planned.{Planned}
-use Rattle.node_lock.specs.Sending.{PutsSome, addressed_to, HasRoomFor, SameSides, IsFirst, Brings}
+use Rattle.node_lock.specs.Sending.{PutsSome, addressed_to, SameSides, IsFirst, Brings}
 use Rattle.node_lock.specs.History.{Turn, IsReplay, FollowsPlans, PlanStep, entries_of, polled, from_link, listed}
 
 -- the node and its disk, the ends of its links, the plans and the turns that were taken of them, and what came of these; a
@@ -94,16 +93,6 @@ pub record SameRun (old new : HeldView) : Type 0 where
   pub run : new.run ≡ old.run
   pub plans : new.plans ≡ old.plans
 
--- nothing changed but room
-pub record Unchanged (old new : HeldView) : Type 0 where
-  pub same : SameRun old new
-  pub node : new.node ≡ old.node
-  pub turns : new.turns ≡ old.turns
-  pub history : new.history ≡ old.history
-  pub waiting : new.waiting ≡ old.waiting
-  pub puts : SameSides old.puts new.puts
-  pub takes : SameSides old.takes new.takes
-
 -- a message that was taken waits, or waits still; or none was taken
 abbrev pub WaitsSince : List Side → List Side → Option Envelope → Option Envelope → Type 0
 WaitsSince old new before None = (before ≡ None) × SameSides old new
@@ -117,10 +106,3 @@ pub record Unserved (old new : HeldView) : Type 0 where
   pub history : new.history ≡ old.history
   pub puts : SameSides old.puts new.puts
   pub takes : WaitsSince old.takes new.takes old.waiting new.waiting
-
--- the room that one turn takes outside the node
-pub record HasRoom (h : HeldView) : Type 0 where
-  pub history : (0 < h.room) × (0 < h.events)
-  pub sends : most_by h.node.nodes h.node.kept ≤ h.sends
-  pub puts : HasRoomFor (most_by h.node.nodes h.node.kept) h.puts
-  pub takes : HasRoomFor 1 h.takes

@@ -1,5 +1,5 @@
 -- What a turn does to a node, to its links to the others and to its history.
-use Rattle.std.specs.Prelude.{◌≡◌, ℕ, List, [], ◌∷◌, ◌++◌, None}
+use Rattle.std.specs.Prelude.{◌≡◌, ℕ, List, [], ◌∷◌, ◌++◌}
 use Rattle.sector_disk.specs.Memory.{Memory}
 use Rattle.link_ring.specs.Sides.{Side}
 use Rattle.histories.specs.What.{Entry}
@@ -7,7 +7,7 @@ use Rattle.durable_node.specs.Node.{Node}
 use Rattle.node_lock.specs.declared.worker.Worker.{Worker}
 use Rattle.node_lock.specs.Asking.{Asked}
 use Rattle.node_lock.specs.Doing.{TurnDid}
-use Rattle.node_lock.specs.Sending.{SentOn}
+use Rattle.node_lock.specs.Sending.{SentOn, SameSides}
 use Rattle.node_lock.specs.History.{Turn}
 
 -- a node, the ends of its links to the others, and the turns that were taken at it
@@ -30,8 +30,8 @@ pub record TookTurn (worker : Worker) (index : ℕ) (asked : Asked) (e : Entry) 
   pub sent : SentOn e.sent old.puts new.puts
   pub turns : new.turns ≡ old.turns ++ turn_of worker index e ∷ []
 
--- no turn was taken, and no mounting is told
+-- no turn was taken: nothing changed but room, and no mounting is told
 pub record TookNone (old new : Site) : Type 0 where
-  pub node : new.node ≡ record old.node { found = None }
-  pub puts : new.puts ≡ old.puts
+  pub node : new.node ≡ record old.node { found = new.node.found }
+  pub puts : SameSides old.puts new.puts
   pub turns : new.turns ≡ old.turns

@@ -1,7 +1,7 @@
 // What one lock holds.
 ghost use Rattle.std.specs.Prelude.{◌≡◌, ◌≢◌, ◌<◌, ◌≤◌, ◌+◌, ◌↔◌, [], length, IfOk, OnOk, OnErr, IfErr, vec_len, vec_capacity, slice_index_or, ℕ, Ok, Err, true, false, Some, None, IsTrue};
 ghost use Rattle.group_task.specs.declared.node.TheConstants.{NODES};
-ghost use Rattle.node_lock.specs.HeldView.{HeldView, Kept, IsOther, IsPolled, Takes, SameRun, Unchanged, Unserved, HasRoom};
+ghost use Rattle.node_lock.specs.HeldView.{HeldView, Kept, IsOther, IsPolled, Takes, SameRun, Unserved};
 ghost use Rattle.node_lock.specs.History.{Turn};
 ghost use Rattle.node_lock.specs.Planned.{no_turns, plan_len, turns_of};
 ghost use Rattle.node_lock.specs.declared.held.TheConstants.{MOST_ENTRIES};
@@ -9,10 +9,9 @@ ghost use Rattle.node_lock.specs.declared.held.HeldFault.TheVariants.{HistoryFul
 ghost use Rattle.node_lock.specs.declared.worker.Worker.TheVariants.{Intake, Clock, Operator};
 
 use crate::history::History;
-use crate::links::{reserve_puts, reserve_takes};
 use crate::plans::Plans;
 use crate::run::Run;
-use crate::turn::{event_for, fetch, hand, operate, receive};
+use crate::turn::{clear, event_for, fetch, hand, operate, receive};
 use crate::worker::{Turns, Worker};
 use durable_node::DurableNode;
 use group_task::NodeId;
@@ -121,9 +120,6 @@ impl Held {
         if self.history.len() >= MOST_ENTRIES {
             return Err(HeldFault::HistoryFull);
         }
-        if self.make_room().is_err() {
-            return Err(HeldFault::NoMemory);
-        }
         match worker {
             Worker::Intake => self.next_intake(),
             Worker::Clock => self.next_clock(),
@@ -131,21 +127,9 @@ impl Held {
         }
     }
 
-    // Makes all the room that one turn takes outside the node.
-    fn make_room(&mut self) -> Result<(), AllocError>
-        ensures same { Unchanged self.old self.new }
-        ensures room { OnOk result (HasRoom self.new) }
-    {
-        let most = self.node.most();
-        self.history.reserve(most)?;
-        reserve_puts(&mut self.puts, most)?;
-        reserve_takes(&mut self.takes, 1)
-    }
-
     fn next_intake(&mut self) -> Result<bool, HeldFault>
         requires more { self.old.turns.intake < length self.old.plans.intake }
         requires few { length self.old.history < MOST_ENTRIES }
-        requires room { HasRoom self.old }
         ensures plans { SameRun self.old self.new }
         ensures taken { IfOk result (λ b. (b ≡ true) × ((t : Turn) × Takes self.old Intake t self.new)) }
         ensures memory { IfErr result (λ f. (f ≡ NoMemory) × Unserved self.old self.new) }
@@ -153,7 +137,7 @@ impl Held {
         let index = self.turns.intake;
         let from = self.plans.intake()[index];
         let place = place_of(self.run.node, from);
-        fetch(&mut self.takes, &mut self.waiting, place);
+        fetch(&mut self.takes, &mut self.waiting, place)?;
         receive(
             &mut self.node,
             &mut self.puts,
@@ -162,14 +146,13 @@ impl Held {
             &self.waiting,
         )?;
         self.turns.intake += 1;
-        self.waiting = None;
+        clear(&mut self.waiting);
         Ok(true)
     }
 
     fn next_clock(&mut self) -> Result<bool, HeldFault>
         requires more { self.old.turns.clock < length self.old.plans.clock }
         requires few { length self.old.history < MOST_ENTRIES }
-        requires room { HasRoom self.old }
         ensures plans { SameRun self.old self.new }
         ensures taken { IfOk result (λ b. (b ≡ true) × ((t : Turn) × Takes self.old Clock t self.new)) }
         ensures memory { IfErr result (λ f. (f ≡ NoMemory) × Unserved self.old self.new) }
@@ -191,7 +174,6 @@ impl Held {
     fn next_operator(&mut self) -> Result<bool, HeldFault>
         requires more { self.old.turns.operator < length self.old.plans.operator }
         requires few { length self.old.history < MOST_ENTRIES }
-        requires room { HasRoom self.old }
         ensures plans { SameRun self.old self.new }
         ensures taken { IfOk result (λ b. (b ≡ true) × ((t : Turn) × Takes self.old Operator t self.new)) }
         ensures memory { IfErr result (λ f. (f ≡ NoMemory) × Unserved self.old self.new) }

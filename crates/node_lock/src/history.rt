@@ -5,6 +5,7 @@ ghost use Rattle.histories.specs.Fates.{what_of};
 ghost use Rattle.wire_msg.specs.Spelling.{Spells};
 ghost use Rattle.node_lock.specs.Kept.{IsQuietAt, ToldStands, what_in, what_quiet};
 ghost use Rattle.node_lock.specs.Seen.{turn_seen};
+ghost use Rattle.node_lock.specs.declared.line.Quiet.{Quiet};
 
 use crate::event_list::EventList;
 use crate::line::{Line, Quiet, Told};
@@ -56,6 +57,14 @@ impl History {
         ensures { result ≡ length self.now.turns }
     {
         self.lines.len()
+    }
+
+    /// Makes room for one turn more that hands no event to its node.
+    pub(crate) fn reserve_quiet(&mut self) -> Result<(), AllocError>
+        ensures turns { self.new.turns ≡ self.old.turns }
+        ensures room { OnOk result (0 < self.new.room) }
+    {
+        Ok(self.lines.reserve(1)?)
     }
 
     /// Makes room for one turn more, which sends at most so many messages.
@@ -111,10 +120,11 @@ impl History {
         });
     }
 
-    /// What came of the turn at this place, where no event was handed to its node. Most turns are such, and it is small, which
-    /// an [`Entry`] isn't.
+    /// What came of the turn at this place, where no event was handed to its node: none only where one was, or no turn stands
+    /// there. Most turns are such, and it is small, which an [`Entry`] isn't.
     pub fn quiet(&self, place: usize) -> Option<Quiet>
-        ensures { IfSome result (λ quiet. IsQuietAt place quiet self.now.turns) }
+        ensures some { IfSome result (λ quiet. IsQuietAt place quiet self.now.turns) }
+        ensures none { IsNone result → (quiet : Quiet) → IsQuietAt place quiet self.now.turns → ⊥ }
     {
         let line = self.lines.get(place)?;
         match line.told {

@@ -1,19 +1,21 @@
 // One turn at a node.
-ghost use Rattle.std.specs.Prelude.{◌≡◌, ◌≤◌, ◌<◌, [], OnOk, IfErr, IfNone, IfSome, IsSome, vec_len, slice_index_or, None};
+ghost use Rattle.std.specs.Prelude.{◌≡◌, ◌≤◌, ◌<◌, [], ◌∷◌, ◌++◌, OnOk, IfErr, IfNone, IfSome, vec_len, slice_index_or, None};
 ghost use Rattle.histories.specs.What.{Entry};
 ghost use Rattle.durable_node.specs.Stepping.{most_by};
 ghost use Rattle.node_lock.specs.declared.held.HeldFault.TheVariants.{NoMemory};
 ghost use Rattle.node_lock.specs.declared.worker.Worker.TheVariants.{Intake, Operator};
 ghost use Rattle.node_lock.specs.Asking.{Hand, event_for, asked_in, asked_by};
 ghost use Rattle.node_lock.specs.Doing.{StandsForSome};
-ghost use Rattle.node_lock.specs.Taking.{TookTurn, TookNone, site};
+ghost use Rattle.node_lock.specs.Kept.{what_quiet};
+ghost use Rattle.node_lock.specs.declared.line.Quiet.TheVariants.{Rested};
+ghost use Rattle.node_lock.specs.Taking.{TookTurn, TookNone, site, turn_of};
 ghost use Rattle.link_ring.specs.Sides.{Side};
 ghost use Rattle.node_lock.specs.Sending.{HasRoomFor, SameSides, Brings};
 
 use crate::held::HeldFault;
 use crate::history::History;
 use crate::line::Quiet;
-use crate::links::send_all;
+use crate::links::{reserve_puts, send_all};
 use crate::order::{Order, Timer};
 use crate::perform::perform;
 use crate::worker::Worker;
@@ -21,9 +23,10 @@ use durable_node::DurableNode;
 use link_ring::{PutEnd, TakeEnd};
 use node_core::Event;
 use sector_disk::MemDisk;
+use std::alloc::AllocError;
 use wire_msg::Message;
 
-/// A turn that hands an event to the node, in the room that is there.
+/// A turn that hands an event to the node.
 pub(crate) fn hand(
     node: &mut DurableNode<MemDisk>,
     puts: &mut Vec<PutEnd>,
@@ -33,16 +36,33 @@ pub(crate) fn hand(
     event: &Event,
 ) -> Result<(), HeldFault>
     requires stands { StandsForSome node.old }
-    requires room { (0 < history.old.room) × (0 < history.old.events) }
-    requires sends { most_by node.old.nodes node.old.kept ≤ history.old.sends }
-    requires puts { HasRoomFor (most_by node.old.nodes node.old.kept) puts.old.items }
     ensures taken { OnOk result ((e : Entry) × TookTurn worker index (Hand event.now) e (site node.old puts.old.items history.old.turns) (site node.new puts.new.items history.new.turns)) }
     ensures memory { IfErr result (λ fault. (fault ≡ NoMemory) × TookNone (site node.old puts.old.items history.old.turns) (site node.new puts.new.items history.new.turns)) }
 {
+    if make_room(node, puts, history).is_err() {
+        return Err(HeldFault::NoMemory);
+    }
     let (fate, sent) = perform(node, event)?;
     send_all(puts, &sent);
     history.push(worker, index, event, fate, &sent);
     Ok(())
+}
+
+/// Makes all the room that an event takes outside the node.
+fn make_room(
+    node: &DurableNode<MemDisk>,
+    puts: &mut Vec<PutEnd>,
+    history: &mut History,
+) -> Result<(), AllocError>
+    ensures turns { history.new.turns ≡ history.old.turns }
+    ensures same { SameSides puts.old.items puts.new.items }
+    ensures room { OnOk result ((0 < history.new.room) × (0 < history.new.events)) }
+    ensures sends { OnOk result (most_by node.now.nodes node.now.kept ≤ history.new.sends) }
+    ensures puts { OnOk result (HasRoomFor (most_by node.now.nodes node.now.kept) puts.new.items) }
+{
+    let most = node.most();
+    history.reserve(most)?;
+    reserve_puts(puts, most)
 }
 
 /// The event of a timer.
@@ -59,6 +79,18 @@ pub(crate) fn event_for(timer: Timer) -> Event
     }
 }
 
+/// A turn that hands no event to the node and leaves it as it is.
+fn rest(history: &mut History, worker: Worker, index: u64) -> Result<(), HeldFault>
+    ensures taken { OnOk result (history.new.turns ≡ history.old.turns ++ turn_of worker index (record { what = what_quiet Rested; sent = [] }) ∷ []) }
+    ensures memory { IfErr result (λ fault. (fault ≡ NoMemory) × (history.new.turns ≡ history.old.turns)) }
+{
+    if history.reserve_quiet().is_err() {
+        return Err(HeldFault::NoMemory);
+    }
+    history.push_quiet(worker, index, Quiet::Rested);
+    Ok(())
+}
+
 /// The operator's turn.
 pub(crate) fn operate(
     node: &mut DurableNode<MemDisk>,
@@ -68,9 +100,6 @@ pub(crate) fn operate(
     order: &Order,
 ) -> Result<(), HeldFault>
     requires stands { StandsForSome node.old }
-    requires room { (0 < history.old.room) × (0 < history.old.events) }
-    requires sends { most_by node.old.nodes node.old.kept ≤ history.old.sends }
-    requires puts { HasRoomFor (most_by node.old.nodes node.old.kept) puts.old.items }
     ensures taken { OnOk result ((e : Entry) × TookTurn Operator index (asked_in order.now) e (site node.old puts.old.items history.old.turns) (site node.new puts.new.items history.new.turns)) }
     ensures memory { IfErr result (λ fault. (fault ≡ NoMemory) × TookNone (site node.old puts.old.items history.old.turns) (site node.new puts.new.items history.new.turns)) }
 {
@@ -79,11 +108,14 @@ pub(crate) fn operate(
         Order::Finish(origin, id) => Event::Finish(*origin, *id),
         Order::Recover => Event::Recover,
         Order::Arm(calls) => {
+            rest(history, Worker::Operator, index)?;
             node.arm(*calls);
-            history.push_quiet(Worker::Operator, index, Quiet::Rested);
             return Ok(());
         }
         Order::Crash(fill) => {
+            if history.reserve_quiet().is_err() {
+                return Err(HeldFault::NoMemory);
+            }
             node.crash(fill.as_slice());
             history.push_quiet(Worker::Operator, index, Quiet::Crashed);
             return Ok(());
@@ -101,33 +133,60 @@ pub(crate) fn receive(
     found: &Option<Message>,
 ) -> Result<(), HeldFault>
     requires stands { StandsForSome node.old }
-    requires room { (0 < history.old.room) × (0 < history.old.events) }
-    requires sends { most_by node.old.nodes node.old.kept ≤ history.old.sends }
-    requires puts { HasRoomFor (most_by node.old.nodes node.old.kept) puts.old.items }
     ensures taken { OnOk result ((e : Entry) × TookTurn Intake index (asked_by found.now) e (site node.old puts.old.items history.old.turns) (site node.new puts.new.items history.new.turns)) }
-    ensures memory { IfErr result (λ fault. (fault ≡ NoMemory) × TookNone (site node.old puts.old.items history.old.turns) (site node.new puts.new.items history.new.turns) × IsSome found.now) }
+    ensures memory { IfErr result (λ fault. (fault ≡ NoMemory) × TookNone (site node.old puts.old.items history.old.turns) (site node.new puts.new.items history.new.turns)) }
 {
     match found {
-        Some(message) => {
-            let event = Event::Deliver(*message);
-            hand(node, puts, history, Worker::Intake, index, &event)
-        }
-        None => {
-            history.push_quiet(Worker::Intake, index, Quiet::Rested);
-            Ok(())
-        }
+        Some(message) => deliver(node, puts, history, index, message),
+        None => rest(history, Worker::Intake, index),
+    }
+}
+
+// Hands a message to the node. It stands apart, since most polls find none, and here a whole event is made.
+#[inline(never)]
+fn deliver(
+    node: &mut DurableNode<MemDisk>,
+    puts: &mut Vec<PutEnd>,
+    history: &mut History,
+    index: u64,
+    message: &Message,
+) -> Result<(), HeldFault>
+    requires stands { StandsForSome node.old }
+    ensures taken { OnOk result ((e : Entry) × TookTurn Intake index (Hand (Event.Deliver message.now)) e (site node.old puts.old.items history.old.turns) (site node.new puts.new.items history.new.turns)) }
+    ensures memory { IfErr result (λ fault. (fault ≡ NoMemory) × TookNone (site node.old puts.old.items history.old.turns) (site node.new puts.new.items history.new.turns)) }
+{
+    let event = Event::Deliver(*message);
+    hand(node, puts, history, Worker::Intake, index, &event)
+}
+
+/// No message waits. None is written over none, since that takes as long as to write a message.
+pub(crate) fn clear(waiting: &mut Option<Message>)
+    ensures { waiting.new ≡ None }
+{
+    if waiting.is_some() {
+        *waiting = None;
     }
 }
 
 /// Where no message waits, the next of the link at this place waits from here on.
-pub(crate) fn fetch(takes: &mut Vec<TakeEnd>, waiting: &mut Option<Message>, place: usize)
-    requires room { HasRoomFor 1 takes.old.items }
+pub(crate) fn fetch(
+    takes: &mut Vec<TakeEnd>,
+    waiting: &mut Option<Message>,
+    place: usize,
+) -> Result<(), HeldFault>
     requires place { place < vec_len takes.old }
     ensures none { IfNone waiting.new ((waiting.old ≡ None) × SameSides takes.old.items takes.new.items) }
-    ensures empty { IfNone waiting.new ((d : Side) → (slice_index_or takes.old.items place d).seen ≡ []) }
+    ensures empty { OnOk result (IfNone waiting.new ((d : Side) → (slice_index_or takes.old.items place d).seen ≡ [])) }
     ensures some { IfSome waiting.new (λ m. Brings place m waiting.old takes.old.items takes.new.items) }
+    ensures memory { IfErr result (λ fault. fault ≡ NoMemory) }
 {
-    if waiting.is_none() {
-        *waiting = takes[place].take();
+    if waiting.is_some() {
+        return Ok(());
     }
+    let end = &mut takes[place];
+    if end.reserve(1).is_err() {
+        return Err(HeldFault::NoMemory);
+    }
+    end.take_into(waiting);
+    Ok(())
 }

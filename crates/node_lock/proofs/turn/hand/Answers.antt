@@ -1,9 +1,10 @@
-use Rattle.std.proofs.Common.{List, [], ◌∷◌, ◌++◌, ap, ◌∙◌, subst}
+use Rattle.std.proofs.Common.{List, [], ◌∷◌, ◌++◌, ◌∙◌, subst}
 use Rattle.wire_msg.specs.Envelope.{Envelope}
 use Rattle.histories.specs.What.{Entry}
 use Rattle.histories.specs.Fates.{what_of}
 use Rattle.node_lock.specs.Sending.{SentOn}
 use Rattle.node_lock.specs.Taking.{turn_of}
+use Rattle.node_lock.proofs.Keeping.{sent_since}
 use Rattle.node_lock.proofs.turn.hand.Goals as goal
 
 pub returns-clause-taken : goal.returns-clause-taken
@@ -15,7 +16,7 @@ returns-clause-taken c =
         did = c.in_ok-fate.ensures.did;
         id = c.in_ok-fate.ensures.id;
         nodes = c.in_ok-fate.ensures.nodes;
-        sent = subst (λ (l : List Envelope). SentOn l c.args.puts.now.items c.send_all.new.puts.items) c.deref.ensures.value c.send_all.ensures;
-        turns = c.push.ensures ∙ ap (λ (l : List Envelope). c.args.history.now.turns ++ turn_of c.args.worker c.args.index (record { what = what; sent = l }) ∷ []) c.deref-2.ensures.value;
+        sent = sent_since c.in_ok-fate.sent.items c.args.puts.now.items c.make_room.new.puts.items c.send_all.new.puts.items c.make_room.ensures.same (subst (λ (l : List Envelope). SentOn l c.make_room.new.puts.items c.send_all.new.puts.items) c.deref.ensures.value c.send_all.ensures);
+        turns = c.push.ensures ∙ (λ i. c.make_room.ensures.turns i ++ turn_of c.args.worker c.args.index (record { what = what; sent = c.deref-2.ensures.value i }) ∷ []);
       },
     )

@@ -1,10 +1,13 @@
-use Rattle.std.proofs.Common.{ℕ, List, [], refl, ap, sym, subst}
+use Rattle.std.proofs.Common.{ℕ, List, [], ◌∷◌, ◌++◌, refl, ap, sym, ◌∙◌, subst}
 use Rattle.sector_disk.specs.Memory.{Memory}
 use Rattle.histories.specs.declared.what.What.TheVariants.{Crashed}
 use Rattle.durable_node.specs.Node.{Node}
 use Rattle.node_lock.specs.declared.order.Order.{Order}
+use Rattle.node_lock.specs.declared.worker.Worker.TheVariants.{Operator}
 use Rattle.node_lock.specs.Asking.{asked_in}
 use Rattle.node_lock.specs.Doing.{TurnDid, WasCrashed}
+use Rattle.node_lock.specs.History.{Turn}
+use Rattle.node_lock.specs.Taking.{turn_of}
 use Rattle.node_lock.proofs.Taking.{nothing_sent}
 use Rattle.node_lock.proofs.turn.operate.Goals as goal
 
@@ -22,6 +25,6 @@ returns-in-Crash-clause-taken c =
         id = ap (λ (n : Node Memory). n.id) c.crash.ensures.down;
         nodes = ap (λ (n : Node Memory). n.nodes) c.crash.ensures.down;
         sent = nothing_sent _;
-        turns = c.push_quiet-in-Crash.ensures;
+        turns = c.push_quiet.ensures ∙ ap (λ (ts : List Turn). ts ++ turn_of Operator c.args.index (record { what = Crashed; sent = [] }) ∷ []) c.reserve_quiet.ensures.turns;
       },
     )

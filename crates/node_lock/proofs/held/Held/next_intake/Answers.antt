@@ -1,13 +1,14 @@
-use Rattle.std.proofs.Common.{◌≡◌, ◌<◌, Some, length, refl, ap, sym, ◌∙◌, subst, get_or, slice_index}
+use Rattle.std.proofs.Common.{◌≡◌, ◌<◌, Option, Some, IsSome, length, refl, ap, sym, ◌∙◌, subst, get_or, slice_index}
 use Rattle.std.proofs.lemmas.Option.{slice_get-get_or}
 use Rattle.std.proofs.lemmas.List.{get_or_read}
 use Rattle.std.proofs.lemmas.Result.{err_from_is_err_and}
+use Rattle.wire_msg.specs.Envelope.{Envelope}
 use Rattle.node_lock.specs.declared.worker.Worker.TheVariants.{Intake}
 use Rattle.node_lock.specs.declared.held.TheConstants.{MOST_ENTRIES}
 use Rattle.node_lock.specs.Asking.{asked_by}
 use Rattle.node_lock.specs.HeldView.{HeldView, Polls}
 use Rattle.node_lock.specs.Taking.{turn_of}
-use Rattle.node_lock.proofs.Keeping.{gives_in}
+use Rattle.node_lock.proofs.Keeping.{gives_in, same_again}
 use Rattle.node_lock.proofs.Telling.{brought_found}
 use Rattle.node_lock.proofs.Fetching.{fetched, entered, finds}
 use Rattle.node_lock.proofs.Taking.{takes_next, keeps_next, waits_since, unserved_by}
@@ -29,7 +30,7 @@ invariant_of-self-2 c =
     let k = c.self.invariant in
     let links = fetched _ c.fetch.new.takes.items c.place_of-place.result from found k c.place_of-place.ensures at c.fetch.ensures.none c.fetch.ensures.some in
     keeps_next _ _ Intake (asked_by found) e k (((from, got), (found, refl)), took, refl) refl refl few
-    links.0 (λ i d lt. entered _ _ (turn_of Intake h.turns.intake e) found _ _ (k.takes i d lt).0 (links.1 i d lt) refl refl took.turns refl refl gives) (λ s. absurd cc)
+    links.0 (λ i d lt. entered _ _ (turn_of Intake h.turns.intake e) found _ _ (k.takes i d lt).0 (links.1 i d lt) refl refl took.turns c.clear.ensures refl gives) (λ s. absurd (let bad = subst (λ (o : Option Envelope). IsSome o) c.clear.ensures s in cc))
 
 pub returns-clause-taken : goal.returns-clause-taken
 returns-clause-taken c =
@@ -44,13 +45,20 @@ returns-clause-taken c =
     let took = c.in_ok-receive.ensures.taken.1 in
     let gives = gives_in _ (asked_by found) (turn_of Intake h.turns.intake e) _ c.self.invariant took.did in
     let v : HeldView = record { node = h.node; run = h.run; puts = h.puts.items; takes = h.takes.items; plans = h.plans; turns = h.turns; history = h.history.turns; waiting = h.waiting; room = h.history.room; sends = h.history.sends; events = h.history.events } in
-    let polls : Polls v Intake (turn_of Intake h.turns.intake e) = (found, brought_found found e.what gives, finds v c.fetch.new.takes.items c.place_of-place.result from found c.place_of-place.ensures at c.fetch.ensures.none c.fetch.ensures.empty c.fetch.ensures.some) in
+    let polls : Polls v Intake (turn_of Intake h.turns.intake e) = (found, brought_found found e.what gives, finds v c.fetch.new.takes.items c.place_of-place.result from found c.place_of-place.ensures at c.fetch.ensures.none c.in_ok-fetch.ensures.empty c.fetch.ensures.some) in
     rw (← c.self.view_is) (refl, takes_next _ _ Intake (asked_by found) e c.self.invariant (((from, got), (found, refl)), took, refl) polls)
 
 pub returns-in_err-receive-clause-memory : goal.returns-in_err-receive-clause-memory
 returns-in_err-receive-clause-memory c =
     let h = c.self.inside in
     let none = c.in_err-receive.ensures.memory in
-    let err = err_from_is_err_and c.from_residual.result c.from_residual.ensures.1 in
+    let err = err_from_is_err_and c.from_residual-in_err-receive.result c.from_residual-in_err-receive.ensures.1 in
     let waits = waits_since c.place_of-place.result c.fetch.new.waiting h.waiting h.takes.items c.fetch.new.takes.items c.fetch.ensures.none c.fetch.ensures.some in
     rw (← c.self.view_is) (rw err.1 (err.2 ∙ none.0, unserved_by _ _ refl refl refl none.1 waits))
+
+pub returns-in_err-fetch-clause-memory : goal.returns-in_err-fetch-clause-memory
+returns-in_err-fetch-clause-memory c =
+    let h = c.self.inside in
+    let err = err_from_is_err_and c.from_residual.result c.from_residual.ensures.1 in
+    let waits = waits_since c.place_of-place.result c.fetch.new.waiting h.waiting h.takes.items c.fetch.new.takes.items c.fetch.ensures.none c.fetch.ensures.some in
+    rw (← c.self.view_is) (rw err.1 (err.2 ∙ c.in_err-fetch.ensures.memory, unserved_by _ _ refl refl refl (record { node = refl; puts = same_again h.puts.items; turns = refl }) waits))
