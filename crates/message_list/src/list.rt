@@ -61,6 +61,7 @@ impl MessageList {
     }
 
     /// Makes room for so many more messages, whatever they say.
+    #[inline]
     pub fn reserve(&mut self, more: usize) -> Result<(), AllocError>
         ensures messages { self.new.messages ≡ self.old.messages }
         ensures room { OnOk result (self.new.room ≡ max self.old.room more) }
@@ -70,6 +71,17 @@ impl MessageList {
         if more <= self.room {
             return Ok(());
         }
+        self.grow(more)
+    }
+
+    // Makes room for more messages than there is room for. It stands apart, so that the question whether there is room is short.
+    #[inline(never)]
+    fn grow(&mut self, more: usize) -> Result<(), AllocError>
+        requires { self.old.room < more }
+        ensures messages { self.new.messages ≡ self.old.messages }
+        ensures room { OnOk result (self.new.room ≡ more) }
+        ensures unchanged { OnErr result (self.new ≡ self.old) }
+    {
         let Some(bytes) = more.checked_mul(PAYLOAD_CAPACITY) else {
             return Err(AllocError);
         };
