@@ -112,9 +112,10 @@ impl TakeEnd {
         requires seen { 0 < length self.old.seen }
         ensures { IsSome place.new × IfSome place.new (λ message. TookNext message self.old self.new) }
     {
-        let message = self.consumer.pop_known();
-        self.taken.push(&message);
-        *place = Some(message);
+        *place = Some(self.consumer.pop_known());
+        if let Some(first) = place {
+            self.taken.push(first);
+        }
     }
 
     /// All that was taken, in order, once the end is given up.
