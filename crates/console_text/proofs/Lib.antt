@@ -1,2 +1,3 @@
 mod Consumed
 mod Hexes
+pub mod Handing

@@ -2,3 +2,4 @@ pub mod Ends
 pub mod Input
 pub mod Words
 pub mod Reasons
+pub mod Pages

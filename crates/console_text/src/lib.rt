@@ -3,6 +3,7 @@
 
 mod ends;
 mod input;
+mod pages;
 mod printing;
 mod reasons;
 mod source;
@@ -10,6 +11,7 @@ mod words;
 
 pub use ends::{Ended, Ending, Printout, Told, Trouble};
 pub use input::read_source;
+pub use pages::{Unprinted, new_page, print_full, print_page, print_part};
 pub use printing::{bad_line, print, tell};
 pub use reasons::{line_reason, push_unknown};
 pub use source::{MAX_READS, Sink, Source};

@@ -7,3 +7,6 @@ pub mod Sessions
 pub mod Shown
 pub mod Sents
 pub mod Sims
+pub mod Outs
+pub mod Keeping
+pub mod Endings

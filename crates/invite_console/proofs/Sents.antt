@@ -1,8 +1,11 @@
--- The messages of an act, one after another.
-use Rattle.std.proofs.Common.{◌≡◌, ℕ, zero, suc, ◌+◌, ◌<◌, List, [], ◌∷◌, ◌++◌, length, drop, Option, Some, None, refl, sym, ap, ◌∙◌, append_assoc, add-one, arith}
+-- The messages of an act, printed one after another.
+use Rattle.std.proofs.Common.{◌≡◌, ℕ, zero, suc, ◌+◌, ◌-◌, ◌<◌, ◌≤◌, List, [], ◌∷◌, ◌++◌, length, take, drop, Option, Some, None, refl, sym, ap, subst, ◌∙◌, append-nil, add-one, arith}
 use Rattle.std.specs.Prelude.{Bool, slice_get, IfSome}
 use Rattle.wire_msg.specs.Envelope.{Envelope}
+use Rattle.console_text.specs.Pages.{Hands}
+use Rattle.console_text.proofs.Handing.{hands_more, page_grows, page_stays}
 use Rattle.invite_console.specs.Acts.{message_text, sent_text}
+use Rattle.invite_console.specs.Kept.{between}
 
 at_place : (place : ℕ) (ms : List Envelope) (m : Envelope) → slice_get ms place ≡ Some m → drop place ms ≡ m ∷ drop (suc place) ms
 at_place zero [] m found = absurd cc
@@ -10,29 +13,44 @@ at_place zero (x ∷ ms) m found = let same : x ≡ m = cc in ap (λ (y : Envelo
 at_place (suc place) [] m found = absurd cc
 at_place (suc place) (x ∷ ms) m found = at_place place ms m found
 
-next_place : (place : ℕ) (ms : List Envelope) (m : Envelope) → slice_get ms place ≡ Some m → drop place ms ≡ m ∷ drop (place + 1) ms
+pub next_place : (place : ℕ) (ms : List Envelope) (m : Envelope) → slice_get ms place ≡ Some m → drop place ms ≡ m ∷ drop (place + 1) ms
 next_place place ms m found = at_place place ms m found ∙ ap (λ (k : ℕ). m ∷ drop k ms) (sym (add-one place))
 
--- one message more
-sent_one : (names : Bool) (place : ℕ) (ms : List Envelope) (m : Envelope) (old new : List ℕ) → slice_get ms place ≡ Some m → new ≡ old ++ message_text names place m
-    → new ++ sent_text names (place + 1) (drop (place + 1) ms) ≡ old ++ sent_text names place (drop place ms)
-sent_one names place ms m old new found added =
-    ap (λ (front : List ℕ). front ++ sent_text names (place + 1) (drop (place + 1) ms)) added
-    ∙ (append_assoc old (message_text names place m) (sent_text names (place + 1) (drop (place + 1) ms))
-    ∙ ap (λ (rest : List Envelope). old ++ sent_text names place rest) (sym (next_place place ms m found)))
-
-none_there : (place : ℕ) (ms : List Envelope) → place < length ms → slice_get ms place ≡ None → ⊥
+pub none_there : (place : ℕ) (ms : List Envelope) → place < length ms → slice_get ms place ≡ None → ⊥
 none_there zero [] within none = omega arith
 none_there zero (x ∷ ms) within none = cc
 none_there (suc place) [] within none = omega arith
 none_there (suc place) (x ∷ ms) within none = none_there place ms (omega arith) none
 
--- one message more, where there is one
-pub sent_at : (names : Bool) (place : ℕ) (ms : List Envelope) (old new : List ℕ) → place < length ms → IfSome (slice_get ms place) (λ (m : Envelope). new ≡ old ++ message_text names place m)
-    → new ++ sent_text names (place + 1) (drop (place + 1) ms) ≡ old ++ sent_text names place (drop place ms)
-sent_at names place ms old new within added = by_cases (slice_get ms place) refl added
+-- one message more
+between_more : (at to : ℕ) (ms : List Envelope) (m : Envelope) → at < to → slice_get ms at ≡ Some m → between at to ms ≡ m ∷ between (at + 1) to ms
+between_more at to ms m on found =
+    let e : to - at ≡ suc (to - (at + 1)) = omega arith in
+    ap (λ (l : List Envelope). take (to - at) l) (next_place at ms m found) ∙ ap (λ (k : ℕ). take k (m ∷ drop (at + 1) ms)) e
+
+one_out : (names : Bool) (at to : ℕ) (ms : List Envelope) (m : Envelope) (a b c : Option (List ℕ)) (p added q r : List ℕ) → at < to → slice_get ms at ≡ Some m
+    → added ≡ p ++ message_text names at m → Hands a added b q [] → Hands b q c r (sent_text names (at + 1) (between (at + 1) to ms))
+    → Hands a p c r (sent_text names at (between at to ms))
+one_out names at to ms m a b c p added q r on found adds full rest =
+    let said = message_text names at m in
+    let behind = sent_text names (at + 1) (between (at + 1) to ms) in
+    let whole : (said ++ []) ++ behind ≡ sent_text names at (between at to ms) =
+    ap (λ (l : List ℕ). l ++ behind) (append-nil said) ∙ ap (λ (l : List Envelope). sent_text names at l) (sym (between_more at to ms m on found)) in
+    subst (λ (t : List ℕ). Hands a p c r t) whole
+    (hands_more a b c p q r (said ++ []) behind (hands_more a a b p added q said [] (page_grows a p added said adds) full) rest)
+
+-- a message was added to the page, which was printed where it was full
+pub message_out : (names : Bool) (at to : ℕ) (ms : List Envelope) (a b c : Option (List ℕ)) (p added q r : List ℕ) → at < to → to ≤ length ms
+    → IfSome (slice_get ms at) (λ (m : Envelope). added ≡ p ++ message_text names at m) → Hands a added b q [] → Hands b q c r (sent_text names (at + 1) (between (at + 1) to ms))
+    → Hands a p c r (sent_text names at (between at to ms))
+message_out names at to ms a b c p added q r on within adds full rest = by_cases (slice_get ms at) refl adds
   where
-    by_cases : (o : Option Envelope) → slice_get ms place ≡ o → IfSome o (λ (m : Envelope). new ≡ old ++ message_text names place m)
-        → new ++ sent_text names (place + 1) (drop (place + 1) ms) ≡ old ++ sent_text names place (drop place ms)
-    by_cases None found added = absurd (none_there place ms within found)
-    by_cases (Some m) found added = sent_one names place ms m old new found added
+    by_cases : (o : Option Envelope) → slice_get ms at ≡ o → IfSome o (λ (m : Envelope). added ≡ p ++ message_text names at m) → Hands a p c r (sent_text names at (between at to ms))
+    by_cases None found adds = absurd (none_there at ms (omega (arith, on, within)) found)
+    by_cases (Some m) found adds = one_out names at to ms m a b c p added q r on found adds full rest
+
+-- no message is left
+pub no_more : (names : Bool) (at to : ℕ) (ms : List Envelope) (a : Option (List ℕ)) (p : List ℕ) → to ≤ at → Hands a p a p (sent_text names at (between at to ms))
+no_more names at to ms a p past =
+    let none : to - at ≡ 0 = omega arith in
+    subst (λ (k : ℕ). Hands a p a p (sent_text names at (take k (drop at ms)))) (sym none) (page_stays a p)

@@ -1,6 +1,6 @@
 -- A simulation told one act further.
-use Rattle.std.proofs.Common.{◌≡◌, ℕ, zero, suc, ◌+◌, Bool, true, false, List, [], ◌∷◌, ◌++◌, ◌<◌, ◌≤◌, length, map, drop, Option, Some, None, Result, Ok, Err, IfOk, OnOk, IsOk, slice_get, refl, sym, ap, subst, ◌∙◌, append_assoc, add-one, add-zero, arith}
-use Rattle.std.proofs.lemmas.List.{append-nil, drop_all, map-append, length-map, length-append}
+use Rattle.std.proofs.Common.{◌≡◌, ℕ, zero, suc, ◌+◌, Bool, true, false, List, [], ◌∷◌, ◌++◌, ◌<◌, ◌≤◌, length, map, drop, Option, Some, None, Result, Ok, Err, IfOk, OnOk, IsOk, slice_get, refl, sym, ap, subst, ◌∙◌, add-one, arith}
+use Rattle.std.proofs.lemmas.List.{drop_all, map-append, length-map, length-append}
 use Rattle.std.proofs.Math.Seq.{drop-append_seam}
 use Rattle.wire_msg.specs.Envelope.{Envelope}
 use Rattle.sim_net.specs.Network.{Network}
@@ -23,7 +23,7 @@ use Rattle.cluster_sim.specs.Told.{told}
 use Rattle.cluster_sim.specs.Machine.{Machine, Acted, StandsFor}
 use Rattle.invite_console.specs.declared.telling.Telling.{Telling}
 use Rattle.invite_console.specs.Acts.{act_line, moment_line, first_of}
-use Rattle.invite_console.specs.Sim.{AddsNodes, AddsRow, AddsRows, HasWorld, IsSoFar, Tells, nothing, one_more, TellsRun}
+use Rattle.invite_console.specs.Sim.{AddsNodes, AddsRow, AddsRows, HasWorld, IsSoFar, nothing, one_more, TellsRun}
 use Rattle.runs.proofs.Opened.{length_openings}
 
 -- ---- what was sent

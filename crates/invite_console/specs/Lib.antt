@@ -8,3 +8,4 @@ pub mod Rows
 pub mod Sim
 pub mod Reasons
 pub mod Recorded
+pub mod Kept

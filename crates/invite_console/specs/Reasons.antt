@@ -1,5 +1,5 @@
 -- What is wrong with an input, as standard error says it.
-use Rattle.std.specs.Prelude.{ℕ, ◌==◌, List, [], ◌++◌, codes, decimal, if◌then◌else◌, Result, Ok, Err}
+use Rattle.std.specs.Prelude.{ℕ, ◌==◌, List, [], ◌++◌, codes, if◌then◌else◌, Result, Ok, Err}
 use Rattle.std.specs.List.{ends_with}
 use Rattle.line_words.specs.Words.{first_word, words_of}
 use Rattle.line_words.specs.Lines.{line_numbered, lines_of}

@@ -1,7 +1,8 @@
-//! The lines of a simulation: one for each act.
+//! The words of the lines of a simulation, of which each act has one.
 
-ghost use Rattle.std.specs.Prelude.{◌≡◌, ◌++◌, ◌<◌, ◌≤◌, IfOk, IfSome, IsOk, OnOk, codes, decimal, drop, length, slice_get, true};
-ghost use Rattle.invite_console.specs.Acts.{act_line, answer_text, core_name, fault_name, first_of, message_text, net_name, outcome_text, refusal_name, sent_text};
+ghost use Rattle.std.specs.Prelude.{◌≡◌, ◌++◌, ◌<◌, IfSome, OnOk, codes, decimal, length, slice_get, true};
+ghost use Rattle.invite_console.specs.Acts.{answer_text, core_name, fault_name, message_text, net_name, refusal_name};
+ghost use Rattle.invite_console.specs.Kept.{act_head, outcome_head};
 
 use crate::showing::push_shown;
 use cluster_sim::{Outcome, Refusal};
@@ -13,67 +14,27 @@ use schedule::Act;
 use sim_net::NetFault;
 use std::alloc::AllocError;
 
-/// Adds the line of an act that was done or refused. Where there was no memory for it, that is handed on.
-pub(crate) fn push_done(
+/// Adds the line of an act in front of its messages, by its number from 0 on.
+pub(crate) fn push_head(
     text: &mut Vec<u8>,
-    bytes: &mut Vec<u8>,
-    number: u64,
-    act: &Act,
-    outcome: Result<Outcome, AllocError>,
-    messages: &MessageList,
-    place: usize,
-    names: bool,
-) -> Result<(), AllocError>
-    requires place { IfOk outcome (λ _. place ≤ length messages.now.messages) }
-    requires first { IfOk outcome (λ came. first_of place came ≡ place) }
-    ensures done { OnOk result (IsOk outcome) }
-    ensures line { IfOk outcome (λ came. OnOk result (text.new.items ≡ text.old.items ++ act_line names number act.now came (drop place messages.now.messages))) }
-{
-    match outcome {
-        Ok(outcome) => push_act(text, bytes, number, act, outcome, messages, place, names),
-        Err(error) => Err(error),
-    }
-}
-
-/// Adds the line of an act, by its number from 0 on. The messages that were sent in it are the last ones, from this place on.
-fn push_act(
-    text: &mut Vec<u8>,
-    bytes: &mut Vec<u8>,
     number: u64,
     act: &Act,
     outcome: Outcome,
-    messages: &MessageList,
-    place: usize,
-    names: bool,
 ) -> Result<(), AllocError>
-    requires place { place ≤ length messages.now.messages }
-    requires first { first_of place outcome ≡ place }
-    ensures { OnOk result (text.new.items ≡ text.old.items ++ act_line names number act.now outcome (drop place messages.now.messages)) }
+    ensures { OnOk result (text.new.items ≡ text.old.items ++ act_head number act.now outcome) }
 {
     push_number(text, number)?;
     push_text(text, " ")?;
-    push_outcome(text, bytes, act, outcome, messages, place, names)?;
-    push_text(text, "\n")
+    push_outcome(text, act, outcome)
 }
 
-fn push_outcome(
-    text: &mut Vec<u8>,
-    bytes: &mut Vec<u8>,
-    act: &Act,
-    outcome: Outcome,
-    messages: &MessageList,
-    place: usize,
-    names: bool,
-) -> Result<(), AllocError>
-    requires place { place ≤ length messages.now.messages }
-    requires first { first_of place outcome ≡ place }
-    ensures { OnOk result (text.new.items ≡ text.old.items ++ outcome_text names act.now outcome (drop place messages.now.messages)) }
+fn push_outcome(text: &mut Vec<u8>, act: &Act, outcome: Outcome) -> Result<(), AllocError>
+    ensures { OnOk result (text.new.items ≡ text.old.items ++ outcome_head act.now outcome) }
 {
     match outcome {
         Outcome::Done { answer, .. } => {
             push_text(text, "ok")?;
-            push_answer(text, act, answer)?;
-            push_sent(text, bytes, messages, place, names)
+            push_answer(text, act, answer)
         }
         Outcome::Refused(why) => {
             push_text(text, "refused ")?;
@@ -155,25 +116,8 @@ fn net_word(fault: NetFault) -> &'static str
     }
 }
 
-/// Adds the messages from a place on, each with its number, which is its place.
-fn push_sent(
-    text: &mut Vec<u8>,
-    bytes: &mut Vec<u8>,
-    messages: &MessageList,
-    place: usize,
-    names: bool,
-) -> Result<(), AllocError>
-    requires place { place ≤ length messages.now.messages }
-    ensures { OnOk result (text.new.items ≡ text.old.items ++ sent_text names place (drop place messages.now.messages)) }
-{
-    for at in place..messages.len() {
-        push_message(text, bytes, messages, at, names)?;
-    }
-    Ok(())
-}
-
 /// Adds the message at a place, by name or as bytes. Its spelling is written in place of what `bytes` held.
-fn push_message(
+pub(crate) fn push_message(
     text: &mut Vec<u8>,
     bytes: &mut Vec<u8>,
     messages: &MessageList,

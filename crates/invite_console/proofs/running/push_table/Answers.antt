@@ -1,7 +1,7 @@
 use Rattle.std.proofs.Common.{rules, ℕ, subst}
 use Rattle.invite_console.specs.Sim.{AddsRow}
 use Rattle.invite_console.proofs.Sims.{row_more}
-use Rattle.invite_console.proofs.simulating.push_table.Goals as goal
+use Rattle.invite_console.proofs.running.push_table.Goals as goal
 
 pub loop-number-preserved : goal.loop-number-preserved
 loop-number-preserved c = λ w stands end rest.

@@ -1,0 +1,17 @@
+use Rattle.std.proofs.Common.{rules, ◌≡◌, ℕ, List, [], subst, sym}
+use Rattle.schedule.specs.declared.act.Act.{Act}
+use Rattle.invite_console.specs.declared.running.Kept.{Kept}
+use Rattle.invite_console.specs.Kept.{IsKeptSoFar, IsRun}
+use Rattle.invite_console.proofs.Keeping.{begins_kept, run_kept}
+use Rattle.invite_console.proofs.running.run_schedule.Goals as goal
+
+pub returns : goal.returns
+returns c =
+    let size = c.args.schedule.now.size in
+    let opened = begins_kept c.left_by_a_run.ensures.opens c.args.telling size.nodes size.slots c.in_ok-cluster.cluster c.in_ok-cluster.ensures.slots c.in_ok-cluster.ensures.starts in
+    let none : c.in_ok-kept.kept.items ≡ [] = search rules in
+    let kept = subst (λ (kept : List Kept). IsKeptSoFar c.args.telling size.nodes size.slots c.in_ok-cluster.cluster [] kept c.new-tables.result.items) (sym none)
+    (subst (λ (tables : List ℕ). IsKeptSoFar c.args.telling size.nodes size.slots c.in_ok-cluster.cluster [] [] tables) (sym c.new-tables.ensures.items) opened) in
+    let so = c.in_ok-keep_acts.ensures size.nodes size.slots kept in
+    subst (λ (acts : List Act). IsRun c.args.telling size.nodes size.slots acts c.keep_acts.new.kept.items c.push_table.new.text.items c.keep_acts.new.cluster.net.sent) c.deref.ensures.value
+    (run_kept c.args.telling size.nodes size.slots c.keep_acts.new.cluster c.deref.result.now c.keep_acts.new.kept.items c.keep_acts.new.tables.items c.push_table.new.text.items so (λ w stands. c.in_ok-push_table.ensures w stands))
