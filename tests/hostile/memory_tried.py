@@ -170,7 +170,7 @@ def try_little_room(tried, folder):
     entries = b",".join([b'{"do":"none","sent":[]}'] * 200_000)
     node, store = os.path.join(folder, "node"), os.path.join(folder, "store")
     none = b"no memory\n"
-    limited(["sim"], b"cluster 128 4\n" + b"check 0\n" * 20_000, 80, 1, none)
+    limited(["sim"], b"cluster 128 4\n" + b"check 0\n" * 60_000, 80, 1, none)
     limited(["sim"], two + jobs + b"dispatch 0\n" * 100, 40, 1, none)
     limited(["sim"], b"cluster 128 4096\n", 100, 1, none)
     for megabytes in (24, 20):
