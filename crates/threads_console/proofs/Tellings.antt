@@ -1,11 +1,48 @@
--- Entries that are told one after another.
-use Rattle.std.proofs.Common.{◌≡◌, ◌≤◌, ℕ, ◌+◌, List, [], ◌∷◌, ◌++◌, map, length, drop, slice_get, Some, sym, ap, ◌∙◌, append_assoc, append-nil}
-use Rattle.trace_text.proofs.Printing.{drop_get, drop_all}
+-- Texts of items that are told one after another.
+use Rattle.std.proofs.Common.{◌≡◌, ◌≤◌, ◌+◌, ℕ, Bool, true, List, [], ◌∷◌, ◌++◌, length, drop, slice_get, Some, refl, sym, ap, ap₂, ◌∙◌, append_assoc}
+use Rattle.serde_json.specs.Written.{comma_if, compact_text}
+use Rattle.histories.specs.declared.what.What.{What}
+use Rattle.hex.specs.Hex.{encode_lower}
+use Rattle.json.specs.Token.{Token, string}
+use Rattle.wire_msg.specs.Envelope.{Envelope}
+use Rattle.wire_msg.specs.Spelling.{Spells}
+use Rattle.node_lock.specs.declared.line.Quiet.{Quiet}
+use Rattle.node_lock.specs.History.{Turn}
+use Rattle.node_lock.specs.Kept.{IsQuietAt, Log}
+use Rattle.trace_check.specs.Claims.{Claim}
+use Rattle.run_trace.specs.Traced.{deed_of}
+use Rattle.trace_text.specs.Tokens.{message_tokens}
+use Rattle.trace_text.specs.Written.{entry_data, history_data}
+use Rattle.trace_text.proofs.Printing.{drop_get, drop_all, messages_more}
+use Rattle.threads_console.specs.Told.{IsTextAt, entries_text, histories_text, log_told, quiet_told, turn_told}
 
--- what is told of the next item goes behind what was told
-pub told_more : {A B : Type 0} (tell : A → B) (told : List B) (xs : List A) (i : ℕ) (x : A) → slice_get xs i ≡ Some x → (told ++ tell x ∷ []) ++ map tell (drop (i + 1) xs) ≡ told ++ map tell (drop i xs)
-told_more tell told xs i x at = append_assoc told (tell x ∷ []) (map tell (drop (i + 1) xs)) ∙ ap (λ ys. told ++ map tell ys) (sym (drop_get xs i x at))
+-- a text with one item more: what is left has that item no more
+more : (text new comma item rest : List ℕ) → new ≡ text ++ (comma ++ item) → new ++ rest ≡ text ++ (comma ++ (item ++ rest))
+more text new comma item rest added =
+    ap (λ s. s ++ rest) added ∙ append_assoc text (comma ++ item) rest ∙ ap (λ s. text ++ s) (append_assoc comma item rest)
 
--- no item is left
-pub told_all : {A B : Type 0} (tell : A → B) (told all : List B) (xs : List A) (i : ℕ) → length xs ≤ i → told ++ map tell (drop i xs) ≡ all → told ≡ all
-told_all tell told all xs i past is = sym (append-nil told) ∙ ap (λ ys. told ++ map tell ys) (sym (drop_all xs i past)) ∙ is
+pub turn_more : (text new item bytes : List ℕ) (later : Bool) (turns : List Turn) (i : ℕ) → IsTextAt i turns bytes → item ≡ bytes → new ≡ text ++ (comma_if later ++ item) → new ++ entries_text true (drop (i + 1) turns) ≡ text ++ entries_text later (drop i turns)
+turn_more text new item bytes later turns i is same added =
+    let whole = compact_text (entry_data (turn_told is.turn)) in
+    more text new (comma_if later) whole (entries_text true (drop (i + 1) turns)) (added ∙ ap (λ (s : List ℕ). text ++ (comma_if later ++ s)) (same ∙ is.told)) ∙ ap (λ (ts : List Turn). text ++ entries_text later ts) (sym (drop_get turns i is.turn is.at))
+
+quiet_is : (turns : List Turn) (i : ℕ) (q : Quiet) (is : IsQuietAt i q turns) → quiet_told q ≡ turn_told is.turn
+quiet_is turns i q is = sym (ap₂ (λ (what : What) (sent : List Envelope). record { deed = deed_of what; sent = sent }) is.what is.sent)
+
+pub quiet_more : (text new item : List ℕ) (later : Bool) (turns : List Turn) (i : ℕ) (q : Quiet) → IsQuietAt i q turns → item ≡ compact_text (entry_data (quiet_told q)) → new ≡ text ++ (comma_if later ++ item)
+    → new ++ entries_text true (drop (i + 1) turns) ≡ text ++ entries_text later (drop i turns)
+quiet_more text new item later turns i q is same added =
+    turn_more text new item item later turns i (record { turn = is.turn; at = is.at; told = same ∙ ap (λ (c : Claim). compact_text (entry_data c)) (quiet_is turns i q is) }) refl added
+
+pub history_more : (text new : List ℕ) (later : Bool) (h : Log) (rest : List Log) → new ≡ text ++ (comma_if later ++ compact_text (history_data (log_told h)))
+    → new ++ histories_text true rest ≡ text ++ histories_text later (h ∷ rest)
+history_more text new later h rest added = more text new (comma_if later) (compact_text (history_data (log_told h))) (histories_text true rest) added
+
+-- no turn is left
+pub turns_told : (text all : List ℕ) (later : Bool) (turns : List Turn) (i : ℕ) → length turns ≤ i → text ++ entries_text later (drop i turns) ≡ all → text ++ 93 ∷ [] ≡ all
+turns_told text all later turns i past is = ap (λ ts. text ++ entries_text later ts) (sym (drop_all turns i past)) ∙ is
+
+-- a message more that was sent
+pub message_more : (out new : List Token) (item bytes : List ℕ) (ms : List Envelope) (i : ℕ) (m : Envelope) → slice_get ms i ≡ Some m → Spells m bytes → item ≡ bytes → new ≡ out ++ string (encode_lower item) ∷ []
+    → new ++ message_tokens (drop (i + 1) ms) ≡ out ++ message_tokens (drop i ms)
+message_more out new item bytes ms i m at spells same added = messages_more out new ms i m at (added ∙ ap (λ (bs : List ℕ). out ++ string (encode_lower bs) ∷ []) (same ∙ spells.spelled))

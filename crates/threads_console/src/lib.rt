@@ -16,5 +16,4 @@ mod turn;
 
 pub use reading::{Setup, read_plans};
 pub use running::threads;
-pub use telling::{into_trace, trace_of};
 pub use turn::Turn;

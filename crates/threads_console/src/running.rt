@@ -9,7 +9,7 @@ ghost use Rattle.threads_console.specs.Scripts.{CanRun};
 
 use crate::reading::{Setup, read_plans};
 use crate::reasons::bad_plans;
-use crate::telling::into_trace;
+use crate::telling::write_run;
 use console_text::{
     Ended, Printout, Source, Told, Trouble, push_number, push_text, read_source, tell,
 };
@@ -21,7 +21,6 @@ use std::alloc::{AllocError, Global};
 use std::io::{Read, Write};
 use std::sync::Wait;
 use std::thread::Threads;
-use trace_text::write;
 
 /// The gate that lets all pass.
 #[derive(Clone, Copy)]
@@ -98,8 +97,7 @@ fn tell_run(alloc: Global, run: Gathered) -> Result<Printout, AllocError>
     requires { vec_len run.histories ≤ NODES }
     ensures { IfOk result (λ printout. outcome_of printout ≡ told run.histories.items) }
 {
-    let trace = into_trace(alloc, run)?;
-    let mut text = write(alloc, &trace)?;
+    let mut text = write_run(alloc, run)?;
     push_text(&mut text, "\n")?;
     Ok(Printout { text, good: true })
 }

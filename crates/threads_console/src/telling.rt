@@ -1,84 +1,66 @@
-//! The histories of a run as a trace.
+//! The histories of a run as the text of its trace: an entry for each turn, a poll that found nothing among them.
 
-ghost use Rattle.std.specs.Prelude.{◌≡◌, ◌≤◌, ◌<◌, IfOk, OnOk, length, vec_len};
+ghost use Rattle.std.specs.Prelude.{◌≡◌, ◌≤◌, ◌<◌, ◌++◌, [], ◌∷◌, IfOk, OnOk, false, length, vec_len};
 ghost use Rattle.group_task.specs.declared.node.TheConstants.{NODES};
-ghost use Rattle.run_trace.specs.Traced.{deed_of, done, failed};
+ghost use Rattle.serde_json.specs.Written.{comma_if, compact_text};
 ghost use Rattle.node_lock.specs.Kept.{what_quiet};
-ghost use Rattle.threads_console.specs.Told.{ToldNext, log_told, run_told};
+ghost use Rattle.run_trace.specs.Traced.{deed_of, done, failed};
+ghost use Rattle.trace_text.specs.Tokens.{Adds, message_tokens};
+ghost use Rattle.trace_text.specs.Written.{entry_data, history_data, trace_data};
+ghost use Rattle.threads_console.specs.Told.{AreKnown, IsTextAt, entries_text, histories_text, log_told, quiet_told, run_told};
 
 use histories::What;
+use json::Writer;
 use node_core::Event;
-use node_lock::{Quiet, Sent};
+use node_lock::{History, Quiet, Sent};
 use node_threads::Gathered;
 use std::alloc::{AllocError, Global};
-use trace_check::{Deed, History, RecoverFault, Trace};
-use wire_msg::Message;
+use trace_check::{Deed, RecoverFault};
+use trace_text::{
+    begin_entry, begin_items, begin_trace, end_entry, end_items, end_trace, push_item,
+    write_spelled,
+};
+use wire_msg::encode_into;
 
-/// The trace of a run: an entry for each turn, a poll that found nothing among them.
-pub fn trace_of(alloc: Global, run: &Gathered) -> Result<Trace, AllocError>
-    requires { vec_len run.now.histories ≤ NODES }
-    ensures { IfOk result (λ trace. trace ≡ run_told run.now.histories.items) }
-{
-    let mut histories = Vec::new(alloc);
-    for history in run.histories.iter() {
-        histories.push(history_of(alloc, history)?)?;
-    }
-    Ok(Trace::new(histories))
+/// The texts of the entries of quiet turns. Most turns are such, so that their texts are made once.
+#[derive(Drop)]
+struct Known {
+    rested: Vec<u8>,
+    crashed: Vec<u8>,
 }
 
-/// The same, where the run isn't wanted any more: what was told of it is let go at once, so that no two copies of it all stand in
-/// memory.
-pub fn into_trace(alloc: Global, run: Gathered) -> Result<Trace, AllocError>
+/// The text of the trace of a run. What was told is let go at once, so that no two copies of it all stand in memory.
+pub(crate) fn write_run(alloc: Global, run: Gathered) -> Result<Vec<u8>, AllocError>
     requires { vec_len run.histories ≤ NODES }
-    ensures { IfOk result (λ trace. trace ≡ run_told run.histories.items) }
+    ensures { IfOk result (λ text. text.items ≡ compact_text (trace_data (run_told run.histories.items))) }
 {
     let Gathered { histories, links } = run;
     drop(links);
-    let histories = tell_all(alloc, histories)?;
-    Ok(Trace::new(histories))
+    let nodes = histories.len() as u8;
+    let known = make_known(alloc)?;
+    let mut text = begin_trace(alloc)?;
+    tell_all(alloc, &known, &mut text, histories)?;
+    end_trace(text, nodes)
 }
 
-/// The entries of all these nodes.
-fn tell_all(alloc: Global, left: Vec<node_lock::History>) -> Result<Vec<History>, AllocError>
-    ensures { IfOk result (λ told. told.items ≡ run_told left.items) }
+/// Makes the texts of the entries of quiet turns.
+fn make_known(alloc: Global) -> Result<Known, AllocError>
+    ensures { IfOk result AreKnown }
 {
-    let mut histories = Vec::new(alloc);
-    let mut left = left.into_iter();
-    while let Some(history) = left.next() {
-        histories.push(history_of(alloc, &history)?)?;
-    }
-    Ok(histories)
+    Ok(Known {
+        rested: quiet_text(alloc, Quiet::Rested)?,
+        crashed: quiet_text(alloc, Quiet::Crashed)?,
+    })
 }
 
-/// The entries of one node.
-fn history_of(alloc: Global, history: &node_lock::History) -> Result<History, AllocError>
-    ensures { IfOk result (λ told. told ≡ log_told history.now) }
+/// The text of the entry of a quiet turn.
+fn quiet_text(alloc: Global, quiet: Quiet) -> Result<Vec<u8>, AllocError>
+    ensures { IfOk result (λ text. text.items ≡ compact_text (entry_data (quiet_told quiet))) }
 {
-    let mut told = History::new(alloc);
-    let mut sent = Vec::new(alloc);
-    for place in 0..history.len() {
-        tell_turn(history, place, &mut sent, &mut told)?;
-    }
-    Ok(told)
-}
-
-/// Adds the entry of the turn at this place.
-fn tell_turn(
-    history: &node_lock::History,
-    place: usize,
-    sent: &mut Vec<Message>,
-    told: &mut History,
-) -> Result<(), AllocError>
-    requires { place < length history.now.turns }
-    ensures { OnOk result (ToldNext place history.now.turns told.old told.new) }
-{
-    match history.quiet(place) {
-        Some(quiet) => {
-            told.push(&quiet_deed(quiet), &[])?;
-            Ok(())
-        }
-        None => tell_entry(history, place, sent, told),
-    }
+    let mut out = Writer::new(Vec::new(alloc));
+    begin_entry(alloc, &mut out, &quiet_deed(quiet))?;
+    end_entry(&mut out)?;
+    Ok(out.into_inner())
 }
 
 /// How a trace tells what came of a turn that handed no event to its node.
@@ -91,37 +73,122 @@ fn quiet_deed(quiet: Quiet) -> Deed
     }
 }
 
-/// The same for any turn. It stands apart, since each call of a function pays for the size of its locals, and here whole messages
-/// are some.
-#[inline(never)]
-fn tell_entry(
-    history: &node_lock::History,
-    place: usize,
-    sent: &mut Vec<Message>,
-    told: &mut History,
+/// Adds the histories of all these nodes, but for the bracket behind them.
+#[tactic(auto, using(crate::proofs::Tellings::history_more))]
+fn tell_all(
+    alloc: Global,
+    known: &Known,
+    text: &mut Vec<u8>,
+    left: Vec<History>,
 ) -> Result<(), AllocError>
+    requires { AreKnown known.now }
+    ensures { OnOk result (text.new.items ++ 93 ∷ [] ≡ text.old.items ++ histories_text false left.items) }
+{
+    let mut left = left.into_iter();
+    let mut later = false;
+    while let Some(history) = left.next() {
+        tell_history(alloc, known, text, later, &history)?;
+        later = true;
+    }
+    Ok(())
+}
+
+/// Adds the history of a node, and says whether others stand before it.
+fn tell_history(
+    alloc: Global,
+    known: &Known,
+    text: &mut Vec<u8>,
+    later: bool,
+    history: &History,
+) -> Result<(), AllocError>
+    requires { AreKnown known.now }
+    ensures { OnOk result (text.new.items ≡ text.old.items ++ (comma_if later ++ compact_text (history_data (log_told history.now)))) }
+{
+    begin_items(text, later)?;
+    tell_turns(alloc, known, text, history)?;
+    end_items(text)
+}
+
+/// Adds the entries of a node, but for the bracket behind them.
+#[tactic(auto, using(crate::proofs::Tellings::quiet_more, crate::proofs::Tellings::turn_more, crate::proofs::Tellings::turns_told))]
+fn tell_turns(
+    alloc: Global,
+    known: &Known,
+    text: &mut Vec<u8>,
+    history: &History,
+) -> Result<(), AllocError>
+    requires { AreKnown known.now }
+    ensures { OnOk result (text.new.items ++ 93 ∷ [] ≡ text.old.items ++ entries_text false history.now.turns) }
+{
+    let mut entry = Vec::new(alloc);
+    let mut spelled = Vec::new(alloc);
+    let mut later = false;
+    for place in 0..history.len() {
+        match history.quiet(place) {
+            Some(quiet) => push_item(text, later, text_of(known, quiet))?,
+            None => {
+                entry = entry_text(alloc, history, place, entry, &mut spelled)?;
+                push_item(text, later, &entry)?;
+            }
+        }
+        later = true;
+    }
+    Ok(())
+}
+
+/// The text of the entry of a quiet turn, as it was made.
+fn text_of(known: &Known, quiet: Quiet) -> &[u8]
+    requires { AreKnown known.now }
+    ensures { result.now ≡ compact_text (entry_data (quiet_told quiet)) }
+{
+    match quiet {
+        Quiet::Rested => &known.rested,
+        Quiet::Crashed => &known.crashed,
+    }
+}
+
+/// The text of the entry of the turn at this place, in the room of another. It stands apart, since each call of a function pays for
+/// the size of its locals, and here whole messages are some.
+#[inline(never)]
+fn entry_text(
+    alloc: Global,
+    history: &History,
+    place: usize,
+    mut room: Vec<u8>,
+    spelled: &mut Vec<u8>,
+) -> Result<Vec<u8>, AllocError>
     requires { place < length history.now.turns }
-    ensures { OnOk result (ToldNext place history.now.turns told.old told.new) }
+    ensures { IfOk result (λ text. IsTextAt place history.now.turns text.items) }
 {
     let Some(entry) = history.entry(place) else {
         unreachable!()
     };
-    take_sent(&entry.sent, sent)?;
-    told.push(&deed_of(&entry.what), sent)?;
-    Ok(())
+    room.clear();
+    let mut out = Writer::new(room);
+    begin_entry(alloc, &mut out, &deed_of(&entry.what))?;
+    write_sent(alloc, &mut out, &entry.sent, spelled)?;
+    end_entry(&mut out)?;
+    Ok(out.into_inner())
 }
 
-/// Puts what a turn sent into a list, in place of what stood there.
-#[tactic(auto, using(run_trace::proofs::Histories::sent_more, run_trace::proofs::Histories::sent_all))]
-fn take_sent(messages: &Sent<'_>, sent: &mut Vec<Message>) -> Result<(), AllocError>
-    ensures { OnOk result (sent.new.items ≡ messages.now) }
+/// Writes the messages that a turn sent.
+#[tactic(auto, using(crate::proofs::Tellings::message_more))]
+fn write_sent(
+    alloc: Global,
+    out: &mut Writer,
+    messages: &Sent<'_>,
+    spelled: &mut Vec<u8>,
+) -> Result<(), AllocError>
+    ensures { OnOk result (Adds out.old out.new (message_tokens messages.now)) }
 {
-    sent.clear();
     for place in 0..messages.len() {
         let Some(message) = messages.get(place) else {
             unreachable!()
         };
-        sent.push(message)?;
+        let Ok(()) = encode_into(spelled, &message) else {
+            return Err(AllocError);
+        };
+        write_spelled(alloc, out, spelled)?;
     }
     Ok(())
 }

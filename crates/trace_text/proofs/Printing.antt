@@ -68,6 +68,9 @@ entry_of c =
     ∙ ap (λ (ts : List Token). deed_tokens c.deed ++ token.key (codes "sent") ∷ token.begin_array ∷ (ts ++ token.end_object ∷ [])) (messages_of c.sent)
     ∙ ap (λ (ts : List Token). deed_tokens c.deed ++ token.key (codes "sent") ∷ token.begin_array ∷ ts) (append_assoc (message_tokens c.sent) (token.end_array ∷ []) (token.end_object ∷ [])))
 
+pub entry_printed : (c : Claim) → print (entry_tokens c) ≡ compact_text (entry_data c)
+entry_printed c = ap print (sym (entry_of c)) ∙ print-outline (entry_data c)
+
 entries_of : (h : List Claim) → items_tokens (items_outline (items_of (map entry_data h))) ≡ entries_tokens h ++ token.end_array ∷ []
 entries_of [] = refl
 entries_of (c ∷ h) =

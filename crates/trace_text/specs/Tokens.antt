@@ -54,6 +54,13 @@ abbrev pub message_tokens : List Envelope → List Token
 message_tokens [] = []
 message_tokens (m ∷ ms) = token.string (encode_lower (spelling m)) ∷ message_tokens ms
 
+-- an entry up to the messages that it sent, and behind them
+abbrev pub head_tokens : Deed → List Token
+head_tokens d = token.begin_object ∷ token.key (codes "do") ∷ token.string (deed_name d) ∷ (deed_tokens d ++ token.key (codes "sent") ∷ token.begin_array ∷ [])
+
+abbrev pub end_tokens : List Token
+end_tokens = token.end_array ∷ token.end_object ∷ []
+
 abbrev pub entry_tokens : Claim → List Token
 entry_tokens c =
     token.begin_object ∷ token.key (codes "do") ∷ token.string (deed_name c.deed)

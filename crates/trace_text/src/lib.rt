@@ -7,12 +7,14 @@
 
 mod fault;
 mod fields;
+mod parts;
 mod reading;
 mod stream;
 mod whole;
 mod writing;
 
 pub use fault::{Spot, TraceFault};
+pub use parts::{begin_items, begin_trace, end_items, end_trace, push_item};
 pub use reading::{Entry, read_entry};
 pub use whole::read;
-pub use writing::write;
+pub use writing::{begin_entry, end_entry, write, write_spelled};

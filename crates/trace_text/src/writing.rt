@@ -3,7 +3,7 @@ ghost use Rattle.hex.specs.Hex.{encode_lower};
 ghost use Rattle.json.specs.Token.{begin_array, begin_object, end_array, end_object, key, string, number};
 ghost use Rattle.serde_json.specs.Written.{compact_text};
 ghost use Rattle.trace_check.specs.Traces.{claim_seen};
-ghost use Rattle.trace_text.specs.Tokens.{Adds, deed_tokens, event_tokens, priority_tokens, rank_tokens, work_tokens, message_tokens, entry_tokens, history_tokens, histories_tokens, trace_tokens};
+ghost use Rattle.trace_text.specs.Tokens.{Adds, deed_tokens, event_tokens, priority_tokens, rank_tokens, work_tokens, message_tokens, head_tokens, end_tokens, entry_tokens, history_tokens, histories_tokens, trace_tokens};
 ghost use Rattle.trace_text.specs.Fits.{WorkFits, EventFits, DeedFits, ClaimFits, TraceFits, IsTellable};
 ghost use Rattle.trace_text.specs.Wholes.{trace_of};
 ghost use Rattle.trace_text.specs.Written.{trace_data, deed_name, event_name, fault_name};
@@ -42,7 +42,7 @@ fn write_trace(alloc: Global, out: &mut Writer, trace: &Trace) -> Result<(), All
 }
 
 /// Begins the histories.
-fn write_head(out: &mut Writer) -> Result<(), AllocError>
+pub(crate) fn write_head(out: &mut Writer) -> Result<(), AllocError>
     ensures { OnOk result (Adds out.old out.new (begin_object ∷ key (codes "histories") ∷ begin_array ∷ [])) }
 {
     out.begin_object()?;
@@ -57,7 +57,7 @@ fn begin_list(out: &mut Writer, name: &str) -> Result<(), AllocError>
 }
 
 /// Ends the histories, and writes how many nodes there are.
-fn write_nodes(out: &mut Writer, nodes: u8) -> Result<(), AllocError>
+pub(crate) fn write_nodes(out: &mut Writer, nodes: u8) -> Result<(), AllocError>
     ensures { OnOk result (Adds out.old out.new (end_array ∷ key (codes "nodes") ∷ number (decimal nodes) ∷ end_object ∷ [])) }
 {
     out.end_array()?;
@@ -93,13 +93,27 @@ fn write_entry(alloc: Global, out: &mut Writer, entry: &EntryView<'_>) -> Result
     ensures text { OnOk result (Adds out.old out.new (entry_tokens (claim_seen entry.now))) }
     ensures fits { OnOk result (ClaimFits (claim_seen entry.now)) }
 {
+    begin_entry(alloc, out, &entry.deed)?;
+    write_messages(alloc, out, &entry.sent)?;
+    end_entry(out)
+}
+
+/// Begins an entry: the messages that it sent follow.
+pub fn begin_entry(alloc: Global, out: &mut Writer, deed: &Deed) -> Result<(), AllocError>
+    ensures text { OnOk result (Adds out.old out.new (head_tokens deed.now)) }
+    ensures fits { OnOk result (DeedFits deed.now) }
+{
     out.begin_object()?;
     out.key("do")?;
-    out.string(name_of(&entry.deed))?;
-    write_deed(alloc, out, &entry.deed)?;
-    out.key("sent")?;
-    out.begin_array()?;
-    write_messages(alloc, out, &entry.sent)?;
+    out.string(name_of(deed))?;
+    write_deed(alloc, out, deed)?;
+    begin_list(out, "sent")
+}
+
+/// Ends an entry behind its messages.
+pub fn end_entry(out: &mut Writer) -> Result<(), AllocError>
+    ensures { OnOk result (Adds out.old out.new end_tokens) }
+{
     out.end_array()?;
     out.end_object()
 }
@@ -242,11 +256,10 @@ fn write_messages(alloc: Global, out: &mut Writer, messages: &Sent<'_>) -> Resul
     ensures text { OnOk result (Adds out.old out.new (message_tokens messages.now)) }
     ensures fits { OnOk result (Each IsMessage messages.now) }
 {
+    let mut spelled = Vec::new(alloc);
     for place in 0..messages.len() {
-        let Some(message) = messages.get(place) else {
-            unreachable!()
-        };
-        write_message(alloc, out, &message)?;
+        messages.spell(place, &mut spelled)?;
+        write_spelled(alloc, out, &spelled)?;
     }
     Ok(())
 }
@@ -258,6 +271,13 @@ fn write_message(alloc: Global, out: &mut Writer, message: &Message) -> Result<(
     let Ok(bytes) = encode(alloc, message) else {
         return Err(AllocError);
     };
-    let text = hex::encode(alloc, bytes.as_slice())?;
+    write_spelled(alloc, out, &bytes)
+}
+
+/// Writes a message that is spelled.
+pub fn write_spelled(alloc: Global, out: &mut Writer, spelled: &[u8]) -> Result<(), AllocError>
+    ensures { OnOk result (Adds out.old out.new (string (encode_lower spelled.now) ∷ [])) }
+{
+    let text = hex::encode(alloc, spelled)?;
     out.string(&text)
 }

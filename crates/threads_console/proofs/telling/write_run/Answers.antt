@@ -1,0 +1,13 @@
+use Rattle.std.proofs.Common.{◌≡◌, ℕ, List, ◌++◌, false, length, ap, ◌∙◌, subst, sym}
+use Rattle.std.proofs.lemmas.List.{length-map}
+use Rattle.std.specs.Prelude.{IfOk}
+use Rattle.trace_text.proofs.Joined.{whole_text}
+use Rattle.threads_console.specs.Told.{histories_text, log_told, run_told}
+use Rattle.threads_console.proofs.telling.write_run.Goals as goal
+
+pub returns : goal.returns
+returns c =
+    let hs = c.args.run.histories.items in
+    let many : c.len-nodes.result ≡ length (run_told hs) = c.len-nodes.ensures ∙ c.args.run.histories.ok.0 ∙ sym (length-map hs log_told) in
+    let listed = c.in_ok-tell_all.ensures ∙ ap (λ (t : List ℕ). t ++ histories_text false hs) c.in_ok-text.ensures in
+    subst (λ (text : List ℕ). IfOk c.end_trace.result (λ w. w.items ≡ text)) (whole_text (run_told hs) c.len-nodes.result c.tell_all.new.text.items many listed) c.end_trace.ensures

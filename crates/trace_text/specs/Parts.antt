@@ -1,0 +1,12 @@
+-- The text of a trace in parts, one after another.
+use Rattle.std.specs.Prelude.{ℕ, List, [], ◌∷◌, codes, decimal}
+use Rattle.json.specs.Token.{begin_array, begin_object, end_array, end_object, key, number}
+use Rattle.json.specs.Print.{print}
+
+-- in front of the histories
+abbrev pub trace_head : List ℕ
+trace_head = print (begin_object ∷ key (codes "histories") ∷ begin_array ∷ [])
+
+-- behind them, with how many nodes there are
+abbrev pub trace_end : ℕ → List ℕ
+trace_end nodes = print (end_array ∷ key (codes "nodes") ∷ number (decimal nodes) ∷ end_object ∷ [])
