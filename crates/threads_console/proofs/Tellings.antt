@@ -1,5 +1,5 @@
 -- Texts of items that are told one after another.
-use Rattle.std.proofs.Common.{◌≡◌, ◌≤◌, ◌+◌, ℕ, Bool, true, List, [], ◌∷◌, ◌++◌, length, drop, slice_get, Some, refl, sym, ap, ap₂, ◌∙◌, append_assoc}
+use Rattle.std.proofs.Common.{◌≡◌, ◌<◌, ◌≤◌, ◌+◌, ℕ, Bool, true, List, [], ◌∷◌, ◌++◌, length, drop, slice_get, Some, IfSome, refl, sym, ap, ap₂, ◌∙◌, append_assoc}
 use Rattle.serde_json.specs.Written.{comma_if, compact_text}
 use Rattle.histories.specs.declared.what.What.{What}
 use Rattle.hex.specs.Hex.{encode_lower}
@@ -13,6 +13,7 @@ use Rattle.trace_check.specs.Claims.{Claim}
 use Rattle.run_trace.specs.Traced.{deed_of}
 use Rattle.trace_text.specs.Tokens.{message_tokens}
 use Rattle.trace_text.specs.Written.{entry_data, history_data}
+use Rattle.trace_text.proofs.Joined.{there}
 use Rattle.trace_text.proofs.Printing.{drop_get, drop_all, messages_more}
 use Rattle.threads_console.specs.Told.{IsTextAt, entries_text, histories_text, log_told, quiet_told, turn_told}
 
@@ -43,6 +44,8 @@ pub turns_told : (text all : List ℕ) (later : Bool) (turns : List Turn) (i : �
 turns_told text all later turns i past is = ap (λ ts. text ++ entries_text later ts) (sym (drop_all turns i past)) ∙ is
 
 -- a message more that was sent
-pub message_more : (out new : List Token) (item bytes : List ℕ) (ms : List Envelope) (i : ℕ) (m : Envelope) → slice_get ms i ≡ Some m → Spells m bytes → item ≡ bytes → new ≡ out ++ string (encode_lower item) ∷ []
+pub message_more : (out new : List Token) (item bytes : List ℕ) (ms : List Envelope) (i : ℕ) → i < length ms → IfSome (slice_get ms i) (λ m. Spells m bytes) → item ≡ bytes → new ≡ out ++ string (encode_lower item) ∷ []
     → new ++ message_tokens (drop (i + 1) ms) ≡ out ++ message_tokens (drop i ms)
-message_more out new item bytes ms i m at spells same added = messages_more out new ms i m at (added ∙ ap (λ (bs : List ℕ). out ++ string (encode_lower bs) ∷ []) (same ∙ spells.spelled))
+message_more out new item bytes ms i within spelled same added =
+    let (m, at, spells) = there (λ (m : Envelope). Spells m bytes) ms i within spelled in
+    messages_more out new ms i m at (added ∙ ap (λ (bs : List ℕ). out ++ string (encode_lower bs) ∷ []) (same ∙ spells.spelled))

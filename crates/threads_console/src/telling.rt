@@ -20,7 +20,6 @@ use trace_text::{
     begin_entry, begin_items, begin_trace, end_entry, end_items, end_trace, push_item,
     write_spelled,
 };
-use wire_msg::encode_into;
 
 /// The texts of the entries of quiet turns. Most turns are such, so that their texts are made once.
 #[derive(Drop)]
@@ -182,12 +181,7 @@ fn write_sent(
     ensures { OnOk result (Adds out.old out.new (message_tokens messages.now)) }
 {
     for place in 0..messages.len() {
-        let Some(message) = messages.get(place) else {
-            unreachable!()
-        };
-        let Ok(()) = encode_into(spelled, &message) else {
-            return Err(AllocError);
-        };
+        messages.spell(place, spelled)?;
         write_spelled(alloc, out, spelled)?;
     }
     Ok(())
