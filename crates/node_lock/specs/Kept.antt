@@ -51,6 +51,13 @@ pub record IsQuietAt (place : ℕ) (q : Quiet) (turns : List Turn) : Type 0 wher
   pub what : turn.entry.what ≡ what_quiet q
   pub sent : turn.entry.sent ≡ []
 
+-- this event was handled in the turn at this place, which sent these messages
+pub record IsHandledAt (place : ℕ) (event : Event) (messages : List Envelope) (turns : List Turn) : Type 0 where
+  pub turn : Turn
+  pub at : slice_get turns place ≡ Some turn
+  pub what : turn.entry.what ≡ what.Did event
+  pub sent : turn.entry.sent ≡ messages
+
 -- the event of a line is among so many
 abbrev pub ToldStands : ℕ → Told → Type 0
 ToldStands events (told.Came place fate) = place < events

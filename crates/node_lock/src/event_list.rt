@@ -112,6 +112,17 @@ impl EventList {
         let kept = self.kept.get(place)?;
         Some(event_said(&self.messages, &self.payloads, *kept))
     }
+
+    /// Puts the event at a place, counted from 0, in place of another one: it is copied once.
+    pub fn read(&self, place: usize, event: &mut Event)
+        requires { place < length self.now.events }
+        ensures { slice_get self.now.events place ≡ Some event.new }
+    {
+        let Some(kept) = self.kept.get(place) else {
+            unreachable!()
+        };
+        *event = event_said(&self.messages, &self.payloads, *kept);
+    }
 }
 
 /// Keeps an event, in the room that is there.

@@ -1,9 +1,11 @@
 //! The history of a node: what came of the turns of its workers.
 
-ghost use Rattle.std.specs.Prelude.{◌≡◌, ◌≤◌, ◌<◌, ◌+◌, ◌↔◌, [], ◌∷◌, ◌++◌, length, slice_get, None, Some, IfSome, IsNone, IsTrue, OnOk, OnErr};
+ghost use Rattle.std.specs.Prelude.{◌≡◌, ◌≤◌, ◌<◌, ◌+◌, ◌↔◌, List, [], ◌∷◌, ◌++◌, length, slice_get, None, Some, IfSome, IsNone, IsTrue, OnOk, OnErr};
 ghost use Rattle.histories.specs.Fates.{what_of};
 ghost use Rattle.wire_msg.specs.Spelling.{Spells};
-ghost use Rattle.node_lock.specs.Kept.{IsQuietAt, ToldStands, what_in, what_quiet};
+ghost use Rattle.node_core.specs.declared.event.Event.{Event};
+ghost use Rattle.wire_msg.specs.Envelope.{Envelope};
+ghost use Rattle.node_lock.specs.Kept.{IsHandledAt, IsQuietAt, ToldStands, what_in, what_quiet};
 ghost use Rattle.node_lock.specs.Seen.{turn_seen};
 ghost use Rattle.node_lock.specs.declared.line.Quiet.{Quiet};
 
@@ -131,6 +133,27 @@ impl History {
             Told::Quiet(quiet) if line.start == line.end => Some(quiet),
             _ => None,
         }
+    }
+
+    /// What the turn at this place sent, where an event was handled in it: then `event` is that event. None only where none was,
+    /// or no turn stands there. It copies the event once; an [`Entry`] is copied whole, again and again.
+    pub fn handled(&self, place: usize, event: &mut Event) -> Option<Sent<'_>>
+        ensures some { IfSome result (λ sent. IsHandledAt place event.new sent self.now.turns) }
+        ensures none { IsNone result → (event : Event) → (sent : List Envelope) → IsHandledAt place event sent self.now.turns → ⊥ }
+    {
+        let line = self.lines.get(place)?;
+        let Told::Came(at, fate) = line.told else {
+            return None;
+        };
+        let Fate::Done = fate else {
+            return None;
+        };
+        self.events.read(at, event);
+        Some(Sent {
+            messages: &self.sent,
+            start: line.start,
+            end: line.end,
+        })
     }
 
     /// The turn at this place.

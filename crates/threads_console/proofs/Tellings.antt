@@ -8,9 +8,10 @@ use Rattle.wire_msg.specs.Envelope.{Envelope}
 use Rattle.wire_msg.specs.Spelling.{Spells}
 use Rattle.node_lock.specs.declared.line.Quiet.{Quiet}
 use Rattle.node_lock.specs.History.{Turn}
-use Rattle.node_lock.specs.Kept.{IsQuietAt, Log}
+use Rattle.node_core.specs.declared.event.Event.{Event}
+use Rattle.node_lock.specs.Kept.{IsHandledAt, IsQuietAt, Log}
 use Rattle.trace_check.specs.Claims.{Claim}
-use Rattle.run_trace.specs.Traced.{deed_of}
+use Rattle.run_trace.specs.Traced.{deed_of, done}
 use Rattle.trace_text.specs.Tokens.{message_tokens}
 use Rattle.trace_text.specs.Written.{entry_data, history_data}
 use Rattle.trace_text.proofs.Joined.{there}
@@ -49,3 +50,11 @@ pub message_more : (out new : List Token) (item bytes : List ℕ) (ms : List Env
 message_more out new item bytes ms i within spelled same added =
     let (m, at, spells) = there (λ (m : Envelope). Spells m bytes) ms i within spelled in
     messages_more out new ms i m at (added ∙ ap (λ (bs : List ℕ). out ++ string (encode_lower bs) ∷ []) (same ∙ spells.spelled))
+
+-- the entry of an event that was handled is that of its turn
+pub handled_told : (place : ℕ) (turns : List Turn) (event : Event) (sent : List Envelope) → IsHandledAt place event sent turns → (text : List ℕ) → text ≡ compact_text (entry_data (record { deed = done event; sent = sent })) → IsTextAt place turns text
+handled_told place turns event sent is text told = record {
+  turn = is.turn;
+  at = is.at;
+  told = told ∙ ap (λ (c : Claim). compact_text (entry_data c)) (sym (ap₂ (λ (what : What) (ms : List Envelope). record { deed = deed_of what; sent = ms }) is.what is.sent));
+}

@@ -5,7 +5,7 @@ ghost use Rattle.group_task.specs.declared.node.TheConstants.{NODES};
 ghost use Rattle.serde_json.specs.Written.{comma_if, compact_text};
 ghost use Rattle.node_lock.specs.Kept.{what_quiet};
 ghost use Rattle.run_trace.specs.Traced.{deed_of, done, failed};
-ghost use Rattle.trace_text.specs.Tokens.{Adds, message_tokens};
+ghost use Rattle.trace_text.specs.Tokens.{Adds, head_tokens, message_tokens};
 ghost use Rattle.trace_text.specs.Written.{entry_data, history_data, trace_data};
 ghost use Rattle.threads_console.specs.Told.{AreKnown, IsTextAt, entries_text, histories_text, log_told, quiet_told, run_told};
 
@@ -17,8 +17,8 @@ use node_threads::Gathered;
 use std::alloc::{AllocError, Global};
 use trace_check::{Deed, RecoverFault};
 use trace_text::{
-    begin_entry, begin_items, begin_trace, end_entry, end_items, end_trace, push_item,
-    write_spelled,
+    begin_entry, begin_handled, begin_items, begin_trace, end_entry, end_items, end_trace,
+    push_item, write_spelled,
 };
 
 /// The texts of the entries of quiet turns. Most turns are such, so that their texts are made once.
@@ -120,13 +120,14 @@ fn tell_turns(
     ensures { OnOk result (text.new.items ++ 93 ∷ [] ≡ text.old.items ++ entries_text false history.now.turns) }
 {
     let mut entry = Vec::new(alloc);
+    let mut event = Event::Recover;
     let mut spelled = Vec::new(alloc);
     let mut later = false;
     for place in 0..history.len() {
         match history.quiet(place) {
             Some(quiet) => push_item(text, later, text_of(known, quiet))?,
             None => {
-                entry = entry_text(alloc, history, place, entry, &mut spelled)?;
+                entry = entry_text(alloc, history, place, entry, &mut event, &mut spelled)?;
                 push_item(text, later, &entry)?;
             }
         }
@@ -147,9 +148,43 @@ fn text_of(known: &Known, quiet: Quiet) -> &[u8]
 }
 
 /// The text of the entry of the turn at this place, in the room of another. It stands apart, since each call of a function pays for
-/// the size of its locals, and here whole messages are some.
+/// the size of its locals, and here a whole event is one.
 #[inline(never)]
 fn entry_text(
+    alloc: Global,
+    history: &History,
+    place: usize,
+    mut room: Vec<u8>,
+    event: &mut Event,
+    spelled: &mut Vec<u8>,
+) -> Result<Vec<u8>, AllocError>
+    requires { place < length history.now.turns }
+    ensures { IfOk result (λ text. IsTextAt place history.now.turns text.items) }
+{
+    room.clear();
+    let Some(sent) = history.handled(place, event) else {
+        return other_text(alloc, history, place, room, spelled);
+    };
+    let mut out = Writer::new(room);
+    begin_done(alloc, &mut out, event)?;
+    write_sent(alloc, &mut out, &sent, spelled)?;
+    end_entry(&mut out)?;
+    Ok(out.into_inner())
+}
+
+/// Begins the entry of an event that was handled.
+fn begin_done(alloc: Global, out: &mut Writer, event: &Event) -> Result<(), AllocError>
+    ensures { OnOk result (Adds out.old out.new (head_tokens (done event.now))) }
+{
+    match event {
+        Event::Recover => begin_entry(alloc, out, &Deed::Recovered(false)),
+        _ => begin_handled(alloc, out, event),
+    }
+}
+
+/// The text of an entry in which an event wasn't handled.
+#[inline(never)]
+fn other_text(
     alloc: Global,
     history: &History,
     place: usize,

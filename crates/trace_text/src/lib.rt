@@ -17,4 +17,4 @@ pub use fault::{Spot, TraceFault};
 pub use parts::{begin_items, begin_trace, end_items, end_trace, push_item};
 pub use reading::{Entry, read_entry};
 pub use whole::read;
-pub use writing::{begin_entry, end_entry, write, write_spelled};
+pub use writing::{begin_entry, begin_handled, end_entry, write, write_spelled};

@@ -110,6 +110,18 @@ pub fn begin_entry(alloc: Global, out: &mut Writer, deed: &Deed) -> Result<(), A
     begin_list(out, "sent")
 }
 
+/// Begins the entry of an event that was handled, as [`begin_entry`] does, without a [`Deed`] that holds it.
+pub fn begin_handled(alloc: Global, out: &mut Writer, event: &Event) -> Result<(), AllocError>
+    ensures text { OnOk result (Adds out.old out.new (head_tokens (Deed.Done event.now))) }
+    ensures fits { OnOk result (EventFits event.now) }
+{
+    out.begin_object()?;
+    out.key("do")?;
+    out.string(event_name(event))?;
+    write_event(alloc, out, event)?;
+    begin_list(out, "sent")
+}
+
 /// Ends an entry behind its messages.
 pub fn end_entry(out: &mut Writer) -> Result<(), AllocError>
     ensures { OnOk result (Adds out.old out.new end_tokens) }
