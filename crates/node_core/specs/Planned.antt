@@ -6,6 +6,8 @@ use Rattle.wire_msg.specs.Envelope.{Envelope}
 use Rattle.wire_msg.specs.declared.body.Body.TheVariants.{Invitation, Work}
 use Rattle.node_core.specs.declared.durable.Durable.{Durable}
 use Rattle.node_core.specs.declared.durable.Durable.TheVariants as durable
+use Rattle.node_core.specs.declared.durable.Wanted.{Wanted}
+use Rattle.node_core.specs.declared.durable.Wanted.TheVariants as lent
 use Rattle.node_core.specs.declared.in_hand.InHand.{InHand}
 use Rattle.node_core.specs.declared.plan.Standing.{Standing}
 use Rattle.node_core.specs.declared.plan.HandChange.{HandChange}
@@ -99,6 +101,13 @@ wanted_by durable.None = None
 wanted_by durable.Raise = Some Raise
 wanted_by (durable.Put work) = Some (Put work)
 wanted_by (durable.Done id) = Some (Done id)
+
+-- the command that a value of `Wanted` names
+abbrev pub lent_by : Wanted → Option Command
+lent_by lent.None = None
+lent_by lent.Raise = Some Raise
+lent_by (lent.Put work) = Some (Put work.now)
+lent_by (lent.Done id) = Some (Done id)
 
 -- how many messages carrying out the plan sends
 abbrev pub act_sends : ℕ → Act → List Envelope → ℕ

@@ -2,9 +2,9 @@ ghost use Rattle.std.specs.Prelude.{◌≡◌, ◌+◌, ◌≤◌, ◌<◌, ◌+
 ghost use Rattle.group_task.specs.Ids.{has};
 ghost use Rattle.group_task.specs.Others.{AreOthers};
 ghost use Rattle.node_core.specs.Words.{to_each};
-ghost use Rattle.node_core.specs.Planned.{gain_of, hand_gain, done_wanted, plan_wants, wanted_by, standing_of};
+ghost use Rattle.node_core.specs.Planned.{gain_of, hand_gain, done_wanted, lent_by, plan_wants, wanted_by, standing_of};
 
-use crate::durable::Durable;
+use crate::durable::{Durable, Wanted};
 use crate::in_hand::InHand;
 use crate::phase::Phase;
 use crate::vector::Vector;
@@ -80,6 +80,18 @@ impl Plan {
         }
     }
 
+    /// The same command, with the job where the plan has it.
+    pub fn wanted(&self) -> Wanted<'_>
+        ensures { lent_by result ≡ plan_wants self.now }
+    {
+        match &self.act {
+            Act::Stay(done) => done_lent(*done),
+            Act::Settle(change) => done_lent(change.done),
+            Act::Invite(_) | Act::Recover => Wanted::Raise,
+            Act::Place(_, work) => Wanted::Put(work),
+        }
+    }
+
     /// By how many jobs the work in hand may grow.
     pub fn gain(&self) -> usize
         ensures { result ≡ gain_of self.now.act }
@@ -110,6 +122,16 @@ fn done_wanted(done: Option<u64>) -> Durable
     match done {
         Some(id) => Durable::Done(id),
         None => Durable::None,
+    }
+}
+
+/// The same command, lent.
+fn done_lent(done: Option<u64>) -> Wanted<'static>
+    ensures { lent_by result ≡ done_wanted done }
+{
+    match done {
+        Some(id) => Wanted::Done(id),
+        None => Wanted::None,
     }
 }
 
