@@ -2,13 +2,13 @@
 ghost use Rattle.std.specs.Prelude.{◌≡◌, option_map};
 ghost use Rattle.histories.specs.Fates.{attempt_of};
 ghost use Rattle.histories.specs.What.{reason_of};
-ghost use Rattle.node_core.specs.Planned.{wanted_by};
+ghost use Rattle.node_core.specs.Planned.{lent_by};
 ghost use Rattle.durable_node.specs.Faults.{fault_of, shown};
 ghost use Rattle.durable_node.specs.Stepping.{IsSilent};
 
 use crate::fault::NodeFault;
 use histories::{Attempt, Fate, Refusal};
-use node_core::Durable;
+use node_core::Wanted;
 use std::alloc::Global;
 use wire_msg::Message;
 
@@ -66,13 +66,13 @@ pub(crate) fn shown(why: Refusal) -> NodeFault
 }
 
 /// Which command an event wants, as it is told.
-pub(crate) fn attempt_in(wants: &Durable) -> Option<Attempt>
-    ensures { result ≡ option_map attempt_of (wanted_by wants.now) }
+pub(crate) fn attempt_in(wants: &Wanted<'_>) -> Option<Attempt>
+    ensures { result ≡ option_map attempt_of (lent_by wants.now) }
 {
     match wants {
-        Durable::None => None,
-        Durable::Raise => Some(Attempt::Raise),
-        Durable::Put(_) => Some(Attempt::Put),
-        Durable::Done(id) => Some(Attempt::Done(*id)),
+        Wanted::None => None,
+        Wanted::Raise => Some(Attempt::Raise),
+        Wanted::Put(_) => Some(Attempt::Put),
+        Wanted::Done(id) => Some(Attempt::Done(*id)),
     }
 }

@@ -1,7 +1,7 @@
 ghost use Rattle.std.specs.Prelude.{◌≡◌, ◌≢◌, ◌<◌, ◌^◌, ℕ, true, IsOk, IfOk, IfErr, IsErrOf, Some, Ok, Err};
 ghost use Rattle.job_model.specs.Command.{Done};
 ghost use Rattle.job_model.specs.Fold.{is_pending};
-ghost use Rattle.node_core.specs.Planned.{wanted_by};
+ghost use Rattle.node_core.specs.Planned.{lent_by};
 ghost use Rattle.node_store.specs.Store.{durable_of};
 ghost use Rattle.durable_node.specs.Faults.{fault_for};
 ghost use Rattle.durable_node.specs.Carrying.{Carried, CantCarry, IsCut, IsReady, KeepsSound, Writes};
@@ -9,32 +9,32 @@ ghost use Rattle.durable_node.specs.Node.{area_of};
 ghost use Rattle.durable_node.specs.Refusing.{AnswersTo, disk_refusal};
 
 use crate::fault::{NodeFault, node_fault};
-use node_core::Durable;
+use node_core::Wanted;
 use node_store::{NodeStore, StoreFault};
 use sector_disk::SectorDisk;
 
 /// Carries out the command that a plan wants, and gives its answer.
 pub(crate) fn carry<D: SectorDisk>(
     store: &mut NodeStore<D>,
-    wants: &Durable,
+    wants: &Wanted<'_>,
 ) -> Result<Option<u64>, NodeFault>
     requires ready { IsReady D.state store.old }
-    requires pending { (id : ℕ) → wanted_by wants.now ≡ Some (Done id) → is_pending (durable_of store.old).pending id ≡ true }
-    ensures answers { AnswersTo (disk_refusal (durable_of store.old) (area_of store.old) (wanted_by wants.now)) result }
-    ensures ok { IfOk result (Carried store.old store.new (wanted_by wants.now)) }
-    ensures failed { IsErrOf result NodeFault.Device → IsCut store.old store.new (wanted_by wants.now) }
-    ensures refused { IfErr result (λ fault. fault ≢ NodeFault.Device → (store.new ≡ store.old) × CantCarry store.old.journal.slots (durable_of store.old) (wanted_by wants.now) fault) }
+    requires pending { (id : ℕ) → lent_by wants.now ≡ Some (Done id) → is_pending (durable_of store.old).pending id ≡ true }
+    ensures answers { AnswersTo (disk_refusal (durable_of store.old) (area_of store.old) (lent_by wants.now)) result }
+    ensures ok { IfOk result (Carried store.old store.new (lent_by wants.now)) }
+    ensures failed { IsErrOf result NodeFault.Device → IsCut store.old store.new (lent_by wants.now) }
+    ensures refused { IfErr result (λ fault. fault ≢ NodeFault.Device → (store.new ≡ store.old) × CantCarry store.old.journal.slots (durable_of store.old) (lent_by wants.now) fault) }
     ensures store { KeepsSound D.state store.old store.new (IsErrOf result NodeFault.Device) }
-    ensures disk { Writes D.state store.old store.new (wanted_by wants.now) (IsOk result) }
+    ensures disk { Writes D.state store.old store.new (lent_by wants.now) (IsOk result) }
 {
     match wants {
-        Durable::None => Ok(None),
-        Durable::Raise => told(store.raise()),
-        Durable::Put(work) => {
+        Wanted::None => Ok(None),
+        Wanted::Raise => told(store.raise()),
+        Wanted::Put(work) => {
             ids_fit(store);
-            told(store.put(*work))
+            told(store.put(**work))
         }
-        Durable::Done(id) => told(store.done(*id)),
+        Wanted::Done(id) => told(store.done(*id)),
     }
 }
 

@@ -2,7 +2,7 @@ ghost use Rattle.std.specs.Prelude.{◌≡◌, ◌≤◌, ◌↔◌, ℕ, IsTrue
 ghost use Rattle.node_core.specs.declared.fault.CoreFault.TheVariants.{NoMemory};
 ghost use Rattle.node_core.specs.Most.{most_of};
 ghost use Rattle.node_core.specs.NodeStep.{IsSpent};
-ghost use Rattle.node_core.specs.Planned.{wanted_by};
+ghost use Rattle.node_core.specs.Planned.{lent_by};
 ghost use Rattle.node_core.specs.Refusals.{refusal_of};
 ghost use Rattle.node_core.specs.Wants.{wants_of};
 ghost use Rattle.node_store.specs.Store.{durable_of};
@@ -19,7 +19,7 @@ use crate::carry::carry;
 use crate::fault::NodeFault;
 use group_task::NodeId;
 use histories::{Fate, Refusal};
-use node_core::{CoreFault, Durable, Event, NodeCore};
+use node_core::{CoreFault, Durable, Event, NodeCore, Wanted};
 use node_store::NodeStore;
 use sector_disk::SectorDisk;
 use std::alloc::Global;
@@ -56,7 +56,8 @@ pub(crate) fn handle<D: SectorDisk>(
             return Ok(Came::silent(alloc, fate, None));
         }
     };
-    let wants = plan.wants();
+    let wants = plan.wanted();
+    let tried = attempt_in(&wants);
     let answer = match carry(store, &wants) {
         Ok(answer) => answer,
         Err(fault) => {
@@ -64,23 +65,23 @@ pub(crate) fn handle<D: SectorDisk>(
                 let fate = Fate::Refused(refusal(store, &wants, fault));
                 return Ok(Came::silent(alloc, fate, None));
             }
-            *doubt = doubted(store, wants);
+            put_in_doubt(store, &wants, doubt);
             *core = NodeCore::down(alloc, id, nodes);
-            return Ok(Came::silent(alloc, Fate::Faulted, attempt_in(&wants)));
+            return Ok(Came::silent(alloc, Fate::Faulted, tried));
         }
     };
     let sent = core.commit_step(plan, answer.unwrap_or(0));
     Ok(Came {
         fate: Fate::Done,
-        tried: attempt_in(&wants),
+        tried,
         answer,
         sent,
     })
 }
 
 /// Why the disk can't take a command, by how it is told.
-fn refusal<D: SectorDisk>(store: &NodeStore<D>, wants: &Durable, fault: NodeFault) -> Refusal
-    ensures { (slots : ℕ) (cant : CantCarry slots (durable_of store.now) (wanted_by wants.now) fault) → reason_of result ≡ cant.why }
+fn refusal<D: SectorDisk>(store: &NodeStore<D>, wants: &Wanted<'_>, fault: NodeFault) -> Refusal
+    ensures { (slots : ℕ) (cant : CantCarry slots (durable_of store.now) (lent_by wants.now) fault) → reason_of result ≡ cant.why }
 {
     match fault {
         NodeFault::Full => Refusal::Full,
@@ -90,23 +91,30 @@ fn refusal<D: SectorDisk>(store: &NodeStore<D>, wants: &Durable, fault: NodeFaul
 }
 
 /// Whether the numbers that a command takes are used up.
-fn is_spent<D: SectorDisk>(store: &NodeStore<D>, wants: &Durable) -> bool
-    ensures { IsTrue result ↔ IsSpent (durable_of store.now) (wanted_by wants.now) }
+fn is_spent<D: SectorDisk>(store: &NodeStore<D>, wants: &Wanted<'_>) -> bool
+    ensures { IsTrue result ↔ IsSpent (durable_of store.now) (lent_by wants.now) }
 {
     match wants {
-        Durable::Raise => store.counter() == u64::MAX,
-        Durable::Put(_) => store.table().next() == u64::MAX,
-        Durable::None | Durable::Done(_) => false,
+        Wanted::Raise => store.counter() == u64::MAX,
+        Wanted::Put(_) => store.table().next() == u64::MAX,
+        Wanted::None | Wanted::Done(_) => false,
     }
 }
 
-/// What is in doubt if the device fails in the command: the command with the count, or the next id, from before it.
-fn doubted<D: SectorDisk>(store: &NodeStore<D>, wants: Durable) -> Option<(Durable, u64)>
-    ensures { result ≡ told_doubt (durable_of store.now) (wanted_by wants) }
+/// Notes what is in doubt if the device fails in the command: the command with the count, or the next id, from before it. It
+/// stands apart, since what is noted takes over 400 bytes.
+#[inline(never)]
+fn put_in_doubt<D: SectorDisk>(
+    store: &NodeStore<D>,
+    wants: &Wanted<'_>,
+    doubt: &mut Option<(Durable, u64)>,
+)
+    ensures { doubt.new ≡ told_doubt (durable_of store.now) (lent_by wants.now) }
 {
-    match wants {
-        Durable::None => None,
-        Durable::Raise => Some((wants, store.counter())),
-        Durable::Put(_) | Durable::Done(_) => Some((wants, store.table().next())),
-    }
+    *doubt = match wants {
+        Wanted::None => None,
+        Wanted::Raise => Some((Durable::Raise, store.counter())),
+        Wanted::Put(work) => Some((Durable::Put(**work), store.table().next())),
+        Wanted::Done(id) => Some((Durable::Done(*id), store.table().next())),
+    };
 }

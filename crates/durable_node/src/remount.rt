@@ -17,7 +17,7 @@ use crate::fault::{NodeFault, node_fault};
 use crate::node_disk::NodeDisk;
 use group_task::NodeId;
 use histories::{Attempt, Fate};
-use node_core::{Durable, NodeCore};
+use node_core::{Durable, NodeCore, Wanted};
 use node_store::NodeStore;
 use sector_disk::SectorDisk;
 use std::alloc::Global;
@@ -107,7 +107,7 @@ fn rise<D: SectorDisk>(
     ensures disk { Writes D.state store.old store.new (Some Raise) (IsOk (told (Ok result))) }
 {
     let count = store.counter();
-    match carry(store, &Durable::Raise) {
+    match carry(store, &Wanted::Raise) {
         Ok(answer) => {
             *core = NodeCore::new(alloc, id, nodes, store.counter());
             *doubt = None;
