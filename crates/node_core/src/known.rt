@@ -30,13 +30,15 @@ fn names_known(nodes: u8, body: &Body) -> bool
     }
 }
 
+/// Whether the nodes of a set are all among so many.
 fn all_known(nodes: u8, members: Members) -> bool
     ensures { result ≡ list_all (λ id. nat_lt id nodes) members }
 {
-    for member in members.iter() {
-        if member.number() >= nodes {
-            return false;
+    match NodeId::new(nodes) {
+        Some(limit) => members.are_below(limit),
+        None => {
+            let _ = members.len();
+            true
         }
     }
-    true
 }

@@ -35,7 +35,6 @@ pub fn recovery(room: Vec<Message>, nodes: u8, id: NodeId, vector: &Vector) -> P
 
 /// A coordinator keeps a new job, and takes it in hand or sends it to its owner.
 #[tactic(auto, unfolding(crate::specs::Operator::submit))]
-#[inline(never)]
 pub fn submit(
     alloc: Global,
     nodes: u8,
@@ -59,7 +58,6 @@ pub fn submit(
 
 /// A job in hand is finished: the node that keeps it is told, or marks it as done where it is this one.
 #[tactic(auto, using(crate::proofs::Sets::kept_from, crate::proofs::Sets::held_within), unfolding(crate::specs::Operator::finish))]
-#[inline(never)]
 pub fn finish(
     alloc: Global,
     nodes: u8,
