@@ -1,6 +1,7 @@
 -- An area that was written anew reads as the jobs that its records are of.
 use Rattle.std.proofs.Common.{◌≡◌, ◌+◌, ◌*◌, ◌<◌, ◌≤◌, ℕ, zero, suc, List, [], ◌∷◌, ◌++◌, length, map, true, ◌&&◌, nat_lt, Some, None, sym, ◌∙◌, ap, subst, refl, arith, if◌then◌else◌}
-use Rattle.std.proofs.lemmas.List.{length-append}
+use Rattle.std.proofs.lemmas.Bool.{lt-ltb}
+use Rattle.std.proofs.lemmas.List.{append-nil, append_assoc, length-append}
 use Rattle.sector_disk.specs.Disk.{Image, sector_at}
 use Rattle.slot_gate.specs.Slot.{slot_at}
 use Rattle.job_model.specs.declared.job.Job.{Job}
@@ -17,7 +18,7 @@ use Rattle.job_journal.specs.Compacting.{IsWritten, records_for}
 use Rattle.job_journal.proofs.Prefixes.{none_sealed, unsealed_prefix}
 use Rattle.job_journal.proofs.Formats.{all_unsealed}
 use Rattle.job_journal.proofs.Appends.{room_for}
-use Rattle.job_journal.proofs.Commands.{bounds_above, told_less, joined}
+use Rattle.job_journal.proofs.Commands.{bounds_above, joined}
 
 -- an area with all of its records, and nothing else
 abbrev pub Whole : ℕ → ℕ → List Record → Image → Type 0
@@ -86,17 +87,9 @@ keep_taken slots next done rest job order fits =
     let after : Reading = record { jobs = record { next = next; pending = done ++ job ∷ [] }; place = Keeping } in
     let before = up_to 0 next done rest job order in
     let test : (is_above done job.id && nat_lt job.id next) ≡ true =
-    joined (is_above done job.id) (nat_lt job.id next) (bounds_above 0 job.id done before.0) (told_less job.id next before.2) in
+    joined (is_above done job.id) (nat_lt job.id next) (bounds_above 0 job.id done before.0) (lt-ltb job.id next before.2) in
     ap (λ b. fitting slots (if b then Some after else None)) test
     ∙ room_for slots after (omega (arith, fits, length-append done (job ∷ [])))
-
-joined_on : (done rest : List Job) (job : Job) → (done ++ job ∷ []) ++ rest ≡ done ++ job ∷ rest
-joined_on [] rest job = refl
-joined_on (x ∷ done) rest job = ap (λ xs. x ∷ xs) (joined_on done rest job)
-
-nothing_on : (done : List Job) → done ++ [] ≡ done
-nothing_on [] = refl
-nothing_on (x ∷ done) = ap (λ xs. x ∷ xs) (nothing_on done)
 
 keeps_read : (slots at n next : ℕ) (done rest : List Job) (c : Image) → IsInOrder (done ++ rest) next → length done + length rest + 2 ≤ slots → length rest ≤ n
     → Whole at n (map Keep rest) c
@@ -105,11 +98,11 @@ keeps_read : (slots at n next : ℕ) (done rest : List Job) (c : Image) → IsIn
 keeps_read slots at n next done [] c order fits long h =
     let reading : List Job → Reading = λ jobs. record { jobs = record { next = next; pending = jobs }; place = Keeping } in
     ap (λ bodies. replayed slots at (Reads (reading done)) bodies) (none_sealed (slots_from c at n) (none_here at n c h))
-    ∙ ap (λ jobs. Reads (reading jobs)) (sym (nothing_on done))
+    ∙ ap (λ jobs. Reads (reading jobs)) (sym (append-nil done))
 keeps_read slots at zero next done (job ∷ rest) c order fits long h = absurd (omega (arith, long))
 keeps_read slots at (suc n) next done (job ∷ rest) c order fits long h =
     let reading : List Job → Reading = λ jobs. record { jobs = record { next = next; pending = jobs }; place = Keeping } in
-    let more = joined_on done rest job in
+    let more = append_assoc done (job ∷ []) rest in
     read_one slots at n (Keep job) (map Keep rest) c (reading done) (reading (done ++ job ∷ [])) h (keep_taken slots next done rest job order fits)
     ∙ keeps_read slots (at + 2) n next (done ++ job ∷ []) rest c (subst (λ jobs. IsInOrder jobs next) (sym more) order)
     (omega (arith, fits, length-append done (job ∷ []))) (omega (arith, long)) (rest_whole at n (Keep job) (map Keep rest) c h)
