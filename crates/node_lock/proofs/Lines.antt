@@ -190,33 +190,3 @@ handled_at ls ms es place l k e at is event = record {
   what = ap (λ (t : Told). what_in es t) is ∙ ap (λ (o : Option Event). what_came o fate.Done) event;
   sent = refl;
 }
-
--- and where none was, none is told
-abbrev is_handled : What → Bool
-is_handled (what.Did e) = true
-is_handled w = false
-
-abbrev pub is_done : Told → Bool
-is_done (told.Came k fate.Done) = true
-is_done t = false
-
-not_handled : (e : Option Event) (k : ℕ) (f : Fate) → is_done (told.Came k f) ≡ false → is_handled (what_came e f) ≡ false
-not_handled None k f is = refl
-not_handled (Some e) k fate.Done is = absurd (let bad = is in cc)
-not_handled (Some e) k (fate.Refused why) is = refl
-not_handled (Some e) k fate.Faulted is = refl
-not_handled (Some e) k (fate.Recovered kept) is = refl
-not_handled (Some e) k fate.MountFailed is = refl
-not_handled (Some e) k (fate.RaiseFailed kept) is = refl
-not_handled (Some e) k (fate.RaiseRefused kept) is = refl
-
-not_handled_in : (es : List Event) (t : Told) → is_done t ≡ false → is_handled (what_in es t) ≡ false
-not_handled_in es (told.Came k f) is = not_handled (slice_get es k) k f is
-not_handled_in es (told.Quiet quiet.Rested) is = refl
-not_handled_in es (told.Quiet quiet.Crashed) is = refl
-
-pub none_handled : (ls : List Line) (ms : List Envelope) (es : List Event) (place : ℕ) (l : Line) (e : Event) (sent : List Envelope) → slice_get ls place ≡ Some l → is_done l.told ≡ false → IsHandledAt place e sent (map (turn_in ms es) ls) → ⊥
-none_handled ls ms es place l e sent at is h =
-    let turn : h.turn ≡ turn_in ms es l = same_Some h.turn (turn_in ms es l) (sym h.at ∙ (slice_get-map (turn_in ms es) ls place ∙ ap (λ (o : Option Line). option_map (turn_in ms es) o) at)) in
-    let bad : false ≡ true = sym (not_handled_in es l.told is) ∙ (ap (λ (t : Turn). is_handled t.entry.what) (sym turn) ∙ ap is_handled h.what) in
-    absurd cc

@@ -1,5 +1,5 @@
 -- Texts of items that are told one after another.
-use Rattle.std.proofs.Common.{◌≡◌, ◌<◌, ◌≤◌, ◌+◌, ℕ, Bool, true, List, [], ◌∷◌, ◌++◌, length, drop, slice_get, Some, IfSome, refl, sym, ap, ap₂, ◌∙◌, append_assoc}
+use Rattle.std.proofs.Common.{◌≡◌, ◌<◌, ◌≤◌, ◌+◌, ℕ, Bool, true, List, [], ◌∷◌, ◌++◌, length, drop, slice_get, IfSome, refl, sym, ap, ap₂, ◌∙◌, append_assoc}
 use Rattle.serde_json.specs.Written.{comma_if, compact_text}
 use Rattle.histories.specs.declared.what.What.{What}
 use Rattle.hex.specs.Hex.{encode_lower}

@@ -1,8 +1,5 @@
-use Rattle.std.proofs.Common.{ap, sym, ◌∙◌}
-use Rattle.serde_json.specs.Written.{compact_text}
-use Rattle.histories.specs.declared.what.What.{What}
-use Rattle.run_trace.specs.Traced.{deed_of, done}
-use Rattle.trace_text.specs.Written.{entry_data}
+use Rattle.std.proofs.Common.{◌∙◌}
+use Rattle.run_trace.specs.Traced.{done}
 use Rattle.trace_text.proofs.Joined.{entry_written}
 use Rattle.threads_console.proofs.Tellings.{handled_told}
 use Rattle.threads_console.proofs.telling.entry_text.Goals as goal

@@ -4,7 +4,7 @@ use Rattle.histories.specs.declared.fate.Fate.{Fate}
 use Rattle.node_lock.specs.declared.line.Told.TheVariants.{Came}
 use Rattle.node_lock.specs.declared.line.Line.{Line}
 use Rattle.node_lock.specs.Kept.{Log, IsHandledAt, part}
-use Rattle.node_lock.proofs.Lines.{handled_at, none_handled}
+use Rattle.node_lock.proofs.Lines.{handled_at}
 use Rattle.node_lock.proofs.history.History.handled.Goals as goal
 
 pub returns-clause-some : goal.returns-clause-some
