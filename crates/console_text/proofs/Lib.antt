@@ -1,3 +1,4 @@
 mod Consumed
-mod Hexes
+mod Decimals
+mod Digits
 pub mod Handing

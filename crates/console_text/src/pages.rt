@@ -63,6 +63,9 @@ pub fn print_part<W: Write>(
 ) -> Result<(), Unprinted>
     ensures { OnOk result (Hands (W.contents output.old) page.old.items (W.contents output.new) page.new.items part.now) }
 {
+    if part.is_empty() {
+        return Ok(());
+    }
     if part.len() < FULL - page.len().min(FULL) && page.extend_from_slice(part).is_ok() {
         return Ok(());
     }

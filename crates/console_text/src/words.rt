@@ -1,43 +1,105 @@
 //! The words that texts are made of, each added to what stands there.
 
-ghost use Rattle.std.specs.Prelude.{◌≡◌, ◌++◌, OnOk, decimal};
+ghost use Rattle.std.specs.Prelude.{◌≡◌, ◌<◌, ◌*◌, ◌++◌, OnOk, decimal, length};
 ghost use Rattle.hex.specs.Hex.{encode_lower};
-ghost use Rattle.console_text.specs.Words.{bytes_text, priority_text, work_text};
+ghost use Rattle.console_text.specs.Words.{ArePairs, bytes_text, pair_of, priority_text, work_text};
 
 use itoa::Buffer;
 use std::alloc::AllocError;
 
 /// Adds the letters of a word.
+#[inline]
 pub fn push_text(text: &mut Vec<u8>, word: &str) -> Result<(), AllocError>
     ensures { OnOk result (text.new.items ≡ text.old.items ++ word.now) }
 {
-    text.extend_from_slice(word.as_bytes())?;
+    match word.as_bytes() {
+        [byte] => text.push(*byte)?,
+        letters => text.extend_from_slice(letters)?,
+    }
     Ok(())
 }
 
 /// Adds a number in decimal.
+#[tactic(auto, using(crate::proofs::Decimals::two_digits))]
 pub fn push_number(text: &mut Vec<u8>, number: u64) -> Result<(), AllocError>
+    ensures { OnOk result (text.new.items ≡ text.old.items ++ decimal number) }
+{
+    if number < 10 {
+        push_digit(text, number)
+    } else if number < 100 {
+        push_digit(text, number / 10)?;
+        push_digit(text, number % 10)
+    } else {
+        push_long(text, number)
+    }
+}
+
+#[tactic(auto, using(crate::proofs::Decimals::one_digit))]
+fn push_digit(text: &mut Vec<u8>, digit: u64) -> Result<(), AllocError>
+    requires { digit < 10 }
+    ensures { OnOk result (text.new.items ≡ text.old.items ++ decimal digit) }
+{
+    Ok(text.push(b'0' + digit as u8)?)
+}
+
+fn push_long(text: &mut Vec<u8>, number: u64) -> Result<(), AllocError>
     ensures { OnOk result (text.new.items ≡ text.old.items ++ decimal number) }
 {
     let mut digits = Buffer::new();
     push_text(text, digits.format(number))
 }
 
-/// The digits of hex texts.
-const DIGITS: [u8; 16] = *b"0123456789abcdef";
+/// The two hex digits of each byte, in the order of the bytes.
+const PAIRS: [u8; 512] = *b"000102030405060708090a0b0c0d0e0f101112131415161718191a1b1c1d1e1f\
+    202122232425262728292a2b2c2d2e2f303132333435363738393a3b3c3d3e3f\
+    404142434445464748494a4b4c4d4e4f505152535455565758595a5b5c5d5e5f\
+    606162636465666768696a6b6c6d6e6f707172737475767778797a7b7c7d7e7f\
+    808182838485868788898a8b8c8d8e8f909192939495969798999a9b9c9d9e9f\
+    a0a1a2a3a4a5a6a7a8a9aaabacadaeafb0b1b2b3b4b5b6b7b8b9babbbcbdbebf\
+    c0c1c2c3c4c5c6c7c8c9cacbcccdcecfd0d1d2d3d4d5d6d7d8d9dadbdcdddedf\
+    e0e1e2e3e4e5e6e7e8e9eaebecedeeeff0f1f2f3f4f5f6f7f8f9fafbfcfdfeff";
+
+/// The two hex digits of a byte.
+#[inline]
+fn pair_of(byte: u8) -> [u8; 2]
+    ensures { result ≡ pair_of byte }
+{
+    pair_in(&PAIRS, byte)
+}
+
+#[inline]
+fn pair_in(pairs: &[u8; 512], byte: u8) -> [u8; 2]
+    requires { ArePairs pairs.now }
+    ensures { result ≡ pair_of byte }
+{
+    let place = 2 * usize::from(byte);
+    [pairs[place], pairs[place + 1]]
+}
+
+fn write_digits(bytes: &[u8], digits: &mut [u8])
+    requires room { length digits.old ≡ 2 * length bytes.now }
+    ensures { digits.new ≡ encode_lower bytes.now }
+{
+    for place in 0..bytes.len() {
+        let [high, low] = pair_of(bytes[place]);
+        digits[2 * place] = high;
+        digits[2 * place + 1] = low;
+    }
+}
 
 /// Adds bytes in hex digits.
 pub fn push_hex(text: &mut Vec<u8>, bytes: &[u8]) -> Result<(), AllocError>
     ensures { OnOk result (text.new.items ≡ text.old.items ++ encode_lower bytes.now) }
 {
-    let Some(digits) = bytes.len().checked_mul(2) else {
+    let start = text.len();
+    let Some(count) = bytes.len().checked_mul(2) else {
         return Err(AllocError);
     };
-    text.reserve(digits)?;
-    for byte in bytes {
-        text.push_reserved(DIGITS[usize::from(byte / 16)]);
-        text.push_reserved(DIGITS[usize::from(byte % 16)]);
-    }
+    let Some(end) = start.checked_add(count) else {
+        return Err(AllocError);
+    };
+    text.resize(end, 0)?;
+    write_digits(bytes, &mut text[start..]);
     Ok(())
 }
 
