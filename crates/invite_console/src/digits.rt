@@ -1,46 +1,54 @@
-ghost use Rattle.std.specs.Prelude.{◌≡◌, ◌*◌, length, false, true, MatchOption};
+ghost use Rattle.std.specs.Prelude.{◌≡◌, ◌*◌, ◌<◌, length, false, true, MatchOption, Ok, Some};
+ghost use Rattle.std.specs.List.{list_all};
 ghost use Rattle.std.specs.Result.{result_ok};
-ghost use Rattle.hex.specs.Hex.{decode_pairs};
-ghost use Rattle.invite_console.specs.Digits.{digit_value, AreValues};
-
-/// What stands for a byte that is no hex digit.
-const NO_DIGIT: u8 = 16;
-
-/// The value of each byte as a hex digit of either case, for readers of many digits.
-pub(crate) fn digit_values() -> [u8; 256]
-    ensures { AreValues result }
-{
-    let mut values = [NO_DIGIT; 256];
-    for byte in 0..256usize {
-        values[byte] = digit_value(byte as u8);
-    }
-    values
-}
-
-fn digit_value(byte: u8) -> u8
-    ensures { result ≡ digit_value byte }
-{
-    match byte {
-        b'0'..=b'9' => byte - b'0',
-        b'a'..=b'f' => byte - b'a' + 10,
-        b'A'..=b'F' => byte - b'A' + 10,
-        _ => NO_DIGIT,
-    }
-}
+ghost use Rattle.hex.specs.Hex.{decode_pairs, hex_digit_value, is_hex_digit};
 
 /// Writes the bytes that pairs of digits spell. False says that there is another byte among them.
-pub(crate) fn decode_pairs(values: &[u8; 256], digits: &[u8], out: &mut [u8]) -> bool
-    requires values { AreValues values.now }
+pub(crate) fn decode_pairs(digits: &[u8], out: &mut [u8]) -> bool
     requires room { length digits.now ≡ 2 * length out.old }
     ensures { MatchOption (result_ok (decode_pairs 0 digits.now)) (result ≡ false) (λ bytes. (result ≡ true) × (out.new ≡ bytes)) }
 {
-    for place in 0..out.len() {
-        let high = values[usize::from(digits[2 * place])];
-        let low = values[usize::from(digits[2 * place + 1])];
-        if high >= NO_DIGIT || low >= NO_DIGIT {
-            return false;
-        }
-        out[place] = high * 16 + low;
+    if !are_digits(digits) {
+        return false;
     }
+    write_pairs(digits, out);
     true
+}
+
+/// Every byte is looked at, also where one is no digit, so that many can be at once.
+fn are_digits(bytes: &[u8]) -> bool
+    ensures { result ≡ list_all is_hex_digit bytes.now }
+{
+    let mut all = true;
+    for byte in bytes {
+        all &= is_digit(*byte);
+    }
+    all
+}
+
+#[inline]
+fn is_digit(byte: u8) -> bool
+    ensures { result ≡ is_hex_digit byte }
+{
+    matches!(byte, b'0'..=b'9' | b'a'..=b'f' | b'A'..=b'F')
+}
+
+fn write_pairs(digits: &[u8], out: &mut [u8])
+    requires digits { list_all is_hex_digit digits.now ≡ true }
+    requires room { length digits.now ≡ 2 * length out.old }
+    ensures { decode_pairs 0 digits.now ≡ Ok out.new }
+{
+    for place in 0..out.len() {
+        out[place] = value_of(digits[2 * place]) * 16 + value_of(digits[2 * place + 1]);
+    }
+}
+
+/// The value of a hex digit. A letter of either case ends in its place among the letters.
+#[inline]
+fn value_of(digit: u8) -> u8
+    requires { is_hex_digit digit ≡ true }
+    ensures value { hex_digit_value digit ≡ Some result }
+    ensures small { result < 16 }
+{
+    digit % 16 + 9 * (digit / 64)
 }

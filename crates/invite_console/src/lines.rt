@@ -1,20 +1,13 @@
 ghost use Rattle.std.specs.Prelude.{◌≡◌, ◌++◌, IfOk, IfErr, OnOk, MatchOption, Some, Ok, false, true, option_map};
-ghost use Rattle.invite_console.specs.Digits.{AreValues};
 ghost use Rattle.line_words.specs.Lines.{bytes_of, IsFaultAt, IsLineFault};
 ghost use Rattle.invite_console.specs.Lines.{line_bytes, hex_lines_of};
 
-use crate::digits::{decode_pairs, digit_values};
+use crate::digits::decode_pairs;
 use line_words::{LineFault, cut_line};
 use std::alloc::{AllocError, Global};
 
-/// Adds the bytes that a word spells: hex digits of either case, whose values are given, or a dash for no bytes. False says that
-/// it can't be read.
-pub(crate) fn push_bytes(
-    values: &[u8; 256],
-    bytes: &mut Vec<u8>,
-    word: &[u8],
-) -> Result<bool, AllocError>
-    requires { AreValues values.now }
+/// Adds the bytes that a word spells: hex digits of either case, or a dash for no bytes. False says that it can't be read.
+fn push_bytes(bytes: &mut Vec<u8>, word: &[u8]) -> Result<bool, AllocError>
     ensures { IfOk result (λ good. MatchOption (bytes_of word.now) (good ≡ false)
         (λ more. (good ≡ true) × (bytes.new.items ≡ bytes.old.items ++ more))) }
 {
@@ -28,21 +21,15 @@ pub(crate) fn push_bytes(
     }
     let start = bytes.len();
     bytes.resize(start + word.len() / 2, 0)?;
-    Ok(decode_pairs(values, word, &mut bytes[start..]))
+    Ok(decode_pairs(word, &mut bytes[start..]))
 }
 
 /// Adds the bytes of the line of this number, which is passed over where it is empty.
-fn push_line(
-    values: &[u8; 256],
-    bytes: &mut Vec<u8>,
-    number: u64,
-    line: &[u8],
-) -> Result<(), LineFault>
-    requires { AreValues values.now }
+fn push_line(bytes: &mut Vec<u8>, number: u64, line: &[u8]) -> Result<(), LineFault>
     ensures ok { OnOk result (option_map (λ more. bytes.old.items ++ more) (line_bytes line.now) ≡ Some bytes.new.items) }
     ensures err { IfErr result (IsFaultAt number (line_bytes line.now)) }
 {
-    if line.is_empty() || push_bytes(values, bytes, line)? {
+    if line.is_empty() || push_bytes(bytes, line)? {
         Ok(())
     } else {
         Err(LineFault::BadLine(number))
@@ -55,15 +42,14 @@ pub(crate) fn hex_lines(alloc: Global, input: &[u8]) -> Result<Vec<u8>, LineFaul
     ensures ok { IfOk result (λ bytes. hex_lines_of input.now ≡ Ok bytes.items) }
     ensures err { IfErr result (IsLineFault (hex_lines_of input.now)) }
 {
-    let values = digit_values();
     let mut bytes = Vec::with_capacity(alloc, input.len() / 2)?;
     let mut number = 1u64;
     let mut left = input;
     while let Some((line, behind)) = cut_line(left) {
-        push_line(&values, &mut bytes, number, line)?;
+        push_line(&mut bytes, number, line)?;
         left = behind;
         number += 1;
     }
-    push_line(&values, &mut bytes, number, left)?;
+    push_line(&mut bytes, number, left)?;
     Ok(bytes)
 }
