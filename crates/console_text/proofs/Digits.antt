@@ -14,6 +14,7 @@ abbrev pub are_pairs : List ℕ → ℕ → Bool
 are_pairs table zero = true
 are_pairs table (suc n) = is_pair table n && are_pairs table n
 
+-- a byte below n passed the test
 are_pairs-at : (table : List ℕ) (n byte : ℕ) → are_pairs table n ≡ true → byte < n → is_pair table byte ≡ true
 are_pairs-at table zero byte h lt = absurd (omega arith)
 are_pairs-at table (suc n) byte h lt =
@@ -25,6 +26,7 @@ are_pairs-at table (suc n) byte h lt =
           rw e parts.0
     ]
 
+-- a table that passes the test
 pub pairs_at : (table : List ℕ) → are_pairs table 256 ≡ true → ArePairs table
 pairs_at table h = record {
   at = λ byte lt.
