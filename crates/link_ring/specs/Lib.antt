@@ -1,2 +1,3 @@
+pub mod Parcels
 pub mod Sides
 pub use Rattle.wire_msg.specs.Envelope

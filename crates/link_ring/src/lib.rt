@@ -7,6 +7,7 @@
 
 mod gathering;
 mod opening;
+mod parcel;
 mod put_end;
 mod take_end;
 

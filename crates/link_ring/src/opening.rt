@@ -8,7 +8,7 @@ use rtrb::RingBuffer;
 use std::alloc::{AllocError, Global};
 
 /// A link from one node to another, whose ring has slots for so many messages. That many first puts find room, whether or not
-/// anything is taken; with no slot at all each put is handed back. A slot takes as much memory as the longest message.
+/// anything is taken; with no slot at all each put is handed back. A slot takes up to 32 bytes; a task or a job is put in a box beside.
 pub fn link(
     alloc: Global,
     sender: NodeId,

@@ -2,24 +2,28 @@ ghost use Rattle.std.specs.Prelude.{◌≡◌, ◌<◌, [], length, max, false, 
 ghost use Rattle.rtrb.specs.Ring.{sent, known_free, producer_capacity};
 ghost use Rattle.link_ring.specs.Sides.{unused, with_message, with_room};
 
+use crate::parcel::{Parcel, reserve_boxes};
 use group_task::NodeId;
 use message_list::MessageList;
 use rtrb::Producer;
 use std::alloc::{AllocError, Global};
 use std::marker::Model;
-use wire_msg::Message;
+use wire_msg::{Body, Message};
 
 /// The end of a link that its sender holds.
 #[derive(Drop)]
 pub struct PutEnd {
     sender: NodeId,
     receiver: NodeId,
-    producer: Producer<Message>,
+    producer: Producer<Parcel>,
     put: MessageList,
+    // for as many messages as there is room for
+    boxes: Vec<Box<Body>>,
+    alloc: Global,
 }
 
 impl Model for PutEnd {
-    ghost use Rattle.std.specs.Prelude.{◌≡◌, ◌≤◌, ◌+◌, [], length};
+    ghost use Rattle.std.specs.Prelude.{◌≡◌, ◌≤◌, ◌+◌, [], length, vec_len};
     ghost use Rattle.rtrb.specs.Ring.{sent, known_free, producer_capacity};
     ghost use Rattle.link_ring.specs.Sides.{Side};
 
@@ -28,7 +32,7 @@ impl Model for PutEnd {
     ghost view = { λ a. record { sender = a.sender; receiver = a.receiver; capacity = producer_capacity a.producer; messages = a.put.messages; room = a.put.room; seen = [] } };
 
     // a slot that no message went through is known to be free
-    ghost invariant = { λ a. (a.put.messages ≡ sent a.producer) × (producer_capacity a.producer ≤ known_free a.producer + length (sent a.producer)) };
+    ghost invariant = { λ a. (a.put.messages ≡ sent a.producer) × (a.put.room ≤ vec_len a.boxes) × (producer_capacity a.producer ≤ known_free a.producer + length (sent a.producer)) };
 }
 
 impl PutEnd {
@@ -37,7 +41,7 @@ impl PutEnd {
         alloc: Global,
         sender: NodeId,
         receiver: NodeId,
-        producer: Producer<Message>,
+        producer: Producer<Parcel>,
     ) -> PutEnd
         requires { (sent producer ≡ []) × (known_free producer ≡ producer_capacity producer) }
         ensures { result ≡ unused sender receiver (producer_capacity producer) }
@@ -47,6 +51,8 @@ impl PutEnd {
             receiver,
             producer,
             put: MessageList::new(alloc),
+            boxes: Vec::new(alloc),
+            alloc,
         }
     }
 
@@ -77,6 +83,20 @@ impl PutEnd {
         ensures reserved { OnOk result (self.new ≡ with_room self.old (max self.old.room more)) }
         ensures refused { OnErr result ((self.old.room < more) × (self.new ≡ self.old)) }
     {
+        if more <= self.put.room() {
+            return Ok(());
+        }
+        self.grow(more)
+    }
+
+    // Makes room for more messages than there is room for. It stands apart, so that the question whether there is room is short.
+    #[inline(never)]
+    fn grow(&mut self, more: usize) -> Result<(), AllocError>
+        requires { self.old.room < more }
+        ensures reserved { OnOk result (self.new ≡ with_room self.old more) }
+        ensures refused { OnErr result (self.new ≡ self.old) }
+    {
+        reserve_boxes(self.alloc, &mut self.boxes, more)?;
         self.put.reserve(more)
     }
 
@@ -88,10 +108,9 @@ impl PutEnd {
         ensures full { IfSome result (λ back. (back ≡ message) × (self.new ≡ self.old)) }
         ensures first { length self.old.messages < self.old.capacity → IsNone result }
     {
-        if self.producer.push(message).is_err() {
+        if !self.offer(&message) {
             return Some(message);
         }
-        self.put.push(&message);
         None
     }
 
@@ -105,7 +124,8 @@ impl PutEnd {
         if self.producer.is_full() {
             return false;
         }
-        self.producer.push_reserved(*message);
+        let parcel = Parcel::wrap(message, &mut self.boxes);
+        self.producer.push_reserved(parcel);
         self.put.push(message);
         true
     }

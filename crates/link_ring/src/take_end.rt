@@ -2,6 +2,7 @@ ghost use Rattle.std.specs.Prelude.{◌≡◌, ◌<◌, [], length, max, IfSome,
 ghost use Rattle.rtrb.specs.Ring.{received, known_items, consumer_capacity};
 ghost use Rattle.link_ring.specs.Sides.{unused, with_room, TookNext};
 
+use crate::parcel::Parcel;
 use group_task::NodeId;
 use message_list::MessageList;
 use rtrb::Consumer;
@@ -14,7 +15,7 @@ use wire_msg::Message;
 pub struct TakeEnd {
     sender: NodeId,
     receiver: NodeId,
-    consumer: Consumer<Message>,
+    consumer: Consumer<Parcel>,
     taken: MessageList,
 }
 
@@ -36,7 +37,7 @@ impl TakeEnd {
         alloc: Global,
         sender: NodeId,
         receiver: NodeId,
-        consumer: Consumer<Message>,
+        consumer: Consumer<Parcel>,
     ) -> TakeEnd
         requires { (received consumer ≡ []) × (known_items consumer ≡ []) }
         ensures { result ≡ unused sender receiver (consumer_capacity consumer) }
@@ -86,7 +87,7 @@ impl TakeEnd {
         ensures taken { IfSome result (λ message. TookNext message self.old self.new) }
         ensures empty { IfNone result ((self.old.seen ≡ []) × (self.new ≡ self.old)) }
     {
-        let message = self.consumer.pop().ok()?;
+        let message = self.consumer.pop().ok()?.open();
         self.taken.push(&message);
         Some(message)
     }
@@ -112,7 +113,7 @@ impl TakeEnd {
         requires seen { 0 < length self.old.seen }
         ensures { IsSome place.new × IfSome place.new (λ message. TookNext message self.old self.new) }
     {
-        *place = Some(self.consumer.pop_known());
+        *place = Some(self.consumer.pop_known().open());
         if let Some(first) = place {
             self.taken.push(first);
         }
