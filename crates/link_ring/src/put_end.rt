@@ -17,8 +17,9 @@ pub struct PutEnd {
     receiver: NodeId,
     producer: Producer<Parcel>,
     put: MessageList,
-    // for as many messages as there is room for
     boxes: Vec<Box<Body>>,
+    // for so many more messages the list has room, and there are boxes
+    room: usize,
     alloc: Global,
 }
 
@@ -29,10 +30,10 @@ impl Model for PutEnd {
 
     ghost Value = { Side };
 
-    ghost view = { λ a. record { sender = a.sender; receiver = a.receiver; capacity = producer_capacity a.producer; messages = a.put.messages; room = a.put.room; seen = [] } };
+    ghost view = { λ a. record { sender = a.sender; receiver = a.receiver; capacity = producer_capacity a.producer; messages = a.put.messages; room = a.room; seen = [] } };
 
     // a slot that no message went through is known to be free
-    ghost invariant = { λ a. (a.put.messages ≡ sent a.producer) × (a.put.room ≤ vec_len a.boxes) × (producer_capacity a.producer ≤ known_free a.producer + length (sent a.producer)) };
+    ghost invariant = { λ a. (a.put.messages ≡ sent a.producer) × (a.room ≤ a.put.room) × (a.room ≤ vec_len a.boxes) × (producer_capacity a.producer ≤ known_free a.producer + length (sent a.producer)) };
 }
 
 impl PutEnd {
@@ -52,6 +53,7 @@ impl PutEnd {
             producer,
             put: MessageList::new(alloc),
             boxes: Vec::new(alloc),
+            room: 0,
             alloc,
         }
     }
@@ -77,13 +79,14 @@ impl PutEnd {
         &self.put
     }
 
-    /// Makes room for so many more messages, whatever they say. It is room in the list of what was put, not in the ring.
+    /// Makes room for so many more messages, whatever they say: room in the list of what was put, not in the ring, and a box of some
+    /// 450 bytes for each, since each may be a task or a job.
     #[inline]
     pub fn reserve(&mut self, more: usize) -> Result<(), AllocError>
         ensures reserved { OnOk result (self.new ≡ with_room self.old (max self.old.room more)) }
         ensures refused { OnErr result ((self.old.room < more) × (self.new ≡ self.old)) }
     {
-        if more <= self.put.room() {
+        if more <= self.room {
             return Ok(());
         }
         self.grow(more)
@@ -96,8 +99,10 @@ impl PutEnd {
         ensures reserved { OnOk result (self.new ≡ with_room self.old more) }
         ensures refused { OnErr result (self.new ≡ self.old) }
     {
+        self.put.reserve(more)?;
         reserve_boxes(self.alloc, &mut self.boxes, more)?;
-        self.put.reserve(more)
+        self.room = more;
+        Ok(())
     }
 
     /// Puts a message on the link, or hands it back where the ring is full: it is lost then, unless it is put again once the
@@ -127,6 +132,7 @@ impl PutEnd {
         let parcel = Parcel::wrap(message, &mut self.boxes);
         self.producer.push_reserved(parcel);
         self.put.push(message);
+        self.room -= 1;
         true
     }
 

@@ -60,14 +60,6 @@ impl MessageList {
         self.letters.len()
     }
 
-    /// For how many more messages there is room, whatever they say.
-    #[inline]
-    pub fn room(&self) -> usize
-        ensures { result ≡ self.now.room }
-    {
-        self.room
-    }
-
     /// Makes room for so many more messages, whatever they say.
     #[inline]
     pub fn reserve(&mut self, more: usize) -> Result<(), AllocError>
