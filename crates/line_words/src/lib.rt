@@ -3,6 +3,7 @@
 
 mod laws;
 mod lines;
+mod places;
 mod reading;
 
 pub use laws::numbers;

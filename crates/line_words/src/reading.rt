@@ -1,14 +1,14 @@
 ghost use Rattle.std.specs.Prelude.{◌≡◌, MatchOption, ◌∷◌, []};
 ghost use Rattle.line_words.specs.Words.{first_word, number_of, value_from, with_digit, words_of, CutsWord};
 
-use memchr::memchr;
+use crate::places::first_place;
 
 /// The first word of a line and what stands behind the space after it, if there is one. Single spaces part words: a space at an end, or
 /// a second one, has an empty word beside it.
 pub fn cut_word(line: &[u8]) -> Option<(&[u8], &[u8])>
     ensures { MatchOption result (words_of line.now ≡ line.now ∷ []) (λ cut. CutsWord line.now cut.0.now cut.1.now) }
 {
-    let end = memchr(b' ', line)?;
+    let end = first_place(b' ', line)?;
     Some((&line[..end], &line[end + 1..]))
 }
 
