@@ -8,4 +8,4 @@ mod reading;
 
 pub use laws::numbers;
 pub use lines::{LineFault, bytes, cut_line, line_numbered};
-pub use reading::{cut_word, first_word, number};
+pub use reading::{cut_word, first_word, is_word, number};

@@ -1,4 +1,4 @@
-ghost use Rattle.std.specs.Prelude.{◌≡◌, MatchOption, ◌∷◌, []};
+ghost use Rattle.std.specs.Prelude.{◌≡◌, MatchOption, ◌∷◌, [], bytes_eq};
 ghost use Rattle.line_words.specs.Words.{first_word, number_of, value_from, with_digit, words_of, CutsWord};
 
 use crate::places::first_place;
@@ -52,4 +52,22 @@ fn with(number: u64, digit: u8) -> Option<u64>
         _ => return None,
     };
     number.checked_mul(10)?.checked_add(u64::from(unit))
+}
+
+/// Whether a word is this name.
+pub fn is_word(word: &[u8], name: &str) -> bool
+    ensures { result ≡ bytes_eq word.now name.now }
+{
+    let name = name.as_bytes();
+    if word.len() != name.len() {
+        return false;
+    }
+    let mut place = 0;
+    while place < name.len() {
+        if word[place] != name[place] {
+            return false;
+        }
+        place += 1;
+    }
+    true
 }

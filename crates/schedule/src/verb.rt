@@ -1,6 +1,8 @@
-ghost use Rattle.std.specs.Prelude.{◌≡◌, bytes_eq};
+ghost use Rattle.std.specs.Prelude.{◌≡◌};
 ghost use Rattle.schedule.specs.Flaws.{form_of};
 ghost use Rattle.schedule.specs.Verbs.{verb_of};
+
+use line_words::is_word;
 
 /// What a line of a schedule asks for.
 #[derive(Clone, Copy, Debug, PartialEq, Eq)]
@@ -28,37 +30,37 @@ impl Verb {
     pub fn from_word(word: &[u8]) -> Option<Verb>
         ensures { result ≡ verb_of word.now }
     {
-        if is(word, "check") {
+        if is_word(word, "check") {
             Some(Verb::Check)
-        } else if is(word, "merge") {
+        } else if is_word(word, "merge") {
             Some(Verb::Merge)
-        } else if is(word, "accept") {
+        } else if is_word(word, "accept") {
             Some(Verb::Accept)
-        } else if is(word, "ready") {
+        } else if is_word(word, "ready") {
             Some(Verb::Ready)
-        } else if is(word, "coord") {
+        } else if is_word(word, "coord") {
             Some(Verb::Coord)
-        } else if is(word, "dispatch") {
+        } else if is_word(word, "dispatch") {
             Some(Verb::Dispatch)
-        } else if is(word, "deliver") {
+        } else if is_word(word, "deliver") {
             Some(Verb::Deliver)
-        } else if is(word, "lose") {
+        } else if is_word(word, "lose") {
             Some(Verb::Lose)
-        } else if is(word, "cut") {
+        } else if is_word(word, "cut") {
             Some(Verb::Cut)
-        } else if is(word, "mend") {
+        } else if is_word(word, "mend") {
             Some(Verb::Mend)
-        } else if is(word, "submit") {
+        } else if is_word(word, "submit") {
             Some(Verb::Submit)
-        } else if is(word, "finish") {
+        } else if is_word(word, "finish") {
             Some(Verb::Finish)
-        } else if is(word, "arm") {
+        } else if is_word(word, "arm") {
             Some(Verb::Arm)
-        } else if is(word, "crash") {
+        } else if is_word(word, "crash") {
             Some(Verb::Crash)
-        } else if is(word, "recover") {
+        } else if is_word(word, "recover") {
             Some(Verb::Recover)
-        } else if is(word, "compact") {
+        } else if is_word(word, "compact") {
             Some(Verb::Compact)
         } else {
             None
@@ -88,11 +90,4 @@ impl Verb {
             Verb::Compact => "compact N",
         }
     }
-}
-
-/// Whether a word is this name.
-fn is(word: &[u8], name: &str) -> bool
-    ensures { result ≡ bytes_eq word.now name.now }
-{
-    word == name.as_bytes()
 }

@@ -1,13 +1,13 @@
 //! The fields of lines.
 
-ghost use Rattle.std.specs.Prelude.{◌≡◌, ◌≢◌, ◌≤◌, ◌<◌, bytes_eq, IfOk, IfSome};
+ghost use Rattle.std.specs.Prelude.{◌≡◌, ◌≢◌, ◌≤◌, ◌<◌, IfOk, IfSome};
 ghost use Rattle.schedule.specs.Fields.{node_of, number_below, number_between, payload_of, priority_of, queue_of};
 ghost use Rattle.group_task.specs.declared.node.TheConstants.{NODES};
 ghost use Rattle.threads_console.specs.Turns.{other_of, timer_of};
 
 use group_task::NodeId;
 use job_model::{Payload, Queue};
-use line_words::{bytes, number};
+use line_words::{bytes, is_word, number};
 use node_lock::Timer;
 use std::alloc::{AllocError, Global};
 
@@ -50,17 +50,17 @@ pub fn other(nodes: u8, own: NodeId, word: &[u8]) -> Option<NodeId>
 pub fn timer(word: &[u8]) -> Option<Timer>
     ensures { result ≡ timer_of word.now }
 {
-    if is(word, "check") {
+    if is_word(word, "check") {
         Some(Timer::Check)
-    } else if is(word, "merge") {
+    } else if is_word(word, "merge") {
         Some(Timer::Merge)
-    } else if is(word, "accept") {
+    } else if is_word(word, "accept") {
         Some(Timer::Accept)
-    } else if is(word, "ready") {
+    } else if is_word(word, "ready") {
         Some(Timer::Ready)
-    } else if is(word, "coord") {
+    } else if is_word(word, "coord") {
         Some(Timer::Coord)
-    } else if is(word, "dispatch") {
+    } else if is_word(word, "dispatch") {
         Some(Timer::Dispatch)
     } else {
         None
@@ -102,11 +102,4 @@ pub fn between(least: u64, most: u64, word: &[u8]) -> Option<u64>
     } else {
         None
     }
-}
-
-/// Whether a word is this name.
-pub fn is(word: &[u8], name: &str) -> bool
-    ensures { result ≡ bytes_eq word.now name.now }
-{
-    word == name.as_bytes()
 }

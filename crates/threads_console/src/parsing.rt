@@ -7,11 +7,11 @@ ghost use Rattle.threads_console.specs.declared.turn.Turn.TheVariants.{Poll};
 ghost use Rattle.threads_console.specs.Planning.{PollFits, TurnFits};
 ghost use Rattle.threads_console.specs.Turns.{alone_order, line_of, long_order, middle_order, of_one, order_of, other_of, short_order, submit_order, timer_of, turn_of};
 
-use crate::fields::{is, member, node, other, payload, priority, queue, timer};
+use crate::fields::{member, node, other, payload, priority, queue, timer};
 use crate::turn::Turn;
 use group_task::NodeId;
 use job_model::Work;
-use line_words::{bytes, cut_word, number};
+use line_words::{bytes, cut_word, is_word, number};
 use node_lock::{Fill, NewJob, Order, Timer};
 use std::alloc::{AllocError, Global};
 
@@ -50,14 +50,14 @@ fn turn(
     ensures value { IfOk result (λ turn. turn ≡ turn_of nodes own worker.now (words_of fields.now)) }
     ensures fits { IfOk result (λ turn. IfSome turn (PollFits nodes own)) }
 {
-    if is(worker, "intake") {
+    if is_word(worker, "intake") {
         Ok(poll(nodes, own, fields))
-    } else if is(worker, "clock") {
+    } else if is_word(worker, "clock") {
         match fire(fields) {
             Some(timer) => Ok(Some(Turn::Fire(timer))),
             None => Ok(None),
         }
-    } else if is(worker, "operator") {
+    } else if is_word(worker, "operator") {
         match order(alloc, fields)? {
             Some(order) => Ok(Some(Turn::Do(order))),
             None => Ok(None),
@@ -116,9 +116,9 @@ fn order(alloc: Global, line: &[u8]) -> Result<Option<Order>, AllocError>
 fn alone(alloc: Global, name: &[u8]) -> Option<Order>
     ensures { result ≡ alone_order name.now }
 {
-    if is(name, "crash") {
+    if is_word(name, "crash") {
         Some(Order::Crash(Fill::new(Vec::new(alloc))))
-    } else if is(name, "recover") {
+    } else if is_word(name, "recover") {
         Some(Order::Recover)
     } else {
         None
@@ -129,12 +129,12 @@ fn alone(alloc: Global, name: &[u8]) -> Option<Order>
 fn short(alloc: Global, name: &[u8], field: &[u8]) -> Result<Option<Order>, AllocError>
     ensures { IfOk result (λ order. order ≡ short_order name.now field.now) }
 {
-    if is(name, "arm") {
+    if is_word(name, "arm") {
         match number(field) {
             Some(calls) => Ok(Some(Order::Arm(calls))),
             None => Ok(None),
         }
-    } else if is(name, "crash") {
+    } else if is_word(name, "crash") {
         match bytes(alloc, field)? {
             Some(bytes) => Ok(Some(Order::Crash(Fill::new(bytes)))),
             None => Ok(None),
@@ -153,9 +153,9 @@ fn middle(
 ) -> Result<Option<Order>, AllocError>
     ensures { IfOk result (λ order. order ≡ middle_order name.now first.now second.now) }
 {
-    if is(name, "submit") {
+    if is_word(name, "submit") {
         submit(alloc, first, second, Some(0))
-    } else if is(name, "finish") {
+    } else if is_word(name, "finish") {
         match (node(first), number(second)) {
             (Some(origin), Some(id)) => Ok(Some(Order::Finish(origin, id))),
             _ => Ok(None),
@@ -175,7 +175,7 @@ fn long(
 ) -> Result<Option<Order>, AllocError>
     ensures { IfOk result (λ order. order ≡ long_order name.now first.now second.now third.now) }
 {
-    if is(name, "submit") {
+    if is_word(name, "submit") {
         submit(alloc, first, second, priority(third))
     } else {
         Ok(None)

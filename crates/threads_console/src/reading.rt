@@ -11,12 +11,12 @@ ghost use Rattle.threads_console.specs.Planning.{AddsLine};
 ghost use Rattle.threads_console.specs.Scripts.{AreRead, CanRun, ClusterFits, IsRead, capacity_of, script_left, script_of, sized, turns_of, with_links, with_turns};
 
 use crate::drafts::{Draft, drafts, place, plans};
-use crate::fields::{between, is};
+use crate::fields::between;
 use crate::lines::Lines;
 use crate::parsing::turn_in;
 use crate::turn::{LEAST_CAPACITY, MOST_CAPACITY};
 use group_task::NODES;
-use line_words::{LineFault, cut_word};
+use line_words::{LineFault, cut_word, is_word};
 use node_lock::Plans;
 use node_threads::Size;
 use schedule::{LEAST_SLOTS, MOST_SLOTS, Size as ClusterSize};
@@ -94,7 +94,7 @@ fn named_cluster(name: &[u8], nodes: &[u8], slots: &[u8]) -> Option<ClusterSize>
     ensures value { result ≡ named_size name.now nodes.now slots.now }
     ensures fits { IfSome result ClusterFits }
 {
-    if !is(name, "cluster") {
+    if !is_word(name, "cluster") {
         return None;
     }
     Some(ClusterSize {
@@ -109,7 +109,7 @@ pub(crate) fn capacity(line: &[u8]) -> Option<u64>
     ensures { result ≡ capacity_of (words_of line.now) }
 {
     let (name, number) = cut_word(line)?;
-    if cut_word(number).is_some() || !is(name, "links") {
+    if cut_word(number).is_some() || !is_word(name, "links") {
         return None;
     }
     between(LEAST_CAPACITY, MOST_CAPACITY, number)

@@ -8,11 +8,11 @@ ghost use Rattle.console_text.specs.Ends.{outcome_of, refused};
 ghost use Rattle.console_text.specs.Reasons.{line_head};
 ghost use Rattle.threads_console.specs.Reasons.{flaw_at, no_such, order_flaw, order_form, script_flaw, timer_flaw, turn_flaw, worker_flaw};
 
-use crate::fields::{is, member, timer};
+use crate::fields::{member, timer};
 use crate::lines::Lines;
 use crate::reading::{capacity, cluster};
 use console_text::{Told, bad_line, line_reason, push_text, push_unknown};
-use line_words::{cut_word, first_word, line_numbered};
+use line_words::{cut_word, first_word, is_word, line_numbered};
 use std::alloc::{AllocError, Global};
 
 /// What is told of plans of which the line of this number can't be read, where it is known that it is the first such line.
@@ -77,11 +77,11 @@ fn second_word(line: &[u8]) -> &[u8]
 fn push_worker_flaw(text: &mut Vec<u8>, worker: &[u8], word: &[u8]) -> Result<(), AllocError>
     ensures { OnOk result (text.new.items ≡ text.old.items ++ worker_flaw worker.now word.now) }
 {
-    if is(worker, "intake") {
+    if is_word(worker, "intake") {
         push_text(text, "not of the form N intake J, where J is another node")
-    } else if is(worker, "clock") {
+    } else if is_word(worker, "clock") {
         push_timer_flaw(text, word)
-    } else if is(worker, "operator") {
+    } else if is_word(worker, "operator") {
         push_order_flaw(text, word)
     } else {
         push_no_such(text, "worker", worker)
@@ -113,15 +113,15 @@ fn push_order_flaw(text: &mut Vec<u8>, name: &[u8]) -> Result<(), AllocError>
 fn order_form(name: &[u8]) -> Option<&'static str>
     ensures { MatchOption result (order_form name.now ≡ None) (λ form. order_form name.now ≡ Some form.now) }
 {
-    if is(name, "submit") {
+    if is_word(name, "submit") {
         Some("N operator submit QUEUE HEX [P]")
-    } else if is(name, "finish") {
+    } else if is_word(name, "finish") {
         Some("N operator finish ORIGIN ID")
-    } else if is(name, "arm") {
+    } else if is_word(name, "arm") {
         Some("N operator arm K")
-    } else if is(name, "crash") {
+    } else if is_word(name, "crash") {
         Some("N operator crash [HEX]")
-    } else if is(name, "recover") {
+    } else if is_word(name, "recover") {
         Some("N operator recover")
     } else {
         None
