@@ -8,6 +8,7 @@ use memchr::memchr;
 const NEAR: usize = 16;
 
 /// The first place that holds this byte. Most words and lines end soon: `memchr` is called only for longer ones.
+#[inline]
 pub fn first_place(byte: u8, text: &[u8]) -> Option<usize>
     ensures { IsFirstByte (is_byte byte) text.now result }
 {

@@ -5,6 +5,7 @@ use crate::places::first_place;
 
 /// The first word of a line and what stands behind the space after it, if there is one. Single spaces part words: a space at an end, or
 /// a second one, has an empty word beside it.
+#[inline]
 pub fn cut_word(line: &[u8]) -> Option<(&[u8], &[u8])>
     ensures { MatchOption result (words_of line.now ≡ line.now ∷ []) (λ cut. CutsWord line.now cut.0.now cut.1.now) }
 {
@@ -55,6 +56,7 @@ fn with(number: u64, digit: u8) -> Option<u64>
 }
 
 /// Whether a word is this name.
+#[inline]
 pub fn is_word(word: &[u8], name: &str) -> bool
     ensures { result ≡ bytes_eq word.now name.now }
 {
