@@ -1,7 +1,11 @@
-ghost use Rattle.std.specs.Prelude.{◌≡◌, MatchOption, ◌∷◌, [], bytes_eq};
-ghost use Rattle.line_words.specs.Words.{first_word, number_of, value_from, with_digit, words_of, CutsWord};
+ghost use Rattle.std.specs.Prelude.{◌≡◌, ◌<◌, ◌≤◌, ◌+◌, ◌-◌, ◌*◌, ◌^◌, MatchOption, IfSome, Some, None, if◌then◌else◌, ◌∷◌, [], bytes_eq, length};
+ghost use Rattle.line_words.specs.declared.reading.TheConstants.{SAFE_DIGITS};
+ghost use Rattle.line_words.specs.Words.{first_word, is_digit, number_of, value_from, with_digit, words_of, CutsWord};
 
 use crate::places::first_place;
+
+/// So many digits always write a number below 2^64.
+const SAFE_DIGITS: usize = 19;
 
 /// The first word of a line and what stands behind the space after it, if there is one. Single spaces part words: a space at an end, or
 /// a second one, has an empty word beside it.
@@ -37,9 +41,24 @@ pub fn number(word: &[u8]) -> Option<u64>
 fn value(digits: &[u8]) -> Option<u64>
     ensures { result ≡ value_from digits.now 0 }
 {
+    if digits.len() <= SAFE_DIGITS {
+        return short_value(digits);
+    }
     let mut value = 0u64;
     for digit in digits {
         value = with(value, *digit)?;
+    }
+    Some(value)
+}
+
+/// The same for so few digits that no sum passes the greatest number.
+fn short_value(digits: &[u8]) -> Option<u64>
+    requires { length digits.now ≤ SAFE_DIGITS }
+    ensures { result ≡ value_from digits.now 0 }
+{
+    let mut value = 0u64;
+    for digit in digits {
+        value = with_safe(value, *digit)?;
     }
     Some(value)
 }
@@ -48,11 +67,26 @@ fn value(digits: &[u8]) -> Option<u64>
 fn with(number: u64, digit: u8) -> Option<u64>
     ensures { result ≡ with_digit number digit }
 {
-    let unit = match digit {
-        b'0'..=b'9' => digit - b'0',
-        _ => return None,
-    };
-    number.checked_mul(10)?.checked_add(u64::from(unit))
+    number.checked_mul(10)?.checked_add(unit(digit)?)
+}
+
+/// The same for a number that has less than the most safe digits.
+fn with_safe(number: u64, digit: u8) -> Option<u64>
+    requires { number < 10 ^ 18 }
+    ensures value { result ≡ with_digit number digit }
+    ensures bound { IfSome result (λ more. more < 10 * (number + 1)) }
+{
+    Some(10 * number + unit(digit)?)
+}
+
+/// What a digit counts.
+fn unit(digit: u8) -> Option<u64>
+    ensures { result ≡ (if is_digit digit then Some (digit - 48) else None) }
+{
+    match digit {
+        b'0'..=b'9' => Some(u64::from(digit - b'0')),
+        _ => None,
+    }
 }
 
 /// Whether a word is this name.
