@@ -1,7 +1,7 @@
 ghost use Rattle.std.specs.Prelude.{◌≡◌, MatchOption, ◌∷◌, [], IfOk, option_map};
 ghost use Rattle.line_words.specs.Lines.{bytes_of, line_numbered, lines_of, CutsLine};
 
-use crate::places::first_place;
+use memchr::memchr;
 use std::alloc::{AllocError, Global};
 
 /// Why lines were not read.
@@ -27,7 +27,7 @@ impl From<AllocError> for LineFault {
 pub fn cut_line(text: &[u8]) -> Option<(&[u8], &[u8])>
     ensures { MatchOption result (lines_of text.now ≡ text.now ∷ []) (λ cut. CutsLine text.now cut.0.now cut.1.now) }
 {
-    let end = first_place(b'\n', text)?;
+    let end = memchr(b'\n', text)?;
     Some((&text[..end], &text[end + 1..]))
 }
 

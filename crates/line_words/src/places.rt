@@ -7,7 +7,7 @@ use memchr::memchr;
 /// How many bytes are looked at one by one.
 const NEAR: usize = 16;
 
-/// The first place that holds this byte. Most words and lines end soon: `memchr` is called only for longer ones.
+/// The first place that holds this byte, where it mostly is near: only behind the first bytes is it left to `memchr`.
 #[inline]
 pub fn first_place(byte: u8, text: &[u8]) -> Option<usize>
     ensures { IsFirstByte (is_byte byte) text.now result }
