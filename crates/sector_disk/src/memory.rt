@@ -82,6 +82,14 @@ impl MemDisk {
         self.left
     }
 
+    /// Forgets the moments before this one: no crash takes back a write that a sync has settled, so
+    /// its note serves a proof alone. What reads give and what a crash may leave stay.
+    pub fn forget(&mut self)
+        ensures { self.new ≡ record self.old { spans = [] } }
+    {
+        self.notes.forget();
+    }
+
     /// Stops the disk here and starts it again. The unsynced sectors, in rising order, take the
     /// bytes of `fill`, 512 each; where it ends, what the last sync left stays. Bytes too many
     /// aren't used. It takes no memory.

@@ -83,6 +83,16 @@ impl Notes {
         self.notes.pop()
     }
 
+    /// Drops the notes of the times that are over. Their room stays.
+    pub fn forget(&mut self)
+        ensures { self.new ≡ record self.old { times = [] } }
+    {
+        self.notes.rotate_left(self.closed);
+        self.notes.truncate(self.notes.len() - self.closed);
+        self.ends.clear();
+        self.closed = 0;
+    }
+
     pub fn clear(&mut self)
         ensures { self.new ≡ record { times = []; since = [] } }
     {
