@@ -6,6 +6,7 @@ pub mod Settling
 pub mod Remounts
 pub mod Nodes
 pub mod Crashes
+pub mod Forgets
 pub mod Opens
 pub mod AnyDisk
 pub mod Readings

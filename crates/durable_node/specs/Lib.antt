@@ -5,5 +5,6 @@ pub mod Stepping
 pub mod Remounting
 pub mod Reading
 pub mod Arming
+pub mod Forgetting
 pub mod Refusing
 pub mod Compacting

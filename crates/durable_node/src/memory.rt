@@ -6,6 +6,7 @@ ghost use Rattle.sector_disk.specs.Crash.{IsCrashed};
 ghost use Rattle.node_core.specs.Start.{down};
 ghost use Rattle.histories.specs.After.{after};
 ghost use Rattle.durable_node.specs.Arming.{armed_disk};
+ghost use Rattle.durable_node.specs.Forgetting.{forgotten_disk};
 ghost use Rattle.durable_node.specs.Node.{Stands};
 ghost use Rattle.histories.specs.NodeState.{NodeState, opening};
 ghost use Rattle.histories.specs.declared.what.What.TheVariants.{Crashed};
@@ -58,6 +59,14 @@ impl DurableNode<MemDisk> {
     {
         self.disk.arm(calls);
         self.found = None;
+    }
+
+    /// Lets the disk forget the moments before this one, as [`MemDisk::forget`] does.
+    pub fn forget(&mut self)
+        ensures forgot { self.new ≡ record self.old { disk = forgotten_disk self.old.disk } }
+        ensures stands { (s : NodeState) → Stands state_of self.old s → Stands state_of self.new s }
+    {
+        self.disk.forget();
     }
 
     /// Stops the node here. It is Down, and its disk has the bytes of `fill` in the sectors that weren't synced, as

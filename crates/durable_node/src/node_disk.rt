@@ -1,6 +1,7 @@
 // The disk of a node, wherever it stands.
 ghost use Rattle.std.specs.Prelude.{◌≡◌, IsSome, Some};
 ghost use Rattle.durable_node.specs.Arming.{armed_in};
+ghost use Rattle.durable_node.specs.Forgetting.{forgotten_in};
 ghost use Rattle.durable_node.specs.Node.{disk_in};
 
 use node_store::NodeStore;
@@ -49,6 +50,17 @@ impl NodeDisk<MemDisk> {
         match self {
             NodeDisk::Bare(disk) => disk.arm(calls),
             NodeDisk::Mounted(store) => store.arm(calls),
+            NodeDisk::Taken => {}
+        }
+    }
+
+    /// Lets the disk forget the moments before this one, where it stands.
+    pub(crate) fn forget(&mut self)
+        ensures { self.new ≡ forgotten_in self.old }
+    {
+        match self {
+            NodeDisk::Bare(disk) => disk.forget(),
+            NodeDisk::Mounted(store) => store.forget(),
             NodeDisk::Taken => {}
         }
     }
