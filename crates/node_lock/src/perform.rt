@@ -12,7 +12,7 @@ use node_core::Event;
 use sector_disk::MemDisk;
 use wire_msg::Message;
 
-/// Does one event, and tells what came of it and what was sent.
+/// Does one event, and tells what came of it and what was sent. The disk forgets the moments before.
 ///
 /// An error is want of memory: the disk of a node that has a history can be mounted.
 pub(crate) fn perform(
@@ -28,6 +28,7 @@ pub(crate) fn perform(
 {
     match node.step(event) {
         Ok(came) => {
+            node.forget();
             let Came { fate, sent, .. } = came;
             Ok((fate, sent))
         }
