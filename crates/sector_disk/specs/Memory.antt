@@ -15,7 +15,7 @@ pub record Memory : Type 0 where
   pub synced : Image
   -- for each sector whether a write took it since then, done or failed
   pub unsynced : List Bool
-  -- the times before, since the disk was made or last crashed
+  -- the times before, since the disk was made, last crashed or last forgot
   pub spans : List Span
   -- how many calls have failed
   pub failures : ℕ

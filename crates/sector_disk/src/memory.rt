@@ -18,16 +18,16 @@ use std::marker::Model;
 
 /// A disk in memory. It is always honest.
 ///
-/// It keeps what its calls changed since it was made or last crashed, so that a proof knows of each
-/// moment since then what a crash might have left. A call that finds no memory for that fails as
-/// `Device`.
+/// It keeps what its calls changed since it was made, last crashed or last forgot, so that a proof
+/// knows of each moment since then what a crash might have left. A call that finds no memory for
+/// that fails as `Device`.
 #[derive(Drop)]
 pub struct MemDisk {
     alloc: Global,
     sectors: Sectors,
     // Which sectors a write took since the last sync, done or failed.
     unsynced: Vec<bool>,
-    // What the writes took the place of, since it was made or last crashed.
+    // What the writes took the place of, since it was made, last crashed or last forgot.
     notes: Notes,
     // Whether a write since the last sync failed: then not every unsynced sector has a note.
     torn: bool,
