@@ -25,6 +25,7 @@ use std::alloc::AllocError;
 use wire_msg::Message;
 
 /// An event at a node. Room for its messages is taken first, so that none is kept back once the event is handled.
+/// The disk forgets the moments before.
 ///
 /// Refused where there is no memory: the node and the network stay as they were.
 pub(crate) fn handle(
@@ -47,6 +48,7 @@ pub(crate) fn handle(
         Ok(came) => came,
         Err(_) => return Err(AllocError),
     };
+    node.forget();
     send_all(net, &came.sent);
     Ok(Deed {
         outcome: outcome_of(&came, first),
