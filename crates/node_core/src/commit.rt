@@ -1,13 +1,14 @@
-ghost use Rattle.std.specs.Prelude.{◌≡◌, ◌≢◌, ◌≤◌, ◌<◌, ◌+◌, length, Some, None, [], ◌∷◌, ◌++◌, ℕ};
+ghost use Rattle.std.specs.Prelude.{◌≡◌, ◌≢◌, ◌≤◌, ◌<◌, ◌+◌, length, None, false, [], ◌∷◌, ◌++◌, ℕ, vec_capacity};
+ghost use Rattle.group_task.specs.Ids.{has};
 ghost use Rattle.node_core.specs.State.{state_of};
-ghost use Rattle.node_core.specs.Words.{own_group, regrouped, letter};
+ghost use Rattle.node_core.specs.Words.{own_group, regrouped, letter, to_each};
 ghost use Rattle.node_core.specs.Timers.{recovery};
 ghost use Rattle.node_core.specs.Consistent.{IsConsistent};
 ghost use Rattle.node_core.specs.Planned.{hand_gain, with_standing, hand_after};
 
 use crate::in_hand::InHand;
 use crate::phase::Phase;
-use crate::plan::{Change, HandChange};
+use crate::plan::{Change, HandChange, write_to_each};
 use crate::vector::Vector;
 use group_task::{GroupNo, Members, NodeId, share};
 use job_model::Work;
@@ -63,31 +64,52 @@ pub fn recover(vector: &mut Vector, id: NodeId, group: GroupNo)
     vector.phase = Phase::Normal;
 }
 
-/// Takes a new job in hand, or answers the message that sends it to its owner.
+/// Takes a new job in hand, or writes the message that sends it to its owner, in the room that is there.
 #[tactic(auto, using(crate::proofs::Sets::more_from, crate::proofs::Sets::one_from))]
-pub fn place(vector: &mut Vector, id: NodeId, to: NodeId, job: u64, work: &Work) -> Option<Message>
-    requires { to ≡ id → length vector.old.hand.jobs < vector.old.hand.room }
+#[inline(never)]
+pub fn place(
+    vector: &mut Vector,
+    messages: &mut Vec<Message>,
+    id: NodeId,
+    to: NodeId,
+    job: u64,
+    work: Box<Work>,
+)
+    requires hand { to ≡ id → length vector.old.hand.jobs < vector.old.hand.room }
+    requires empty { messages.old.items ≡ [] }
+    requires room { 1 ≤ vec_capacity messages.old }
     ensures own { to ≡ id → (state_of vector.new ≡ record (state_of vector.old) {
-      hand = vector.old.hand.jobs ++ (record { origin = id; id = job; work = work.now }) ∷ [];
+      hand = vector.old.hand.jobs ++ (record { origin = id; id = job; work = work.value }) ∷ [];
     })
-        × (result ≡ None) }
+        × (messages.new.items ≡ []) }
     ensures other { to ≢ id → (state_of vector.new ≡ state_of vector.old)
-        × (result ≡ Some (letter id to (Body.Work vector.old.group job work.now))) }
+        × (messages.new.items ≡ letter id to (Body.Work vector.old.group job work.value) ∷ []) }
     ensures consistent { (nodes : ℕ) → IsConsistent nodes id (state_of vector.old) → IsConsistent nodes id (state_of vector.new) }
 {
+    let work = Box::into_inner(work);
     if to.is(id) {
         vector.hand.push(InHand {
             origin: id,
             id: job,
-            work: *work,
+            work,
         });
-        None
     } else {
         let order = Body::Work {
             group: vector.group,
             id: job,
-            work: *work,
+            work,
         };
-        Some(Message::between(id, to, order))
+        messages.push_reserved(Message::between(id, to, order));
     }
+}
+
+/// Invites each of these nodes into the group, in the room that is there.
+#[inline(never)]
+pub fn invite_each(messages: &mut Vec<Message>, id: NodeId, receivers: Members, group: GroupNo)
+    requires others { has receivers id ≡ false }
+    requires empty { messages.old.items ≡ [] }
+    requires room { length receivers ≤ vec_capacity messages.old }
+    ensures { messages.new.items ≡ to_each id receivers (Body.Invitation group) }
+{
+    write_to_each(messages, id, receivers, &Body::Invitation(group));
 }

@@ -14,18 +14,18 @@ ghost use Rattle.node_core.specs.Memory.{takes_memory};
 ghost use Rattle.node_core.specs.Wait.{IsGreatest, IsMergeWait};
 ghost use Rattle.node_core.specs.Core.{IsPlanFor, CanCarry};
 
-use crate::commit::{place, recover, regroup, settle};
+use crate::commit::{invite_each, place, recover, regroup, settle};
 use crate::event::Event;
 use crate::events::{plan_delivery, plan_event};
 use crate::fault::CoreFault;
 use crate::phase::Phase;
-use crate::plan::{Act, Plan, write_to_each};
+use crate::plan::{Act, Plan};
 use crate::vector::Vector;
 use group_task::{GroupNo, Members, NodeId};
 use job_model::JobTable;
 use std::alloc::{AllocError, Global};
 use std::marker::Model;
-use wire_msg::{Body, Message};
+use wire_msg::Message;
 
 /// The state machine of one node.
 ///
@@ -221,17 +221,14 @@ impl NodeCore {
                 let group = GroupNo::numbered(self.id, answer);
                 regroup(&mut self.vector, self.id, group);
                 self.vector.phase = Phase::Election;
-                write_to_each(&mut messages, self.id, receivers, &Body::Invitation(group));
+                invite_each(&mut messages, self.id, receivers, group);
             }
             Act::Recover => {
                 let group = GroupNo::numbered(self.id, answer);
                 recover(&mut self.vector, self.id, group);
             }
             Act::Place(to, work) => {
-                let work = Box::into_inner(work);
-                if let Some(message) = place(&mut self.vector, self.id, to, answer, &work) {
-                    messages.push_reserved(message);
-                }
+                place(&mut self.vector, &mut messages, self.id, to, answer, work);
             }
         }
         messages
