@@ -26,6 +26,7 @@ pub fn first_place(byte: u8, text: &[u8]) -> Option<usize>
     first_far(byte, text)
 }
 
+// It stands apart, so that the look at the first bytes is short.
 #[inline(never)]
 fn first_far(byte: u8, text: &[u8]) -> Option<usize>
     ensures { IsFirstByte (is_byte byte) text.now result }

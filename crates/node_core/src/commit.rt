@@ -64,7 +64,8 @@ pub fn recover(vector: &mut Vector, id: NodeId, group: GroupNo)
     vector.phase = Phase::Normal;
 }
 
-/// Takes a new job in hand, or writes the message that sends it to its owner, in the room that is there.
+/// Takes a new job in hand, or writes the message that sends it to its owner, in the room that is there. It stands apart, since each
+/// call of a function pays for the size of its locals, and here a whole message is one.
 #[tactic(auto, using(crate::proofs::Sets::more_from, crate::proofs::Sets::one_from))]
 #[inline(never)]
 pub fn place(
@@ -103,7 +104,7 @@ pub fn place(
     }
 }
 
-/// Invites each of these nodes into the group, in the room that is there.
+/// Invites each of these nodes into the group, in the room that is there. It stands apart as [`place`] does.
 #[inline(never)]
 pub fn invite_each(messages: &mut Vec<Message>, id: NodeId, receivers: Members, group: GroupNo)
     requires others { has receivers id ≡ false }
