@@ -1,3 +1,3 @@
-pub mod Parcels
+pub mod Parts
 pub mod Sides
 pub use Rattle.wire_msg.specs.Envelope

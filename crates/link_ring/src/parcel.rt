@@ -1,17 +1,15 @@
-//! A message as a slot of the ring holds it.
+//! A message as the two rings of a link hold it.
 
-ghost use Rattle.std.specs.Prelude.{◌≡◌, ◌<◌, ◌≤◌, ◌+◌, vec_len, OnOk};
-ghost use Rattle.link_ring.specs.Parcels.{body_in};
+ghost use Rattle.std.specs.Prelude.{◌≡◌, ◌≢◌, ◌↔◌, IsTrue, Some, None};
+ghost use Rattle.link_ring.specs.Parts.{body_in, part_of, short_body};
 
 use group_task::{GroupNo, NodeId};
-use std::alloc::{AllocError, Global};
 use std::marker::Model;
 use std::mem::size_of;
 use wire_msg::{Body, Message};
 
-/// A body as a slot holds it: in place where it is short, and in a box where it is a task or a job, since a payload alone has room
-/// for 400 bytes.
-#[derive(Drop)]
+/// A body as a slot holds it, or that it is a long one, which stands in the ring beside.
+#[derive(Clone, Copy)]
 pub(crate) enum Carried {
     AreYouCoordinator,
     Coordinator(bool),
@@ -21,10 +19,10 @@ pub(crate) enum Carried {
     Accept(GroupNo),
     ReadyAck(GroupNo),
     Done(u64),
-    Boxed(Box<Body>),
+    Beside,
 }
 
-/// A message as a slot of the ring holds it.
+/// A message as a slot holds it.
 #[derive(Drop)]
 pub(crate) struct Parcel {
     sender: NodeId,
@@ -32,39 +30,83 @@ pub(crate) struct Parcel {
     carried: Carried,
 }
 
-// a slot is touched for each message, and a ring has up to 4,096
+// each slot is touched once before the first is used again
 const _: () = prove!(size_of::<Parcel>() <= 32);
 
 impl Model for Parcel {
     ghost use Rattle.std.specs.Prelude.{◌≢◌};
-    ghost use Rattle.wire_msg.specs.Envelope.{Envelope};
-    ghost use Rattle.link_ring.specs.Parcels.{body_in};
+    ghost use Rattle.link_ring.specs.Parts.{Part, body_in};
 
-    ghost Value = { Envelope };
+    ghost Value = { Part };
 
     ghost view = { λ a. record { sender = a.sender; receiver = a.receiver; body = body_in a.carried } };
 
     ghost invariant = { λ a. a.sender ≢ a.receiver };
 }
 
+/// A body that takes much room: the task of a Ready, or the job of a Work, whose payload alone has room for 400 bytes.
+#[derive(Drop)]
+pub(crate) struct Long {
+    body: Body,
+}
+
+impl Model for Long {
+    ghost use Rattle.std.specs.Prelude.{◌≡◌, None};
+    ghost use Rattle.wire_msg.specs.declared.body.Body.{Body};
+    ghost use Rattle.link_ring.specs.Parts.{short_body};
+
+    ghost Value = { Body };
+
+    ghost view = { λ a. a.body };
+
+    ghost invariant = { λ a. short_body a.body ≡ None };
+}
+
+impl Long {
+    /// Whether a body is a long one.
+    #[inline]
+    pub(crate) fn is_long(body: &Body) -> bool
+        ensures { IsTrue result ↔ (short_body body.now ≡ None) }
+    {
+        matches!(body, Body::Ready(_) | Body::Work { .. })
+    }
+
+    /// A body that is a long one.
+    #[inline]
+    pub(crate) fn of(body: &Body) -> Long
+        requires { short_body body.now ≡ None }
+        ensures { result ≡ body.now }
+    {
+        Long { body: *body }
+    }
+}
+
 impl Parcel {
-    /// The message, for a slot. A task or a job takes one of the boxes.
-    pub(crate) fn wrap(message: &Message, boxes: &mut Vec<Box<Body>>) -> Parcel
-        requires { 0 < vec_len boxes.old }
-        ensures value { result ≡ message.now }
-        ensures boxes { vec_len boxes.old ≤ vec_len boxes.new + 1 }
+    /// The message, for a slot.
+    #[inline]
+    pub(crate) fn of(message: &Message) -> Parcel
+        ensures { result ≡ part_of message.now }
     {
         Parcel {
             sender: message.sender(),
             receiver: message.receiver(),
-            carried: carry(message.body(), boxes),
+            carried: carry(message.body()),
         }
     }
 
-    /// The message.
+    /// Whether its body stands in the ring beside.
     #[inline]
+    pub(crate) fn is_beside(&self) -> bool
+        ensures { IsTrue result ↔ (self.now.body ≡ None) }
+    {
+        matches!(self.carried, Carried::Beside)
+    }
+
+    /// The message, whose body is a short one.
     pub(crate) fn open(self) -> Message
-        ensures { result ≡ self }
+        requires { self.body ≢ None }
+        ensures same { part_of result ≡ self }
+        ensures short { short_body result.body ≡ Some result.body }
     {
         let Parcel {
             sender,
@@ -73,13 +115,24 @@ impl Parcel {
         } = self;
         Message::between(sender, receiver, carried.body())
     }
+
+    /// The message, whose body stood beside.
+    pub(crate) fn join(self, long: Long) -> Message
+        requires { self.body ≡ None }
+        ensures same { part_of result ≡ self }
+        ensures body { result.body ≡ long }
+        ensures long { short_body result.body ≡ None }
+    {
+        Message::between(self.sender, self.receiver, long.body)
+    }
 }
 
 impl Carried {
-    /// The body.
-    #[inline]
+    /// The body, which is a short one.
     fn body(self) -> Body
-        ensures { result ≡ body_in self }
+        requires { body_in self ≢ None }
+        ensures same { body_in self ≡ Some result }
+        ensures short { short_body result ≡ Some result }
     {
         match self {
             Carried::AreYouCoordinator => Body::AreYouCoordinator,
@@ -90,16 +143,14 @@ impl Carried {
             Carried::Accept(group) => Body::Accept(group),
             Carried::ReadyAck(group) => Body::ReadyAck(group),
             Carried::Done(id) => Body::Done(id),
-            Carried::Boxed(body) => Box::into_inner(body),
+            Carried::Beside => unreachable!(),
         }
     }
 }
 
 /// The body, for a slot.
-fn carry(body: &Body, boxes: &mut Vec<Box<Body>>) -> Carried
-    requires { 0 < vec_len boxes.old }
-    ensures value { body_in result ≡ body.now }
-    ensures boxes { vec_len boxes.old ≤ vec_len boxes.new + 1 }
+fn carry(body: &Body) -> Carried
+    ensures { body_in result ≡ short_body body.now }
 {
     match body {
         Body::AreYouCoordinator => Carried::AreYouCoordinator,
@@ -110,35 +161,6 @@ fn carry(body: &Body, boxes: &mut Vec<Box<Body>>) -> Carried
         Body::Accept(group) => Carried::Accept(*group),
         Body::ReadyAck(group) => Carried::ReadyAck(*group),
         Body::Done(id) => Carried::Done(*id),
-        Body::Ready(_) | Body::Work { .. } => Carried::Boxed(boxed(body, boxes)),
+        Body::Ready(_) | Body::Work { .. } => Carried::Beside,
     }
-}
-
-/// One of the boxes, with this body in it.
-fn boxed(body: &Body, boxes: &mut Vec<Box<Body>>) -> Box<Body>
-    requires { 0 < vec_len boxes.old }
-    ensures value { result.value ≡ body.now }
-    ensures boxes { vec_len boxes.old ≡ vec_len boxes.new + 1 }
-{
-    let Some(mut place) = boxes.pop() else {
-        unreachable!()
-    };
-    *place = *body;
-    place
-}
-
-/// Makes boxes until there are so many.
-pub(crate) fn reserve_boxes(
-    alloc: Global,
-    boxes: &mut Vec<Box<Body>>,
-    many: usize,
-) -> Result<(), AllocError>
-    ensures more { vec_len boxes.old ≤ vec_len boxes.new }
-    ensures many { OnOk result (many ≤ vec_len boxes.new) }
-{
-    for _ in boxes.len()..many {
-        let place = Box::new(alloc, Body::AreYouCoordinator)?;
-        boxes.push(place)?;
-    }
-    Ok(())
 }

@@ -1,8 +1,9 @@
-ghost use Rattle.std.specs.Prelude.{◌≡◌, ◌<◌, [], length, max, false, true, IfSome, IfNone, IsNone, IsTrue, OnOk, OnErr};
+ghost use Rattle.std.specs.Prelude.{◌≡◌, ◌<◌, ◌≤◌, ◌+◌, ◌++◌, [], length, max, false, true, IfSome, IfNone, IsNone, IsTrue, OnOk, OnErr};
 ghost use Rattle.rtrb.specs.Ring.{sent, known_free, producer_capacity};
+ghost use Rattle.link_ring.specs.Parts.{long_body};
 ghost use Rattle.link_ring.specs.Sides.{unused, with_message, with_room};
 
-use crate::parcel::{Parcel, reserve_boxes};
+use crate::parcel::{Long, Parcel};
 use group_task::NodeId;
 use message_list::MessageList;
 use rtrb::Producer;
@@ -16,24 +17,22 @@ pub struct PutEnd {
     sender: NodeId,
     receiver: NodeId,
     producer: Producer<Parcel>,
+    bodies: Producer<Long>,
     put: MessageList,
-    boxes: Vec<Box<Body>>,
-    // for so many more messages the list has room, and there are boxes
-    room: usize,
-    alloc: Global,
 }
 
 impl Model for PutEnd {
-    ghost use Rattle.std.specs.Prelude.{◌≡◌, ◌≤◌, ◌+◌, [], length, vec_len};
+    ghost use Rattle.std.specs.Prelude.{◌≡◌, ◌≤◌, ◌+◌, [], length, map};
     ghost use Rattle.rtrb.specs.Ring.{sent, known_free, producer_capacity};
+    ghost use Rattle.link_ring.specs.Parts.{bodies_of, part_of};
     ghost use Rattle.link_ring.specs.Sides.{Side};
 
     ghost Value = { Side };
 
-    ghost view = { λ a. record { sender = a.sender; receiver = a.receiver; capacity = producer_capacity a.producer; messages = a.put.messages; room = a.room; seen = [] } };
+    ghost view = { λ a. record { sender = a.sender; receiver = a.receiver; capacity = producer_capacity a.producer; messages = a.put.messages; room = a.put.room; seen = [] } };
 
     // a slot that no message went through is known to be free
-    ghost invariant = { λ a. (a.put.messages ≡ sent a.producer) × (a.room ≤ a.put.room) × (a.room ≤ vec_len a.boxes) × (producer_capacity a.producer ≤ known_free a.producer + length (sent a.producer)) };
+    ghost invariant = { λ a. (sent a.producer ≡ map part_of a.put.messages) × (sent a.bodies ≡ bodies_of a.put.messages) × (producer_capacity a.producer ≤ known_free a.producer + length a.put.messages) × (producer_capacity a.producer ≤ known_free a.bodies + length a.put.messages) };
 }
 
 impl PutEnd {
@@ -43,18 +42,18 @@ impl PutEnd {
         sender: NodeId,
         receiver: NodeId,
         producer: Producer<Parcel>,
+        bodies: Producer<Long>,
     ) -> PutEnd
-        requires { (sent producer ≡ []) × (known_free producer ≡ producer_capacity producer) }
+        requires slots { (sent producer ≡ []) × (known_free producer ≡ producer_capacity producer) }
+        requires bodies { (sent bodies ≡ []) × (known_free bodies ≡ producer_capacity producer) }
         ensures { result ≡ unused sender receiver (producer_capacity producer) }
     {
         PutEnd {
             sender,
             receiver,
             producer,
+            bodies,
             put: MessageList::new(alloc),
-            boxes: Vec::new(alloc),
-            room: 0,
-            alloc,
         }
     }
 
@@ -79,30 +78,13 @@ impl PutEnd {
         &self.put
     }
 
-    /// Makes room for so many more messages, whatever they say: room in the list of what was put, not in the ring, and a box of some
-    /// 450 bytes for each, since each may be a task or a job.
+    /// Makes room for so many more messages, whatever they say. It is room in the list of what was put, not in the ring.
     #[inline]
     pub fn reserve(&mut self, more: usize) -> Result<(), AllocError>
         ensures reserved { OnOk result (self.new ≡ with_room self.old (max self.old.room more)) }
         ensures refused { OnErr result ((self.old.room < more) × (self.new ≡ self.old)) }
     {
-        if more <= self.room {
-            return Ok(());
-        }
-        self.grow(more)
-    }
-
-    // Makes room for more messages than there is room for. It stands apart, so that the question whether there is room is short.
-    #[inline(never)]
-    fn grow(&mut self, more: usize) -> Result<(), AllocError>
-        requires { self.old.room < more }
-        ensures reserved { OnOk result (self.new ≡ with_room self.old more) }
-        ensures refused { OnErr result (self.new ≡ self.old) }
-    {
-        self.put.reserve(more)?;
-        reserve_boxes(self.alloc, &mut self.boxes, more)?;
-        self.room = more;
-        Ok(())
+        self.put.reserve(more)
     }
 
     /// Puts a message on the link, or hands it back where the ring is full: it is lost then, unless it is put again once the
@@ -129,10 +111,11 @@ impl PutEnd {
         if self.producer.is_full() {
             return false;
         }
-        let parcel = Parcel::wrap(message, &mut self.boxes);
-        self.producer.push_reserved(parcel);
+        if !put_body(&mut self.bodies, message.body()) {
+            return false;
+        }
+        self.producer.push_reserved(Parcel::of(message));
         self.put.push(message);
-        self.room -= 1;
         true
     }
 
@@ -142,4 +125,21 @@ impl PutEnd {
     {
         self.put
     }
+}
+
+/// Puts a body into the ring beside where it is a long one. False where no slot is free for it.
+fn put_body(bodies: &mut Producer<Long>, body: &Body) -> bool
+    ensures put { result ≡ true → sent bodies.new ≡ sent bodies.old ++ long_body body.now }
+    ensures full { result ≡ false → (sent bodies.new ≡ sent bodies.old) × (known_free bodies.new ≡ 0) }
+    ensures slots { known_free bodies.old ≤ known_free bodies.new + 1 }
+    ensures free { result ≡ false → known_free bodies.old ≡ 0 }
+{
+    if !Long::is_long(body) {
+        return true;
+    }
+    if bodies.is_full() {
+        return false;
+    }
+    bodies.push_reserved(Long::of(body));
+    true
 }

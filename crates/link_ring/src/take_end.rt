@@ -1,8 +1,10 @@
-ghost use Rattle.std.specs.Prelude.{◌≡◌, ◌<◌, [], length, max, IfSome, IfNone, IsSome, None, OnOk, OnErr};
+ghost use Rattle.std.specs.Prelude.{◌≡◌, ◌<◌, [], ◌∷◌, length, max, IfSome, IfNone, None, OnOk, OnErr};
+ghost use mathlib.Core.List.{IsPrefix};
+ghost use Rattle.link_ring.specs.Parts.{Popped, whole};
 ghost use Rattle.rtrb.specs.Ring.{received, known_items, consumer_capacity};
 ghost use Rattle.link_ring.specs.Sides.{unused, with_room, TookNext};
 
-use crate::parcel::Parcel;
+use crate::parcel::{Long, Parcel};
 use group_task::NodeId;
 use message_list::MessageList;
 use rtrb::Consumer;
@@ -16,19 +18,21 @@ pub struct TakeEnd {
     sender: NodeId,
     receiver: NodeId,
     consumer: Consumer<Parcel>,
+    bodies: Consumer<Long>,
     taken: MessageList,
 }
 
 impl Model for TakeEnd {
-    ghost use Rattle.std.specs.Prelude.{◌≡◌};
+    ghost use Rattle.std.specs.Prelude.{◌≡◌, map};
     ghost use Rattle.rtrb.specs.Ring.{received, known_items, consumer_capacity};
+    ghost use Rattle.link_ring.specs.Parts.{bodies_of, part_of, whole};
     ghost use Rattle.link_ring.specs.Sides.{Side};
 
     ghost Value = { Side };
 
-    ghost view = { λ a. record { sender = a.sender; receiver = a.receiver; capacity = consumer_capacity a.consumer; messages = a.taken.messages; room = a.taken.room; seen = known_items a.consumer } };
+    ghost view = { λ a. record { sender = a.sender; receiver = a.receiver; capacity = consumer_capacity a.consumer; messages = a.taken.messages; room = a.taken.room; seen = whole (known_items a.consumer) (known_items a.bodies) } };
 
-    ghost invariant = { λ a. a.taken.messages ≡ received a.consumer };
+    ghost invariant = { λ a. (received a.consumer ≡ map part_of a.taken.messages) × (received a.bodies ≡ bodies_of a.taken.messages) };
 }
 
 impl TakeEnd {
@@ -38,14 +42,17 @@ impl TakeEnd {
         sender: NodeId,
         receiver: NodeId,
         consumer: Consumer<Parcel>,
+        bodies: Consumer<Long>,
     ) -> TakeEnd
-        requires { (received consumer ≡ []) × (known_items consumer ≡ []) }
+        requires slots { (received consumer ≡ []) × (known_items consumer ≡ []) }
+        requires bodies { (received bodies ≡ []) × (known_items bodies ≡ []) }
         ensures { result ≡ unused sender receiver (consumer_capacity consumer) }
     {
         TakeEnd {
             sender,
             receiver,
             consumer,
+            bodies,
             taken: MessageList::new(alloc),
         }
     }
@@ -87,9 +94,9 @@ impl TakeEnd {
         ensures taken { IfSome result (λ message. TookNext message self.old self.new) }
         ensures empty { IfNone result ((self.old.seen ≡ []) × (self.new ≡ self.old)) }
     {
-        let message = self.consumer.pop().ok()?.open();
-        self.taken.push(&message);
-        Some(message)
+        let mut place = None;
+        self.take_into(&mut place);
+        place
     }
 
     /// The same into a place with no message, which stays so where none is found. It is short, and a message is made only where
@@ -101,19 +108,7 @@ impl TakeEnd {
         ensures taken { IfSome place.new (λ message. TookNext message self.old self.new) }
         ensures empty { IfNone place.new ((self.old.seen ≡ []) × (self.new ≡ self.old)) }
     {
-        if !self.consumer.is_empty() {
-            self.take_seen(place);
-        }
-    }
-
-    // Takes a message that was seen in the ring. It stands apart, since most looks find none.
-    #[inline(never)]
-    fn take_seen(&mut self, place: &mut Option<Message>)
-        requires room { 0 < self.old.room }
-        requires seen { 0 < length self.old.seen }
-        ensures { IsSome place.new × IfSome place.new (λ message. TookNext message self.old self.new) }
-    {
-        *place = Some(self.consumer.pop_known().open());
+        pop(&mut self.consumer, &mut self.bodies, place);
         if let Some(first) = place {
             self.taken.push(first);
         }
@@ -125,4 +120,47 @@ impl TakeEnd {
     {
         self.taken
     }
+}
+
+/// Takes the first message that stands whole in both rings, into a place with no message.
+#[inline]
+fn pop(consumer: &mut Consumer<Parcel>, bodies: &mut Consumer<Long>, place: &mut Option<Message>)
+    requires none { place.old ≡ None }
+    ensures slots { consumer_capacity consumer.new ≡ consumer_capacity consumer.old }
+    ensures taken { IfSome place.new (λ m. Popped m (received consumer.old) (received bodies.old) (received consumer.new) (received bodies.new)) }
+    ensures first { IfSome place.new (λ m. IsPrefix (whole (known_items consumer.old) (known_items bodies.old)) (m ∷ whole (known_items consumer.new) (known_items bodies.new))) }
+    ensures left { IfNone place.new ((received consumer.new ≡ received consumer.old) × (received bodies.new ≡ received bodies.old)) }
+    ensures empty { IfNone place.new ((whole (known_items consumer.old) (known_items bodies.old) ≡ []) × (whole (known_items consumer.new) (known_items bodies.new) ≡ [])) }
+{
+    if consumer.is_empty() {
+        return;
+    }
+    pop_seen(consumer, bodies, place);
+}
+
+/// The same where a slot was seen. A long body was put before its slot, and so is found with it. It stands apart, since most looks
+/// find none, and here a whole message is made.
+#[inline(never)]
+fn pop_seen(
+    consumer: &mut Consumer<Parcel>,
+    bodies: &mut Consumer<Long>,
+    place: &mut Option<Message>,
+)
+    requires none { place.old ≡ None }
+    requires seen { 0 < length (known_items consumer.old) }
+    ensures slots { consumer_capacity consumer.new ≡ consumer_capacity consumer.old }
+    ensures taken { IfSome place.new (λ m. Popped m (received consumer.old) (received bodies.old) (received consumer.new) (received bodies.new)) }
+    ensures first { IfSome place.new (λ m. IsPrefix (whole (known_items consumer.old) (known_items bodies.old)) (m ∷ whole (known_items consumer.new) (known_items bodies.new))) }
+    ensures left { IfNone place.new ((received consumer.new ≡ received consumer.old) × (received bodies.new ≡ received bodies.old)) }
+    ensures empty { IfNone place.new ((whole (known_items consumer.old) (known_items bodies.old) ≡ []) × (whole (known_items consumer.new) (known_items bodies.new) ≡ [])) }
+{
+    if !consumer.peek_known().is_beside() {
+        *place = Some(consumer.pop_known().open());
+        return;
+    }
+    if bodies.is_empty() {
+        return;
+    }
+    let body = bodies.pop_known();
+    *place = Some(consumer.pop_known().join(body));
 }

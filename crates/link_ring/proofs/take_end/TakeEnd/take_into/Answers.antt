@@ -1,22 +1,16 @@
-use Rattle.std.proofs.Common.{Some, None, Option, subst, ap, ◌∙◌}
-use Rattle.std.specs.Prelude.{IfSome}
-use mathlib.Core.List.{IsPrefix}
+use Rattle.std.proofs.Common.{List, map, Option, IfSome, sym, ap, ◌∙◌, subst}
+use Rattle.rtrb.specs.Ring.{received}
 use Rattle.wire_msg.specs.Envelope.{Envelope}
-use Rattle.link_ring.specs.Sides.{Side}
-use Rattle.link_ring.proofs.Fronts.{took_since}
+use Rattle.message_list.specs.Letters.{Kept}
+use Rattle.link_ring.specs.Parts.{Popped, bodies_of, part_of}
+use Rattle.link_ring.proofs.Parted.{took_parts}
 use Rattle.link_ring.proofs.take_end.TakeEnd.take_into.Goals as goal
 
-both : (o : Option Envelope) (P Q : Envelope → Type 0) → ((m : Envelope) → P m → Q m) → IfSome o P → IfSome o Q
-both None P Q f p = tt
-both (Some m) P Q f p = f m p
-
-pub returns-then-not-is_empty-clause-taken : goal.returns-then-not-is_empty-clause-taken
-returns-then-not-is_empty-clause-taken c =
-    let was = c.self.inside in
-    let seen = c.is_empty.new.self.end.ahead in
-    let looked = c.is_empty.ensures.looked in
-    both c.take_seen.new.place _ _
-    (λ m took. took_since m c.args.self.now _ c.take_seen.new.self
-    ((λ i. record { sender = was.sender; receiver = was.receiver; capacity = looked.0.1 i; messages = was.taken.messages; room = was.taken.room; seen = seen }) ∙ ap (λ (s : Side). record s { seen = seen }) c.self.view_is)
-    (subst (λ (s : Side). IsPrefix s.seen seen) c.self.view_is looked.2) took)
-    c.take_seen.ensures.1
+pub invariant_of-self : goal.invariant_of-self
+invariant_of-self c =
+    let old = c.self.inside in
+    let new = c.pop.new in
+    let popped = subst (λ (o : Option Envelope). IfSome o (λ m. Popped m (received old.consumer) (received old.bodies) (received new.consumer) (received new.bodies))) c.in-Some.is c.pop.ensures.taken in
+    let same = sym (ap (λ (k : Kept). k.messages) c.push.ensures) in
+    let both = took_parts c.in-Some.first old.taken.messages (received old.consumer) (received new.consumer) (received old.bodies) (received new.bodies) c.self.invariant.0 c.self.invariant.1 popped in
+    (both.0 ∙ ap (λ (l : List Envelope). map part_of l) same, both.1 ∙ ap (λ (l : List Envelope). bodies_of l) same)
