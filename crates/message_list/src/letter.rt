@@ -1,6 +1,6 @@
 //! Messages as they are kept: 16 bytes for each, and what is longer in lists beside it.
 
-ghost use Rattle.std.specs.Prelude.{◌≡◌, ◌+◌, ◌<◌, ◌≤◌, ◌^◌, ◌++◌, ◌↔◌, IsTrue, length, vec_len, vec_capacity, All};
+ghost use Rattle.std.specs.Prelude.{◌≡◌, ◌≢◌, ◌+◌, ◌<◌, ◌≤◌, ◌^◌, ◌++◌, ◌↔◌, IsTrue, length, vec_len, vec_capacity, All};
 ghost use Rattle.message_list.specs.Letters.{letter_of, noted, task_kept, work_kept, payload_kept, kind_of, body_of, message_of, HasNumber, CanBeRead, HasPayload, work_said};
 ghost use Rattle.job_model.specs.declared.payload.TheConstants.{PAYLOAD_CAPACITY};
 
@@ -143,29 +143,56 @@ pub fn keep_payload(payloads: &mut Vec<u8>, body: &Body)
     }
 }
 
-/// The body of a letter whose group has a count, and whose task or work is kept.
-pub fn body_of(tasks: &[Task], works: &[KeptWork], payloads: &[u8], letter: &Letter) -> Body
+/// Makes `message` the one of a letter whose group has a count, and whose task or work is kept. It is written in place, since a
+/// message is long.
+pub fn read_letter(
+    tasks: &[Task],
+    works: &[KeptWork],
+    payloads: &[u8],
+    letter: &Letter,
+    message: &mut Message,
+)
+    requires ends { letter.now.sender ≢ letter.now.receiver }
     requires number { HasNumber (length tasks.now) (length works.now) letter.now.kind letter.now.number }
     requires payloads { All (HasPayload (length payloads.now)) works.now }
-    ensures { result ≡ body_of tasks.now works.now payloads.now letter.now }
+    ensures { message.new ≡ message_of tasks.now works.now payloads.now letter.now }
 {
     let Letter {
+        sender,
+        receiver,
         kind,
         creator,
         number,
-        ..
     } = *letter;
     match kind {
-        Kind::AreYouCoordinator => Body::AreYouCoordinator,
-        Kind::Coordinator(answer) => Body::Coordinator(answer),
-        Kind::AreYouThere => Body::AreYouThere(GroupNo::numbered(creator, number)),
-        Kind::Here(answer) => Body::Here(GroupNo::numbered(creator, number), answer),
-        Kind::Invitation => Body::Invitation(GroupNo::numbered(creator, number)),
-        Kind::Accept => Body::Accept(GroupNo::numbered(creator, number)),
-        Kind::Ready => Body::Ready(tasks[number as usize]),
-        Kind::ReadyAck => Body::ReadyAck(GroupNo::numbered(creator, number)),
-        Kind::Work => work_said(payloads, &works[number as usize]),
-        Kind::Done => Body::Done(number),
+        Kind::AreYouCoordinator => message.set(sender, receiver, Body::AreYouCoordinator),
+        Kind::Coordinator(answer) => message.set(sender, receiver, Body::Coordinator(answer)),
+        Kind::AreYouThere => {
+            let group = GroupNo::numbered(creator, number);
+            message.set(sender, receiver, Body::AreYouThere(group));
+        }
+        Kind::Here(answer) => {
+            let group = GroupNo::numbered(creator, number);
+            message.set(sender, receiver, Body::Here(group, answer));
+        }
+        Kind::Invitation => {
+            let group = GroupNo::numbered(creator, number);
+            message.set(sender, receiver, Body::Invitation(group));
+        }
+        Kind::Accept => {
+            let group = GroupNo::numbered(creator, number);
+            message.set(sender, receiver, Body::Accept(group));
+        }
+        Kind::Ready => message.set(sender, receiver, Body::Ready(tasks[number as usize])),
+        Kind::ReadyAck => {
+            let group = GroupNo::numbered(creator, number);
+            message.set(sender, receiver, Body::ReadyAck(group));
+        }
+        Kind::Work => {
+            let body = work_said(payloads, &works[number as usize]);
+            message.set(sender, receiver, body);
+        }
+        Kind::Done => message.set(sender, receiver, Body::Done(number)),
     }
 }
 

@@ -1,9 +1,9 @@
-ghost use Rattle.std.specs.Prelude.{◌≡◌, ◌-◌, ◌+◌, ◌<◌, ◌≤◌, ◌↔◌, [], ◌∷◌, ◌++◌, length, max, option_map, slice_get, Some, IfSome, IsTrue, OnOk, OnErr};
+ghost use Rattle.std.specs.Prelude.{◌≡◌, ◌-◌, ◌+◌, ◌<◌, ◌≤◌, ◌↔◌, [], ◌∷◌, ◌++◌, length, max, option_map, slice_get, Some, None, IfSome, IsTrue, MatchBool, OnOk, OnErr};
 ghost use Rattle.wire_msg.specs.Spelling.{spelling, IsMessage};
 ghost use Rattle.message_list.specs.Letters.{ends_of};
 
 use crate::letter::{
-    KeptWork, Letter, body_of, is_message, keep_payload, keep_task, keep_work, letter_of,
+    KeptWork, Letter, is_message, keep_payload, keep_task, keep_work, letter_of, read_letter,
 };
 use crate::spelling::{spell_letter, spell_message};
 use group_task::{NodeId, Task};
@@ -111,9 +111,24 @@ impl MessageList {
     pub fn get(&self, place: usize) -> Option<Message>
         ensures { result ≡ slice_get self.now.messages place }
     {
-        let letter = self.letters.get(place)?;
-        let body = body_of(&self.tasks, &self.works, &self.payloads, letter);
-        Some(Message::between(letter.sender, letter.receiver, body))
+        let mut message = Message::blank();
+        if self.read(place, &mut message) {
+            Some(message)
+        } else {
+            None
+        }
+    }
+
+    /// Makes `message` the one at a place, counted from 0, as `get` gives it, but in place, since a message is long. False says
+    /// that there is none: then `message` stays.
+    pub fn read(&self, place: usize, message: &mut Message) -> bool
+        ensures { MatchBool result (slice_get self.now.messages place ≡ Some message.new) ((slice_get self.now.messages place ≡ None) × (message.new ≡ message.old)) }
+    {
+        let Some(letter) = self.letters.get(place) else {
+            return false;
+        };
+        read_letter(&self.tasks, &self.works, &self.payloads, letter, message);
+        true
     }
 
     /// Whether the message at a place, counted from 0, is this one. None is made for it.
@@ -164,9 +179,10 @@ impl MessageList {
         ensures message { IfSome (slice_get self.now.messages place) (λ message. OnOk result (IsMessage message)) }
         ensures refused { OnErr result (bytes.new.items ≡ []) }
     {
-        match self.get(place) {
-            Some(message) => spell_message(bytes, &message),
-            None => unreachable!(),
+        let mut message = Message::blank();
+        if !self.read(place, &mut message) {
+            unreachable!()
         }
+        spell_message(bytes, &message)
     }
 }

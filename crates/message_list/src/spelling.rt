@@ -12,6 +12,9 @@ use crate::letter::{Kind, Letter};
 use std::alloc::AllocError;
 use wire_msg::{Message, encode_into, version_between, version_naming};
 
+/// So many bytes the spelling of a letter has at most.
+const LETTER: usize = 16;
+
 /// Writes the spelling of a letter's message in place of what `bytes` held. False says that the letter isn't the whole message.
 pub fn spell_letter(bytes: &mut Vec<u8>, letter: &Letter) -> Result<bool, AllocError>
     ensures whole { IfOk result (λ whole. whole ≡ is_whole letter.now.kind) }
@@ -68,16 +71,17 @@ fn begin(
     ensures sender { letter.now.sender < NODES }
     ensures receiver { letter.now.receiver < NODES }
 {
-    let head = [
-        version,
-        kind,
-        letter.sender.number(),
-        letter.receiver.number(),
-        0,
-        len,
-    ];
+    let sender = letter.sender.number();
+    let receiver = letter.receiver.number();
     bytes.clear();
-    bytes.extend_from_slice(&head)
+    bytes.reserve(LETTER)?;
+    bytes.push_reserved(version);
+    bytes.push_reserved(kind);
+    bytes.push_reserved(sender);
+    bytes.push_reserved(receiver);
+    bytes.push_reserved(0);
+    bytes.push_reserved(len);
+    Ok(())
 }
 
 /// The version of a letter whose body names no node.

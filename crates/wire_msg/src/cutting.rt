@@ -1,16 +1,37 @@
 //! Frames at the front of some bytes.
 
-ghost use Rattle.std.specs.Prelude.{◌≡◌, ◌<◌, ◌≤◌, [], ◌∷◌, ◌++◌, ℕ, List, length, take, drop, Some, None, Err, IfOk, OnOk, OnErr, MatchOption};
+ghost use Rattle.std.specs.Prelude.{◌≡◌, ◌<◌, ◌≤◌, [], ◌∷◌, ◌++◌, ℕ, List, length, take, drop, Some, None, Err, IfOk, IfErr, OnOk, OnErr, MatchOption, true, false};
 ghost use Rattle.wire_msg.specs.declared.fault.WireFault.TheVariants.{Malformed, NoMemory};
 ghost use Rattle.wire_msg.specs.Envelope.{Envelope};
 ghost use Rattle.wire_msg.specs.Spelling.{Spells};
-ghost use Rattle.wire_msg.specs.Framing.{frame_len, IsPartial, IsAt};
+ghost use Rattle.wire_msg.specs.Framing.{frame_len, IsPartial, IsAt, Begins, Breaks};
 ghost use Rattle.wire_msg.specs.Contents.{Feeds};
 
 use crate::fault::WireFault;
 use crate::message::Message;
 use std::alloc::AllocError;
 use std::slice;
+
+/// Reads the message of the frame at the front in place of `message`, and answers what is behind the frame, or none where it
+/// isn't whole. So messages that stand one after another are read without a list of them.
+pub fn decode_front<'a>(
+    bytes: &'a [u8],
+    message: &mut Message,
+) -> Result<Option<&'a [u8]>, WireFault>
+    ensures front { IfOk result (λ front. MatchOption front (IsPartial bytes.now × (message.new ≡ message.old)) (λ after. Begins bytes.now message.new after.now)) }
+
+    // A frame that spells nothing leaves some message in `message`.
+    ensures fault { IfErr result (λ e. (e ≡ Malformed) × Breaks bytes.now []) }
+{
+    let Some(len) = whole_frame(bytes) else {
+        return Ok(None);
+    };
+    let (frame, after) = bytes.split_at(len);
+    if !read_frame(frame, message) {
+        return Err(WireFault::Malformed);
+    }
+    Ok(Some(after))
+}
 
 /// Reads on behind the unfinished frame `rest`, and leaves the next one there. What was added before memory ran out is taken back.
 pub(crate) fn read_on(
@@ -108,9 +129,18 @@ fn take_frame(frame: &[u8], blank: &Message, out: &mut Vec<Message>) -> Result<(
 {
     let place = out.len();
     out.extend_from_slice(slice::from_ref(blank))?;
-    if out[place].read(frame).is_none() {
+    if !read_frame(frame, &mut out[place]) {
         out.truncate(place);
         return Err(WireFault::Malformed);
     }
     Ok(())
+}
+
+/// Reads the message of a frame in place of `message`. False says that it spells none.
+#[inline]
+fn read_frame(frame: &[u8], message: &mut Message) -> bool
+    ensures read { result ≡ true → Spells message.new frame.now }
+    ensures bad { result ≡ false → (m : Envelope) → Spells m frame.now → ⊥ }
+{
+    message.read(frame).is_some()
 }

@@ -13,10 +13,11 @@ mod version;
 mod writing;
 
 pub use body::{BODY_CAPACITY, Body};
+pub use cutting::decode_front;
 pub use fault::WireFault;
 pub use laws::{any_cutting, limits, message_of_spelling, one_reading, one_spelling};
 pub use message::Message;
-pub use reading::decode;
+pub use reading::{decode, decode_into};
 pub use stream::Stream;
 pub use version::{NARROW_NODES, version_between, version_naming};
 pub use writing::{encode, encode_into};

@@ -89,9 +89,22 @@ impl Message {
         *to = receiver;
     }
 
-    /// Some message, in whose place another one is read.
+    /// Makes this the message between two nodes that are known to differ. It is written in place, since a message is long.
     #[inline]
-    pub(crate) fn blank() -> Message
+    pub fn set(&mut self, sender: NodeId, receiver: NodeId, body: Body)
+        requires { sender ≢ receiver }
+        ensures { self.new ≡ record { sender = sender; receiver = receiver; body = body } }
+    {
+        *self = Message {
+            sender,
+            receiver,
+            body,
+        };
+    }
+
+    /// Some message, in whose place others are read one after another.
+    #[inline]
+    pub fn blank() -> Message
         ensures { result ≡ record { sender = 0; receiver = 1; body = AreYouCoordinator } }
     {
         Message::between(

@@ -1,4 +1,4 @@
-ghost use Rattle.std.specs.Prelude.{◌≡◌, ◌<◌, ℕ, List, length, take, drop, ◌≢◌, Some, IfSome, IfOk, IfErr, Ok, Err, option_map};
+ghost use Rattle.std.specs.Prelude.{◌≡◌, ◌<◌, ℕ, List, length, take, drop, ◌≢◌, Some, IfSome, IfOk, IsOk, OnOk, IfErr, Ok, option_map};
 ghost use Rattle.std.specs.Int.{w16, w64};
 ghost use Rattle.job_model.specs.declared.queue.TheConstants.{QUEUES};
 ghost use Rattle.group_task.specs.declared.node.TheConstants.{NODES};
@@ -226,4 +226,17 @@ pub fn decode(bytes: &[u8]) -> Result<Message, WireFault>
         return Err(WireFault::Malformed);
     };
     Ok(Message::between(sender, receiver, body))
+}
+
+/// Makes `message` the one that the bytes spell, as `decode` reads it, but in place, since a message is long. Where they spell
+/// none, it is some message.
+pub fn decode_into(bytes: &[u8], message: &mut Message) -> Result<(), WireFault>
+    ensures found { OnOk result (Spells message.new bytes.now) }
+    ensures only { (m : Envelope) → Spells m bytes.now → IsOk result × (message.new ≡ m) }
+    ensures fault { IfErr result (λ e. e ≡ WireFault.Malformed) }
+{
+    if message.read(bytes).is_none() {
+        return Err(WireFault::Malformed);
+    }
+    Ok(())
 }

@@ -1,11 +1,11 @@
-ghost use Rattle.std.specs.Prelude.{◌≡◌, [], ◌++◌, length, OnOk, OnErr, IfOk, IfErr};
+ghost use Rattle.std.specs.Prelude.{◌≡◌, ◌+◌, ◌≤◌, [], ◌∷◌, ◌++◌, length, vec_len, vec_capacity, OnOk, OnErr, IfOk, IfErr};
 ghost use Rattle.wire_msg.specs.Spelling.{group as group_bytes, task as task_bytes, priority as priority_bytes, work as work_bytes, kind_of, content, AreBytes, IsGroup, IsTask, IsWork, IsBody, Spells};
 
 use crate::body::Body;
 use crate::fault::WireFault;
 use crate::message::Message;
 use crate::version::version_of;
-use group_task::{GroupNo, Task};
+use group_task::{GroupNo, Members, Task};
 use job_model::Work;
 use std::alloc::{AllocError, Global};
 
@@ -71,11 +71,21 @@ fn put_task(out: &mut Vec<u8>, task: &Task) -> Result<(), AllocError>
 {
     put_group(out, task.group())?;
     let members = task.members();
-    out.push(members.len() as u8)?;
-    for id in members.iter() {
-        out.push(id.number())?;
-    }
+    let many = members.len();
+    out.reserve(1 + many)?;
+    out.push_reserved(many as u8);
+    put_members(out, members);
     Ok(())
+}
+
+/// Writes the ids of members in rising order, in the room that is there.
+fn put_members(out: &mut Vec<u8>, members: Members)
+    requires { vec_len out.old + length members ≤ vec_capacity out.old }
+    ensures { out.new.items ≡ out.old.items ++ members }
+{
+    for id in members.iter() {
+        out.push_reserved(id.number());
+    }
 }
 
 /// Writes a priority, which has no bytes where it is 0.
@@ -127,6 +137,21 @@ fn put_body(out: &mut Vec<u8>, body: &Body) -> Result<(), AllocError>
     }
 }
 
+/// Writes what stands in front of a body, in the room that is there.
+#[inline]
+fn put_head(out: &mut Vec<u8>, version: u8, kind: u8, sender: u8, receiver: u8, len: [u8; 2])
+    requires { vec_len out.old + 6 ≤ vec_capacity out.old }
+    ensures { out.new.items ≡ out.old.items ++ version ∷ kind ∷ sender ∷ receiver ∷ len }
+{
+    let [high, low] = len;
+    out.push_reserved(version);
+    out.push_reserved(kind);
+    out.push_reserved(sender);
+    out.push_reserved(receiver);
+    out.push_reserved(high);
+    out.push_reserved(low);
+}
+
 /// Writes the spelling into an empty list.
 fn spell(out: &mut Vec<u8>, message: &Message) -> Result<(), AllocError>
     requires { out.old.items ≡ [] }
@@ -138,11 +163,14 @@ fn spell(out: &mut Vec<u8>, message: &Message) -> Result<(), AllocError>
     let len = len_of(body);
     let version = version_of(message.sender(), message.receiver(), body);
     out.reserve(6 + usize::from(len))?;
-    out.push(version)?;
-    out.push(kind_of(body))?;
-    out.push(sender)?;
-    out.push(receiver)?;
-    out.extend_from_slice(&len.to_be_bytes())?;
+    put_head(
+        out,
+        version,
+        kind_of(body),
+        sender,
+        receiver,
+        len.to_be_bytes(),
+    );
     put_body(out, body)?;
     Ok(())
 }
