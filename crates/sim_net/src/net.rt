@@ -1,4 +1,4 @@
-ghost use Rattle.std.specs.Prelude.{◌≡◌, ◌↔◌, ◌+◌, ◌<◌, ◌≤◌, length, max, Err, OnOk, OnErr, IfOk, IfErr};
+ghost use Rattle.std.specs.Prelude.{◌≡◌, ◌↔◌, ◌+◌, ◌-◌, ◌<◌, ◌≤◌, length, max, Ok, Err, OnOk, OnErr, IfOk, IfErr};
 ghost use Rattle.sim_net.specs.Network.{silent, lesser, greater, is_cut, found, delivery, after_sent, after_lost, after_cut, after_mend};
 
 use crate::fault::NetFault;
@@ -71,14 +71,35 @@ impl Net {
     {
         self.reserve(1)?;
         let number = self.sent.len() as u64;
+        self.send_reserved(message);
+        Ok(number)
+    }
+
+    /// Sends a message in the room that is there.
+    pub fn send_reserved(&mut self, message: &Message)
+        requires { 0 < self.old.room }
+        ensures { self.new ≡ record { network = after_sent self.old.network message.now; room = self.old.room - 1 } }
+    {
         self.lost.push_reserved(false);
         self.sent.push(message);
-        Ok(number)
     }
 
     /// The message of this number. It stays, and may come again.
     pub fn deliver(&self, number: u64) -> Result<Message, NetFault>
         ensures { result ≡ delivery self.now.network number }
+    {
+        let mut message = Message::blank();
+        match self.deliver_into(number, &mut message) {
+            Ok(()) => Ok(message),
+            Err(fault) => Err(fault),
+        }
+    }
+
+    /// The message of this number, read in the place of another one, which stays where none comes.
+    pub fn deliver_into(&self, number: u64, message: &mut Message) -> Result<(), NetFault>
+        ensures comes { OnOk result (delivery self.now.network number ≡ Ok message.new) }
+        ensures refused { IfErr result (λ fault. delivery self.now.network number ≡ Err fault) }
+        ensures unchanged { OnErr result (message.new ≡ message.old) }
     {
         let place = number as usize;
         let Some((sender, receiver)) = self.sent.ends(place) else {
@@ -90,10 +111,10 @@ impl Net {
         if self.is_cut(sender, receiver) {
             return Err(NetFault::Cut);
         }
-        match self.sent.get(place) {
-            Some(message) => Ok(message),
-            None => unreachable!(),
+        if !self.sent.read(place, message) {
+            unreachable!()
         }
+        Ok(())
     }
 
     /// Loses the message of this number: from now on it never comes.
