@@ -56,7 +56,7 @@ faults_if slots n nodes old new net net' (Err e) now view at counted = tt
 
 -- ---- the node that an act names
 
-pub named_by_event : (a : Act) (n : ℕ) (event : Event) (nodes : ℕ) (sent : List Envelope) → event_at a ≡ Some (n, event) → node_named nodes sent a ≡ node_or_first nodes n
+named_by_event : (a : Act) (n : ℕ) (event : Event) (nodes : ℕ) (sent : List Envelope) → event_at a ≡ Some (n, event) → node_named nodes sent a ≡ node_or_first nodes n
 named_by_event (act.Check k) n event nodes sent is = ap (λ (p : ℕ × Event). node_or_first nodes p.0) (is_some _ _ is)
 named_by_event (act.Merge k) n event nodes sent is = ap (λ (p : ℕ × Event). node_or_first nodes p.0) (is_some _ _ is)
 named_by_event (act.Accept k) n event nodes sent is = ap (λ (p : ℕ × Event). node_or_first nodes p.0) (is_some _ _ is)
@@ -73,6 +73,12 @@ named_by_event (act.Arm k calls) n event nodes sent is = absurd (let bad = is in
 named_by_event (act.Crash k fill) n event nodes sent is = absurd (let bad = is in cc)
 named_by_event (act.Recover k) n event nodes sent is = ap (λ (p : ℕ × Event). node_or_first nodes p.0) (is_some _ _ is)
 named_by_event (act.Compact k) n event nodes sent is = absurd (let bad = is in cc)
+
+pub faults_named : {E : Type 0} (a : Act) (n : ℕ) (event : Event) (was now new : Machine) (result : Result Deed E) → was ≡ now → event_at a ≡ Some (n, event)
+    → IfOk result (λ (d : Deed). FaultsAt (node_or_first (length was.nodes) n) was new d.outcome) → IfOk result (λ (d : Deed). FaultsAt (node_named (length now.nodes) now.net.sent a) now new d.outcome)
+faults_named a n event was now new result view is faults =
+    subst (λ (m : Machine). IfOk result (λ (d : Deed). FaultsAt (node_named (length m.nodes) m.net.sent a) m new d.outcome)) view
+    (subst (λ (k : ℕ). IfOk result (λ (d : Deed). FaultsAt k was new d.outcome)) (sym (named_by_event a n event (length was.nodes) was.net.sent is)) faults)
 
 pub faults_received : {E : Type 0} (nodes : ℕ) (sent : List Envelope) (k receiver : ℕ) (m : Envelope) (old new : Machine) (result : Result Deed E) → slice_get sent k ≡ Some m → receiver ≡ m.receiver
     → IfOk result (λ (d : Deed). FaultsAt (node_or_first nodes receiver) old new d.outcome) → IfOk result (λ (d : Deed). FaultsAt (receiver_or_first nodes (slice_get sent k)) old new d.outcome)

@@ -3,3 +3,5 @@ pub mod Machine
 pub mod Operated
 pub mod Recorded
 pub mod Numbered
+pub mod Deliveries
+pub mod Signals

@@ -7,6 +7,7 @@ mod acts;
 mod cluster;
 mod member;
 mod naming;
+mod nodes;
 mod outcome;
 mod recording;
 mod report;

@@ -89,10 +89,7 @@ fn send_all(net: &mut Net, messages: &[Message])
     ensures { net.new.network ≡ after_all_sent net.old.network messages.now }
 {
     for message in messages {
-        match net.send(message) {
-            Ok(_) => {}
-            Err(_) => unreachable!(),
-        }
+        net.send_reserved(message);
     }
 }
 

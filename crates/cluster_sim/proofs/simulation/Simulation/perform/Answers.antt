@@ -1,21 +1,26 @@
-use Rattle.std.proofs.Common.{ℕ, length, sym, ◌∙◌, subst, refl}
-use Rattle.std.specs.Prelude.{IfOk}
-use Rattle.cluster_sim.specs.declared.outcome.Deed.{Deed}
+use Rattle.std.proofs.Common.{sym, subst, refl}
 use Rattle.cluster_sim.proofs.Doings.{bare_tells, event_acted}
-use Rattle.cluster_sim.proofs.Faulting.{named_by_event}
-use Rattle.cluster_sim.specs.Machine.{FaultsAt}
+use Rattle.cluster_sim.proofs.Faulting.{faults_named}
+use Rattle.cluster_sim.specs.Machine.{Machine, StandsFor}
 use Rattle.cluster_sim.proofs.simulation.Simulation.perform.Goals as goal
 
 pub returns-in-Some-clause-acted : goal.returns-in-Some-clause-acted
 returns-in-Some-clause-acted c = λ w stands.
-    event_acted w c.args.act.now _ _ c.take.result c.take.new.self (sym c.event_at.ensures ∙ c.in-Some.is) (λ number brings goes. c.take.ensures.acted w number stands brings goes)
+    event_acted w c.args.act.now _ _ c.take.result c.take.new.self c.in-Some.ensures.some
+    (λ number brings goes. c.take.ensures.acted w number (subst (λ (m : Machine). StandsFor m w) (sym c.self.view_is) stands) brings goes)
 
 pub returns-in-Some-clause-faults : goal.returns-in-Some-clause-faults
-returns-in-Some-clause-faults c =
-    subst (λ (k : ℕ). IfOk c.take.result (λ (d : Deed). FaultsAt k c.args.self.now c.take.new.self d.outcome)) (sym (named_by_event c.args.act.now _ _ (length c.args.self.now.nodes) c.args.self.now.net.sent (sym c.event_at.ensures ∙ c.in-Some.is)))
-    c.take.ensures.faults
+returns-in-Some-clause-faults c = faults_named c.args.act.now _ _ c.self.inside.nodes c.args.self.now c.take.new.self c.take.result c.self.view_is c.in-Some.ensures.some c.take.ensures.faults
+
+pub returns-in-Some-job_event_at-clause-acted : goal.returns-in-Some-job_event_at-clause-acted
+returns-in-Some-job_event_at-clause-acted c = λ w stands.
+    event_acted w c.args.act.now _ _ c.take-in-Some-job_event_at.result c.take-in-Some-job_event_at.new.self c.in-Some-job_event_at.ensures.some
+    (λ number brings goes. c.take-in-Some-job_event_at.ensures.acted w number (subst (λ (m : Machine). StandsFor m w) (sym c.self.view_is) stands) brings goes)
+
+pub returns-in-Some-job_event_at-clause-faults : goal.returns-in-Some-job_event_at-clause-faults
+returns-in-Some-job_event_at-clause-faults c = faults_named c.args.act.now _ _ c.self.inside.nodes c.args.self.now c.take-in-Some-job_event_at.new.self c.take-in-Some-job_event_at.result c.self.view_is c.in-Some-job_event_at.ensures.some c.take-in-Some-job_event_at.ensures.faults
 
 pub returns-clause-acted : goal.returns-clause-acted
 returns-clause-acted c = λ w stands.
-    let acted = c.apply.ensures.acted w stands in
-    record { acted = acted; tells = bare_tells w c.args.act.now acted.step _ (sym c.event_at.ensures ∙ c.in_default.is) c.in_default-act.not-Deliver acted.next.of_act (refl, refl, refl) }
+    let acted = c.apply.ensures.acted w (subst (λ (m : Machine). StandsFor m w) (sym c.self.view_is) stands) in
+    record { acted = acted; tells = bare_tells w c.args.act.now acted.step _ (c.in_default-job_event_at.ensures.none refl (c.in_default-event_at.ensures.none refl)) c.in_default.not-Deliver acted.next.of_act (refl, refl, refl) }

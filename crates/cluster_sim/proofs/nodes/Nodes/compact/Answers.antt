@@ -1,17 +1,14 @@
-use Rattle.std.proofs.Common.{◌≡◌, ℕ, ◌<◌, ◌≤◌, length, nat_lt, refl, sym, ◌∙◌, ap, subst, arith}
+use Rattle.std.proofs.Common.{◌≡◌, ℕ, ◌<◌, ◌≤◌, length, refl, sym, ◌∙◌, ap, subst, arith}
 use Rattle.std.specs.Prelude.{slice_set}
-use Rattle.histories.specs.declared.what.What.{What}
-use Rattle.histories.specs.declared.what.What.TheVariants.{Rests}
-use Rattle.histories.specs.declared.what.Rest.TheVariants.{Nothing}
 use Rattle.schedule.specs.declared.act.Act.TheVariants as act
-use Rattle.runs.specs.Acts.{At}
-use Rattle.runs.specs.Step.{Step}
-use Rattle.cluster_sim.specs.Machine.{Machine, IsCluster, StandsFor, Acted, FaultsAt}
+use Rattle.cluster_sim.specs.declared.outcome.Outcome.TheVariants as outcome
+use Rattle.cluster_sim.specs.declared.outcome.Refusal.TheVariants as refusal
+use Rattle.cluster_sim.specs.Machine.{Machine, IsCluster, StandsFor, CompactedAs, bare_outcome, Acted, FaultsAt}
 use Rattle.runs.specs.Reporting.{node_or_first}
 use Rattle.cluster_sim.proofs.Members.{place_at, denied_at, still_cluster, takes}
-use Rattle.cluster_sim.proofs.Doings.{quietly, acted_by}
+use Rattle.cluster_sim.proofs.Doings.{compact_acted, compacts_quietly}
 use Rattle.cluster_sim.proofs.Faulting.{faults_still, faults_here}
-use Rattle.cluster_sim.proofs.simulation.Simulation.arm.Goals as goal
+use Rattle.cluster_sim.proofs.nodes.Nodes.compact.Goals as goal
 
 pub returns-then-place-len-clause-acted : goal.returns-then-place-len-clause-acted
 returns-then-place-len-clause-acted c = λ w stands.
@@ -21,7 +18,7 @@ returns-then-place-len-clause-acted c = λ w stands.
     let past : c.len.result ≤ c.from-place.result = grind (arith) in
     let same = ap (λ (m : Machine). length m.nodes) c.self.view_is in
     let beyond : length c.args.self.now.nodes ≤ c.args.id = omega (arith, place, len, past, same) in
-    acted_by (λ step. At (nat_lt c.args.id (length w.states)) c.args.id 0 (λ (what : What). what ≡ Rests Nothing) step) w (act.Arm c.args.id c.args.calls) _ c.args.self.now refl (λ step at. at) (denied_at w c.args.id 0 (λ (what : What). what ≡ Rests Nothing) c.args.self.now stands beyond)
+    compact_acted w c.args.id 0 _ c.args.self.now (denied_at w c.args.id 0 (CompactedAs (outcome.Refused refusal.Stranger)) c.args.self.now stands beyond)
 
 pub invariant_of-self : goal.invariant_of-self
 invariant_of-self c =
@@ -30,8 +27,8 @@ invariant_of-self c =
     let len : c.len.result ≡ length was.nodes.items = grind (arith) in
     let within : c.from-place.result < c.len.result = grind (arith) in
     let at = place_at was.nodes.items c.len.result c.from-place.result c.args.id c.index_mut.result.now len within place c.index_mut.ensures.value in
-    subst (λ (k : ℕ). IsCluster was.slots (slice_set was.nodes.items k c.arm.new.node)) (sym place)
-    (still_cluster was.slots c.args.id was.nodes.items c.index_mut.result.now c.arm.new.node c.self.invariant at c.arm.ensures.same)
+    subst (λ (k : ℕ). IsCluster was.slots (slice_set was.nodes.items k c.compact.new.node)) (sym place)
+    (still_cluster was.slots c.args.id was.nodes.items c.index_mut.result.now c.compact.new.node c.self.invariant at c.compact.ensures.same)
 
 pub returns-clause-acted : goal.returns-clause-acted
 returns-clause-acted c = λ w stands.
@@ -41,11 +38,10 @@ returns-clause-acted c = λ w stands.
     let within : c.from-place.result < c.len.result = grind (arith) in
     let at = place_at was.nodes.items c.len.result c.from-place.result c.args.id c.index_mut.result.now len within place c.index_mut.ensures.value in
     let before : StandsFor (record { slots = was.slots; nodes = was.nodes.items; net = was.net.network }) w = subst (λ (m : Machine). StandsFor m w) (sym c.self.view_is) stands in
-    let q : Step → Type 0 = (λ step. At (nat_lt c.args.id (length w.states)) c.args.id 0 (λ (what : What). what ≡ Rests Nothing) step) in
-    subst (λ (k : ℕ). Acted w (act.Arm c.args.id c.args.calls) c.arm.result (record { slots = was.slots; nodes = slice_set was.nodes.items k c.arm.new.node; net = was.net.network })) (sym place)
-    (acted_by q w (act.Arm c.args.id c.args.calls) c.arm.result _ refl (λ step is. is)
-    (takes was.slots c.args.id 0 (λ (what : What). what ≡ Rests Nothing) was.nodes.items c.index_mut.result.now c.arm.new.node was.net.network was.net.network c.arm.result w c.self.invariant at before
-    (quietly w c.args.id (Rests Nothing) refl) (λ s is. c.arm.ensures.came was.slots s is)))
+    subst (λ (k : ℕ). Acted w (act.Compact c.args.id) c.compact.result (record { slots = was.slots; nodes = slice_set was.nodes.items k c.compact.new.node; net = was.net.network })) (sym place)
+    (compact_acted w c.args.id (length was.net.network.sent) c.compact.result _
+    (takes was.slots c.args.id 0 (CompactedAs c.compact.result) was.nodes.items c.index_mut.result.now c.compact.new.node was.net.network was.net.network (bare_outcome (length was.net.network.sent) c.compact.result) w c.self.invariant at before
+    (compacts_quietly w c.args.id c.compact.result) (λ s is. c.compact.ensures.came was.slots s is)))
 
 pub returns-then-place-len-clause-faults : goal.returns-then-place-len-clause-faults
 returns-then-place-len-clause-faults c = faults_still (node_or_first (length c.args.self.now.nodes) c.args.id) c.args.self.now c.args.self.now _ refl (λ bad. cc)
@@ -57,5 +53,5 @@ returns-clause-faults c =
     let len : c.len.result ≡ length was.nodes.items = grind (arith) in
     let within : c.from-place.result < c.len.result = grind (arith) in
     let at = place_at was.nodes.items c.len.result c.from-place.result c.args.id c.index_mut.result.now len within place c.index_mut.ensures.value in
-    subst (λ (k : ℕ). FaultsAt (node_or_first (length c.args.self.now.nodes) c.args.id) c.args.self.now (record { slots = was.slots; nodes = slice_set was.nodes.items k c.arm.new.node; net = was.net.network }) c.arm.result) (sym place)
-    (faults_here was.slots c.args.id was.nodes.items c.index_mut.result.now c.arm.new.node was.net.network was.net.network c.arm.result c.args.self.now c.self.view_is at c.arm.ensures.counted)
+    subst (λ (k : ℕ). FaultsAt (node_or_first (length c.args.self.now.nodes) c.args.id) c.args.self.now (record { slots = was.slots; nodes = slice_set was.nodes.items k c.compact.new.node; net = was.net.network }) c.compact.result) (sym place)
+    (faults_here was.slots c.args.id was.nodes.items c.index_mut.result.now c.compact.new.node was.net.network was.net.network c.compact.result c.args.self.now c.self.view_is at c.compact.ensures.counted)

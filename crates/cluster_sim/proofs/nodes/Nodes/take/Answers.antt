@@ -8,7 +8,7 @@ use Rattle.runs.specs.Reporting.{node_or_first}
 use Rattle.cluster_sim.proofs.Members.{place_at, denied_deed, still_cluster, takes_if, rests_if, untouched_if}
 use Rattle.cluster_sim.proofs.Doings.{brought_came}
 use Rattle.cluster_sim.proofs.Faulting.{faults_still, faults_if}
-use Rattle.cluster_sim.proofs.simulation.Simulation.take.Goals as goal
+use Rattle.cluster_sim.proofs.nodes.Nodes.take.Goals as goal
 
 pub returns-then-place-len-clause-acted : goal.returns-then-place-len-clause-acted
 returns-then-place-len-clause-acted c = λ w number stands brings goes.

@@ -1,5 +1,5 @@
 use Rattle.cluster_sim.specs.Machine.{AreOpened}
-use Rattle.cluster_sim.proofs.simulation.opened.Given as goal
+use Rattle.cluster_sim.proofs.nodes.opened.Given as goal
 
 abbrev pub invariant-loop-number : goal.invariant-loop-number
 invariant-loop-number l = AreOpened l.slots l.nodes l.number l.members.items

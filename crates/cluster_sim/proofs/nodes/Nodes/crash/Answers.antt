@@ -12,7 +12,7 @@ use Rattle.cluster_sim.proofs.Members.{place_at, denied_at, still_cluster, takes
 use Rattle.runs.proofs.Runs.{get_set_same}
 use Rattle.cluster_sim.proofs.Doings.{quietly, acted_by}
 use Rattle.cluster_sim.proofs.Faulting.{faults_still, faults_here}
-use Rattle.cluster_sim.proofs.simulation.Simulation.crash.Goals as goal
+use Rattle.cluster_sim.proofs.nodes.Nodes.crash.Goals as goal
 
 pub returns-then-place-len-clause-acted : goal.returns-then-place-len-clause-acted
 returns-then-place-len-clause-acted c = λ w stands.

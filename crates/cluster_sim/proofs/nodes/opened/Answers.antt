@@ -4,7 +4,7 @@ use Rattle.durable_node.specs.Node.{Node, Stands}
 use Rattle.histories.specs.NodeState.{opening}
 use Rattle.cluster_sim.specs.Machine.{AreOpened}
 use Rattle.cluster_sim.proofs.Opened.{opened_more}
-use Rattle.cluster_sim.proofs.simulation.opened.Goals as goal
+use Rattle.cluster_sim.proofs.nodes.opened.Goals as goal
 
 pub loop-number-preserved : goal.loop-number-preserved
 loop-number-preserved c =

@@ -4,8 +4,8 @@ use Rattle.cluster_sim.specs.Machine.{Machine}
 use Rattle.cluster_sim.proofs.Doings.{lost_by, not_lost_by, ok_not_err}
 use Rattle.cluster_sim.proofs.Faulting.{faults_still}
 use Rattle.cluster_sim.proofs.Quiet.{done_quiet}
-use Rattle.cluster_sim.proofs.simulation.Simulation.lose.Goals.{in-Ok, in-Err}
-use Rattle.cluster_sim.proofs.simulation.Simulation.lose.Goals as goal
+use Rattle.cluster_sim.proofs.nodes.Nodes.lose.Goals.{in-Ok, in-Err}
+use Rattle.cluster_sim.proofs.nodes.Nodes.lose.Goals as goal
 
 pub returns-clause-acted : goal.returns-clause-acted
 returns-clause-acted c = λ w stands.

@@ -1,0 +1,25 @@
+-- The event of a delivery.
+use Rattle.std.specs.Prelude.{ℕ, ◌≡◌, ⊤, Result, Ok}
+use Rattle.wire_msg.specs.Envelope.{Envelope}
+use Rattle.sim_net.specs.declared.fault.NetFault.{NetFault}
+use Rattle.node_core.specs.declared.event.Event.{Event}
+use Rattle.node_core.specs.declared.event.Event.TheVariants as on
+
+abbrev pub IsDelivery : Event → Type 0
+IsDelivery on.CheckTimer = ⊥
+IsDelivery on.MergeTimer = ⊥
+IsDelivery on.AcceptTimer = ⊥
+IsDelivery on.ReadyTimer = ⊥
+IsDelivery on.CoordTimer = ⊥
+IsDelivery on.DispatchTimer = ⊥
+IsDelivery (on.Deliver m) = ⊤
+IsDelivery (on.Submit work) = ⊥
+IsDelivery (on.Finish origin id) = ⊥
+IsDelivery on.Recover = ⊥
+
+-- it is the event of the message that comes, at its receiver
+pub record Delivers (comes : Result Envelope NetFault) (receiver : ℕ) (event : Event) : Type 0 where
+  pub message : Envelope
+  pub is : comes ≡ Ok message
+  pub at : receiver ≡ message.receiver
+  pub event_is : event ≡ on.Deliver message

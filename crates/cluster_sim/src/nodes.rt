@@ -1,0 +1,248 @@
+// The nodes of a cluster, and the network between them.
+ghost use Rattle.std.specs.Prelude.{◌≡◌, ◌≢◌, ◌≤◌, ◌<◌, ◌&&◌, length, nat_lt, slice_get, Some, None, IfOk, OnErr, ℕ};
+ghost use Rattle.group_task.specs.declared.node.TheConstants.{NODES};
+ghost use Rattle.durable_node.specs.Arming.{armed_disk};
+ghost use Rattle.durable_node.specs.Stepping.{CameOf};
+ghost use Rattle.histories.specs.What.{brought, AreAddressed};
+ghost use Rattle.schedule.specs.declared.act.Act.TheVariants as acts;
+ghost use Rattle.runs.specs.Acts.{At};
+ghost use Rattle.runs.specs.Events.{event_at};
+ghost use Rattle.cluster_sim.specs.Machine.{AreOpened, IsUntouched, StandsFor, Made, Acted, FaultsAt};
+ghost use Rattle.cluster_sim.specs.Operated.{Operates, IsLeftWith, disk_at};
+ghost use Rattle.runs.specs.Reporting.{node_named, node_or_first};
+ghost use Rattle.runs.specs.Run.{IsBrought};
+ghost use Rattle.runs.specs.World.{World, start};
+
+use crate::member::{self, handle, nothing_sent};
+use crate::outcome::{Deed, Outcome, Refusal};
+use durable_node::DurableNode;
+use group_task::NodeId;
+use node_core::Event;
+use schedule::{Act, Fill};
+use sector_disk::MemDisk;
+use sim_net::Net;
+use std::alloc::{AllocError, Global};
+use std::marker::Model;
+
+/// The nodes of a cluster by their ids, each over its own disk in memory, and the network between them.
+#[derive(Drop)]
+pub(crate) struct Nodes {
+    slots: u64,
+    nodes: Vec<DurableNode<MemDisk>>,
+    net: Net,
+}
+
+impl Model for Nodes {
+    ghost use Rattle.cluster_sim.specs.Machine.{Machine, IsCluster};
+
+    ghost Value = { Machine };
+
+    ghost view = { λ a. record { slots = a.slots; nodes = a.nodes.items; net = a.net.network } };
+
+    ghost invariant = { λ a. IsCluster a.slots a.nodes.items };
+}
+
+impl Nodes {
+    /// Nodes over new disks of so many slots, each of which was formatted, mounted and recovered. Nothing is sent.
+    ///
+    /// Refused where there is no memory.
+    pub(crate) fn open(alloc: Global, nodes: u8, slots: u64) -> Result<Nodes, AllocError>
+        requires least { 1 ≤ nodes }
+        requires most { nodes ≤ NODES }
+        requires least_slots { 4 ≤ slots }
+        requires most_slots { slots ≤ 4096 }
+        ensures slots { IfOk result (λ members. members.slots ≡ slots) }
+        ensures starts { IfOk result (λ members. StandsFor members (start nodes)) }
+    {
+        let members = opened(alloc, nodes, slots)?;
+        Ok(Nodes {
+            slots,
+            nodes: members,
+            net: Net::new(alloc),
+        })
+    }
+
+    /// The node of this id.
+    pub(crate) fn node(&self, id: NodeId) -> &DurableNode<MemDisk>
+        requires { id < length self.now.nodes }
+        ensures { slice_get self.now.nodes id ≡ Some result.now }
+    {
+        &self.nodes[usize::from(id.number())]
+    }
+
+    /// The network, with all that was ever sent.
+    pub(crate) fn net(&self) -> &Net
+        ensures { result.now.network ≡ self.now.net }
+    {
+        &self.net
+    }
+
+    /// The network alone, with all that was ever sent.
+    pub(crate) fn into_net(self) -> Net
+        ensures { result.network ≡ self.net }
+    {
+        let Nodes { net, .. } = self;
+        net
+    }
+
+    /// How many slots an area of each disk has.
+    pub(crate) fn slots(&self) -> u64
+        ensures value { result ≡ self.now.slots }
+        ensures most { result ≤ 4096 }
+    {
+        self.slots
+    }
+
+    /// How many nodes there are.
+    pub(crate) fn count(&self) -> u8
+        ensures value { result ≡ length self.now.nodes }
+        ensures least { 1 ≤ result }
+        ensures most { result ≤ NODES }
+    {
+        self.nodes.len() as u8
+    }
+
+    /// An event at a node, and what is sent of it.
+    pub(crate) fn take(&mut self, id: NodeId, event: &Event) -> Result<Deed, AllocError>
+        ensures slots { self.new.slots ≡ self.old.slots }
+        ensures acted { (w : World) (number : ℕ) → StandsFor self.old w → IsBrought w number (brought (Some event.now)) → AreAddressed id (brought (Some event.now))
+            → IfOk result (λ deed. Made (λ step. At (nat_lt id (length w.states)) id number (CameOf event.now) step) w deed self.new) }
+        ensures memory { (w : World) → StandsFor self.old w → OnErr result (StandsFor self.new w) }
+        ensures untouched { (w : World) → StandsFor self.old w → OnErr result (IsUntouched self.old self.new) }
+        ensures faults { IfOk result (λ deed. FaultsAt (node_or_first (length self.old.nodes) id) self.old self.new deed.outcome) }
+    {
+        let place = usize::from(id.number());
+        if place >= self.nodes.len() {
+            return Ok(Deed {
+                outcome: Outcome::Refused(Refusal::Stranger),
+                tried: None,
+                acked: None,
+                mounted: false,
+            });
+        }
+        handle(&mut self.nodes[place], &mut self.net, event)
+    }
+
+    /// Loses the message of this number.
+    fn lose(&mut self, number: u64) -> Outcome
+        ensures slots { self.new.slots ≡ self.old.slots }
+        ensures acted { (w : World) → StandsFor self.old w → Acted w (acts.Lose number) result self.new }
+        ensures faults { FaultsAt 0 self.old self.new result }
+    {
+        match self.net.lose(number) {
+            Ok(()) => nothing_sent(&self.net),
+            Err(fault) => Outcome::Refused(Refusal::Net(fault)),
+        }
+    }
+
+    /// Cuts two nodes from one another.
+    fn cut(&mut self, a: NodeId, b: NodeId) -> Outcome
+        ensures slots { self.new.slots ≡ self.old.slots }
+        ensures acted { (w : World) → StandsFor self.old w → Acted w (acts.Cut a b) result self.new }
+        ensures faults { FaultsAt 0 self.old self.new result }
+    {
+        if !self.has_both(a, b) {
+            return Outcome::Refused(Refusal::Stranger);
+        }
+        self.net.cut(a, b);
+        nothing_sent(&self.net)
+    }
+
+    /// Joins two nodes again.
+    fn mend(&mut self, a: NodeId, b: NodeId) -> Outcome
+        ensures slots { self.new.slots ≡ self.old.slots }
+        ensures acted { (w : World) → StandsFor self.old w → Acted w (acts.Mend a b) result self.new }
+        ensures faults { FaultsAt 0 self.old self.new result }
+    {
+        if !self.has_both(a, b) {
+            return Outcome::Refused(Refusal::Stranger);
+        }
+        self.net.mend(a, b);
+        nothing_sent(&self.net)
+    }
+
+    /// Whether both nodes are in the cluster.
+    fn has_both(&self, a: NodeId, b: NodeId) -> bool
+        ensures { result ≡ (nat_lt a (length self.now.nodes) && nat_lt b (length self.now.nodes)) }
+    {
+        let count = self.nodes.len();
+        usize::from(a.number()) < count && usize::from(b.number()) < count
+    }
+
+    /// Arms the disk of a node.
+    fn arm(&mut self, id: NodeId, calls: u64) -> Outcome
+        ensures slots { self.new.slots ≡ self.old.slots }
+        ensures acted { (w : World) → StandsFor self.old w → Acted w (acts.Arm id calls) result self.new }
+        ensures faults { FaultsAt (node_or_first (length self.old.nodes) id) self.old self.new result }
+        ensures disk { disk_at self.new id ≡ armed_disk calls (disk_at self.old id) }
+    {
+        let place = usize::from(id.number());
+        if place >= self.nodes.len() {
+            return Outcome::Refused(Refusal::Stranger);
+        }
+        member::arm(&mut self.nodes[place], &self.net, calls)
+    }
+
+    /// Crashes a node.
+    fn crash(&mut self, id: NodeId, fill: &Fill) -> Outcome
+        ensures slots { self.new.slots ≡ self.old.slots }
+        ensures acted { (w : World) → StandsFor self.old w → Acted w (acts.Crash id fill.now) result self.new }
+        ensures faults { FaultsAt (node_or_first (length self.old.nodes) id) self.old self.new result }
+        ensures disk { IsLeftWith fill.now (disk_at self.old id) (disk_at self.new id) }
+    {
+        let place = usize::from(id.number());
+        if place >= self.nodes.len() {
+            return Outcome::Refused(Refusal::Stranger);
+        }
+        member::crash(&mut self.nodes[place], &self.net, fill)
+    }
+
+    /// Compacts the journal of a node.
+    fn compact(&mut self, id: NodeId) -> Outcome
+        ensures slots { self.new.slots ≡ self.old.slots }
+        ensures acted { (w : World) → StandsFor self.old w → Acted w (acts.Compact id) result self.new }
+        ensures faults { FaultsAt (node_or_first (length self.old.nodes) id) self.old self.new result }
+    {
+        let place = usize::from(id.number());
+        if place >= self.nodes.len() {
+            return Outcome::Refused(Refusal::Stranger);
+        }
+        member::compact(&mut self.nodes[place], &self.net)
+    }
+
+    /// An act that is no event, nor brings one.
+    pub(crate) fn apply(&mut self, act: &Act) -> Outcome
+        requires event { event_at act.now ≡ None }
+        requires deliver { (k : ℕ) → act.now ≢ acts.Deliver k }
+        ensures slots { self.new.slots ≡ self.old.slots }
+        ensures acted { (w : World) → StandsFor self.old w → Acted w act.now result self.new }
+        ensures faults { FaultsAt (node_named (length self.old.nodes) self.old.net.sent act.now) self.old self.new result }
+        ensures disk { Operates act.now self.old self.new }
+    {
+        match act {
+            Act::Lose(number) => self.lose(*number),
+            Act::Cut(a, b) => self.cut(*a, *b),
+            Act::Mend(a, b) => self.mend(*a, *b),
+            Act::Arm(id, calls) => self.arm(*id, *calls),
+            Act::Crash(id, fill) => self.crash(*id, fill),
+            Act::Compact(id) => self.compact(*id),
+            _ => unreachable!(),
+        }
+    }
+}
+
+/// So many nodes, each over a new disk of so many slots.
+fn opened(alloc: Global, nodes: u8, slots: u64) -> Result<Vec<DurableNode<MemDisk>>, AllocError>
+    requires most { nodes ≤ NODES }
+    requires least_slots { 4 ≤ slots }
+    requires most_slots { slots ≤ 4096 }
+    ensures { IfOk result (λ members. AreOpened slots nodes nodes members.items) }
+{
+    let mut members = Vec::new(alloc);
+    for number in 0..nodes {
+        let id = NodeId::numbered(number);
+        let node = DurableNode::open(alloc, id, nodes, slots)?;
+        members.push(node)?;
+    }
+    Ok(members)
+}
