@@ -28,7 +28,7 @@ get_same [] more i within = absurd (omega (arith, within))
 get_same (m ∷ ms) more zero within = refl
 get_same (m ∷ ms) more (suc i) within = get_same ms more i (omega (arith, within))
 
-part_same : {A : Type 0} → (xs more : List A) (start len : ℕ) → start + len ≤ length xs → take len (drop start (xs ++ more)) ≡ take len (drop start xs)
+pub part_same : {A : Type 0} → (xs more : List A) (start len : ℕ) → start + len ≤ length xs → take len (drop start (xs ++ more)) ≡ take len (drop start xs)
 part_same {A} xs more start len within =
     ap (λ (ys : List A). take len ys) (drop-append-le start xs more (omega (arith, within)))
     ∙ take-append-le len (drop start xs) more (omega (arith, within, length-drop start xs))
@@ -58,7 +58,7 @@ claim_same ms more p bytes e h =
     ap (λ (d : Deed). claim d (part e.start e.end (ms ++ more))) (deed_same ms more p bytes e.deed h.deed)
     ∙ ap (λ (xs : List Envelope). claim (deed_said ms p e.deed) xs) (part_same ms more e.start (e.end - e.start) (let front = h.sent.0 in let back = h.sent.1 in omega (arith, front, back)))
 
-claims_same : (ms more : List Envelope) (p bytes : List ℕ) (es : List KeptEntry) → All (EntryStands (length ms) (length p)) es → map (claim_said (ms ++ more) (p ++ bytes)) es ≡ map (claim_said ms p) es
+pub claims_same : (ms more : List Envelope) (p bytes : List ℕ) (es : List KeptEntry) → All (EntryStands (length ms) (length p)) es → map (claim_said (ms ++ more) (p ++ bytes)) es ≡ map (claim_said ms p) es
 claims_same ms more p bytes [] h = refl
 claims_same ms more p bytes (e ∷ es) h =
     ap (λ (c : Claim). c ∷ map (claim_said (ms ++ more) (p ++ bytes)) es) (claim_same ms more p bytes e (All-head (EntryStands (length ms) (length p)) e es h))
@@ -70,7 +70,7 @@ get_again : (ms : List Envelope) (m : Envelope) → slice_get (ms ++ m ∷ []) (
 get_again [] m = refl
 get_again (x ∷ ms) m = get_again ms m
 
-take_whole : {A : Type 0} → (xs : List A) → take (length xs) xs ≡ xs
+pub take_whole : {A : Type 0} → (xs : List A) → take (length xs) xs ≡ xs
 take_whole [] = refl
 take_whole {A} (x ∷ xs) = ap (λ (ys : List A). x ∷ ys) (take_whole xs)
 
@@ -89,7 +89,7 @@ event_again ms p (on.Submit work) = ap (λ (xs : List ℕ). on.Submit (record wo
 event_again ms p (on.Finish origin id) = refl
 event_again ms p on.Recover = refl
 
-deed_again : (ms : List Envelope) (p : List ℕ) (d : Deed) → deed_said (ms ++ brought_by d) (p ++ payload_in d) (kept_deed (length ms) (length p) d) ≡ d
+pub deed_again : (ms : List Envelope) (p : List ℕ) (d : Deed) → deed_said (ms ++ brought_by d) (p ++ payload_in d) (kept_deed (length ms) (length p) d) ≡ d
 deed_again ms p deed.Nothing = refl
 deed_again ms p (deed.Done event) = ap (λ (e : Event). deed.Done e) (event_again ms p event)
 deed_again ms p (deed.Faulted event) = ap (λ (e : Event). deed.Faulted e) (event_again ms p event)
@@ -109,7 +109,7 @@ event_stands ms p (on.Submit work) few = (omega (arith, length-append p work.pay
 event_stands ms p (on.Finish origin id) few = tt
 event_stands ms p on.Recover few = tt
 
-deed_stands : (ms : List Envelope) (p : List ℕ) (d : Deed) → length (payload_in d) ≤ PAYLOAD_CAPACITY → DeedStands (length (ms ++ brought_by d)) (length (p ++ payload_in d)) (kept_deed (length ms) (length p) d)
+pub deed_stands : (ms : List Envelope) (p : List ℕ) (d : Deed) → length (payload_in d) ≤ PAYLOAD_CAPACITY → DeedStands (length (ms ++ brought_by d)) (length (p ++ payload_in d)) (kept_deed (length ms) (length p) d)
 deed_stands ms p deed.Nothing few = tt
 deed_stands ms p (deed.Done event) few = event_stands ms p event few
 deed_stands ms p (deed.Faulted event) few = event_stands ms p event few
@@ -131,7 +131,7 @@ event_longer m m' p p' (kept.Submit queue priority start len) a b h = (let withi
 event_longer m m' p p' (kept.Finish origin id) a b h = tt
 event_longer m m' p p' kept.Recover a b h = tt
 
-deed_longer : (m m' p p' : ℕ) (d : KeptDeed) → m ≤ m' → p ≤ p' → DeedStands m p d → DeedStands m' p' d
+pub deed_longer : (m m' p p' : ℕ) (d : KeptDeed) → m ≤ m' → p ≤ p' → DeedStands m p d → DeedStands m' p' d
 deed_longer m m' p p' done.Nothing a b h = tt
 deed_longer m m' p p' (done.Done event) a b h = event_longer m m' p p' event a b h
 deed_longer m m' p p' (done.Faulted event) a b h = event_longer m m' p p' event a b h
@@ -139,7 +139,7 @@ deed_longer m m' p p' done.Crashed a b h = tt
 deed_longer m m' p p' (done.Recovered kept) a b h = tt
 deed_longer m m' p p' (done.NotRecovered kept fault) a b h = tt
 
-entry_longer : (m m' p p' : ℕ) → m ≤ m' → p ≤ p' → (e : KeptEntry) → EntryStands m p e → EntryStands m' p' e
+pub entry_longer : (m m' p p' : ℕ) → m ≤ m' → p ≤ p' → (e : KeptEntry) → EntryStands m p e → EntryStands m' p' e
 entry_longer m m' p p' a b e h = record { deed = deed_longer m m' p p' e.deed a b h.deed; sent = (h.sent.0, let back = h.sent.1 in omega (arith, a, back)) }
 
 -- ---- one entry more

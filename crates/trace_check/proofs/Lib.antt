@@ -7,3 +7,4 @@ pub mod Desks
 pub mod Turns
 pub mod KeptEntries
 pub mod Brought
+pub mod Builders

@@ -1,19 +1,30 @@
 -- What a replica's invariant says after an event.
-use Rattle.std.proofs.Common.{◌≡◌, ℕ, Bool, true, false, Option, None, inl, inr, sym, ap, ◌∙◌, subst}
+use Rattle.std.proofs.Common.{◌≡◌, ℕ, Bool, true, false, List, Option, None, inl, inr, refl, sym, ap, ◌∙◌, subst}
 use Rattle.std.proofs.lemmas.Bool.{cases_Bool}
+use Rattle.std.specs.Prelude.{◌↔◌, IsTrue}
 use Rattle.job_model.specs.Command.{Command}
 use Rattle.job_model.specs.Durable.{Durable}
+use Rattle.job_model.specs.declared.job.Job.{Job}
+use Rattle.job_model.specs.Answer.{answer_to}
 use Rattle.job_model.specs.Fold.{after_wanted}
+use Rattle.wire_msg.specs.Envelope.{Envelope}
 use Rattle.node_core.specs.declared.event.Event.{Event}
+use Rattle.node_core.specs.declared.plan.Plan.{Plan}
+use Rattle.node_core.specs.Core.{Core, IsPlanFor}
+use Rattle.node_core.specs.Effect.{Effect}
+use Rattle.node_core.specs.Effects.{effect_of}
 use Rattle.node_core.specs.NodeStep.{IsSpent}
+use Rattle.node_core.specs.Planned.{plan_wants}
 use Rattle.node_core.specs.Refusals.{refusal_of}
 use Rattle.node_core.specs.Start.{down}
 use Rattle.node_core.specs.State.{State, is_down}
+use Rattle.node_core.specs.Wants.{wants_of}
 use Rattle.histories.specs.NodeState.{wants_at, effect_at}
-use Rattle.histories.specs.Possible.{IsForNode}
+use Rattle.histories.specs.Possible.{IsForNode, Takes}
+use Rattle.histories.specs.declared.what.What.TheVariants.{Did}
 use Rattle.histories.proofs.Downs.{at_down}
 use Rattle.histories.proofs.Ups.{stays_up}
-use Rattle.trace_check.specs.Twins.{Twin, IsTwin}
+use Rattle.trace_check.specs.Twins.{Twin, IsTwin, Judged}
 
 clash : (b : Bool) → b ≡ true → b ≡ false → ⊥
 clash true t f = absurd cc
@@ -49,3 +60,33 @@ twin_handled t new event is for_node taken id doubt state durable = elim (cases_
       )
   | inr up ↦ twin_up new (ap (λ (s : State). is_down s.phase) state ∙ stays_up t.nodes t.id t.node.durable.pending event _ t.node.state up) (doubt ∙ is.sure up)
 ]
+
+-- the plan of an event, carried out: what it wants, and what it makes
+pub record IsCarriedOut (t : Twin) (event : Event) (wants : Option Command) (effect : Effect) : Type 0 where
+  pub wanted : wants ≡ wants_at t.id t.nodes t.node event
+  pub made : effect ≡ effect_at t.id t.nodes t.node event
+
+pub carried_out : (t : Twin) (event : Event) (core : Core) (pending : List Job) (plan : Plan) (wants : Option Command) (answer : ℕ) (effect : Effect)
+    → core.id ≡ t.id → core.nodes ≡ t.nodes → core.state ≡ t.node.state → pending ≡ t.node.durable.pending → IsPlanFor core pending event plan → wants ≡ plan_wants plan → answer ≡ answer_to t.node.durable wants
+    → ((p : List Job) (e : Event) → IsPlanFor core p e plan → effect_of core.nodes core.id p e answer core.state ≡ effect) → IsCarriedOut t event wants effect
+carried_out t event core pending plan wants answer effect id nodes state jobs is wanted answered step =
+    let same : wants ≡ wants_at t.id t.nodes t.node event =
+    wanted ∙ is.wants_is ∙ ap (λ (n : ℕ). wants_of n pending event core.state) id ∙ ap (λ (p : List Job). wants_of t.id p event core.state) jobs
+    ∙ ap (λ (s : State). wants_of t.id t.node.durable.pending event s) state in
+    record {
+      wanted = same;
+      made =
+          sym (step pending event is) ∙ ap (λ (n : ℕ). effect_of n core.id pending event answer core.state) nodes ∙ ap (λ (n : ℕ). effect_of t.nodes n pending event answer core.state) id
+          ∙ ap (λ (p : List Job). effect_of t.nodes t.id p event answer core.state) jobs ∙ ap (λ (s : State). effect_of t.nodes t.id t.node.durable.pending event answer s) state
+          ∙ ap (λ (n : ℕ). effect_of t.nodes t.id t.node.durable.pending event n t.node.state) (answered ∙ ap (λ (o : Option Command). answer_to t.node.durable o) same);
+    }
+
+-- an event that was handled is judged by what was sent
+pub judged_handled : (t new : Twin) (event : Event) (sent told : List Envelope) (b : Bool) → Takes t.id t.nodes t.node event → told ≡ (effect_at t.id t.nodes t.node event).sent → (IsTrue b ↔ (told ≡ sent))
+    → new.node.doubt ≡ t.node.doubt → new.node.state ≡ (effect_at t.id t.nodes t.node event).state → new.node.durable ≡ after_wanted t.node.durable (wants_at t.id t.nodes t.node event) → Judged t new (Did event) sent b
+judged_handled t new event sent told true takes told_is as_sent doubt state durable = (
+  (takes, sym (as_sent.0 refl) ∙ told_is),
+  ap (λ (s : State). record new.node { state = s }) state ∙ ap (λ (d : Durable). record { state = (effect_at t.id t.nodes t.node event).state; durable = d; doubt = new.node.doubt }) durable
+      ∙ ap (λ (o : Option Command). record { state = (effect_at t.id t.nodes t.node event).state; durable = after_wanted t.node.durable (wants_at t.id t.nodes t.node event); doubt = o }) doubt,
+)
+judged_handled t new event sent told false takes told_is as_sent doubt state durable = λ comes. clash false (as_sent.1 (told_is ∙ sym comes.1)) refl

@@ -1,3 +1,4 @@
+pub mod Building
 pub mod Claims
 pub mod Desks
 pub mod Kept

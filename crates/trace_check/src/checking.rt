@@ -10,6 +10,7 @@ use crate::replica::Replica;
 use crate::trace::{Trace, Verdict};
 use group_task::{Members, NodeId};
 use std::alloc::{AllocError, Global};
+use wire_msg::Message;
 
 /// Whether some order of all entries is a run. At each turn the least node whose next entry is possible takes it.
 pub fn check(alloc: Global, trace: &Trace) -> Result<Verdict, AllocError>
@@ -41,6 +42,7 @@ fn open(alloc: Global, trace: &Trace) -> Result<Desk, AllocError>
         ready: Members::below(nodes),
         stopped: Members::new(),
         posted: Posted::new(alloc),
+        message: Message::blank(),
         order: Vec::new(alloc),
     })
 }
@@ -83,7 +85,13 @@ fn take_next(trace: &Trace, desk: &mut Desk, id: NodeId) -> Result<bool, AllocEr
         return Ok(false);
     }
     let place = desk.seats[index].place;
-    match judge(trace, &mut desk.posted, &mut desk.seats[index], id)? {
+    match judge(
+        trace,
+        &mut desk.posted,
+        &mut desk.message,
+        &mut desk.seats[index],
+        id,
+    )? {
         Judgement::Stops => {
             desk.ready.remove(id);
             desk.stopped.insert(id);

@@ -9,6 +9,7 @@ use crate::replica::Replica;
 use crate::trace::Trace;
 use group_task::{Members, NodeId};
 use std::alloc::AllocError;
+use wire_msg::Message;
 
 /// A node of the trace: its replica, and the index of its next entry.
 #[derive(Drop)]
@@ -26,6 +27,8 @@ pub(crate) struct Desk {
     /// The nodes whose next entry isn't possible, whatever is sent. Their replicas are spoiled.
     pub(crate) stopped: Members,
     pub(crate) posted: Posted,
+    /// The message that was delivered last, in whose place the next one is read, since a message is long.
+    pub(crate) message: Message,
     /// The nodes in the order in which their entries were taken.
     pub(crate) order: Vec<NodeId>,
 }
@@ -43,6 +46,7 @@ pub(crate) enum Judgement {
 pub(crate) fn judge(
     trace: &Trace,
     posted: &mut Posted,
+    message: &mut Message,
     seat: &mut Seat,
     id: NodeId,
 ) -> Result<Judgement, AllocError>
@@ -63,7 +67,7 @@ pub(crate) fn judge(
     let Some(kept) = trace.kept(id, seat.place) else {
         unreachable!()
     };
-    if !seat.replica.take_kept(&kept)? {
+    if !seat.replica.take_kept(&kept, message)? {
         return Ok(Judgement::Stops);
     }
     seat.place += 1;

@@ -1,11 +1,12 @@
-ghost use Rattle.std.specs.Prelude.{◌≡◌, ◌≤◌, ◌<◌, ◌+◌, ◌^◌, [], ◌∷◌, ◌++◌, length, slice_get, option_map, Some, None, IfSome, IsNone, IsTrue, ◌↔◌, OnOk, OnErr};
+ghost use Rattle.std.specs.Prelude.{◌≡◌, ◌≤◌, ◌<◌, ◌+◌, ◌-◌, ◌^◌, [], ◌∷◌, ◌++◌, length, slice_get, option_map, Some, None, IfSome, IsNone, IsTrue, ◌↔◌, OnOk, OnErr};
 ghost use Rattle.wire_msg.specs.Envelope.{Envelope};
 ghost use Rattle.wire_msg.specs.Spelling.{Spells};
+ghost use Rattle.trace_check.specs.Building.{delivery, kept_delivery};
 ghost use Rattle.trace_check.specs.Claims.{Claim, brought_by};
 ghost use Rattle.trace_check.specs.Traces.{claim, claim_seen};
 ghost use Rattle.trace_check.specs.Views.{Stands, claim_kept};
 
-use crate::kept::{KeptEntry, brought_at, deed_said, keep_deed};
+use crate::kept::{KeptDeed, KeptEntry, KeptEvent, brought_at, deed_said, keep_deed};
 use crate::trace::Deed;
 use group_task::NodeId;
 use job_model::PAYLOAD_CAPACITY;
@@ -137,6 +138,127 @@ impl History {
                 end: 0,
             }),
         }
+    }
+}
+
+/// A history that is being built: the messages of an entry are added first, one after another, and then the entry is finished. So no
+/// list of whole messages is made for it, and no deed that has a whole message.
+#[derive(Drop)]
+pub struct HistoryBuilder {
+    entries: Vec<KeptEntry>,
+    messages: MessageList,
+    payloads: Vec<u8>,
+    // where the messages begin that are of no entry yet
+    pending: usize,
+}
+
+impl Model for HistoryBuilder {
+    ghost use Rattle.std.specs.Prelude.{length, drop, map, All, ◌≤◌};
+    ghost use Rattle.trace_check.specs.Building.{Building};
+    ghost use Rattle.trace_check.specs.Kept.{claim_said, EntryStands};
+
+    ghost Value = { Building };
+
+    ghost view = { λ a. record { claims = map (claim_said a.messages.messages a.payloads.items) a.entries.items; pending = drop a.pending a.messages.messages; room = a.messages.room } };
+
+    ghost invariant = { λ a. All (EntryStands (length a.messages.messages) (length a.payloads.items)) a.entries.items × (a.pending ≤ length a.messages.messages) };
+}
+
+impl HistoryBuilder {
+    /// A builder without entries. It takes no memory.
+    pub fn new(alloc: Global) -> HistoryBuilder
+        ensures { result ≡ record { claims = []; pending = []; room = 0 } }
+    {
+        HistoryBuilder {
+            entries: Vec::new(alloc),
+            messages: MessageList::new(alloc),
+            payloads: Vec::new(alloc),
+            pending: 0,
+        }
+    }
+
+    /// Makes room for so many more messages.
+    pub fn reserve(&mut self, more: usize) -> Result<(), AllocError>
+        ensures claims { self.new.claims ≡ self.old.claims }
+        ensures pending { self.new.pending ≡ self.old.pending }
+        ensures room { OnOk result (more ≤ self.new.room) }
+    {
+        self.messages.reserve(more)
+    }
+
+    /// Adds a message of the next entry, in the room that is there.
+    pub fn add(&mut self, message: &Message)
+        requires { 0 < self.old.room }
+        ensures { self.new ≡ record { claims = self.old.claims; pending = self.old.pending ++ message.now ∷ []; room = self.old.room - 1 } }
+    {
+        self.messages.push(message);
+    }
+
+    /// Finishes an entry that was brought the first of the messages added for it, and sent the others: its event was handled, or the
+    /// device failed in it.
+    pub fn finish_delivery(&mut self, failed: bool) -> Result<(), AllocError>
+        requires { 0 < length self.old.pending }
+        ensures added { OnOk result (self.new ≡ record { claims = self.old.claims ++ delivery failed self.old.pending; pending = []; room = self.old.room }) }
+        ensures refused { OnErr result (self.new ≡ self.old) }
+    {
+        self.entries.reserve(1)?;
+        let end = self.messages.len();
+        self.entries.push_reserved(KeptEntry {
+            deed: kept_delivery(failed, self.pending),
+            start: self.pending + 1,
+            end,
+        });
+        self.pending = end;
+        Ok(())
+    }
+
+    /// Finishes an entry: what was done, where the messages added for it are those that it sent.
+    pub fn finish(&mut self, deed: &Deed) -> Result<(), AllocError>
+        ensures added { OnOk result (self.new.claims ≡ self.old.claims ++ claim deed.now self.old.pending ∷ []) }
+        ensures none { OnOk result (self.new.pending ≡ []) }
+        ensures refused { OnErr result ((self.new.claims ≡ self.old.claims) × (self.new.pending ≡ self.old.pending)) }
+    {
+        self.entries.reserve(1)?;
+        self.payloads.reserve(PAYLOAD_CAPACITY)?;
+        self.messages.reserve(1)?;
+        let end = self.messages.len();
+        let deed = keep_deed(&mut self.messages, &mut self.payloads, deed);
+        self.entries.push_reserved(KeptEntry {
+            deed,
+            start: self.pending,
+            end,
+        });
+        self.pending = self.messages.len();
+        Ok(())
+    }
+
+    /// The history of the entries that were finished.
+    pub fn build(self) -> History
+        ensures { result ≡ self.claims }
+    {
+        let HistoryBuilder {
+            entries,
+            messages,
+            payloads,
+            ..
+        } = self;
+        History {
+            entries,
+            messages,
+            payloads,
+        }
+    }
+}
+
+/// The deed of an entry that was brought the message at this place.
+fn kept_delivery(failed: bool, place: usize) -> KeptDeed
+    ensures { result ≡ kept_delivery failed place }
+{
+    let event = KeptEvent::Deliver(place);
+    if failed {
+        KeptDeed::Faulted(event)
+    } else {
+        KeptDeed::Done(event)
     }
 }
 

@@ -12,7 +12,7 @@ mod replica;
 mod trace;
 
 pub use checking::check;
-pub use history::{EntryView, History, Sent};
+pub use history::{EntryView, History, HistoryBuilder, Sent};
 pub use laws::{
     none_complete, none_goes_further, orders_are_bundles, turns_go_on, verdicts_decide,
 };

@@ -1,7 +1,8 @@
-ghost use Rattle.std.specs.Prelude.{◌≡◌, ◌<◌, ◌≤◌, ◌↔◌, true, IfOk, IfSome, IsTrue};
+ghost use Rattle.std.specs.Prelude.{◌≡◌, ◌<◌, ◌≤◌, ◌↔◌, length, true, IfOk, IfSome, IsTrue};
 ghost use Rattle.group_task.specs.declared.node.TheConstants.{NODES};
+ghost use Rattle.node_core.specs.declared.event.Event.TheVariants.{Deliver};
 ghost use Rattle.node_core.specs.NodeStep.{IsSpent};
-ghost use Rattle.node_core.specs.Planned.{wanted_by};
+ghost use Rattle.node_core.specs.Planned.{lent_by, wanted_by};
 ghost use Rattle.node_core.specs.Start.{down};
 ghost use Rattle.node_core.specs.State.{is_down, state_of};
 ghost use Rattle.histories.specs.NodeState.{opening, wants_at};
@@ -9,18 +10,20 @@ ghost use Rattle.histories.specs.declared.what.What.TheVariants.{Rests, Did, Fau
 ghost use Rattle.histories.specs.declared.what.Rest.TheVariants.{Nothing};
 ghost use Rattle.histories.specs.Possible.{IsForNode};
 ghost use Rattle.trace_check.specs.Twins.{Judged, Taken, Settled, WantsOf};
+ghost use Rattle.trace_check.specs.Kept.{EventStands, event_said};
 ghost use Rattle.trace_check.specs.Traces.{claim, claim_seen};
 ghost use Rattle.trace_check.specs.Views.{Stands, claim_kept};
 ghost use Rattle.trace_check.specs.declared.trace.Deed.TheVariants as deed;
 
 use crate::history::{EntryView, KeptView, Sent};
-use crate::kept::{KeptDeed, event_said};
+use crate::kept::{KeptDeed, KeptEvent, event_said};
 use crate::ledger::Ledger;
 use crate::trace::{Deed, RecoverFault};
 use group_task::NodeId;
-use node_core::{CoreFault, Durable, Event, NodeCore, Phase, Vector};
+use node_core::{CoreFault, Durable, Event, NodeCore, Phase, Vector, Wanted};
 use std::alloc::{AllocError, Global};
 use std::marker::Model;
+use std::mem;
 use wire_msg::Message;
 
 /// A node without its disk: what it knows, what its disk keeps, and the command in doubt.
@@ -31,9 +34,12 @@ pub struct Replica {
     core: NodeCore,
     ledger: Ledger,
     doubt: Durable,
+    // the list of the last answers to a message, which is kept for its room
+    room: Vec<Message>,
 }
 
 impl Model for Replica {
+    ghost use Rattle.std.specs.Prelude.{◌≡◌, []};
     ghost use Rattle.node_core.specs.Planned.{wanted_by};
     ghost use Rattle.trace_check.specs.Twins.{Twin, IsReplica, twin};
 
@@ -41,7 +47,7 @@ impl Model for Replica {
 
     ghost view = { λ a. twin a.core a.ledger (wanted_by a.doubt) };
 
-    ghost invariant = { λ a. IsReplica a.nodes (twin a.core a.ledger (wanted_by a.doubt)) };
+    ghost invariant = { λ a. IsReplica a.nodes (twin a.core a.ledger (wanted_by a.doubt)) × (a.room.items ≡ []) };
 }
 
 impl Replica {
@@ -57,6 +63,7 @@ impl Replica {
             core: NodeCore::new(alloc, id, nodes, 1),
             ledger: Ledger::new(alloc)?,
             doubt: Durable::None,
+            room: Vec::new(alloc),
         })
     }
 
@@ -85,8 +92,13 @@ impl Replica {
         }
     }
 
-    /// Takes an entry as it is kept, as `take` does. Of what it says the event alone is made: a deed that has it would be a copy.
-    pub(crate) fn take_kept(&mut self, kept: &KeptView<'_>) -> Result<bool, AllocError>
+    /// Takes an entry as it is kept, as `take` does. No deed is made of it: one that has a message would be a copy of it. A
+    /// message that is delivered is read in place of `message`.
+    pub(crate) fn take_kept(
+        &mut self,
+        kept: &KeptView<'_>,
+        message: &mut Message,
+    ) -> Result<bool, AllocError>
         requires { Stands kept.now }
         ensures id { self.new.id ≡ self.old.id }
         ensures nodes { self.new.nodes ≡ self.old.nodes }
@@ -95,18 +107,71 @@ impl Replica {
         let sent = kept.sent();
         match kept.entry.deed {
             KeptDeed::Nothing => Ok(sent.is_empty()),
-            KeptDeed::Done(event) => {
-                let event = event_said(kept.messages, kept.payloads, event);
-                self.handle(&event, &sent)
-            }
-            KeptDeed::Faulted(event) => {
-                let event = event_said(kept.messages, kept.payloads, event);
-                self.fault(&event, &sent)
-            }
+            KeptDeed::Done(event) => self.handle_kept(kept, event, message, &sent),
+            KeptDeed::Faulted(event) => self.fault_kept(kept, event, &sent),
             KeptDeed::Crashed => Ok(self.crash(&sent)),
             KeptDeed::Recovered(found) => self.recover(found, &sent),
             KeptDeed::NotRecovered(found, fault) => self.not_recover(found, fault, &sent),
         }
+    }
+
+    /// An event as it is kept, which is handled. Of a message that is delivered no event is made: it is read in place of
+    /// `message`.
+    fn handle_kept(
+        &mut self,
+        kept: &KeptView<'_>,
+        event: KeptEvent,
+        message: &mut Message,
+        sent: &Sent<'_>,
+    ) -> Result<bool, AllocError>
+        requires { EventStands (length kept.now.messages.now.messages) (length kept.now.payloads.now) event }
+        ensures id { self.new.id ≡ self.old.id }
+        ensures nodes { self.new.nodes ≡ self.old.nodes }
+        ensures judged { IfOk result (Judged self.old self.new (Did (event_said kept.now.messages.now.messages kept.now.payloads.now event)) sent.now) }
+    {
+        match event {
+            KeptEvent::Deliver(place) => {
+                if !kept.messages.read(place, message) {
+                    unreachable!()
+                }
+                self.deliver(message, sent)
+            }
+            _ => self.handle_said(kept, event, sent),
+        }
+    }
+
+    /// An event as it is kept, which is handled. It stands apart, since an event takes over 400 bytes.
+    #[inline(never)]
+    fn handle_said(
+        &mut self,
+        kept: &KeptView<'_>,
+        event: KeptEvent,
+        sent: &Sent<'_>,
+    ) -> Result<bool, AllocError>
+        requires { EventStands (length kept.now.messages.now.messages) (length kept.now.payloads.now) event }
+        ensures id { self.new.id ≡ self.old.id }
+        ensures nodes { self.new.nodes ≡ self.old.nodes }
+        ensures judged { IfOk result (Judged self.old self.new (Did (event_said kept.now.messages.now.messages kept.now.payloads.now event)) sent.now) }
+    {
+        let event = event_said(kept.messages, kept.payloads, event);
+        self.handle(&event, sent)
+    }
+
+    /// An event as it is kept, in whose command the device failed.
+    #[inline(never)]
+    fn fault_kept(
+        &mut self,
+        kept: &KeptView<'_>,
+        event: KeptEvent,
+        sent: &Sent<'_>,
+    ) -> Result<bool, AllocError>
+        requires { EventStands (length kept.now.messages.now.messages) (length kept.now.payloads.now) event }
+        ensures id { self.new.id ≡ self.old.id }
+        ensures nodes { self.new.nodes ≡ self.old.nodes }
+        ensures judged { IfOk result (Judged self.old self.new (Faulted (event_said kept.now.messages.now.messages kept.now.payloads.now event)) sent.now) }
+    {
+        let event = event_said(kept.messages, kept.payloads, event);
+        self.fault(&event, sent)
     }
 
     /// Recover, at a node that is down or isn't.
@@ -161,13 +226,37 @@ impl Replica {
             Err(CoreFault::NoMemory) => return Err(AllocError),
             Err(_) => return Ok(false),
         };
-        let wants = plan.wants();
+        let wants = plan.wanted();
         if self.ledger.is_spent(&wants) {
             return Ok(false);
         }
         let answer = self.ledger.take(&wants)?;
         let told = self.core.commit_step(plan, answer);
         Ok(same(&told, sent))
+    }
+
+    /// A message that is delivered, which stays where it is. The answers are written into the list of the last ones.
+    fn deliver(&mut self, message: &Message, sent: &Sent<'_>) -> Result<bool, AllocError>
+        ensures id { self.new.id ≡ self.old.id }
+        ensures nodes { self.new.nodes ≡ self.old.nodes }
+        ensures judged { IfOk result (Judged self.old self.new (Did (Deliver message.now)) sent.now) }
+    {
+        let room = mem::replace(&mut self.room, Vec::new(self.alloc));
+        let plan = match self.core.plan_delivery(message, self.ledger.table(), room) {
+            Ok(plan) => plan,
+            Err(CoreFault::NoMemory) => return Err(AllocError),
+            Err(_) => return Ok(false),
+        };
+        let wants = plan.wanted();
+        if self.ledger.is_spent(&wants) {
+            return Ok(false);
+        }
+        let answer = self.ledger.take(&wants)?;
+        let mut told = self.core.commit_step(plan, answer);
+        let as_sent = same(&told, sent);
+        told.clear();
+        self.room = told;
+        Ok(as_sent)
     }
 
     /// An event in whose command the device failed.
@@ -202,11 +291,10 @@ impl Replica {
             Err(CoreFault::NoMemory) => return Err(AllocError),
             Err(_) => return Ok(None),
         };
-        let wants = plan.wants();
-        if self.ledger.is_spent(&wants) {
+        if self.ledger.is_spent(&plan.wanted()) {
             return Ok(None);
         }
-        Ok(Some(wants))
+        Ok(Some(plan.wants()))
     }
 
     /// The node crashes.
@@ -235,10 +323,10 @@ impl Replica {
         ensures nodes { self.new.nodes ≡ self.old.nodes }
         ensures judged { IfOk result (Judged self.old self.new (Recovered kept) sent.now) }
     {
-        if !sent.is_empty() || !self.settle(kept)? || self.ledger.is_spent(&Durable::Raise) {
+        if !sent.is_empty() || !self.settle(kept)? || self.ledger.is_spent(&Wanted::Raise) {
             return Ok(false);
         }
-        let count = self.ledger.take(&Durable::Raise)?;
+        let count = self.ledger.take(&Wanted::Raise)?;
         self.core = NodeCore::new(self.alloc, self.core.id(), self.nodes, count);
         Ok(true)
     }
@@ -250,7 +338,7 @@ impl Replica {
         ensures nodes { self.new.nodes ≡ self.old.nodes }
         ensures judged { IfOk result (Judged self.old self.new (RaiseFailed kept) sent.now) }
     {
-        if !sent.is_empty() || !self.settle(kept)? || self.ledger.is_spent(&Durable::Raise) {
+        if !sent.is_empty() || !self.settle(kept)? || self.ledger.is_spent(&Wanted::Raise) {
             return Ok(false);
         }
         self.doubt = Durable::Raise;
@@ -268,7 +356,7 @@ impl Replica {
             if matches!(self.doubt, Durable::None) {
                 return Ok(false);
             }
-            self.ledger.take(&self.doubt)?;
+            self.ledger.take(&lent(&self.doubt))?;
         }
         self.doubt = Durable::None;
         Ok(true)
@@ -289,6 +377,18 @@ impl Replica {
         ensures { result ≡ is_down self.now.node.state.phase }
     {
         matches!(self.core.vector().phase, Phase::Down)
+    }
+}
+
+/// The same command, with its job where it lies.
+fn lent(wants: &Durable) -> Wanted<'_>
+    ensures { lent_by result ≡ wanted_by wants.now }
+{
+    match wants {
+        Durable::None => Wanted::None,
+        Durable::Raise => Wanted::Raise,
+        Durable::Put(work) => Wanted::Put(work),
+        Durable::Done(id) => Wanted::Done(*id),
     }
 }
 

@@ -5,6 +5,7 @@
 //! reads in it.
 #![tactic(auto)]
 
+mod adding;
 mod fault;
 mod fields;
 mod parts;

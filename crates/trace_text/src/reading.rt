@@ -1,4 +1,4 @@
-ghost use Rattle.std.specs.Prelude.{◌≡◌, ◌++◌, ◌∷◌, [], map, codes, IfOk, option_map, option_and_then, Some, None, MatchBool, false};
+ghost use Rattle.std.specs.Prelude.{◌≡◌, codes, IfOk, option_map, option_and_then, Some, None, MatchBool, false};
 ghost use Rattle.std.specs.Str.{bytes_eq};
 ghost use Rattle.serde_json.specs.Find.{as_str};
 ghost use Rattle.serde_json.specs.View.{view, items_view};
@@ -8,7 +8,6 @@ ghost use Rattle.group_task.specs.declared.node.TheConstants.{NODES};
 ghost use Rattle.job_model.specs.declared.queue.TheConstants.{QUEUES};
 ghost use Rattle.trace_text.specs.Fields.{data_of, found_by};
 ghost use Rattle.trace_text.specs.Entries.{claim_of, good, below, bytes_in, spelled_in, messages_in, number_in, priority_in, deliver_in, submit_in, finish_in, event_in, device_in, recover_in, deed_named, deed_in, claim_in};
-ghost use Rattle.trace_text.specs.Streams.{messages_of, claim_with};
 ghost use Rattle.trace_text.specs.Places.{IsRead, recovery_said, with_device};
 
 use crate::fields::{Field, Fields};
@@ -49,62 +48,8 @@ pub fn read_entry(alloc: Global, value: &Value) -> Result<Option<Entry>, AllocEr
     Ok(Some(Entry { deed, sent }))
 }
 
-/// The entry of these fields, and of these texts of the messages that it sent, in place of another. False where there is none.
-pub(crate) fn read_into(
-    room: &mut Vec<u8>,
-    fields: &Fields<'_>,
-    texts: &[&str],
-    entry: &mut Entry,
-) -> Result<bool, AllocError>
-    ensures { IfOk result (λ some. IsRead some (claim_of entry.new) (claim_with (deed_in (found_by fields.now)) (messages_of (map (λ s. s.now) texts.now)))) }
-{
-    if !read_deed(room, fields, &mut entry.deed)? {
-        return Ok(false);
-    }
-    spelled_by(room, texts, &mut entry.sent)
-}
-
-/// The messages of these texts, in place of others. False where a text spells none.
-fn spelled_by(
-    room: &mut Vec<u8>,
-    texts: &[&str],
-    messages: &mut Vec<Message>,
-) -> Result<bool, AllocError>
-    ensures { IfOk result (λ some. IsRead some messages.new.items (messages_of (map (λ s. s.now) texts.now))) }
-{
-    messages.clear();
-    for text in texts {
-        if !add_message(room, text, messages)? {
-            return Ok(false);
-        }
-    }
-    Ok(true)
-}
-
-/// Adds the message of a text of hex digits, if it spells one. It stands apart, since each call of a function pays for the size of
-/// its locals, and here a whole message is one.
-#[inline(never)]
-fn add_message(
-    room: &mut Vec<u8>,
-    text: &str,
-    messages: &mut Vec<Message>,
-) -> Result<bool, AllocError>
-    ensures { IfOk result (λ some. IsRead some messages.new.items (option_map (λ m. messages.old.items ++ m ∷ []) (spelled_in text.now))) }
-{
-    if !read_bytes(room, text)? {
-        return Ok(false);
-    }
-    match decode(room) {
-        Ok(message) => {
-            messages.push(message)?;
-            Ok(true)
-        }
-        Err(_) => Ok(false),
-    }
-}
-
 /// The text of a field.
-fn text_of<'a>(field: Option<Field<'a>>) -> Option<&'a str>
+pub(crate) fn text_of<'a>(field: Option<Field<'a>>) -> Option<&'a str>
     ensures { option_map (λ s. s.now) result ≡ option_and_then as_str (option_map data_of field.entry) }
 {
     field?.text()
@@ -128,7 +73,7 @@ fn bytes_of(room: &mut Vec<u8>, field: Option<Field<'_>>) -> Result<bool, AllocE
 }
 
 /// The bytes of hex digits go to the room, if it is some.
-fn read_bytes(room: &mut Vec<u8>, text: &str) -> Result<bool, AllocError>
+pub(crate) fn read_bytes(room: &mut Vec<u8>, text: &str) -> Result<bool, AllocError>
     ensures { IfOk result (λ some. MatchBool some (good (decode_of text.now) ≡ Some room.new.items) (good (decode_of text.now) ≡ None)) }
 {
     room.resize(text.len() / 2, 0)?;
@@ -197,6 +142,19 @@ fn read_named(
     if name == "deliver" {
         return read_deliver(room, fields, deed);
     }
+    read_other(room, fields, name, deed)
+}
+
+/// What was done other than a delivery, by its name.
+pub(crate) fn read_other(
+    room: &mut Vec<u8>,
+    fields: &Fields<'_>,
+    name: &str,
+    deed: &mut Deed,
+) -> Result<bool, AllocError>
+    requires { bytes_eq name.now (codes "deliver") ≡ false }
+    ensures { IfOk result (λ some. IsRead some deed.new (deed_named (found_by fields.now) name.now)) }
+{
     if name == "none" {
         *deed = Deed::Nothing;
         return Ok(true);
@@ -236,7 +194,7 @@ fn read_done(
 }
 
 /// Whether the device failed.
-fn read_device(fault: Option<Field<'_>>) -> Option<bool>
+pub(crate) fn read_device(fault: Option<Field<'_>>) -> Option<bool>
     ensures { result ≡ device_in (option_map data_of fault.entry) }
 {
     let Some(fault) = fault else {

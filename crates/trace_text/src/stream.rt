@@ -11,20 +11,20 @@ ghost use Rattle.serde_json.specs.Find.{as_str};
 ghost use Rattle.serde_json.specs.Read.{converted, number_of};
 ghost use Rattle.trace_check.specs.Claims.{Claim};
 ghost use Rattle.group_task.specs.declared.node.TheConstants.{NODES};
-ghost use Rattle.trace_text.specs.Fields.{data_of, found_by};
-ghost use Rattle.trace_text.specs.Entries.{good, deed_in, claim_in};
+ghost use Rattle.trace_text.specs.Fields.{data_of};
+ghost use Rattle.trace_text.specs.Entries.{good, claim_in};
 ghost use Rattle.trace_text.specs.Drafts.{drafted_by, parted_by};
-ghost use Rattle.trace_text.specs.Streams.{data_at, items_at, members_at, history_of, histories_of, texts_of, messages_of, claim_with, undrafted, drafted_put, unparted, parted_put};
+ghost use Rattle.trace_text.specs.Streams.{data_at, items_at, members_at, history_of, histories_of, drafted_put, parted_put};
 ghost use Rattle.trace_text.specs.Wholes.{trace_of, in_shape, shape_in};
 
+use crate::adding::{Desk, add_entry};
 use crate::fields::{Field, Fields};
-use crate::reading::{Entry, read_into};
 use fast_float::Numeral;
 use group_task::NODES;
 use json::{Invalid, Reader, Scratch, Token};
 use std::alloc::{AllocError, Global};
 use std::str;
-use trace_check::{Deed, History, Trace};
+use trace_check::{History, HistoryBuilder, Trace};
 
 /// Why the reader stopped.
 #[derive(Clone, Copy, Debug)]
@@ -54,14 +54,6 @@ pub struct Draft<'a> {
     pub has_sent: bool,
     /// The messages of `sent`.
     pub texts: Vec<&'a str>,
-}
-
-/// Where an entry is read, one after another.
-#[derive(Drop)]
-struct Desk {
-    /// The bytes of a text of hex digits.
-    room: Vec<u8>,
-    entry: Entry,
 }
 
 /// The whole, as far as it was read.
@@ -178,13 +170,7 @@ fn read_each_history(alloc: Global, reader: &mut Reader<'_>) -> Result<Vec<Histo
         has_sent: false,
         texts: Vec::new(alloc),
     };
-    let mut desk = Desk {
-        room: Vec::new(alloc),
-        entry: Entry {
-            deed: Deed::Nothing,
-            sent: Vec::new(alloc),
-        },
-    };
+    let mut desk = Desk::new(alloc);
     'histories: while !reader.take_end_array() {
         let history = read_history(alloc, reader, &mut draft, &mut desk)?;
         histories.reserve(1)?;
@@ -217,11 +203,11 @@ fn read_entries<'a>(
     ensures entries { IfOk result (λ h. items_at claim_in 124 (length reader.old) reader.old ≡ Some (h, reader.new)) }
     ensures shorter { OnOk result (length reader.new ≤ length reader.old) }
 {
-    let mut history = History::new(alloc);
+    let mut history = HistoryBuilder::new(alloc);
     'entries: while !reader.take_end_array() {
         read_entry(reader, draft, desk, &mut history)?;
     }
-    Ok(history)
+    Ok(history.build())
 }
 
 /// Adds the entry at the front to a history.
@@ -229,9 +215,11 @@ fn read_entry<'a>(
     reader: &mut Reader<'a>,
     draft: &mut Draft<'a>,
     desk: &mut Desk,
-    history: &mut History,
+    history: &mut HistoryBuilder,
 ) -> Result<(), Halt>
-    ensures entry { OnOk result (parse_map (λ (c : Claim). history.old ++ c ∷ []) (converted claim_in (data_at 124 reader.old)) ≡ Some (history.new, reader.new)) }
+    requires { history.old.pending ≡ [] }
+    ensures entry { OnOk result (parse_map (λ (c : Claim). history.old.claims ++ c ∷ []) (converted claim_in (data_at 124 reader.old)) ≡ Some (history.new.claims, reader.new)) }
+    ensures finished { OnOk result (history.new.pending ≡ []) }
     ensures shorter { OnOk result (length reader.new < length reader.old) }
 {
     open_object(reader)?;
@@ -241,23 +229,7 @@ fn read_entry<'a>(
     if !draft.has_sent {
         return Err(Halt::Odd);
     }
-    add_entry(&draft.fields, &draft.texts, desk, history)
-}
-
-/// Adds the entry of these fields and texts to a history.
-fn add_entry(
-    fields: &Fields<'_>,
-    texts: &[&str],
-    desk: &mut Desk,
-    history: &mut History,
-) -> Result<(), Halt>
-    ensures { OnOk result (option_map (λ (c : Claim). history.old ++ c ∷ []) (claim_with (deed_in (found_by fields.now)) (messages_of (map (λ s. s.now) texts.now))) ≡ Some history.new) }
-{
-    if !read_into(&mut desk.room, fields, texts, &mut desk.entry)? {
-        return Err(Halt::Odd);
-    }
-    history.push(&desk.entry.deed, &desk.entry.sent)?;
-    Ok(())
+    add_entry(desk, &draft.fields, &draft.texts, history)
 }
 
 /// The members of an entry, from behind its brace on.

@@ -21,8 +21,8 @@ returns-clause-entry c =
     let ts = c.open_object.new.reader in
     let r = c.read_members.new.reader in
     let draft = c.read_members.new.draft in
-    let old = c.args.history.now in
-    let new = c.add_entry.new.history in
+    let old = c.args.history.now.claims in
+    let new = c.add_entry.new.history.claims in
     let add = λ (x : Claim). old ++ x ∷ [] in
     let deed = deed_in (found_by draft.fields) in
     let has : draft.has_sent ≡ true = grind (arith, c.if-not-draft.false) in
@@ -32,4 +32,4 @@ returns-clause-entry c =
     on_ok _ _ c.add_entry.result
     (λ made. ap (λ (xs : List Token). parse_map add (converted claim_in (data_at 124 xs))) c.in_ok-open_object.ensures
     ∙ entry_there ts r (drafted_by draft) old new (sym read ∙ c.in_ok-read_members.ensures.members) (ap (λ (o : Option (List Envelope)). option_map add (claim_with deed o)) sent ∙ made))
-    c.add_entry.ensures
+    c.add_entry.ensures.entry

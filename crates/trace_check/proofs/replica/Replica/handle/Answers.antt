@@ -3,9 +3,12 @@ use Rattle.trace_check.proofs.Twins.{twin_handled}
 use Rattle.trace_check.proofs.replica.Replica.handle.Goals as goal
 
 pub invariant_of-self-2 : goal.invariant_of-self-2
-invariant_of-self-2 c = record {
-  twin = twin_handled c.args.self.now _ c.args.event.now (search rules) (search rules) (search rules) (search rules) (search rules) (search rules) (search rules);
-  size = search rules;
-  within = search rules;
-  most = search rules;
-}
+invariant_of-self-2 c = (
+  record {
+    twin = twin_handled c.args.self.now _ c.args.event.now (search rules) (search rules) (search rules) (search rules) (search rules) (search rules) (search rules);
+    size = search rules;
+    within = search rules;
+    most = search rules;
+  },
+  search rules,
+)
