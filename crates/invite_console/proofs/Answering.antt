@@ -1,73 +1,55 @@
--- The outcome of `answer`, from what was fed so far.
-use Rattle.std.proofs.Common.{◌≡◌, ℕ, ◌-◌, ◌≤◌, List, [], ◌++◌, length, take, drop, Bool, true, false, Option, Some, None, codes, refl, sym, ap, ◌∙◌, append-nil, append_assoc, arith}
-use Rattle.std.specs.Prelude.{is_none, is_some}
-use Rattle.std.proofs.Math.Seq.{take-length}
+-- The outcome of `answer`, from what is left of the stream.
+use Rattle.std.proofs.Common.{◌≡◌, ℕ, List, [], ◌∷◌, ◌++◌, Bool, true, false, Option, Some, None, codes, sym, ap, ◌∙◌, append-nil}
+use Rattle.std.specs.Prelude.{is_none}
 use Rattle.wire_msg.specs.Envelope.{Envelope}
-use Rattle.wire_msg.specs.Contents.{messages_in, unfinished_in, is_malformed, messages_behind}
+use Rattle.wire_msg.specs.Framing.{Begins, Breaks, IsPartial}
+use Rattle.wire_msg.specs.Contents.{messages_in, unfinished_in, is_malformed}
+use Rattle.wire_msg.proofs.Contents.{read_behind, partial_alone, broken_at_once}
 use Rattle.node_core.specs.Start.{alone}
-use Rattle.console_text.specs.Ends.{before, line}
+use Rattle.console_text.specs.Ends.{Outcome, line}
 use Rattle.invite_console.specs.Answer.{answers_to, end_of_answers, first_count}
-use Rattle.invite_console.specs.Session.{Progress, onward, TakesAll}
+use Rattle.invite_console.specs.Session.{Progress, onward, onward_if, TakesNext}
 use Rattle.invite_console.proofs.Sessions.{onward_end}
-use Rattle.invite_console.proofs.Feeding.{messages_turn, messages_beyond, broken_messages, broken_unfinished, empty_messages}
 
 -- where the node begins
 abbrev pub beginning : ℕ → ℕ → Progress
 beginning id nodes = record { id = id; nodes = nodes; state = alone id first_count; text = [] }
 
--- the session has taken these messages, and whatever follows them is the same to it
-abbrev pub HasTaken : ℕ → ℕ → List Envelope → Progress → Bool → Type 0
-HasTaken id nodes messages now goes = TakesAll (beginning id nodes) messages now goes
+-- the whole outcome, where this is left of the stream
+abbrev pub onward_over : Progress → List ℕ → Outcome
+onward_over p left = onward p (end_of_answers (is_malformed left)) (messages_in left)
 
-pub has_taken_none : (id nodes : ℕ) (now : Progress) → now ≡ beginning id nodes → HasTaken id nodes (messages_in []) now true
-has_taken_none id nodes now same end rest =
-    ap (λ (ms : List Envelope). onward (beginning id nodes) end (ms ++ rest)) empty_messages ∙ ap (λ p. onward p end rest) (sym same)
+pub all_is_left : (id nodes : ℕ) (bytes : List ℕ) (now : Progress) → now ≡ beginning id nodes → answers_to id nodes bytes ≡ onward_over now bytes
+all_is_left id nodes bytes now same = ap (λ p. onward_over p bytes) (sym same)
 
--- a piece more
-pub takes_turn : (id nodes : ℕ) (bytes : List ℕ) (fed end : ℕ) (stream : Option (List ℕ)) (batch messages : List Envelope) (old new : Progress) (goes : Bool)
-    → fed ≤ end → stream ≡ unfinished_in (take fed bytes) → batch ≡ messages_behind stream (take (end - fed) (drop fed bytes)) → messages ≡ batch
-    → HasTaken id nodes (messages_in (take fed bytes)) old true → TakesAll old messages new goes → HasTaken id nodes (messages_in (take end bytes)) new goes
-takes_turn id nodes bytes fed end stream batch messages old new goes order same given list h more last rest =
-    let whole = messages_turn bytes fed end stream messages order same (list ∙ given) in
-    ap (λ (ms : List Envelope). onward (beginning id nodes) last (ms ++ rest)) whole
-    ∙ (ap (onward (beginning id nodes) last) (append_assoc (messages_in (take fed bytes)) messages rest) ∙ (h last (messages ++ rest) ∙ more last rest))
+-- a stream with these messages and this end is left
+over : (p : Progress) (left : List ℕ) (messages : List Envelope) (unfinished : Option (List ℕ)) → (messages_in left ≡ messages) × (unfinished_in left ≡ unfinished)
+    → onward_over p left ≡ onward p (end_of_answers (is_none unfinished)) messages
+over p left messages unfinished read =
+    ap (onward p (end_of_answers (is_malformed left))) read.0 ∙ ap (λ u. onward p (end_of_answers (is_none u)) messages) read.1
 
-outcome : (id nodes : ℕ) (bytes : List ℕ) → answers_to id nodes bytes ≡ onward (beginning id nodes) (end_of_answers (is_malformed bytes)) (messages_in bytes)
-outcome id nodes bytes = refl
+over_next : (old new : Progress) (left after : List ℕ) (m : Envelope) (goes : Bool) → Begins left m after → TakesNext old m new goes
+    → onward_over old left ≡ onward_if goes new (end_of_answers (is_malformed after)) (messages_in after)
+over_next old new left after m goes begins next =
+    over old left (m ∷ messages_in after) (unfinished_in after) (read_behind left after m begins) ∙ next (end_of_answers (is_malformed after)) (messages_in after)
 
--- a message was refused: it was the last that counts
-pub ends_refused : (id nodes : ℕ) (bytes : List ℕ) (fed : ℕ) (now : Progress) (goes : Bool) → HasTaken id nodes (messages_in (take fed bytes)) now goes → goes ≡ false
-    → record { text = now.text; good = false } ≡ answers_to id nodes bytes
-ends_refused id nodes bytes fed now true h off = absurd cc
-ends_refused id nodes bytes fed now false h off =
-    sym (ap (onward (beginning id nodes) (end_of_answers (is_malformed bytes))) (messages_beyond bytes fed)
-    ∙ h (end_of_answers (is_malformed bytes)) (messages_behind (unfinished_in (take fed bytes)) (drop fed bytes)))
+-- a message more was taken
+pub goes_on : (old new : Progress) (left after : List ℕ) (m : Envelope) (goes : Bool) → Begins left m after → TakesNext old m new goes → goes ≡ true → onward_over old left ≡ onward_over new after
+goes_on old new left after m true begins next on = over_next old new left after m true begins next
+goes_on old new left after m false begins next on = absurd cc
 
--- none was
-pub goes_on : (id nodes : ℕ) (messages : List Envelope) (now : Progress) (goes : Bool) → HasTaken id nodes messages now goes → goes ≡ true → HasTaken id nodes messages now true
-goes_on id nodes messages now true h on = h
-goes_on id nodes messages now false h on = absurd cc
+-- one was refused: it was the last that counts
+pub ends_refused : (old new : Progress) (left after : List ℕ) (m : Envelope) (goes : Bool) → Begins left m after → TakesNext old m new goes → goes ≡ false
+    → onward_over old left ≡ record { text = new.text; good = false }
+ends_refused old new left after m true begins next off = absurd cc
+ends_refused old new left after m false begins next off = over_next old new left after m false begins next
 
--- a frame was bad: `malformed` is printed behind the answers
-pub ends_malformed : (id nodes : ℕ) (bytes : List ℕ) (fed : ℕ) (now : Progress) → HasTaken id nodes (messages_in (take fed bytes)) now true
-    → unfinished_in (take fed bytes) ≡ None → record { text = now.text ++ line (codes "malformed"); good = false } ≡ answers_to id nodes bytes
-ends_malformed id nodes bytes fed now h broken =
-    let bad : is_malformed bytes ≡ true = ap is_none (broken_unfinished bytes fed broken) in
-    let all : messages_in bytes ≡ messages_in (take fed bytes) ++ [] = broken_messages bytes fed broken ∙ sym (append-nil (messages_in (take fed bytes))) in
-    sym (ap (onward (beginning id nodes) (end_of_answers (is_malformed bytes))) all
-    ∙ (h (end_of_answers (is_malformed bytes)) [] ∙ (onward_end now (end_of_answers (is_malformed bytes)) ∙ ap (λ b. before now.text (end_of_answers b)) bad)))
+-- a frame is bad: `malformed` is printed behind the answers
+pub ends_malformed : (now : Progress) (left : List ℕ) → Breaks left [] → onward_over now left ≡ record { text = now.text ++ line (codes "malformed"); good = false }
+ends_malformed now left broken = over now left [] None (broken_at_once left broken) ∙ onward_end now (end_of_answers true)
 
-not_none : {A : Type 0} (o : Option A) → is_some o ≡ true → is_none o ≡ false
-not_none None h = absurd cc
-not_none (Some x) h = refl
-
--- all was fed
-pub ends_well : (id nodes : ℕ) (bytes : List ℕ) (fed : ℕ) (now : Progress) → length bytes ≤ fed → fed ≤ length bytes → HasTaken id nodes (messages_in (take fed bytes)) now true
-    → is_some (unfinished_in (take fed bytes)) ≡ true → record { text = now.text; good = true } ≡ answers_to id nodes bytes
-ends_well id nodes bytes fed now least most h some =
-    let whole : take fed bytes ≡ bytes = (let n : fed ≡ length bytes = omega arith in ap (λ k. take k bytes) n ∙ take-length bytes) in
-    let good : is_malformed bytes ≡ false = not_none (unfinished_in bytes) (rw whole at some) in
-    let all : messages_in bytes ≡ messages_in (take fed bytes) ++ [] = ap messages_in (sym whole) ∙ sym (append-nil (messages_in (take fed bytes))) in
-    sym (ap (onward (beginning id nodes) (end_of_answers (is_malformed bytes))) all
-    ∙ (h (end_of_answers (is_malformed bytes)) [] ∙ (onward_end now (end_of_answers (is_malformed bytes))
-    ∙ (ap (λ b. before now.text (end_of_answers b)) good ∙ ap (λ (t : List ℕ). record { text = t; good = true }) (append-nil now.text)))))
+-- nothing but an unfinished frame is left
+pub ends_well : (now : Progress) (left : List ℕ) → IsPartial left → onward_over now left ≡ record { text = now.text; good = true }
+ends_well now left partial =
+    over now left [] (Some left) (partial_alone left partial)
+    ∙ (onward_end now (end_of_answers false) ∙ ap (λ (t : List ℕ). record { text = t; good = true }) (append-nil now.text))

@@ -1,6 +1,5 @@
 pub mod Answering
 pub mod Deliveries
-pub mod Feeding
 pub mod Joins
 pub mod Pairs
 pub mod Sessions

@@ -1,5 +1,5 @@
 -- A node that takes messages, and what it has printed so far.
-use Rattle.std.specs.Prelude.{◌≡◌, ℕ, List, ◌++◌, Bool, true, false}
+use Rattle.std.specs.Prelude.{◌≡◌, ℕ, List, ◌∷◌, ◌++◌, Bool, true, false}
 use Rattle.wire_msg.specs.Envelope.{Envelope}
 use Rattle.node_core.specs.State.{State}
 use Rattle.node_core.specs.Core.{Core}
@@ -40,6 +40,6 @@ abbrev pub onward_if : Bool → Progress → Outcome → List Envelope → Outco
 onward_if true p end rest = onward p end rest
 onward_if false p end rest = record { text = p.text; good = false }
 
--- taking the messages leaves the whole outcome as it is, whatever follows them
-abbrev pub TakesAll : Progress → List Envelope → Progress → Bool → Type 0
-TakesAll old messages new goes = (end : Outcome) (rest : List Envelope) → onward old end (messages ++ rest) ≡ onward_if goes new end rest
+-- taking the message leaves the whole outcome as it is, whatever follows it
+abbrev pub TakesNext : Progress → Envelope → Progress → Bool → Type 0
+TakesNext old m new goes = (end : Outcome) (rest : List Envelope) → onward old end (m ∷ rest) ≡ onward_if goes new end rest

@@ -8,7 +8,6 @@ ghost use Rattle.console_text.specs.Ends.{outcome_of, IsFixed, IsWhy, Prints};
 ghost use Rattle.invite_console.specs.Reasons.{answer_flaw};
 ghost use Rattle.invite_console.specs.Answer.{answer_text, answers_to, first_count, state_after};
 
-use crate::batches::{PIECE, next_batch};
 use crate::lines::hex_lines;
 use crate::reasons::{bad_hex, with_reason};
 use crate::session::Session;
@@ -17,7 +16,7 @@ use group_task::NodeId;
 use line_words::LineFault;
 use std::alloc::{AllocError, Global};
 use std::io::{Read, Write};
-use wire_msg::Stream;
+use wire_msg::{Message, decode_front};
 
 /// Reads a stream of messages in hex lines, and prints what node `id` of `nodes` answers to them, a line of hex for each message.
 /// The node is Normal in its own group of count 1, has no disk and no jobs, and no timer of its own fires.
@@ -73,22 +72,23 @@ fn answers_to(
     ensures { IfOk result (λ printout. outcome_of printout ≡ answers_to id nodes bytes.now) }
 {
     let mut session = Session::new(alloc, id, nodes, text)?;
-    let mut stream = Stream::new(alloc);
-    let mut messages = Vec::new(alloc);
-    let mut fed = 0;
-    while fed < bytes.len() {
-        let end = bytes.len().min(fed + PIECE);
-        let is_whole = next_batch(&mut stream, &bytes[fed..end], &mut messages)?;
-        if !session.take_all(&messages)? {
-            return Ok(session.ended(false));
+    let mut message = Message::blank();
+    let mut left = bytes;
+    loop {
+        match decode_front(left, &mut message) {
+            Ok(Some(after)) => {
+                if !session.take_next(&message)? {
+                    return Ok(session.ended(false));
+                }
+                left = after;
+            }
+            Ok(None) => return Ok(session.ended(true)),
+            Err(_) => {
+                session.print("malformed\n")?;
+                return Ok(session.ended(false));
+            }
         }
-        if !is_whole {
-            session.print("malformed\n")?;
-            return Ok(session.ended(false));
-        }
-        fed = end;
     }
-    Ok(session.ended(true))
 }
 
 /// No message needs the disk, whatever messages the node took before: so no new group starts here, and no job is made or done.

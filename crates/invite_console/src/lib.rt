@@ -7,7 +7,6 @@
 
 mod acts;
 mod answers;
-mod batches;
 mod digits;
 mod lines;
 mod printing;

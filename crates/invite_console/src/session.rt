@@ -5,7 +5,7 @@ ghost use Rattle.hex.specs.Hex.{encode_lower};
 ghost use Rattle.wire_msg.specs.Spelling.{spelling};
 ghost use Rattle.console_text.specs.Ends.{line, outcome_of};
 ghost use Rattle.invite_console.specs.Answer.{is_strange, message_lines};
-ghost use Rattle.invite_console.specs.Session.{after_message, Delivers, SameButRoom, TakesAll};
+ghost use Rattle.invite_console.specs.Session.{after_message, Delivers, SameButRoom, TakesNext};
 ghost use Rattle.node_core.specs.Quiet.{IsQuiet};
 
 use console_text::{Printout, push_hex, push_text};
@@ -82,17 +82,15 @@ impl Session {
         Ok(true)
     }
 
-    /// Takes messages in their order, up to the first that is refused, which is printed. False says that one was.
-    pub fn take_all(&mut self, messages: &[Message]) -> Result<bool, AllocError>
-        ensures { IfOk result (TakesAll self.old messages.now self.new) }
+    /// Takes the next message. False says that it was refused, which is printed.
+    pub fn take_next(&mut self, message: &Message) -> Result<bool, AllocError>
+        ensures { IfOk result (TakesNext self.old message.now self.new) }
     {
-        for message in messages {
-            if !self.take(message)? {
-                self.print("refused Stranger\n")?;
-                return Ok(false);
-            }
+        let taken = self.take(message)?;
+        if !taken {
+            self.print("refused Stranger\n")?;
         }
-        Ok(true)
+        Ok(taken)
     }
 
     pub fn print(&mut self, word: &str) -> Result<(), AllocError>

@@ -1,10 +1,9 @@
 ghost use Rattle.std.specs.Prelude.{◌≡◌, ◌≤◌, ◌+◌, ◌++◌, [], IfOk, OnOk, codes};
 ghost use Rattle.console_text.specs.Ends.{line, outcome_of, IsFixed, IsWhy, Prints};
 ghost use Rattle.invite_console.specs.Reasons.{show_flaw};
-ghost use Rattle.invite_console.specs.Show.{body_text, group_text, message_text, rest_text, shown, shown_of, show_text, task_text, truth_text, order_text};
+ghost use Rattle.invite_console.specs.Show.{body_text, group_text, message_text, rest_text, shown_of, show_text, task_text, truth_text, order_text};
 ghost use Rattle.console_text.specs.Words.{work_text};
 
-use crate::batches::{PIECE, next_batch};
 use crate::lines::hex_lines;
 use crate::reasons::{bad_hex, with_reason};
 use crate::words::{push_group, push_ids, push_truth};
@@ -16,7 +15,7 @@ use job_model::Work;
 use line_words::LineFault;
 use std::alloc::{AllocError, Global};
 use std::io::{Read, Write};
-use wire_msg::{Body, Message, Stream};
+use wire_msg::{Body, Message, decode_front};
 
 /// Reads a stream of messages in hex lines, and prints them, a line of text for each. Bytes of an unfinished frame are counted
 /// behind the last.
@@ -40,7 +39,7 @@ fn show_to(alloc: Global, mut input: Vec<u8>) -> Result<Told, AllocError>
     match hex_lines(alloc, &input) {
         Ok(bytes) => {
             input.clear();
-            let printout = show_stream(alloc, &bytes, input)?;
+            let printout = show_stream(&bytes, input)?;
             with_reason(alloc, printout)
         }
         Err(LineFault::BadLine(number)) => bad_hex(alloc, number),
@@ -49,25 +48,28 @@ fn show_to(alloc: Global, mut input: Vec<u8>) -> Result<Told, AllocError>
 }
 
 /// The messages of a stream as text, written into `text`, which is empty.
-fn show_stream(alloc: Global, bytes: &[u8], mut text: Vec<u8>) -> Result<Printout, AllocError>
+fn show_stream(bytes: &[u8], mut text: Vec<u8>) -> Result<Printout, AllocError>
     requires { text.items ≡ [] }
     ensures { IfOk result (λ printout. outcome_of printout ≡ shown_of bytes.now) }
 {
-    let mut stream = Stream::new(alloc);
-    let mut messages = Vec::new(alloc);
-    let mut fed = 0;
-    while fed < bytes.len() {
-        let end = bytes.len().min(fed + PIECE);
-        let is_whole = next_batch(&mut stream, &bytes[fed..end], &mut messages)?;
-        push_lines(&mut text, &messages)?;
-        if !is_whole {
-            push_text(&mut text, "malformed\n")?;
-            return Ok(Printout { text, good: false });
+    let mut message = Message::blank();
+    let mut left = bytes;
+    loop {
+        match decode_front(left, &mut message) {
+            Ok(Some(after)) => {
+                push_message(&mut text, &message)?;
+                left = after;
+            }
+            Ok(None) => {
+                push_rest(&mut text, left.len() as u64)?;
+                return Ok(Printout { text, good: true });
+            }
+            Err(_) => {
+                push_text(&mut text, "malformed\n")?;
+                return Ok(Printout { text, good: false });
+            }
         }
-        fed = end;
     }
-    push_rest(&mut text, stream.rest())?;
-    Ok(Printout { text, good: true })
 }
 
 /// Adds a line on so many bytes of an unfinished frame, if there are any.
@@ -82,16 +84,7 @@ fn push_rest(text: &mut Vec<u8>, rest: u64) -> Result<(), AllocError>
     push_text(text, "\n")
 }
 
-/// Adds messages, a line of text for each.
-fn push_lines(text: &mut Vec<u8>, messages: &[Message]) -> Result<(), AllocError>
-    ensures { OnOk result (text.new.items ≡ text.old.items ++ shown messages.now) }
-{
-    for message in messages {
-        push_message(text, message)?;
-    }
-    Ok(())
-}
-
+/// Adds a message as a line of text.
 fn push_message(text: &mut Vec<u8>, message: &Message) -> Result<(), AllocError>
     ensures { OnOk result (text.new.items ≡ text.old.items ++ line (message_text message.now)) }
 {
