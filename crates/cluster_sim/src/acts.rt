@@ -66,7 +66,7 @@ pub(crate) fn job_event_at(act: &Act, event: &mut Event) -> Option<NodeId>
 {
     match act {
         Act::Submit(id, job) => {
-            *event = Event::Submit(*job.work());
+            *event = Event::Submit(job.work());
             Some(*id)
         }
         Act::Finish(id, origin, job) => {

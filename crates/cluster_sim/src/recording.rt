@@ -179,7 +179,7 @@ fn work_in(act: &Act) -> Option<Work>
     ensures { result ≡ work_in act.now }
 {
     match act {
-        Act::Submit(_, job) => Some(*job.work()),
+        Act::Submit(_, job) => Some(job.work()),
         _ => None,
     }
 }

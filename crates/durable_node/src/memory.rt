@@ -3,6 +3,9 @@ ghost use Rattle.std.specs.Prelude.{◌≡◌, ◌≤◌, ◌<◌, ◌+◌, ◌*
 ghost use Rattle.group_task.specs.declared.node.TheConstants.{NODES};
 ghost use Rattle.sector_disk.specs.Memory.{Memory, state_of, all_synced};
 ghost use Rattle.sector_disk.specs.Crash.{IsCrashed};
+ghost use Rattle.job_model.specs.Durable.{formatted};
+ghost use Rattle.job_journal.specs.Journal.{IsSound};
+ghost use Rattle.node_store.specs.Store.{slots_for, AllStandFor};
 ghost use Rattle.node_core.specs.Start.{down};
 ghost use Rattle.histories.specs.After.{after};
 ghost use Rattle.durable_node.specs.Arming.{armed_disk};
@@ -39,10 +42,7 @@ impl DurableNode<MemDisk> {
         ensures failures { IfOk result (λ node. (disk : Memory) → node.disk ≡ Some disk → disk.failures ≡ 0) }
         ensures found { IfOk result (λ node. node.found ≡ None) }
     {
-        let mut disk = MemDisk::new(alloc, 8 + 4 * slots)?;
-        if format(&mut disk).is_err() {
-            return Err(AllocError);
-        }
+        let disk = formatted_disk(alloc, slots)?;
         let mut node = DurableNode::down(alloc, id, nodes, disk);
         match node.recover() {
             Ok(came) if came.fault().is_none() => {}
@@ -84,4 +84,22 @@ impl DurableNode<MemDisk> {
         self.core = NodeCore::down(self.alloc, self.id, self.nodes);
         self.found = None;
     }
+}
+
+/// A new disk of two areas of so many slots, formatted. Refused where there is no memory.
+fn formatted_disk(alloc: Global, slots: u64) -> Result<MemDisk, AllocError>
+    requires least { 4 ≤ slots }
+    requires greatest { slots ≤ 4096 }
+    ensures sectors { IfOk result (λ disk. (state_of disk).sectors ≡ 8 + 4 * slots) }
+    ensures failures { IfOk result (λ disk. disk.failures ≡ 0) }
+    ensures formatted { IfOk result (λ disk. AllStandFor (slots_for (state_of disk).sectors) formatted (state_of disk)) }
+    ensures sound { IfOk result (λ disk. IsSound (slots_for (state_of disk).sectors) (state_of disk)) }
+{
+    let mut disk = MemDisk::new(alloc, 8 + 4 * slots)?;
+    if format(&mut disk).is_err() {
+        return Err(AllocError);
+    }
+    disk.forget();
+    disk.shrink_to_fit();
+    Ok(disk)
 }

@@ -1,5 +1,5 @@
 -- What is kept of a run, one act further.
-use Rattle.std.proofs.Common.{◌≡◌, ℕ, zero, suc, ◌+◌, ◌-◌, ◌<◌, ◌≤◌, Bool, true, false, List, [], ◌∷◌, ◌++◌, length, take, drop, Option, Some, None, slice_get, refl, sym, ap, subst, ◌∙◌, append_assoc, append-nil, arith, inl, inr, ◌⊎◌}
+use Rattle.std.proofs.Common.{◌≡◌, ℕ, zero, suc, ◌+◌, ◌-◌, ◌<◌, ◌≤◌, Bool, true, false, List, [], ◌∷◌, ◌++◌, length, take, drop, Option, Some, None, codes, slice_get, refl, sym, ap, subst, ◌∙◌, append_assoc, append-nil, arith, inl, inr, ◌⊎◌}
 use Rattle.std.proofs.lemmas.List.{length-append, length-drop, drop-append-le, take-append-le, take_rest}
 use Rattle.std.proofs.lemmas.Option.{slice_get_within}
 use Rattle.std.proofs.Math.Seq.{drop-append_seam}
@@ -16,10 +16,10 @@ use Rattle.runs.specs.Reporting.{step_sent}
 use Rattle.runs.specs.Growth.{RunsGrow, RunsOpen}
 use Rattle.invite_console.specs.declared.running.Kept.{Kept}
 use Rattle.invite_console.specs.declared.telling.Telling.{Telling}
-use Rattle.invite_console.specs.Acts.{act_line, first_of}
-use Rattle.invite_console.specs.Kept.{AreKept, IsKept, IsKeptSoFar, IsRun, between, lines, lines_of, run_text, sent_at, sent_by, shown_at, shown_by}
+use Rattle.invite_console.specs.Acts.{act_line, sent_text}
+use Rattle.invite_console.specs.Kept.{AreKept, IsKept, IsKeptSoFar, IsRun, act_head, between, lines, lines_of, run_text, sent_at, sent_by, told_at, told_by}
 use Rattle.invite_console.specs.Sim.{AddsNodes, AddsRowBy, AddsRows, IsSoFar, TellsRun}
-use Rattle.invite_console.proofs.Sims.{begins, ends, first_is, further}
+use Rattle.invite_console.proofs.Sims.{begins, ends, further, line_is}
 
 -- ---- a list that grows
 
@@ -71,34 +71,31 @@ sent_front : (kept kept' : List Kept) (i : ℕ) → Front kept kept' → i ≤ l
 sent_front kept kept' zero front on = refl
 sent_front kept kept' (suc i) front on = ap sent_by (get_front kept kept' i front (omega (arith, on)))
 
-shown_front : (kept kept' : List Kept) (i : ℕ) → Front kept kept' → i ≤ length kept → shown_at kept' i ≡ shown_at kept i
-shown_front kept kept' zero front on = refl
-shown_front kept kept' (suc i) front on = ap shown_by (get_front kept kept' i front (omega (arith, on)))
+told_front : (kept kept' : List Kept) (i : ℕ) → Front kept kept' → i ≤ length kept → told_at kept' i ≡ told_at kept i
+told_front kept kept' zero front on = refl
+told_front kept kept' (suc i) front on = ap told_by (get_front kept kept' i front (omega (arith, on)))
 
 -- the line of an act is the same, whatever was added behind
-line_stays : (names : Bool) (i sent shown : ℕ) (a : Option Act) (k : Option Kept) (tables tables' : List ℕ) (ms ms' : List Envelope) → Front tables tables' → Front ms ms'
-    → ((kept : Kept) → k ≡ Some kept → IsKept sent shown (length ms) (length tables) kept)
-    → lines_of names i a k sent shown tables' ms' ≡ lines_of names i a k sent shown tables ms
-line_stays names i sent shown None k tables tables' ms ms' front_t front_m is = refl
-line_stays names i sent shown (Some a) None tables tables' ms ms' front_t front_m is = refl
-line_stays names i sent shown (Some a) (Some k) tables tables' ms ms' front_t front_m is =
+line_stays : (names : Bool) (sent told : ℕ) (k : Option Kept) (text text' : List ℕ) (ms ms' : List Envelope) → Front text text' → Front ms ms'
+    → ((kept : Kept) → k ≡ Some kept → IsKept sent told (length ms) (length text) kept)
+    → lines_of names k sent told text' ms' ≡ lines_of names k sent told text ms
+line_stays names sent told None text text' ms ms' front_t front_m is = refl
+line_stays names sent told (Some k) text text' ms ms' front_t front_m is =
     let it = is k refl in
-    ap (λ t. t ++ act_line names i a k.outcome (between sent k.sent ms')) (between_front shown k.shown tables tables' front_t it.shown_grows it.shown_within)
-    ∙ ap (λ m. between shown k.shown tables ++ act_line names i a k.outcome m) (between_front sent k.sent ms ms' front_m it.sent_grows it.sent_within)
+    ap (λ t. t ++ sent_text names sent (between sent k.sent ms') ++ codes "\n") (between_front told k.told text text' front_t it.told_grows it.told_within)
+    ∙ ap (λ m. between told k.told text ++ sent_text names sent m ++ codes "\n") (between_front sent k.sent ms ms' front_m it.sent_grows it.sent_within)
 
-lines_stay : (names : Bool) (acts acts' : List Act) (kept kept' : List Kept) (tables tables' : List ℕ) (ms ms' : List Envelope) (n : ℕ)
-    → AreKept acts kept (length ms) (length tables) → Front acts acts' → Front kept kept' → Front tables tables' → Front ms ms' → n ≤ length acts
-    → lines names acts' kept' tables' ms' n ≡ lines names acts kept tables ms n
-lines_stay names acts acts' kept kept' tables tables' ms ms' zero are fa fk ft fm on = refl
-lines_stay names acts acts' kept kept' tables tables' ms ms' (suc i) are fa fk ft fm on =
-    let count = are.count in
-    let last = lines names acts kept tables ms i in
-    ap (λ l. l ++ lines_of names i (slice_get acts' i) (slice_get kept' i) (sent_at kept' i) (shown_at kept' i) tables' ms') (lines_stay names acts acts' kept kept' tables tables' ms ms' i are fa fk ft fm (omega (arith, on)))
-    ∙ ap (λ a. last ++ lines_of names i a (slice_get kept' i) (sent_at kept' i) (shown_at kept' i) tables' ms') (get_front acts acts' i fa (omega (arith, on)))
-    ∙ ap (λ k. last ++ lines_of names i (slice_get acts i) k (sent_at kept' i) (shown_at kept' i) tables' ms') (get_front kept kept' i fk (omega (arith, on, count)))
-    ∙ ap (λ s. last ++ lines_of names i (slice_get acts i) (slice_get kept i) s (shown_at kept' i) tables' ms') (sent_front kept kept' i fk (omega (arith, on, count)))
-    ∙ ap (λ s. last ++ lines_of names i (slice_get acts i) (slice_get kept i) (sent_at kept i) s tables' ms') (shown_front kept kept' i fk (omega (arith, on, count)))
-    ∙ ap (λ l. last ++ l) (line_stays names i (sent_at kept i) (shown_at kept i) (slice_get acts i) (slice_get kept i) tables tables' ms ms' ft fm (are.each i))
+lines_stay : (names : Bool) (kept kept' : List Kept) (text text' : List ℕ) (ms ms' : List Envelope) (n : ℕ)
+    → AreKept kept (length ms) (length text) → Front kept kept' → Front text text' → Front ms ms' → n ≤ length kept
+    → lines names kept' text' ms' n ≡ lines names kept text ms n
+lines_stay names kept kept' text text' ms ms' zero are fk ft fm on = refl
+lines_stay names kept kept' text text' ms ms' (suc i) are fk ft fm on =
+    let last = lines names kept text ms i in
+    ap (λ l. l ++ lines_of names (slice_get kept' i) (sent_at kept' i) (told_at kept' i) text' ms') (lines_stay names kept kept' text text' ms ms' i are fk ft fm (omega (arith, on)))
+    ∙ ap (λ k. last ++ lines_of names k (sent_at kept' i) (told_at kept' i) text' ms') (get_front kept kept' i fk (omega (arith, on)))
+    ∙ ap (λ s. last ++ lines_of names (slice_get kept i) s (told_at kept' i) text' ms') (sent_front kept kept' i fk (omega (arith, on)))
+    ∙ ap (λ s. last ++ lines_of names (slice_get kept i) (sent_at kept i) s text' ms') (told_front kept kept' i fk (omega (arith, on)))
+    ∙ ap (λ l. last ++ l) (line_stays names (sent_at kept i) (told_at kept i) (slice_get kept i) text text' ms ms' ft fm (are i))
 
 -- ---- the table, behind any text
 
@@ -141,60 +138,47 @@ between_end from xs = take_rest xs from
 
 -- ---- one act further
 
-lines_more : (names : Bool) (acts : List Act) (a : Act) (kept : List Kept) (k : Kept) (tables tables' : List ℕ) (ms ms' : List Envelope)
-    → AreKept acts kept (length ms) (length tables) → Front tables tables' → Front ms ms' → sent_at kept (length acts) ≡ length ms → shown_at kept (length acts) ≡ length tables
-    → k.sent ≡ length ms' → k.shown ≡ length tables'
-    → lines names (acts ++ a ∷ []) (kept ++ k ∷ []) tables' ms' (suc (length acts))
-    ≡ (lines names acts kept tables ms (length acts) ++ drop (length tables) tables') ++ act_line names (length acts) a k.outcome (drop (length ms) ms')
-lines_more names acts a kept k tables tables' ms ms' are ft fm all_sent all_shown is_sent is_shown =
-    let n = length acts in
-    let acts' = acts ++ a ∷ [] in
+lines_more : (names : Bool) (kept : List Kept) (k : Kept) (text text' : List ℕ) (ms ms' : List Envelope)
+    → AreKept kept (length ms) (length text) → Front text text' → Front ms ms' → sent_at kept (length kept) ≡ length ms → told_at kept (length kept) ≡ length text
+    → k.sent ≡ length ms' → k.told ≡ length text'
+    → lines names (kept ++ k ∷ []) text' ms' (suc (length kept)) ≡ lines names kept text ms (length kept) ++ (drop (length text) text' ++ sent_text names (length ms) (drop (length ms) ms') ++ codes "\n")
+lines_more names kept k text text' ms ms' are ft fm all_sent all_told is_sent is_told =
+    let n = length kept in
     let kept' = kept ++ k ∷ [] in
-    let fa = front_of acts acts' (a ∷ []) refl in
     let fk = front_of kept kept' (k ∷ []) refl in
-    let before = lines names acts kept tables ms n in
-    let is_act : slice_get acts' n ≡ Some a = get_seam acts a in
-    let is_kept : slice_get kept' n ≡ Some k = ap (λ (i : ℕ). slice_get kept' i) (sym are.count) ∙ get_seam kept k in
-    let sent : sent_at kept' n ≡ length ms = sent_front kept kept' n fk (let count = are.count in omega (arith, count)) ∙ all_sent in
-    let shown : shown_at kept' n ≡ length tables = shown_front kept kept' n fk (let count = are.count in omega (arith, count)) ∙ all_shown in
-    let table : between (length tables) k.shown tables' ≡ drop (length tables) tables' = ap (λ (to : ℕ). between (length tables) to tables') is_shown ∙ between_end (length tables) tables' in
+    let before = lines names kept text ms n in
+    let sent : sent_at kept' n ≡ length ms = sent_front kept kept' n fk (omega arith) ∙ all_sent in
+    let told : told_at kept' n ≡ length text = told_front kept kept' n fk (omega arith) ∙ all_told in
+    let front : between (length text) k.told text' ≡ drop (length text) text' = ap (λ (to : ℕ). between (length text) to text') is_told ∙ between_end (length text) text' in
     let said : between (length ms) k.sent ms' ≡ drop (length ms) ms' = ap (λ (to : ℕ). between (length ms) to ms') is_sent ∙ between_end (length ms) ms' in
-    ap (λ l. l ++ lines_of names n (slice_get acts' n) (slice_get kept' n) (sent_at kept' n) (shown_at kept' n) tables' ms') (lines_stay names acts acts' kept kept' tables tables' ms ms' n are fa fk ft fm (omega arith))
-    ∙ ap (λ x. before ++ lines_of names n x (slice_get kept' n) (sent_at kept' n) (shown_at kept' n) tables' ms') is_act
-    ∙ ap (λ x. before ++ lines_of names n (Some a) x (sent_at kept' n) (shown_at kept' n) tables' ms') is_kept
-    ∙ ap (λ x. before ++ lines_of names n (Some a) (Some k) x (shown_at kept' n) tables' ms') sent
-    ∙ ap (λ x. before ++ lines_of names n (Some a) (Some k) (length ms) x tables' ms') shown
-    ∙ ap (λ x. before ++ (x ++ act_line names n a k.outcome (between (length ms) k.sent ms'))) table
-    ∙ ap (λ x. before ++ (drop (length tables) tables' ++ act_line names n a k.outcome x)) said
-    ∙ sym (append_assoc before (drop (length tables) tables') (act_line names n a k.outcome (drop (length ms) ms')))
+    ap (λ l. l ++ lines_of names (slice_get kept' n) (sent_at kept' n) (told_at kept' n) text' ms') (lines_stay names kept kept' text text' ms ms' n are fk ft fm (omega arith))
+    ∙ ap (λ x. before ++ lines_of names x (sent_at kept' n) (told_at kept' n) text' ms') (get_seam kept k)
+    ∙ ap (λ x. before ++ lines_of names (Some k) x (told_at kept' n) text' ms') sent
+    ∙ ap (λ x. before ++ lines_of names (Some k) (length ms) x text' ms') told
+    ∙ ap (λ x. before ++ (x ++ sent_text names (length ms) (between (length ms) k.sent ms') ++ codes "\n")) front
+    ∙ ap (λ x. before ++ (drop (length text) text' ++ sent_text names (length ms) x ++ codes "\n")) said
 
 -- one more is kept
-one_kept : (acts : List Act) (a : Act) (kept : List Kept) (k : Kept) (m t m' t' : ℕ) → AreKept acts kept m t → m ≤ m' → t ≤ t' → sent_at kept (length acts) ≡ m → shown_at kept (length acts) ≡ t
-    → k.sent ≡ m' → k.shown ≡ t' → first_of m k.outcome ≡ m → AreKept (acts ++ a ∷ []) (kept ++ k ∷ []) m' t'
-one_kept acts a kept k m t m' t' are more_m more_t all_sent all_shown is_sent is_shown first =
-    let count = are.count in
+one_kept : (kept : List Kept) (k : Kept) (m t m' t' : ℕ) → AreKept kept m t → m ≤ m' → t ≤ t' → sent_at kept (length kept) ≡ m → told_at kept (length kept) ≡ t
+    → k.sent ≡ m' → k.told ≡ t' → AreKept (kept ++ k ∷ []) m' t'
+one_kept kept k m t m' t' are more_m more_t all_sent all_told is_sent is_told = λ i x found.
     let fk = front_of kept (kept ++ k ∷ []) (k ∷ []) refl in
-    let ls = length-append kept (k ∷ []) in
-    let la = length-append acts (a ∷ []) in
-    record {
-      count = omega (arith, count, ls, la);
-      each = λ i x found. elim (get_either kept k x i found) [
-        | inl there ↦
-            let on = slice_get_within kept i x there in
-            let old = are.each i x there in
-            let o1 = old.sent_within in
-            let o2 = old.shown_within in
-            subst (λ s. IsKept s (shown_at (kept ++ k ∷ []) i) m' t' x) (sym (sent_front kept (kept ++ k ∷ []) i fk (omega (arith, on))))
-            (subst (λ s. IsKept (sent_at kept i) s m' t' x) (sym (shown_front kept (kept ++ k ∷ []) i fk (omega (arith, on))))
-            (record { sent_grows = old.sent_grows; sent_within = omega (arith, o1, more_m); shown_grows = old.shown_grows; shown_within = omega (arith, o2, more_t); first = old.first }))
-        | inr here ↦
-            let is_end : i ≡ length acts = here.0 ∙ count in
-            subst (λ y. IsKept (sent_at (kept ++ k ∷ []) i) (shown_at (kept ++ k ∷ []) i) m' t' y) here.1
-            (subst (λ s. IsKept s (shown_at (kept ++ k ∷ []) i) m' t' k) (sym (sent_front kept (kept ++ k ∷ []) i fk (let e = here.0 in omega (arith, e)) ∙ ap (λ j. sent_at kept j) is_end ∙ all_sent))
-            (subst (λ s. IsKept m s m' t' k) (sym (shown_front kept (kept ++ k ∷ []) i fk (let e = here.0 in omega (arith, e)) ∙ ap (λ j. shown_at kept j) is_end ∙ all_shown))
-            (record { sent_grows = omega (arith, is_sent, more_m); sent_within = omega (arith, is_sent); shown_grows = omega (arith, is_shown, more_t); shown_within = omega (arith, is_shown); first = first })))
-      ];
-    }
+    elim (get_either kept k x i found) [
+      | inl there ↦
+          let on = slice_get_within kept i x there in
+          let old = are i x there in
+          let o1 = old.sent_within in
+          let o2 = old.told_within in
+          subst (λ s. IsKept s (told_at (kept ++ k ∷ []) i) m' t' x) (sym (sent_front kept (kept ++ k ∷ []) i fk (omega (arith, on))))
+          (subst (λ s. IsKept (sent_at kept i) s m' t' x) (sym (told_front kept (kept ++ k ∷ []) i fk (omega (arith, on))))
+          (record { sent_grows = old.sent_grows; sent_within = omega (arith, o1, more_m); told_grows = old.told_grows; told_within = omega (arith, o2, more_t) }))
+      | inr here ↦
+          let end : i ≤ length kept = (let e = here.0 in omega (arith, e)) in
+          subst (λ y. IsKept (sent_at (kept ++ k ∷ []) i) (told_at (kept ++ k ∷ []) i) m' t' y) here.1
+          (subst (λ s. IsKept s (told_at (kept ++ k ∷ []) i) m' t' k) (sym (sent_front kept (kept ++ k ∷ []) i fk end ∙ ap (λ j. sent_at kept j) here.0 ∙ all_sent))
+          (subst (λ s. IsKept m s m' t' k) (sym (told_front kept (kept ++ k ∷ []) i fk end ∙ ap (λ j. told_at kept j) here.0 ∙ all_told))
+          (record { sent_grows = omega (arith, is_sent, more_m); sent_within = omega (arith, is_sent); told_grows = omega (arith, is_told, more_t); told_within = omega (arith, is_told) })))
+    ]
 
 -- the messages of a step stand behind those before it
 sent_grows : (old new : Machine) (w : World) (a : Act) (outcome : Outcome) → StandsFor old w → Acted w a outcome new → Front old.net.sent new.net.sent
@@ -204,30 +188,45 @@ sent_grows old new w a outcome stands acted =
     (ap (λ (net : Network). net.sent) acted.stands.net ∙ step_adds n w acted.step ∙ ap (λ (net : Network). net.sent ++ step_sent n w acted.step) (sym stands.net))
 
 -- an act was done, and what came of it was kept
-pub act_kept : RunsGrow → (telling : Telling) (nodes slots : ℕ) (old new : Machine) (before : List Act) (a : Act) (kept kept' : List Kept) (k : Kept) (tables tables' : List ℕ)
-    → ((w : World) → StandsFor old w → Acted w a k.outcome new) → new.slots ≡ old.slots → ((w : World) → StandsFor old w → AddsNodes telling.nodes w.states tables tables')
-    → k.sent ≡ length new.net.sent → k.shown ≡ length tables' → kept' ≡ kept ++ k ∷ []
-    → IsKeptSoFar telling nodes slots old before kept tables → IsKeptSoFar telling nodes slots new (before ++ a ∷ []) kept' tables'
-act_kept grow telling nodes slots old new before a kept kept' k tables tables' acted same rows is_sent is_shown is_more so =
+pub act_kept : RunsGrow → (telling : Telling) (nodes slots : ℕ) (old new : Machine) (before : List Act) (a : Act) (outcome : Outcome) (kept kept' : List Kept) (k : Kept) (text shown text' : List ℕ)
+    → ((w : World) → StandsFor old w → Acted w a outcome new) → new.slots ≡ old.slots → ((w : World) → StandsFor old w → AddsNodes telling.nodes w.states text shown)
+    → text' ≡ shown ++ act_head (length kept) a outcome → k.sent ≡ length new.net.sent → k.told ≡ length text' → kept' ≡ kept ++ k ∷ []
+    → IsKeptSoFar telling nodes slots old before kept text → IsKeptSoFar telling nodes slots new (before ++ a ∷ []) kept' text'
+act_kept grow telling nodes slots old new before a outcome kept kept' k text shown text' acted same rows head is_sent is_told is_more so =
     let w = so.so.world in
     let stands = so.so.stands in
     let did = acted w stands in
-    let text = lines telling.names before kept tables old.net.sent (length before) in
-    let t = drop (length tables) tables' in
-    let ft = grown_by (AddsNodes telling.nodes w.states) tables tables' (nodes_by telling.nodes w.states tables tables' (rows w stands)) in
-    let fm = sent_grows old new w a k.outcome stands did in
-    let n : suc (length before) ≡ length (before ++ a ∷ []) = (let l = length-append before (a ∷ []) in omega (arith, l)) in
-    let behind = lines telling.names (before ++ a ∷ []) (kept ++ k ∷ []) tables' new.net.sent (suc (length before)) in
-    let told = further grow telling nodes slots old new before a k.outcome text (text ++ t) behind so.so acted same
-    (λ w' st. behind_any (AddsNodes telling.nodes w'.states) tables tables' text (nodes_by telling.nodes w'.states tables tables' (rows w' st)))
-    (lines_more telling.names before a kept k tables tables' old.net.sent new.net.sent so.are ft fm so.all_sent so.all_shown is_sent is_shown) in
-    let last : slice_get (kept ++ k ∷ []) (length before) ≡ Some k = ap (λ (i : ℕ). slice_get (kept ++ k ∷ []) i) (sym so.are.count) ∙ get_seam kept k in
-    subst (λ (ks : List Kept). IsKeptSoFar telling nodes slots new (before ++ a ∷ []) ks tables') (sym is_more) (record {
-      are = one_kept before a kept k (length old.net.sent) (length tables) (length new.net.sent) (length tables') so.are (front_length old.net.sent new.net.sent fm) (front_length tables tables' ft)
-          so.all_sent so.all_shown is_sent is_shown (first_is old new w a k.outcome stands did);
-      all_sent = subst (λ (i : ℕ). sent_at (kept ++ k ∷ []) i ≡ length new.net.sent) n (ap sent_by last ∙ is_sent);
-      all_shown = subst (λ (i : ℕ). shown_at (kept ++ k ∷ []) i ≡ length tables') n (ap shown_by last ∙ is_shown);
-      so = subst (λ (i : ℕ). IsSoFar telling nodes slots new (before ++ a ∷ []) (lines telling.names (before ++ a ∷ []) (kept ++ k ∷ []) tables' new.net.sent i)) n told;
+    let n = length kept in
+    let sent = length old.net.sent in
+    let told = lines telling.names kept text old.net.sent n in
+    let adds = nodes_by telling.nodes w.states text shown (rows w stands) in
+    let t = drop (length text) shown in
+    let front = act_head n a outcome in
+    let said = sent_text telling.names sent (drop sent new.net.sent) ++ codes "\n" in
+    let whole : text' ≡ text ++ (t ++ front) =
+    head ∙ ap (λ l. l ++ front) (adds.whole ∙ ap (λ l. text ++ l) (added_is (AddsNodes telling.nodes w.states) text shown adds)) ∙ append_assoc text t front in
+    let ft = front_of text text' (t ++ front) whole in
+    let fm = sent_grows old new w a outcome stands did in
+    let last : drop (length text) text' ≡ t ++ front = ap (λ l. drop (length text) l) whole ∙ drop-append_seam text (t ++ front) in
+    let line : lines telling.names (kept ++ k ∷ []) text' new.net.sent (suc n) ≡ (told ++ t) ++ act_line telling.names (length before) a outcome (drop sent new.net.sent) =
+    lines_more telling.names kept k text text' old.net.sent new.net.sent so.are ft fm so.all_sent so.all_told is_sent is_told
+    ∙ ap (λ l. told ++ (l ++ said)) last
+    ∙ ap (λ l. told ++ l) (append_assoc t front said)
+    ∙ sym (append_assoc told t (front ++ said))
+    ∙ ap (λ l. (told ++ t) ++ l) (line_is telling.names n old new w a outcome stands did)
+    ∙ ap (λ (i : ℕ). (told ++ t) ++ act_line telling.names i a outcome (drop sent new.net.sent)) so.count in
+    let more : suc n ≡ length (kept ++ k ∷ []) = (let l = length-append kept (k ∷ []) in omega (arith, l)) in
+    let seam = get_seam kept k in
+    let longer = length-append before (a ∷ []) in
+    let count = so.count in
+    subst (λ (ks : List Kept). IsKeptSoFar telling nodes slots new (before ++ a ∷ []) ks text') (sym is_more) (record {
+      count = omega (arith, more, longer, count);
+      are = one_kept kept k sent (length text) (length new.net.sent) (length text') so.are (front_length old.net.sent new.net.sent fm) (front_length text text' ft) so.all_sent so.all_told is_sent is_told;
+      all_sent = subst (λ (i : ℕ). sent_at (kept ++ k ∷ []) i ≡ length new.net.sent) more (ap sent_by seam ∙ is_sent);
+      all_told = subst (λ (i : ℕ). told_at (kept ++ k ∷ []) i ≡ length text') more (ap told_by seam ∙ is_told);
+      so = subst (λ (i : ℕ). IsSoFar telling nodes slots new (before ++ a ∷ []) (lines telling.names (kept ++ k ∷ []) text' new.net.sent i)) more
+          (further grow telling nodes slots old new before a outcome told (told ++ t) (lines telling.names (kept ++ k ∷ []) text' new.net.sent (suc n)) so.so acted same
+          (λ w' st. behind_any (AddsNodes telling.nodes w'.states) text shown told (nodes_by telling.nodes w'.states text shown (rows w' st))) line);
     })
 
 -- ---- the beginning, and the end
@@ -235,29 +234,27 @@ act_kept grow telling nodes slots old new before a kept kept' k tables tables' a
 -- a cluster that was opened has kept nothing
 pub begins_kept : RunsOpen → (telling : Telling) (nodes slots : ℕ) (machine : Machine) → machine.slots ≡ slots → StandsFor machine (start nodes) → IsKeptSoFar telling nodes slots machine [] [] []
 begins_kept opens telling nodes slots machine same stands = record {
-  are = record { count = refl; each = λ i k found. absurd cc };
+  count = refl;
+  are = λ i k found. absurd cc;
   all_sent = sym (ap (λ (net : Network). length net.sent) stands.net);
-  all_shown = refl;
+  all_told = refl;
   so = begins opens telling nodes slots machine same stands;
 }
 
 -- all acts were done, and the nodes were added
-pub run_kept : (telling : Telling) (nodes slots : ℕ) (machine : Machine) (acts : List Act) (kept : List Kept) (tables tables' : List ℕ) → IsKeptSoFar telling nodes slots machine acts kept tables
-    → ((w : World) → StandsFor machine w → AddsRows 0 w.states tables tables') → IsRun telling nodes slots acts kept tables' machine.net.sent
-run_kept telling nodes slots machine acts kept tables tables' so rows =
-    let text = lines telling.names acts kept tables machine.net.sent (length acts) in
-    let t = drop (length tables) tables' in
-    let ft = grown_by (AddsRows 0 so.so.world.states) tables tables' (rows_by 0 so.so.world.states tables tables' (rows so.so.world so.so.stands)) in
-    let longer = front_length tables tables' ft in
-    let whole : text ++ t ≡ run_text telling.names acts kept tables' machine.net.sent =
-    ap (λ l. l ++ t) (sym (lines_stay telling.names acts acts kept kept tables tables' machine.net.sent machine.net.sent (length acts) so.are (same_front acts) (same_front kept) ft (same_front machine.net.sent) (omega arith)))
-    ∙ ap (λ l. lines telling.names acts kept tables' machine.net.sent (length acts) ++ l) (sym (ap (λ (from : ℕ). between from (length tables') tables') so.all_shown ∙ between_end (length tables) tables')) in
+pub run_kept : (telling : Telling) (nodes slots : ℕ) (machine : Machine) (acts : List Act) (kept : List Kept) (text text' : List ℕ) → IsKeptSoFar telling nodes slots machine acts kept text
+    → ((w : World) → StandsFor machine w → AddsRows 0 w.states text text') → IsRun telling nodes slots acts kept text' machine.net.sent
+run_kept telling nodes slots machine acts kept text text' so rows =
+    let told = lines telling.names kept text machine.net.sent (length kept) in
+    let t = drop (length text) text' in
+    let ft = grown_by (AddsRows 0 so.so.world.states) text text' (rows_by 0 so.so.world.states text text' (rows so.so.world so.so.stands)) in
+    let longer = front_length text text' ft in
+    let whole : told ++ t ≡ run_text telling.names kept text' machine.net.sent =
+    ap (λ l. l ++ t) (sym (lines_stay telling.names kept kept text text' machine.net.sent machine.net.sent (length kept) so.are (same_front kept) ft (same_front machine.net.sent) (omega arith)))
+    ∙ ap (λ l. lines telling.names kept text' machine.net.sent (length kept) ++ l) (sym (ap (λ (from : ℕ). between from (length text') text') so.all_told ∙ between_end (length text) text')) in
     record {
-      are = record {
-        count = so.are.count;
-        each = λ i k found. let it = so.are.each i k found in let within = it.shown_within in
-            record { sent_grows = it.sent_grows; sent_within = it.sent_within; shown_grows = it.shown_grows; shown_within = omega (arith, within, longer); first = it.first };
-      };
+      are = λ i k found. let it = so.are i k found in let within = it.told_within in
+          record { sent_grows = it.sent_grows; sent_within = it.sent_within; told_grows = it.told_grows; told_within = omega (arith, within, longer) };
       told = subst (λ l. TellsRun telling nodes slots acts l) whole
-          (ends telling nodes slots machine acts text (text ++ t) so.so (λ w st. behind_any (AddsRows 0 w.states) tables tables' text (rows_by 0 w.states tables tables' (rows w st))));
+          (ends telling nodes slots machine acts told (told ++ t) so.so (λ w st. behind_any (AddsRows 0 w.states) text text' told (rows_by 0 w.states text text' (rows w st))));
     }

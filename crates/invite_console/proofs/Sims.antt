@@ -1,5 +1,5 @@
 -- A simulation told one act further.
-use Rattle.std.proofs.Common.{◌≡◌, ℕ, zero, suc, ◌+◌, Bool, true, false, List, [], ◌∷◌, ◌++◌, ◌<◌, ◌≤◌, length, map, drop, Option, Some, None, Result, Ok, Err, IfOk, OnOk, IsOk, slice_get, refl, sym, ap, subst, ◌∙◌, add-one, arith}
+use Rattle.std.proofs.Common.{◌≡◌, ℕ, zero, suc, ◌+◌, Bool, true, false, List, [], ◌∷◌, ◌++◌, ◌<◌, ◌≤◌, length, map, drop, Option, Some, None, codes, decimal, slice_get, refl, sym, ap, subst, ◌∙◌, append_assoc, add-one, arith}
 use Rattle.std.proofs.lemmas.List.{drop_all, map-append, length-map, length-append}
 use Rattle.std.proofs.Math.Seq.{drop-append_seam}
 use Rattle.wire_msg.specs.Envelope.{Envelope}
@@ -12,65 +12,78 @@ use Rattle.histories.specs.declared.what.What.TheVariants.{Did, Refused, Faulted
 use Rattle.histories.specs.declared.what.Rest.TheVariants.{Nothing, Compacted, CompactDown, CompactWorn}
 use Rattle.schedule.specs.declared.act.Act.{Act}
 use Rattle.cluster_sim.specs.declared.outcome.Outcome.{Outcome}
+use Rattle.cluster_sim.specs.declared.outcome.Outcome.TheVariants as outcome
+use Rattle.cluster_sim.specs.declared.outcome.Outcome.TheVariants.{Done}
 use Rattle.runs.specs.World.{World, start}
 use Rattle.runs.proofs.Grown.{step_length}
 use Rattle.cluster_sim.proofs.Numbered.{step_adds}
-use Rattle.runs.specs.Step.{Step, Takes, Loses, Cuts, Mends, Denies, OfNet, Stranger, world_after}
+use Rattle.runs.specs.Step.{Step, Takes, Loses, Cuts, Mends, Denies, OfNet, Stranger, sent_after, world_after}
 use Rattle.runs.specs.Acts.{node_outcome, outcome_of, is_compaction, if_compaction, act_outcome}
 use Rattle.runs.specs.Reporting.{Moment, moment_of, step_sent, report_of}
 use Rattle.runs.specs.Growth.{grown, IsNext, RunsGrow, RunsOpen}
 use Rattle.cluster_sim.specs.Told.{told}
 use Rattle.cluster_sim.specs.Machine.{Machine, Acted, StandsFor}
 use Rattle.invite_console.specs.declared.telling.Telling.{Telling}
-use Rattle.invite_console.specs.Acts.{act_line, moment_line, first_of}
+use Rattle.invite_console.specs.Acts.{act_line, answer_text, moment_line, sent_text}
+use Rattle.invite_console.specs.Kept.{act_head}
 use Rattle.invite_console.specs.Sim.{AddsNodes, AddsRow, AddsRows, HasWorld, IsSoFar, nothing, one_more, TellsRun}
 use Rattle.runs.proofs.Opened.{length_openings}
 
 -- ---- what was sent
 
-told_first : (n nodes first : ℕ) (s : Option NodeState) (what : What) → first_of first (told (node_outcome n nodes first s what)) ≡ first
-told_first n nodes first None what = refl
-told_first n nodes first (Some s) (Did event) = refl
-told_first n nodes first (Some s) (Refused event fault) = refl
-told_first n nodes first (Some s) (Faulted event) = refl
-told_first n nodes first (Some s) (Rests Nothing) = refl
-told_first n nodes first (Some s) (Rests Compacted) = refl
-told_first n nodes first (Some s) (Rests CompactDown) = refl
-told_first n nodes first (Some s) (Rests CompactWorn) = refl
-told_first n nodes first (Some s) Crashed = refl
-told_first n nodes first (Some s) (Recovered kept) = refl
-told_first n nodes first (Some s) MountFailed = refl
-told_first n nodes first (Some s) (RaiseFailed kept) = refl
-told_first n nodes first (Some s) (RaiseRefused kept) = refl
+-- the messages in the line of an act, where it was done
+abbrev pub messages_part : Bool → Outcome → List Envelope → List ℕ
+messages_part names (Done answer first many) sent = sent_text names first sent
+messages_part names (outcome.Refused why) sent = []
+messages_part names outcome.Faulted sent = []
 
--- an act that was done tells how many messages had been sent before it
-pub first_sent : (nodes : ℕ) (w : World) (step : Step) → first_of (length w.net.sent) (told (outcome_of nodes w step)) ≡ length w.net.sent
-first_sent nodes w (Takes n number what) = told_first n nodes (length w.net.sent) (slice_get w.states n) what
-first_sent nodes w (Loses k) = refl
-first_sent nodes w (Cuts a b) = refl
-first_sent nodes w (Mends a b) = refl
-first_sent nodes w (Denies (OfNet fault)) = refl
-first_sent nodes w (Denies Stranger) = refl
+-- An act that was done tells how many messages had been sent before it, and another one sends none.
+told_said : (names : Bool) (n nodes first : ℕ) (s : Option NodeState) (what : What)
+    → messages_part names (told (node_outcome n nodes first s what)) (sent_after n nodes s what) ≡ sent_text names first (sent_after n nodes s what)
+told_said names n nodes first None what = refl
+told_said names n nodes first (Some s) (Did event) = refl
+told_said names n nodes first (Some s) (Refused event fault) = refl
+told_said names n nodes first (Some s) (Faulted event) = refl
+told_said names n nodes first (Some s) (Rests Nothing) = refl
+told_said names n nodes first (Some s) (Rests Compacted) = refl
+told_said names n nodes first (Some s) (Rests CompactDown) = refl
+told_said names n nodes first (Some s) (Rests CompactWorn) = refl
+told_said names n nodes first (Some s) Crashed = refl
+told_said names n nodes first (Some s) (Recovered kept) = refl
+told_said names n nodes first (Some s) MountFailed = refl
+told_said names n nodes first (Some s) (RaiseFailed kept) = refl
+told_said names n nodes first (Some s) (RaiseRefused kept) = refl
+
+step_said : (names : Bool) (nodes : ℕ) (w : World) (step : Step)
+    → messages_part names (told (outcome_of nodes w step)) (step_sent nodes w step) ≡ sent_text names (length w.net.sent) (step_sent nodes w step)
+step_said names nodes w (Takes n number what) = told_said names n nodes (length w.net.sent) (slice_get w.states n) what
+step_said names nodes w (Loses k) = refl
+step_said names nodes w (Cuts a b) = refl
+step_said names nodes w (Mends a b) = refl
+step_said names nodes w (Denies (OfNet fault)) = refl
+step_said names nodes w (Denies Stranger) = refl
+
+crash_says : (names : Bool) (n nodes first : ℕ) (s : Option NodeState) → [] ≡ sent_text names first (sent_after n nodes s Crashed)
+crash_says names n nodes first None = refl
+crash_says names n nodes first (Some s) = refl
 
 -- a compaction in which the device failed tells none
-compaction_first : (nodes : ℕ) (w : World) (compacts : Bool) (step : Step) → first_of (length w.net.sent) (told (if_compaction compacts step (outcome_of nodes w step))) ≡ length w.net.sent
-compaction_first nodes w false step = first_sent nodes w step
-compaction_first nodes w true (Takes n number (Did event)) = first_sent nodes w (Takes n number (Did event))
-compaction_first nodes w true (Takes n number (Refused event fault)) = first_sent nodes w (Takes n number (Refused event fault))
-compaction_first nodes w true (Takes n number (Faulted event)) = first_sent nodes w (Takes n number (Faulted event))
-compaction_first nodes w true (Takes n number (Rests rest)) = first_sent nodes w (Takes n number (Rests rest))
-compaction_first nodes w true (Takes n number Crashed) = refl
-compaction_first nodes w true (Takes n number (Recovered kept)) = first_sent nodes w (Takes n number (Recovered kept))
-compaction_first nodes w true (Takes n number MountFailed) = first_sent nodes w (Takes n number MountFailed)
-compaction_first nodes w true (Takes n number (RaiseFailed kept)) = first_sent nodes w (Takes n number (RaiseFailed kept))
-compaction_first nodes w true (Takes n number (RaiseRefused kept)) = first_sent nodes w (Takes n number (RaiseRefused kept))
-compaction_first nodes w true (Loses k) = first_sent nodes w (Loses k)
-compaction_first nodes w true (Cuts a b) = first_sent nodes w (Cuts a b)
-compaction_first nodes w true (Mends a b) = first_sent nodes w (Mends a b)
-compaction_first nodes w true (Denies why) = first_sent nodes w (Denies why)
-
-pub act_first : (nodes : ℕ) (w : World) (a : Act) (step : Step) → first_of (length w.net.sent) (told (act_outcome nodes w a step)) ≡ length w.net.sent
-act_first nodes w a step = compaction_first nodes w (is_compaction a) step
+compaction_said : (names : Bool) (nodes : ℕ) (w : World) (compacts : Bool) (step : Step)
+    → messages_part names (told (if_compaction compacts step (outcome_of nodes w step))) (step_sent nodes w step) ≡ sent_text names (length w.net.sent) (step_sent nodes w step)
+compaction_said names nodes w false step = step_said names nodes w step
+compaction_said names nodes w true (Takes n number (Did event)) = step_said names nodes w (Takes n number (Did event))
+compaction_said names nodes w true (Takes n number (Refused event fault)) = step_said names nodes w (Takes n number (Refused event fault))
+compaction_said names nodes w true (Takes n number (Faulted event)) = step_said names nodes w (Takes n number (Faulted event))
+compaction_said names nodes w true (Takes n number (Rests rest)) = step_said names nodes w (Takes n number (Rests rest))
+compaction_said names nodes w true (Takes n number Crashed) = crash_says names n nodes (length w.net.sent) (slice_get w.states n)
+compaction_said names nodes w true (Takes n number (Recovered kept)) = step_said names nodes w (Takes n number (Recovered kept))
+compaction_said names nodes w true (Takes n number MountFailed) = step_said names nodes w (Takes n number MountFailed)
+compaction_said names nodes w true (Takes n number (RaiseFailed kept)) = step_said names nodes w (Takes n number (RaiseFailed kept))
+compaction_said names nodes w true (Takes n number (RaiseRefused kept)) = step_said names nodes w (Takes n number (RaiseRefused kept))
+compaction_said names nodes w true (Loses k) = step_said names nodes w (Loses k)
+compaction_said names nodes w true (Cuts a b) = step_said names nodes w (Cuts a b)
+compaction_said names nodes w true (Mends a b) = step_said names nodes w (Mends a b)
+compaction_said names nodes w true (Denies why) = step_said names nodes w (Denies why)
 
 -- the messages of a step are the last ones
 pub last_sent : (nodes : ℕ) (w : World) (step : Step) → drop (length w.net.sent) (world_after nodes w step).net.sent ≡ step_sent nodes w step
@@ -125,29 +138,33 @@ further grow telling nodes slots old new acts a outcome text found behind so act
           (line_further telling.names nodes w so.report.moments old new acts a outcome act.step found behind so.acts_are so.stands.net is_told stands added);
     }
 
--- ---- what the line of an act asks for
+-- ---- what the line of an act says
 
-sent_before : (old : Machine) (w : World) → StandsFor old w → length w.net.sent ≡ length old.net.sent
-sent_before old w stands = sym (ap (λ (net : Network). length net.sent) stands.net)
-
--- nothing that was sent is taken back
-pub sent_stays : (old new : Machine) (w : World) (a : Act) (outcome : Outcome) → StandsFor old w → Acted w a outcome new → length old.net.sent ≤ length new.net.sent
-sent_stays old new w a outcome stands acted =
+said_of : (names : Bool) (old new : Machine) (w : World) (a : Act) (outcome : Outcome) → StandsFor old w → Acted w a outcome new
+    → messages_part names outcome (drop (length old.net.sent) new.net.sent) ≡ sent_text names (length old.net.sent) (drop (length old.net.sent) new.net.sent)
+said_of names old new w a outcome stands acted =
     let n = length w.states in
-    let now : length new.net.sent ≡ length (w.net.sent ++ step_sent n w acted.step) =
-    ap (λ (net : Network). length net.sent) acted.stands.net ∙ ap (λ (sent : List Envelope). length sent) (step_adds n w acted.step) in
-    let more = length-append w.net.sent (step_sent n w acted.step) in
-    omega (arith, now, more, sent_before old w stands)
+    let step = acted.step in
+    let sent : drop (length w.net.sent) new.net.sent ≡ step_sent n w step = ap (λ (net : Network). drop (length w.net.sent) net.sent) acted.stands.net ∙ last_sent n w step in
+    subst (λ (k : ℕ). messages_part names outcome (drop k new.net.sent) ≡ sent_text names k (drop k new.net.sent)) (ap (λ (net : Network). length net.sent) (sym stands.net))
+    (subst (λ (ms : List Envelope). messages_part names outcome ms ≡ sent_text names (length w.net.sent) ms) (sym sent)
+    (subst (λ (o : Outcome). messages_part names o (step_sent n w step) ≡ sent_text names (length w.net.sent) (step_sent n w step)) (sym acted.is_told)
+    (compaction_said names n w (is_compaction a) step)))
 
--- an act that was done tells how many messages had been sent
-pub first_is : (old new : Machine) (w : World) (a : Act) (outcome : Outcome) → StandsFor old w → Acted w a outcome new → first_of (length old.net.sent) outcome ≡ length old.net.sent
-first_is old new w a outcome stands acted =
-    let n = length w.states in
-    subst (λ (k : ℕ). first_of k outcome ≡ k) (sent_before old w stands)
-    (ap (λ (o : Outcome). first_of (length w.net.sent) o) acted.is_told ∙ act_first n w a acted.step)
+line_parts : (names : Bool) (number : ℕ) (a : Act) (outcome : Outcome) (sent : List Envelope)
+    → act_head number a outcome ++ (messages_part names outcome sent ++ codes "\n") ≡ act_line names number a outcome sent
+line_parts names number a (Done answer first many) sent =
+    sym (append_assoc (act_head number a (Done answer first many)) (sent_text names first sent) (codes "\n"))
+    ∙ ap (λ (l : List ℕ). l ++ codes "\n") (append_assoc (decimal number ++ codes " ") (codes "ok" ++ answer_text a answer) (sent_text names first sent))
+line_parts names number a (outcome.Refused why) sent = refl
+line_parts names number a outcome.Faulted sent = refl
 
-pub world_kept : (old new : Machine) (w : World) (a : Act) (outcome : Outcome) → Acted w a outcome new → HasWorld new
-world_kept old new w a outcome acted = (world_after (length w.states) w acted.step, acted.stands)
+-- its front, its messages, and a line feed
+pub line_is : (names : Bool) (number : ℕ) (old new : Machine) (w : World) (a : Act) (outcome : Outcome) → StandsFor old w → Acted w a outcome new
+    → act_head number a outcome ++ (sent_text names (length old.net.sent) (drop (length old.net.sent) new.net.sent) ++ codes "\n") ≡ act_line names number a outcome (drop (length old.net.sent) new.net.sent)
+line_is names number old new w a outcome stands acted =
+    ap (λ (l : List ℕ). act_head number a outcome ++ (l ++ codes "\n")) (sym (said_of names old new w a outcome stands acted))
+    ∙ line_parts names number a outcome (drop (length old.net.sent) new.net.sent)
 
 -- ---- the beginning, and the end
 
@@ -199,21 +216,3 @@ pub rows_end : (w : World) (machine : Machine) (k : ℕ) (first text : List ℕ)
     → ((e : List ℕ) → AddsRows k (drop k w.states) text e → AddsRows 0 w.states first e) → AddsRows 0 w.states first text
 rows_end w machine k first text stands all before =
     before text (subst (λ (states : List NodeState). AddsRows k states text text) (sym (drop_all k w.states (omega (arith, stands.count, all)))) refl)
-
--- ---- one act of the code
-
--- the act was done, its line was added, and so all that was done is told
-pub step_told : {T E F : Type 0} → RunsGrow → (telling : Telling) (nodes slots number place : ℕ) (old new : Machine) (before : List Act) (a : Act) (messages : List Envelope) (text found behind : List ℕ)
-    (outcome : Result Outcome E) (result : Result T F) → length before ≡ number → place ≡ length old.net.sent → messages ≡ new.net.sent → new.slots ≡ old.slots
-    → ((w : World) → StandsFor old w → IfOk outcome (λ o. Acted w a o new)) → OnOk result (IsOk outcome)
-    → ((w : World) → StandsFor old w → AddsNodes telling.nodes w.states text found)
-    → IfOk outcome (λ o. OnOk result (behind ≡ found ++ act_line telling.names number a o (drop place messages)))
-    → IsSoFar telling nodes slots old before text → OnOk result (IsSoFar telling nodes slots new (before ++ a ∷ []) behind)
-step_told grow telling nodes slots number place old new before a messages text found behind outcome (Err f) count at all same acted done rows added so = tt
-step_told grow telling nodes slots number place old new before a messages text found behind (Err e) (Ok u) count at all same acted done rows added so = absurd cc
-step_told grow telling nodes slots number place old new before a messages text found behind (Ok o) (Ok u) count at all same acted done rows added so =
-    let line : behind ≡ found ++ act_line telling.names (length before) a o (drop (length old.net.sent) new.net.sent) =
-    added ∙ (ap (λ (k : ℕ). found ++ act_line telling.names k a o (drop place messages)) (sym count)
-    ∙ (ap (λ (k : ℕ). found ++ act_line telling.names (length before) a o (drop k messages)) at
-    ∙ ap (λ (ms : List Envelope). found ++ act_line telling.names (length before) a o (drop (length old.net.sent) ms)) all)) in
-    further grow telling nodes slots old new before a o text found behind so acted same rows line

@@ -94,9 +94,3 @@ act_line names number a outcome sent = decimal number ++ codes " " ++ outcome_te
 -- the line of a moment
 abbrev pub moment_line : Bool → ℕ → Moment → List ℕ
 moment_line names number m = act_line names number m.act (told m.outcome) m.sent
-
--- the number of the first message that was sent, where an act was done
-abbrev pub first_of : ℕ → Outcome → ℕ
-first_of else_this (Done answer first many) = first
-first_of else_this (Refused why) = else_this
-first_of else_this Faulted = else_this

@@ -8,22 +8,22 @@ ghost use Rattle.runs.specs.World.{World};
 ghost use Rattle.invite_console.specs.Kept.{IsKeptSoFar, IsRun};
 ghost use Rattle.invite_console.specs.Sim.{AddsNodes, AddsRows, HasWorld};
 
+use crate::acts::push_head;
 use crate::rows::push_row;
 use crate::telling::Telling;
-use cluster_sim::{Outcome, Simulation};
+use cluster_sim::Simulation;
 use group_task::NodeId;
 use runs::left_by_a_run;
 use schedule::{Act, Schedule};
 use std::alloc::{AllocError, Global};
 
-/// What is kept of an act that was tried.
+/// Where what is kept of an act ends: it begins where that of the act before it ended.
 #[derive(Clone, Copy)]
 pub(crate) struct Kept {
-    pub outcome: Outcome,
-    /// How many messages had been sent by its end: its own are the last of them.
+    /// How many messages had been sent by then.
     pub sent: usize,
-    /// How long the tables in front of the lines of the acts were by then: its own is the last of them.
-    pub shown: usize,
+    /// How long the text was by then.
+    pub told: usize,
 }
 
 /// A schedule that was run.
@@ -31,8 +31,9 @@ pub(crate) struct Kept {
 pub(crate) struct Run {
     pub cluster: Simulation,
     pub kept: Vec<Kept>,
-    /// The nodes as each act found them, where they are asked for, and as the last act left them.
-    pub tables: Vec<u8>,
+    /// Of each act the nodes as it found them, where they are asked for, and its line without the messages; and then the nodes as
+    /// the last act left them.
+    pub text: Vec<u8>,
 }
 
 /// A cluster through a schedule.
@@ -45,25 +46,25 @@ pub(crate) fn run_schedule(
     requires most { schedule.now.size.nodes ≤ NODES }
     requires least_slots { 4 ≤ schedule.now.size.slots }
     requires most_slots { schedule.now.size.slots ≤ 4096 }
-    ensures { IfOk result (λ run. IsRun telling schedule.now.size.nodes schedule.now.size.slots schedule.now.acts.items run.kept.items run.tables.items run.cluster.net.sent) }
+    ensures { IfOk result (λ run. IsRun telling schedule.now.size.nodes schedule.now.size.slots schedule.now.acts.items run.kept.items run.text.items run.cluster.net.sent) }
 {
     left_by_a_run();
     let mut cluster = Simulation::open(alloc, schedule.size.nodes, schedule.size.slots)?;
     let mut kept = Vec::with_capacity(alloc, schedule.acts.len())?;
-    let mut tables = Vec::new(alloc);
+    let mut text = Vec::new(alloc);
     keep_acts(
         alloc,
         telling,
-        &mut tables,
+        &mut text,
         &mut kept,
         &mut cluster,
         &schedule.acts,
     )?;
-    push_table(alloc, &mut tables, &cluster)?;
+    push_table(alloc, &mut text, &cluster)?;
     Ok(Run {
         cluster,
         kept,
-        tables,
+        text,
     })
 }
 
@@ -71,17 +72,17 @@ pub(crate) fn run_schedule(
 fn keep_acts(
     alloc: Global,
     telling: Telling,
-    tables: &mut Vec<u8>,
+    text: &mut Vec<u8>,
     kept: &mut Vec<Kept>,
     cluster: &mut Simulation,
     acts: &[Act],
 ) -> Result<(), AllocError>
     requires { HasWorld cluster.old }
-    ensures { (nodes slots : ℕ) → IsKeptSoFar telling nodes slots cluster.old [] kept.old.items tables.old.items
-        → OnOk result (IsKeptSoFar telling nodes slots cluster.new acts.now kept.new.items tables.new.items) }
+    ensures { (nodes slots : ℕ) → IsKeptSoFar telling nodes slots cluster.old [] kept.old.items text.old.items
+        → OnOk result (IsKeptSoFar telling nodes slots cluster.new acts.now kept.new.items text.new.items) }
 {
     for act in acts {
-        keep_act(alloc, telling, tables, kept, cluster, act)?;
+        keep_act(alloc, telling, text, kept, cluster, act)?;
     }
     Ok(())
 }
@@ -90,25 +91,23 @@ fn keep_acts(
 fn keep_act(
     alloc: Global,
     telling: Telling,
-    tables: &mut Vec<u8>,
+    text: &mut Vec<u8>,
     kept: &mut Vec<Kept>,
     cluster: &mut Simulation,
     act: &Act,
 ) -> Result<(), AllocError>
     requires { HasWorld cluster.old }
     ensures world { OnOk result (HasWorld cluster.new) }
-    ensures kept { (nodes slots : ℕ) (before : List ActValue) → IsKeptSoFar telling nodes slots cluster.old before kept.old.items tables.old.items
-        → OnOk result (IsKeptSoFar telling nodes slots cluster.new (before ++ act.now ∷ []) kept.new.items tables.new.items) }
+    ensures kept { (nodes slots : ℕ) (before : List ActValue) → IsKeptSoFar telling nodes slots cluster.old before kept.old.items text.old.items
+        → OnOk result (IsKeptSoFar telling nodes slots cluster.new (before ++ act.now ∷ []) kept.new.items text.new.items) }
 {
     left_by_a_run();
-    push_nodes(alloc, telling, tables, cluster)?;
+    push_nodes(alloc, telling, text, cluster)?;
     let outcome = cluster.step(act)?;
-    let sent = cluster.net().sent().len();
-    let shown = tables.len();
+    push_head(text, kept.len() as u64, act, outcome)?;
     kept.push(Kept {
-        outcome,
-        sent,
-        shown,
+        sent: cluster.net().sent().len(),
+        told: text.len(),
     })?;
     Ok(())
 }

@@ -16,7 +16,7 @@ use console_text::{
     Ended, Ending, Source, Trouble, new_page, print, print_page, read_source, tell,
 };
 use line_words::LineFault;
-use schedule::{Act, Schedule, read_schedule};
+use schedule::{Schedule, read_schedule};
 use std::alloc::{AllocError, Global};
 use std::io::{Read, Write};
 use wire_msg::BODY_CAPACITY;
@@ -73,7 +73,7 @@ fn simulate<W: Write>(
     ensures { Prints (λ _ outcome. TellsPlan telling (Ok (plan schedule.now.size schedule.now.acts.items)) outcome) None (W.contents output.old) (W.contents output.new) result }
 {
     match run_schedule(alloc, telling, schedule) {
-        Ok(run) => print_pages(alloc, output, telling.names, &schedule.acts, &run),
+        Ok(run) => print_pages(alloc, output, telling.names, &run),
         Err(_) => print(output, Err(Trouble::NoMemory)),
     }
 }
@@ -83,11 +83,10 @@ fn print_pages<W: Write>(
     alloc: Global,
     output: &mut W,
     names: bool,
-    acts: &[Act],
     run: &Run,
 ) -> Ending
-    requires { AreKept acts.now run.now.kept.items (length run.now.cluster.net.sent) (length run.now.tables.items) }
-    ensures { Prints (λ _ outcome. outcome ≡ record { text = run_text names acts.now run.now.kept.items run.now.tables.items run.now.cluster.net.sent; good = true }) None
+    requires { AreKept run.now.kept.items (length run.now.cluster.net.sent) (length run.now.text.items) }
+    ensures { Prints (λ _ outcome. outcome ≡ record { text = run_text names run.now.kept.items run.now.text.items run.now.cluster.net.sent; good = true }) None
         (W.contents output.old) (W.contents output.new) result }
 {
     let Ok(mut page) = new_page(alloc) else {
@@ -96,7 +95,7 @@ fn print_pages<W: Write>(
     let Ok(mut bytes) = Vec::with_capacity(alloc, LONGEST_SPELLING) else {
         return print(output, Err(Trouble::NoMemory));
     };
-    if print_run(output, &mut page, &mut bytes, names, acts, run).is_err() {
+    if print_run(output, &mut page, &mut bytes, names, run).is_err() {
         return Ending::Unwritten;
     }
     if print_page(output, &mut page).is_err() || output.flush().is_err() {

@@ -7,6 +7,7 @@
 mod command;
 mod job;
 mod laws;
+mod new_job;
 mod payload;
 mod queue;
 mod record;
@@ -16,6 +17,7 @@ mod work;
 pub use command::Command;
 pub use job::Job;
 pub use laws::limits;
+pub use new_job::NewJob;
 pub use payload::{PAYLOAD_CAPACITY, Payload};
 pub use queue::{QUEUES, Queue};
 pub use record::{Record, old_records, one_sector};

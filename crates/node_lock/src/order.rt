@@ -2,8 +2,8 @@
 
 ghost use Rattle.std.specs.Prelude.{◌≡◌, ◌↔◌, IfOk, IsTrue};
 
-use crate::new_job::NewJob;
 use group_task::NodeId;
+use job_model::NewJob;
 use std::alloc::{AllocError, Global};
 use std::marker::Model;
 

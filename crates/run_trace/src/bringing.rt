@@ -33,7 +33,7 @@ pub(crate) fn brought_by(nodes: u8, net: &Net, act: &Act) -> Option<(NodeId, Bro
         Act::Coord(id) => (*id, Brought::Event(Event::CoordTimer)),
         Act::Dispatch(id) => (*id, Brought::Event(Event::DispatchTimer)),
         Act::Deliver(number) => delivered(net, *number)?,
-        Act::Submit(id, job) => (*id, Brought::Event(Event::Submit(*job.work()))),
+        Act::Submit(id, job) => (*id, Brought::Event(Event::Submit(job.work()))),
         Act::Finish(id, origin, job) => (*id, Brought::Event(Event::Finish(*origin, *job))),
         Act::Recover(id) => (*id, Brought::Recovery),
         Act::Arm(id, _) => (*id, Brought::Arming),

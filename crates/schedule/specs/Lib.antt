@@ -4,3 +4,4 @@ pub mod Acts
 pub mod Text
 pub mod Limits
 pub mod Flaws
+pub mod Kept

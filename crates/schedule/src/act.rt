@@ -1,35 +1,50 @@
+ghost use Rattle.std.specs.Prelude.{◌≡◌, [], IfOk};
+
 use group_task::NodeId;
-use job_model::Work;
+use job_model::{NewJob, Work};
 use std::alloc::{AllocError, Global};
 use std::marker::Model;
 
 /// What a crash leaves in the sectors that weren't synced, in their order.
+///
+/// It is kept apart from its act: a schedule is a long list of acts, and most crashes leave nothing.
 #[derive(Drop)]
 pub struct Fill {
-    bytes: Vec<u8>,
+    bytes: Option<Box<Vec<u8>>>,
 }
 
 impl Model for Fill {
     ghost use Rattle.std.specs.Prelude.{ℕ, List};
+    ghost use Rattle.schedule.specs.Kept.{fill_of};
 
     ghost Value = { List ℕ };
 
-    ghost view = { λ a. a.bytes.items };
+    ghost view = { fill_of };
 }
 
-ghost use Rattle.std.specs.Prelude.{◌≡◌, IfOk};
-
 impl Fill {
-    pub fn new(bytes: Vec<u8>) -> Fill
-        ensures { result ≡ bytes.items }
+    /// No bytes.
+    pub fn none() -> Fill
+        ensures { result ≡ [] }
     {
-        Fill { bytes }
+        Fill { bytes: None }
+    }
+
+    pub fn new(alloc: Global, bytes: Vec<u8>) -> Result<Fill, AllocError>
+        ensures { IfOk result (λ fill. fill ≡ bytes.items) }
+    {
+        Ok(Fill {
+            bytes: Some(Box::new(alloc, bytes)?),
+        })
     }
 
     pub fn as_slice(&self) -> &[u8]
         ensures { result.now ≡ self.now }
     {
-        &self.bytes
+        match &self.bytes {
+            Some(bytes) => bytes,
+            None => &[],
+        }
     }
 }
 
@@ -37,7 +52,7 @@ impl Fill {
 /// acts, most of which have none.
 #[derive(Drop)]
 pub struct Submitted {
-    work: Box<Work>,
+    job: Box<NewJob>,
 }
 
 impl Model for Submitted {
@@ -45,22 +60,22 @@ impl Model for Submitted {
 
     ghost Value = { Work };
 
-    ghost view = { λ a. a.work.value };
+    ghost view = { λ a. a.job.value };
 }
 
 impl Submitted {
-    pub fn new(alloc: Global, work: Work) -> Result<Submitted, AllocError>
-        ensures { IfOk result (λ submitted. submitted ≡ work) }
+    pub fn new(alloc: Global, job: NewJob) -> Result<Submitted, AllocError>
+        ensures { IfOk result (λ submitted. submitted ≡ job) }
     {
         Ok(Submitted {
-            work: Box::new(alloc, work)?,
+            job: Box::new(alloc, job)?,
         })
     }
 
-    pub fn work(&self) -> &Work
-        ensures { result.now ≡ self.now }
+    pub fn work(&self) -> Work
+        ensures { result ≡ self.now }
     {
-        &self.work
+        self.job.work()
     }
 }
 

@@ -4,9 +4,9 @@ ghost use Rattle.schedule.specs.Acts.{act_of, act_with, short_act, middle_act, l
 ghost use Rattle.schedule.specs.declared.verb.Verb.TheVariants.{Cut, Mend, Arm, Crash, Finish};
 
 use crate::act::{Act, Fill, Submitted};
-use crate::fields::{node, payload, priority, queue};
+use crate::fields::{node, priority, queue};
 use crate::verb::Verb;
-use job_model::Work;
+use job_model::NewJob;
 use line_words::{bytes, cut_word, number};
 use std::alloc::{AllocError, Global};
 
@@ -30,7 +30,7 @@ fn act_with(alloc: Global, verb: Verb, fields: &[u8]) -> Result<Option<Act>, All
     ensures { IfOk result (λ act. act ≡ act_with verb (words_of fields.now)) }
 {
     let Some((first, more)) = cut_word(fields) else {
-        return Ok(short(alloc, verb, fields));
+        return Ok(short(verb, fields));
     };
     let Some((second, rest)) = cut_word(more) else {
         return middle(alloc, verb, first, more);
@@ -45,7 +45,7 @@ fn act_with(alloc: Global, verb: Verb, fields: &[u8]) -> Result<Option<Act>, All
 }
 
 /// A verb with one field.
-fn short(alloc: Global, verb: Verb, field: &[u8]) -> Option<Act>
+fn short(verb: Verb, field: &[u8]) -> Option<Act>
     ensures { result ≡ short_act verb field.now }
 {
     match verb {
@@ -57,7 +57,7 @@ fn short(alloc: Global, verb: Verb, field: &[u8]) -> Option<Act>
         Verb::Dispatch => Some(Act::Dispatch(node(field)?)),
         Verb::Deliver => Some(Act::Deliver(number(field)?)),
         Verb::Lose => Some(Act::Lose(number(field)?)),
-        Verb::Crash => Some(Act::Crash(node(field)?, Fill::new(Vec::new(alloc)))),
+        Verb::Crash => Some(Act::Crash(node(field)?, Fill::none())),
         Verb::Recover => Some(Act::Recover(node(field)?)),
         Verb::Compact => Some(Act::Compact(node(field)?)),
         Verb::Cut | Verb::Mend | Verb::Submit | Verb::Finish | Verb::Arm => None,
@@ -136,7 +136,7 @@ fn crash(alloc: Global, first: &[u8], second: &[u8]) -> Result<Option<Act>, Allo
         return Ok(None);
     };
     match bytes(alloc, second)? {
-        Some(bytes) => Ok(Some(Act::Crash(node, Fill::new(bytes)))),
+        Some(bytes) => Ok(Some(Act::Crash(node, Fill::new(alloc, bytes)?))),
         None => Ok(None),
     }
 }
@@ -153,15 +153,13 @@ fn submit(
     let (Some(node), Some(queue), Some(priority)) = (node(first), queue(second), priority) else {
         return Ok(None);
     };
-    let Some(payload) = payload(alloc, third)? else {
+    let Some(payload) = bytes(alloc, third)? else {
         return Ok(None);
     };
-    let work = Work {
-        queue,
-        priority,
-        payload,
-    };
-    Ok(Some(Act::Submit(node, Submitted::new(alloc, work)?)))
+    match NewJob::new(queue, priority, payload) {
+        Some(job) => Ok(Some(Act::Submit(node, Submitted::new(alloc, job)?))),
+        None => Ok(None),
+    }
 }
 
 fn finish(first: &[u8], second: &[u8], third: &[u8]) -> Option<Act>

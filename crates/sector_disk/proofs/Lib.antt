@@ -2,6 +2,7 @@ pub mod Runs
 pub mod Bytes
 pub mod Undoing
 pub mod Paddings
+pub mod Halves
 pub mod Parts
 pub mod Calls
 pub mod Crashed

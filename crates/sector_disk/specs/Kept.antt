@@ -1,11 +1,11 @@
--- The sectors of a disk in memory seen from their fields.
+-- Sectors of which the first ones are kept, seen from their fields.
 use Rattle.std.specs.Prelude.{◌≤◌, ◌-◌, ◌++◌, length, replicate, vec_capacity}
 use Rattle.sector_disk.specs.Disk.{Image}
-use Rattle.sector_disk.specs.declared.sectors.Sectors.TheInside.{Inside}
+use Rattle.sector_disk.specs.declared.front.Front.TheInside.{Inside}
 
 -- the sectors that are kept, and zeros after them
-abbrev pub sectors_of : Inside → Image
-sectors_of sectors = sectors.kept.items ++ replicate (sectors.count - length sectors.kept.items) (replicate 512 0)
+abbrev pub front_of : Inside → Image
+front_of sectors = sectors.kept.items ++ replicate (sectors.count - length sectors.kept.items) (replicate 512 0)
 
 -- no more are kept than there are, and all of them find room without new memory
 abbrev pub HasRoom : Inside → Type 0

@@ -6,6 +6,7 @@ pub mod Undo
 pub mod Moments
 pub mod Inside
 pub mod Kept
+pub mod Halves
 pub mod Noted
 pub mod Times
 pub mod Blank

@@ -4,6 +4,7 @@
 
 mod disk;
 mod fault;
+mod front;
 mod memory;
 mod notes;
 mod overwritten;

@@ -93,6 +93,13 @@ impl Notes {
         self.closed = 0;
     }
 
+    /// Gives back the room in which no note stands.
+    pub fn shrink_to_fit(&mut self)
+        ensures { self.new ≡ self.old }
+    {
+        self.notes.shrink_to_fit();
+    }
+
     pub fn clear(&mut self)
         ensures { self.new ≡ record { times = []; since = [] } }
     {

@@ -1,32 +1,33 @@
-// The sectors of a disk in memory: the first ones, and zeros after them.
-ghost use Rattle.std.specs.Prelude.{◌≡◌, ◌<◌, ◌≤◌, ◌+◌, ◌-◌, ◌++◌, length, set, drop, replicate, IfOk, IfSome, vec_capacity};
+// The sectors of a disk in memory, in two halves.
+ghost use Rattle.std.specs.Prelude.{◌≡◌, ◌<◌, ◌++◌, length, set, drop, replicate, IfOk, IfSome};
 ghost use Rattle.sector_disk.specs.Disk.{sector_at};
 ghost use Rattle.sector_disk.specs.Crash.{filled};
 ghost use Rattle.sector_disk.specs.Undo.{whole};
 
-use crate::sector::{Sector, fill_from, is_zero, restore, short, trimmed};
+use crate::front::Front;
+use crate::sector::Sector;
 use std::alloc::{AllocError, Global};
 use std::marker::Model;
 
-/// Sectors of which those up to the last that was written are kept, and the others are zeros.
-///
-/// Room for all of them is set aside when they are made, so no later call takes memory; what is
-/// set aside and not kept is never touched.
+/// Sectors of which those up to the last written one of each half are kept, and the others are
+/// zeros. What is kept in two areas, one in each half, takes no memory for the end of the lower
+/// one.
 #[derive(Drop)]
 pub struct Sectors {
     count: usize,
-    kept: Vec<Sector>,
+    low: Front,
+    high: Front,
 }
 
 impl Model for Sectors {
     ghost use Rattle.sector_disk.specs.Disk.{Image};
-    ghost use Rattle.sector_disk.specs.Kept.{sectors_of, HasRoom};
+    ghost use Rattle.sector_disk.specs.Halves.{sectors_of, IsCounted};
 
     ghost Value = { Image };
 
     ghost view = { sectors_of };
 
-    ghost invariant = { HasRoom };
+    ghost invariant = { IsCounted };
 }
 
 impl Sectors {
@@ -34,8 +35,9 @@ impl Sectors {
     pub fn zeros(alloc: Global, count: usize) -> Result<Sectors, AllocError>
         ensures { IfOk result (λ sectors. sectors ≡ replicate count (replicate 512 0)) }
     {
-        let kept = Vec::with_capacity(alloc, count)?;
-        Ok(Sectors { count, kept })
+        let low = Front::zeros(alloc, count / 2)?;
+        let high = Front::zeros(alloc, count - count / 2)?;
+        Ok(Sectors { count, low, high })
     }
 
     pub fn len(&self) -> usize
@@ -48,10 +50,8 @@ impl Sectors {
         requires { at < length self.now }
         ensures { into.new ≡ sector_at self.now at }
     {
-        *into = match self.kept.get(at) {
-            Some(sector) => *sector,
-            None => [0; 512],
-        };
+        let (half, at) = self.half_of(at);
+        half.read(at, into);
     }
 
     /// The first bytes of a sector, if all behind them are zeros.
@@ -59,10 +59,8 @@ impl Sectors {
         requires { at < length self.now }
         ensures { IfSome result (λ bytes. whole bytes ≡ sector_at self.now at) }
     {
-        match self.kept.get(at) {
-            Some(sector) => short(sector),
-            None => Some([0; 32]),
-        }
+        let (half, at) = self.half_of(at);
+        half.short(at)
     }
 
     /// The bytes of a sector without the zeros at its end.
@@ -70,9 +68,21 @@ impl Sectors {
         requires { at < length self.now }
         ensures { whole result.now ≡ sector_at self.now at }
     {
-        match self.kept.get(at) {
-            Some(sector) => trimmed(sector),
-            None => &[],
+        let (half, at) = self.half_of(at);
+        half.trimmed(at)
+    }
+
+    // The half that a sector stands in, and its place there.
+    fn half_of(&self, at: usize) -> (&Front, usize)
+        requires { at < length self.now }
+        ensures place { result.1 < length result.0.now }
+        ensures same { sector_at result.0.now result.1 ≡ sector_at self.now at }
+    {
+        let below = self.low.len();
+        if at < below {
+            (&self.low, at)
+        } else {
+            (&self.high, at - below)
         }
     }
 
@@ -80,11 +90,12 @@ impl Sectors {
         requires { at < length self.old }
         ensures { self.new ≡ set self.old at from.now }
     {
-        if at >= self.kept.len() && is_zero(from) {
-            return;
+        let below = self.low.len();
+        if at < below {
+            self.low.write(at, from);
+        } else {
+            self.high.write(at - below, from);
         }
-        keep(&mut self.kept, at);
-        self.kept[at] = *from;
     }
 
     /// Gives a sector the bytes that it had, of which the zeros at the end were left out.
@@ -92,8 +103,12 @@ impl Sectors {
         requires { at < length self.old }
         ensures { self.new ≡ set self.old at (whole trimmed.now) }
     {
-        keep(&mut self.kept, at);
-        restore(&mut self.kept[at], trimmed);
+        let below = self.low.len();
+        if at < below {
+            self.low.restore(at, trimmed);
+        } else {
+            self.high.restore(at - below, trimmed);
+        }
     }
 
     /// Writes the next bytes of a fill over the start of a sector, and answers those after them.
@@ -102,18 +117,11 @@ impl Sectors {
         ensures torn { self.new ≡ set self.old at (filled fill.now (sector_at self.old at)) }
         ensures rest { result.now ≡ drop 512 fill.now }
     {
-        keep(&mut self.kept, at);
-        fill_from(&mut self.kept[at], fill)
-    }
-}
-
-// Keeps the sectors up to this one.
-fn keep(kept: &mut Vec<Sector>, at: usize)
-    requires { at < vec_capacity kept.old }
-    ensures kept { kept.new.items ≡ kept.old.items ++ replicate (at + 1 - length kept.old.items) (replicate 512 0) }
-    ensures room { vec_capacity kept.new ≡ vec_capacity kept.old }
-{
-    while kept.len() <= at {
-        kept.push_reserved([0; 512]);
+        let below = self.low.len();
+        if at < below {
+            self.low.fill_from(at, fill)
+        } else {
+            self.high.fill_from(at - below, fill)
+        }
     }
 }

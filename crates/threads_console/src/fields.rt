@@ -1,15 +1,14 @@
 //! The fields of lines.
 
-ghost use Rattle.std.specs.Prelude.{◌≡◌, ◌≢◌, ◌≤◌, ◌<◌, IfOk, IfSome};
-ghost use Rattle.schedule.specs.Fields.{node_of, number_below, number_between, payload_of, priority_of, queue_of};
+ghost use Rattle.std.specs.Prelude.{◌≡◌, ◌≢◌, ◌≤◌, ◌<◌, IfSome};
+ghost use Rattle.schedule.specs.Fields.{node_of, number_below, number_between, priority_of, queue_of};
 ghost use Rattle.group_task.specs.declared.node.TheConstants.{NODES};
 ghost use Rattle.threads_console.specs.Turns.{other_of, timer_of};
 
 use group_task::NodeId;
-use job_model::{Payload, Queue};
-use line_words::{bytes, is_word, number};
+use job_model::Queue;
+use line_words::{is_word, number};
 use node_lock::Timer;
-use std::alloc::{AllocError, Global};
 
 /// The node that a word names.
 pub fn node(word: &[u8]) -> Option<NodeId>
@@ -79,16 +78,6 @@ pub fn priority(word: &[u8]) -> Option<u8>
     ensures { result ≡ priority_of word.now }
 {
     Some(between(1, u64::from(u8::MAX), word)? as u8)
-}
-
-/// The payload that a word spells.
-pub fn payload(alloc: Global, word: &[u8]) -> Result<Option<Payload>, AllocError>
-    ensures { IfOk result (λ payload. payload ≡ payload_of word.now) }
-{
-    match bytes(alloc, word)? {
-        Some(bytes) => Ok(Payload::new(&bytes)),
-        None => Ok(None),
-    }
 }
 
 /// The number that a word spells, where it is from `least` to `most`.

@@ -7,12 +7,12 @@ ghost use Rattle.threads_console.specs.declared.turn.Turn.TheVariants.{Poll};
 ghost use Rattle.threads_console.specs.Planning.{PollFits, TurnFits};
 ghost use Rattle.threads_console.specs.Turns.{alone_order, line_of, long_order, middle_order, of_one, order_of, other_of, short_order, submit_order, timer_of, turn_of};
 
-use crate::fields::{member, node, other, payload, priority, queue, timer};
+use crate::fields::{member, node, other, priority, queue, timer};
 use crate::turn::Turn;
 use group_task::NodeId;
-use job_model::Work;
+use job_model::NewJob;
 use line_words::{bytes, cut_word, is_word, number};
-use node_lock::{Fill, NewJob, Order, Timer};
+use node_lock::{Fill, Order, Timer};
 use std::alloc::{AllocError, Global};
 
 /// The node and the turn of a line, in a cluster of so many nodes.
@@ -193,13 +193,11 @@ fn submit(
     let (Some(queue), Some(priority)) = (queue(first), priority) else {
         return Ok(None);
     };
-    let Some(payload) = payload(alloc, second)? else {
+    let Some(payload) = bytes(alloc, second)? else {
         return Ok(None);
     };
-    let work = Work {
-        queue,
-        priority,
-        payload,
-    };
-    Ok(Some(Order::Submit(NewJob::new(alloc, &work)?)))
+    match NewJob::new(queue, priority, payload) {
+        Some(job) => Ok(Some(Order::Submit(job))),
+        None => Ok(None),
+    }
 }

@@ -1,12 +1,16 @@
-use Rattle.std.proofs.Common.{◌<◌, ◌∙◌, ap, set}
-use Rattle.sector_disk.proofs.Paddings.{on, written}
+use Rattle.std.proofs.Common.{◌≡◌, ◌<◌, ◌≤◌, ◌∙◌, ◌++◌, ◌-◌, ap, set, length, arith}
+use Rattle.sector_disk.proofs.Halves.{set_low, set_high}
+use Rattle.sector_disk.specs.Undo.{whole}
 use Rattle.sector_disk.proofs.sectors.Sectors.restore.Goals as goal
 
-within : (c : goal.After-self-1) → c.args.at < c.self.inside.count
-within c = on c.self.inside.kept.items c.self.inside.count c.args.at c.args.self.now c.self.invariant.0 c.self.view_is c.requires
+pub returns-then-at-below : goal.returns-then-at-below
+returns-then-at-below c =
+    ap (λ l. l ++ c.self.inside.high) c.restore.ensures
+    ∙ set_low c.self.inside.low c.self.inside.high c.args.at (whole c.args.trimmed.now) (omega (arith, c.if-at-below.true, c.len-below.ensures))
+    ∙ ap (λ l. set l c.args.at (whole c.args.trimmed.now)) c.self.view_is
 
-pub returns : goal.returns
-returns c =
-    written c.self.inside.kept.items c.keep.new.kept.items c.self.inside.count c.args.at c.restore.new.sector c.self.invariant.0 (within c) c.keep.ensures.kept
-    ∙ ap (λ l. set l c.args.at c.restore.new.sector) c.self.view_is
-    ∙ ap (set c.args.self.now c.args.at) c.restore.ensures
+pub returns-else-at-below : goal.returns-else-at-below
+returns-else-at-below c =
+    ap (λ l. c.self.inside.low ++ l) (c.restore-else-at-below.ensures ∙ ap (λ k. set c.self.inside.high (c.args.at - k) (whole c.args.trimmed.now)) c.len-below.ensures)
+    ∙ set_high c.self.inside.low c.self.inside.high c.args.at (whole c.args.trimmed.now) (omega (arith, c.if-at-below.false, c.len-below.ensures))
+    ∙ ap (λ l. set l c.args.at (whole c.args.trimmed.now)) c.self.view_is

@@ -1,21 +1,15 @@
-use Rattle.std.proofs.Common.{◌<◌, ◌∙◌, sym, ap, set, replicate, arith}
-use Rattle.sector_disk.proofs.Paddings.{on, written, zeros_written}
+use Rattle.std.proofs.Common.{◌≡◌, ◌<◌, ◌≤◌, ◌∙◌, ◌++◌, ◌-◌, ap, set, length, arith}
+use Rattle.sector_disk.proofs.Halves.{set_low, set_high}
 use Rattle.sector_disk.proofs.sectors.Sectors.write.Goals as goal
 
-within : (c : goal.After-self-1) → c.args.at < c.self.inside.count
-within c = on c.self.inside.kept.items c.self.inside.count c.args.at c.args.self.now c.self.invariant.0 c.self.view_is c.requires
+pub returns-then-at-below : goal.returns-then-at-below
+returns-then-at-below c =
+    ap (λ l. l ++ c.self.inside.high) c.write.ensures
+    ∙ set_low c.self.inside.low c.self.inside.high c.args.at c.args.from.now (omega (arith, c.if-at-below.true, c.len-below.ensures))
+    ∙ ap (λ l. set l c.args.at c.args.from.now) c.self.view_is
 
-pub returns-then-is_zero : goal.returns-then-is_zero
-returns-then-is_zero c =
-    let inside = c.self.inside in
-    sym c.self.view_is
-    ∙ zeros_written inside.kept.items inside.count c.args.at
-    (omega (arith, c.if-at-len.true, c.len.ensures, inside.kept.ok.0))
-    (on inside.kept.items inside.count c.args.at c.args.self.now c.self.invariant.0 c.self.view_is c.requires)
-    ∙ ap (λ l. set l c.args.at (replicate 512 0)) c.self.view_is
-    ∙ ap (set c.args.self.now c.args.at) (sym (c.is_zero.ensures.0 c.if-is_zero.true))
-
-pub returns : goal.returns
-returns c =
-    written c.self.inside.kept.items c.keep.new.kept.items c.self.inside.count c.args.at c.args.from.now c.self.invariant.0 (within c) c.keep.ensures.kept
+pub returns-else-at-below : goal.returns-else-at-below
+returns-else-at-below c =
+    ap (λ l. c.self.inside.low ++ l) (c.write-else-at-below.ensures ∙ ap (λ k. set c.self.inside.high (c.args.at - k) c.args.from.now) c.len-below.ensures)
+    ∙ set_high c.self.inside.low c.self.inside.high c.args.at c.args.from.now (omega (arith, c.if-at-below.false, c.len-below.ensures))
     ∙ ap (λ l. set l c.args.at c.args.from.now) c.self.view_is

@@ -1,8 +1,10 @@
-//! The jobs that the operator submits.
+// Jobs as the operator submits them.
+ghost use Rattle.std.specs.Prelude.{◌≡◌, ◌<◌, ◌↔◌, IfOk, IfSome, IsNone, IsTrue, length};
+ghost use Rattle.job_model.specs.declared.payload.TheConstants.{PAYLOAD_CAPACITY};
 
-ghost use Rattle.std.specs.Prelude.{◌≡◌, ◌↔◌, IfOk, IsTrue};
-
-use job_model::{Payload, Queue, Work};
+use crate::payload::{PAYLOAD_CAPACITY, Payload};
+use crate::queue::Queue;
+use crate::work::Work;
 use std::alloc::{AllocError, Global};
 use std::marker::Model;
 
@@ -28,13 +30,17 @@ impl Model for NewJob {
 }
 
 impl NewJob {
-    pub fn new(alloc: Global, work: &Work) -> Result<NewJob, AllocError>
-        ensures { IfOk result (λ job. job ≡ work.now) }
+    /// A job with a payload of these bytes, which input may have made too many.
+    pub fn new(queue: Queue, priority: u8, payload: Vec<u8>) -> Option<NewJob>
+        ensures value { IfSome result (λ job. job ≡ record { queue = queue; priority = priority; payload = payload.items }) }
+        ensures none { IsNone result ↔ (PAYLOAD_CAPACITY < length payload.items) }
     {
-        let payload = Vec::from_slice(alloc, work.payload.as_slice())?;
-        Ok(NewJob {
-            queue: work.queue,
-            priority: work.priority,
+        if payload.len() > PAYLOAD_CAPACITY {
+            return None;
+        }
+        Some(NewJob {
+            queue,
+            priority,
             payload,
         })
     }

@@ -1,6 +1,6 @@
 use Rattle.std.proofs.Common.{◌≡◌, ◌∙◌, ◌+◌, ◌-◌, ◌++◌, ◌∷◌, [], List, ℕ, ap, length, replicate, arith}
 use Rattle.std.proofs.lemmas.List.{append_assoc, replicate_more, length_push}
-use Rattle.sector_disk.proofs.sectors.keep.Goals as goal
+use Rattle.sector_disk.proofs.front.keep.Goals as goal
 
 pub loop-kept-preserved : goal.loop-kept-preserved
 loop-kept-preserved c =

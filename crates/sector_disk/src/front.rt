@@ -1,0 +1,119 @@
+// Sectors of which the first ones are kept, and the others are zeros.
+ghost use Rattle.std.specs.Prelude.{◌≡◌, ◌<◌, ◌≤◌, ◌+◌, ◌-◌, ◌++◌, length, set, drop, replicate, IfOk, IfSome, vec_capacity};
+ghost use Rattle.sector_disk.specs.Disk.{sector_at};
+ghost use Rattle.sector_disk.specs.Crash.{filled};
+ghost use Rattle.sector_disk.specs.Undo.{whole};
+
+use crate::sector::{Sector, fill_from, is_zero, restore, short, trimmed};
+use std::alloc::{AllocError, Global};
+use std::marker::Model;
+
+/// Sectors of which those up to the last that was written are kept, and the others are zeros.
+///
+/// Room for all of them is set aside when they are made, so no later call takes memory; what is
+/// set aside and not kept is never touched.
+#[derive(Drop)]
+pub struct Front {
+    count: usize,
+    kept: Vec<Sector>,
+}
+
+impl Model for Front {
+    ghost use Rattle.sector_disk.specs.Disk.{Image};
+    ghost use Rattle.sector_disk.specs.Kept.{front_of, HasRoom};
+
+    ghost Value = { Image };
+
+    ghost view = { front_of };
+
+    ghost invariant = { HasRoom };
+}
+
+impl Front {
+    /// So many sectors of zeros.
+    pub fn zeros(alloc: Global, count: usize) -> Result<Front, AllocError>
+        ensures { IfOk result (λ sectors. sectors ≡ replicate count (replicate 512 0)) }
+    {
+        let kept = Vec::with_capacity(alloc, count)?;
+        Ok(Front { count, kept })
+    }
+
+    pub fn len(&self) -> usize
+        ensures { result ≡ length self.now }
+    {
+        self.count
+    }
+
+    pub fn read(&self, at: usize, into: &mut Sector)
+        requires { at < length self.now }
+        ensures { into.new ≡ sector_at self.now at }
+    {
+        *into = match self.kept.get(at) {
+            Some(sector) => *sector,
+            None => [0; 512],
+        };
+    }
+
+    /// The first bytes of a sector, if all behind them are zeros.
+    pub fn short(&self, at: usize) -> Option<[u8; 32]>
+        requires { at < length self.now }
+        ensures { IfSome result (λ bytes. whole bytes ≡ sector_at self.now at) }
+    {
+        match self.kept.get(at) {
+            Some(sector) => short(sector),
+            None => Some([0; 32]),
+        }
+    }
+
+    /// The bytes of a sector without the zeros at its end.
+    pub fn trimmed(&self, at: usize) -> &[u8]
+        requires { at < length self.now }
+        ensures { whole result.now ≡ sector_at self.now at }
+    {
+        match self.kept.get(at) {
+            Some(sector) => trimmed(sector),
+            None => &[],
+        }
+    }
+
+    pub fn write(&mut self, at: usize, from: &Sector)
+        requires { at < length self.old }
+        ensures { self.new ≡ set self.old at from.now }
+    {
+        if at >= self.kept.len() && is_zero(from) {
+            return;
+        }
+        keep(&mut self.kept, at);
+        self.kept[at] = *from;
+    }
+
+    /// Gives a sector the bytes that it had, of which the zeros at the end were left out.
+    pub fn restore(&mut self, at: usize, trimmed: &[u8])
+        requires { at < length self.old }
+        ensures { self.new ≡ set self.old at (whole trimmed.now) }
+    {
+        keep(&mut self.kept, at);
+        restore(&mut self.kept[at], trimmed);
+    }
+
+    /// Writes the next bytes of a fill over the start of a sector, and answers those after them.
+    pub fn fill_from<'a>(&mut self, at: usize, fill: &'a [u8]) -> &'a [u8]
+        requires { at < length self.old }
+        ensures torn { self.new ≡ set self.old at (filled fill.now (sector_at self.old at)) }
+        ensures rest { result.now ≡ drop 512 fill.now }
+    {
+        keep(&mut self.kept, at);
+        fill_from(&mut self.kept[at], fill)
+    }
+}
+
+// Keeps the sectors up to this one.
+fn keep(kept: &mut Vec<Sector>, at: usize)
+    requires { at < vec_capacity kept.old }
+    ensures kept { kept.new.items ≡ kept.old.items ++ replicate (at + 1 - length kept.old.items) (replicate 512 0) }
+    ensures room { vec_capacity kept.new ≡ vec_capacity kept.old }
+{
+    while kept.len() <= at {
+        kept.push_reserved([0; 512]);
+    }
+}
