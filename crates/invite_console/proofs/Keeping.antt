@@ -1,5 +1,5 @@
 -- What is kept of a run, one act further.
-use Rattle.std.proofs.Common.{◌≡◌, ℕ, zero, suc, ◌+◌, ◌-◌, ◌<◌, ◌≤◌, Bool, true, false, List, [], ◌∷◌, ◌++◌, length, take, drop, Option, Some, None, codes, slice_get, refl, sym, ap, subst, ◌∙◌, append_assoc, append-nil, arith, inl, inr, ◌⊎◌}
+use Rattle.std.proofs.Common.{◌≡◌, ℕ, zero, suc, ◌+◌, ◌-◌, ◌<◌, ◌≤◌, Bool, true, false, List, [], ◌∷◌, ◌++◌, length, take, drop, Option, Some, None, Result, Ok, Err, OnOk, codes, slice_get, refl, sym, ap, subst, ◌∙◌, append_assoc, append-nil, arith, inl, inr, ◌⊎◌}
 use Rattle.std.proofs.lemmas.List.{length-append, length-drop, drop-append-le, take-append-le, take_rest}
 use Rattle.std.proofs.lemmas.Option.{slice_get_within}
 use Rattle.std.proofs.Math.Seq.{drop-append_seam}
@@ -82,8 +82,8 @@ line_stays : (names : Bool) (sent told : ℕ) (k : Option Kept) (text text' : Li
 line_stays names sent told None text text' ms ms' front_t front_m is = refl
 line_stays names sent told (Some k) text text' ms ms' front_t front_m is =
     let it = is k refl in
-    ap (λ t. t ++ sent_text names sent (between sent k.sent ms') ++ codes "\n") (between_front told k.told text text' front_t it.told_grows it.told_within)
-    ∙ ap (λ m. between told k.told text ++ sent_text names sent m ++ codes "\n") (between_front sent k.sent ms ms' front_m it.sent_grows it.sent_within)
+    ap (λ t. t ++ (sent_text names sent (between sent k.sent ms') ++ codes "\n")) (between_front told k.told text text' front_t it.told_grows it.told_within)
+    ∙ ap (λ m. between told k.told text ++ (sent_text names sent m ++ codes "\n")) (between_front sent k.sent ms ms' front_m it.sent_grows it.sent_within)
 
 lines_stay : (names : Bool) (kept kept' : List Kept) (text text' : List ℕ) (ms ms' : List Envelope) (n : ℕ)
     → AreKept kept (length ms) (length text) → Front kept kept' → Front text text' → Front ms ms' → n ≤ length kept
@@ -141,7 +141,7 @@ between_end from xs = take_rest xs from
 lines_more : (names : Bool) (kept : List Kept) (k : Kept) (text text' : List ℕ) (ms ms' : List Envelope)
     → AreKept kept (length ms) (length text) → Front text text' → Front ms ms' → sent_at kept (length kept) ≡ length ms → told_at kept (length kept) ≡ length text
     → k.sent ≡ length ms' → k.told ≡ length text'
-    → lines names (kept ++ k ∷ []) text' ms' (suc (length kept)) ≡ lines names kept text ms (length kept) ++ (drop (length text) text' ++ sent_text names (length ms) (drop (length ms) ms') ++ codes "\n")
+    → lines names (kept ++ k ∷ []) text' ms' (suc (length kept)) ≡ lines names kept text ms (length kept) ++ (drop (length text) text' ++ (sent_text names (length ms) (drop (length ms) ms') ++ codes "\n"))
 lines_more names kept k text text' ms ms' are ft fm all_sent all_told is_sent is_told =
     let n = length kept in
     let kept' = kept ++ k ∷ [] in
@@ -155,8 +155,8 @@ lines_more names kept k text text' ms ms' are ft fm all_sent all_told is_sent is
     ∙ ap (λ x. before ++ lines_of names x (sent_at kept' n) (told_at kept' n) text' ms') (get_seam kept k)
     ∙ ap (λ x. before ++ lines_of names (Some k) x (told_at kept' n) text' ms') sent
     ∙ ap (λ x. before ++ lines_of names (Some k) (length ms) x text' ms') told
-    ∙ ap (λ x. before ++ (x ++ sent_text names (length ms) (between (length ms) k.sent ms') ++ codes "\n")) front
-    ∙ ap (λ x. before ++ (drop (length text) text' ++ sent_text names (length ms) x ++ codes "\n")) said
+    ∙ ap (λ x. before ++ (x ++ (sent_text names (length ms) (between (length ms) k.sent ms') ++ codes "\n"))) front
+    ∙ ap (λ x. before ++ (drop (length text) text' ++ (sent_text names (length ms) x ++ codes "\n"))) said
 
 -- one more is kept
 one_kept : (kept : List Kept) (k : Kept) (m t m' t' : ℕ) → AreKept kept m t → m ≤ m' → t ≤ t' → sent_at kept (length kept) ≡ m → told_at kept (length kept) ≡ t
@@ -228,6 +228,10 @@ act_kept grow telling nodes slots old new before a outcome kept kept' k text sho
           (further grow telling nodes slots old new before a outcome told (told ++ t) (lines telling.names (kept ++ k ∷ []) text' new.net.sent (suc n)) so.so acted same
           (λ w' st. behind_any (AddsNodes telling.nodes w'.states) text shown told (nodes_by telling.nodes w'.states text shown (rows w' st))) line);
     })
+
+pub on_ok : {T F A B C : Type 0} (result : Result T F) → OnOk result A → OnOk result B → (A → B → C) → OnOk result C
+on_ok (Ok t) a b both = both a b
+on_ok (Err e) a b both = tt
 
 -- ---- the beginning, and the end
 

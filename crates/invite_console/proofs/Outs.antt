@@ -19,7 +19,7 @@ kept_there kept messages text n sent told k are on read is_sent is_told =
     subst (λ (x : ℕ). IsKept x told messages text k) (sym is_sent) (subst (λ (x : ℕ). IsKept (sent_at kept n) x messages text k) (sym is_told) (are n k (there_is kept n k on read)))
 
 lines_more : (names : Bool) (kept : List Kept) (text : List ℕ) (messages : List Envelope) (n sent told : ℕ) (k : Kept) → slice_get kept n ≡ Some k → sent ≡ sent_at kept n → told ≡ told_at kept n
-    → lines names kept text messages n ++ (between told k.told text ++ sent_text names sent (between sent k.sent messages) ++ codes "\n") ≡ lines names kept text messages (n + 1)
+    → lines names kept text messages n ++ (between told k.told text ++ (sent_text names sent (between sent k.sent messages) ++ codes "\n")) ≡ lines names kept text messages (n + 1)
 lines_more names kept text messages n sent told k is_kept is_sent is_told = rw (add-one n, is_kept, is_sent, is_told) refl
 
 -- the lines so far, and what is told behind them
@@ -29,22 +29,23 @@ pub record Goes (x y : Option (List ℕ)) (p q : List ℕ) (names : Bool) (kept 
   pub within : told ≤ length text
   pub handed : Hands x p y q (lines names kept text messages n)
 
-pub act_more : (names : Bool) (kept : List Kept) (text : List ℕ) (messages : List Envelope) (n sent told : ℕ) (k : Kept) (x y z u : Option (List ℕ)) (p q r s e part : List ℕ)
-    → AreKept kept (length messages) (length text) → n < length kept → k ≡ get_or kept n k → Goes x y p q names kept text messages n sent told
-    → part ≡ between told k.told text → Hands y q z r part → Hands z r u s (sent_text names sent (between sent k.sent messages)) → e ≡ s ++ codes "\n"
+pub act_more : (names : Bool) (kept : List Kept) (text : List ℕ) (messages sent_so : List Envelope) (n sent told : ℕ) (k : Kept) (x y z u : Option (List ℕ)) (p q r s e part : List ℕ)
+    → AreKept kept (length messages) (length text) → n < length kept → k ≡ get_or kept n k → sent_so ≡ messages → Goes x y p q names kept text messages n sent told
+    → part ≡ between told k.told text → Hands y q z r part → Hands z r u s (sent_text names sent (between sent k.sent sent_so)) → e ≡ s ++ codes "\n"
     → Goes x u p e names kept text messages (n + 1) k.sent k.told
-act_more names kept text messages n sent told k x y z u p q r s e part are on read so is_part front messages_out ended =
+act_more names kept text messages sent_so n sent told k x y z u p q r s e part are on read same so is_part front messages_out ended =
     let there = there_is kept n k on read in
     let here = between told k.told text in
     let said = sent_text names sent (between sent k.sent messages) in
     let first : Hands y q z r here = subst (λ (t : List ℕ). Hands y q z r t) is_part front in
-    let rest : Hands z r u e (said ++ codes "\n") = hands_more z u u r s e said (codes "\n") messages_out (page_grows u s e (codes "\n") ended) in
+    let rest : Hands z r u e (said ++ codes "\n") =
+    hands_more z u u r s e said (codes "\n") (subst (λ (m : List Envelope). Hands z r u s (sent_text names sent (between sent k.sent m))) same messages_out) (page_grows u s e (codes "\n") ended) in
     record {
       sent_is = rw (add-one n, there) refl;
       told_is = rw (add-one n, there) refl;
       within = (are n k there).told_within;
       handed = subst (λ (t : List ℕ). Hands x p u e t) (lines_more names kept text messages n sent told k there so.sent_is so.told_is)
-          (hands_more x y u p q e (lines names kept text messages n) (here ++ said ++ codes "\n") so.handed (hands_more y z u q r e here (said ++ codes "\n") first rest));
+          (hands_more x y u p q e (lines names kept text messages n) (here ++ (said ++ codes "\n")) so.handed (hands_more y z u q r e here (said ++ codes "\n") first rest));
     }
 
 -- behind the last act

@@ -57,7 +57,7 @@ AreKept kept messages text = (i : ℕ) (k : Kept) → slice_get kept i ≡ Some 
 -- the nodes as an act found them, where they are asked for, and its line
 abbrev pub lines_of : Bool → Option Kept → ℕ → ℕ → List ℕ → List Envelope → List ℕ
 lines_of names None sent told text messages = []
-lines_of names (Some k) sent told text messages = between told k.told text ++ sent_text names sent (between sent k.sent messages) ++ codes "\n"
+lines_of names (Some k) sent told text messages = between told k.told text ++ (sent_text names sent (between sent k.sent messages) ++ codes "\n")
 
 -- the lines of the first acts, so many
 abbrev pub lines : Bool → List Kept → List ℕ → List Envelope → ℕ → List ℕ

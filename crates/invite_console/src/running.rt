@@ -5,13 +5,13 @@ ghost use Rattle.group_task.specs.declared.node.TheConstants.{NODES};
 ghost use Rattle.schedule.specs.declared.act.Act.{Act as ActValue};
 ghost use Rattle.cluster_sim.specs.Machine.{StandsFor};
 ghost use Rattle.runs.specs.World.{World};
-ghost use Rattle.invite_console.specs.Kept.{IsKeptSoFar, IsRun};
+ghost use Rattle.invite_console.specs.Kept.{act_head, IsKeptSoFar, IsRun};
 ghost use Rattle.invite_console.specs.Sim.{AddsNodes, AddsRows, HasWorld};
 
 use crate::acts::push_head;
 use crate::rows::push_row;
 use crate::telling::Telling;
-use cluster_sim::Simulation;
+use cluster_sim::{Outcome, Simulation};
 use group_task::NodeId;
 use runs::left_by_a_run;
 use schedule::{Act, Schedule};
@@ -103,10 +103,26 @@ fn keep_act(
 {
     left_by_a_run();
     push_nodes(alloc, telling, text, cluster)?;
-    let outcome = cluster.step(act)?;
+    match cluster.step(act) {
+        Ok(outcome) => keep(text, kept, cluster.net().sent().len(), act, outcome),
+        Err(error) => Err(error),
+    }
+}
+
+/// Keeps what came of an act, by whose end so many messages had been sent.
+fn keep(
+    text: &mut Vec<u8>,
+    kept: &mut Vec<Kept>,
+    sent: usize,
+    act: &Act,
+    outcome: Outcome,
+) -> Result<(), AllocError>
+    ensures head { OnOk result (text.new.items ≡ text.old.items ++ act_head (length kept.old.items) act.now outcome) }
+    ensures kept { OnOk result (kept.new.items ≡ kept.old.items ++ record { sent = sent; told = length text.new.items } ∷ []) }
+{
     push_head(text, kept.len() as u64, act, outcome)?;
     kept.push(Kept {
-        sent: cluster.net().sent().len(),
+        sent,
         told: text.len(),
     })?;
     Ok(())

@@ -79,12 +79,7 @@ fn simulate<W: Write>(
 }
 
 /// Prints a run. All memory for it is taken first, so that nothing is printed where there is none.
-fn print_pages<W: Write>(
-    alloc: Global,
-    output: &mut W,
-    names: bool,
-    run: &Run,
-) -> Ending
+fn print_pages<W: Write>(alloc: Global, output: &mut W, names: bool, run: &Run) -> Ending
     requires { AreKept run.now.kept.items (length run.now.cluster.net.sent) (length run.now.text.items) }
     ensures { Prints (λ _ outcome. outcome ≡ record { text = run_text names run.now.kept.items run.now.text.items run.now.cluster.net.sent; good = true }) None
         (W.contents output.old) (W.contents output.new) result }

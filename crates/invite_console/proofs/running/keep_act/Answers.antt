@@ -1,9 +1,11 @@
-use Rattle.std.proofs.Common.{rules}
-use Rattle.invite_console.proofs.Keeping.{act_kept}
+use Rattle.std.proofs.Common.{rules, ◌≡◌, length, refl}
+use Rattle.invite_console.proofs.Keeping.{act_kept, on_ok}
 use Rattle.invite_console.proofs.running.keep_act.Goals as goal
 
-pub returns-clause-kept : goal.returns-clause-kept
-returns-clause-kept c = λ nodes slots before so.
-    act_kept c.left_by_a_run.ensures.grows c.args.telling nodes slots c.args.cluster.now c.step.new.self before c.args.act.now c.in_ok-outcome.outcome c.args.kept.now.items c.push.new.self.items
-    (record { sent = c.len.result; told = c.len-2.result }) c.args.text.now.items c.push_nodes.new.text.items c.push_head.new.text.items
-    c.in_ok-outcome.ensures.acted c.in_ok-outcome.ensures.slots c.in_ok-push_nodes.ensures (search rules) (search rules) (search rules) (search rules) so
+pub returns-in-Ok-clause-kept : goal.returns-in-Ok-clause-kept
+returns-in-Ok-clause-kept c = λ nodes slots before so.
+    let is_sent : c.len.result ≡ length c.step.new.self.net.sent = search rules in
+    on_ok c.keep.result c.keep.ensures.head c.keep.ensures.kept (λ head more.
+    act_kept c.left_by_a_run.ensures.grows c.args.telling nodes slots c.args.cluster.now c.step.new.self before c.args.act.now c.in-Ok.outcome c.args.kept.now.items c.keep.new.kept.items
+    (record { sent = c.len.result; told = length c.keep.new.text.items }) c.args.text.now.items c.push_nodes.new.text.items c.keep.new.text.items
+    c.in-Ok.ensures.acted c.in-Ok.ensures.slots c.in_ok-push_nodes.ensures head is_sent refl more so)
