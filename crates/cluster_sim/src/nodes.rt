@@ -238,7 +238,7 @@ fn opened(alloc: Global, nodes: u8, slots: u64) -> Result<Vec<DurableNode<MemDis
     requires most_slots { slots ≤ 4096 }
     ensures { IfOk result (λ members. AreOpened slots nodes nodes members.items) }
 {
-    let mut members = Vec::new(alloc);
+    let mut members = Vec::with_capacity(alloc, usize::from(nodes))?;
     for number in 0..nodes {
         let id = NodeId::numbered(number);
         let node = DurableNode::open(alloc, id, nodes, slots)?;

@@ -107,8 +107,9 @@ impl MemDisk {
         // Nothing is unsynced, no earlier moment is known, and it isn't armed.
         ensures anew { self.new ≡ all_synced self.new.contents self.old.failures }
     {
+        let settled = is_settled(&self.notes, self.torn);
         undo(&mut self.sectors, &mut self.notes);
-        tear(&mut self.sectors, &self.unsynced, fill);
+        tear(&mut self.sectors, &self.unsynced, settled, fill);
         self.unsynced.fill(false);
         self.notes.clear();
         self.torn = false;
@@ -327,13 +328,25 @@ fn note_torn(
     Ok(())
 }
 
-// Writes a fill over the unsynced sectors, in rising order.
-fn tear(sectors: &mut Sectors, unsynced: &[bool], fill: &[u8])
-    requires { length unsynced.now ≡ length sectors.old }
+// Whether nothing was written since the last sync.
+fn is_settled(notes: &Notes, torn: bool) -> bool
+    ensures untorn { IsTrue result → IsFalse torn }
+    ensures none { IsTrue result → notes.now.since ≡ [] }
+{
+    !torn && notes.since().is_empty()
+}
+
+// Writes a fill over the unsynced sectors, in rising order. Where all are settled, it looks at none.
+fn tear(sectors: &mut Sectors, unsynced: &[bool], settled: bool, fill: &[u8])
+    requires flags { length unsynced.now ≡ length sectors.old }
+    requires settled { IsTrue settled → (at : ℕ) → IsFalse (get_or unsynced.now at false) }
     ensures size { length sectors.new ≡ length sectors.old }
     ensures torn { (at : ℕ) → at < length sectors.old
         → sector_at sectors.new at ≡ torn_at unsynced.now fill.now at (sector_at sectors.old at) }
 {
+    if settled {
+        return;
+    }
     let mut rest = fill;
     for at in 0..sectors.len() {
         if !unsynced[at] {

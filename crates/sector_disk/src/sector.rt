@@ -16,10 +16,11 @@ pub fn is_blank(sector: &Sector, from: usize) -> bool
 }
 
 // Whether a sector is all zeros.
+#[tactic(auto, using(crate::proofs::Blanks::blank))]
 pub fn is_zero(sector: &Sector) -> bool
     ensures { IsTrue result ↔ (sector.now ≡ replicate 512 0) }
 {
-    *sector == [0; 512]
+    is_zero_block(sector)
 }
 
 // Whether a block of bytes is all zeros. It looks at all of them, many at a time.

@@ -1,17 +1,22 @@
-use Rattle.std.proofs.Common.{◌≡◌, ◌<◌, ◌∙◌, ap, sym, subst, ℕ, length, replicate, false}
+use Rattle.std.proofs.Common.{◌≡◌, ◌<◌, ◌∙◌, ap, sym, subst, ℕ, get_or, length, replicate, false}
+use Rattle.std.specs.Prelude.{IsFalse}
 use Rattle.sector_disk.specs.Disk.{Image, sector_at}
 use Rattle.sector_disk.specs.Memory.{Memory, all_synced}
 use Rattle.sector_disk.specs.Noted.{Noted}
 use Rattle.sector_disk.specs.Crash.{IsCrashed, torn_at}
 use Rattle.sector_disk.proofs.Undoing.{length-undone}
-use Rattle.sector_disk.proofs.Calls.{crashed, crash_left, begun_anew, none_noted}
+use Rattle.sector_disk.proofs.Calls.{crashed, crash_left, begun_anew, none_flagged, none_noted}
 use Rattle.sector_disk.proofs.memory.MemDisk.crash.Goals as goal
 
 pub tear-requires : goal.tear-requires
 tear-requires c =
-    ap length c.deref.ensures.value ∙ c.self.invariant.size
-    ∙ sym (length-undone c.self.inside.notes.since c.self.inside.sectors)
-    ∙ sym (ap length c.undo.ensures.back)
+    let i = c.self.inside in
+    let test = c.is_settled-settled.ensures in
+    record {
+      flags = ap length c.deref.ensures.value ∙ c.self.invariant.size ∙ sym (length-undone i.notes.since i.sectors) ∙ sym (ap length c.undo.ensures.back);
+      settled = λ is at. subst (λ u. IsFalse (get_or u at false)) (sym c.deref.ensures.value)
+          (none_flagged i.sectors i.unsynced.items i.notes.since i.torn c.self.invariant (test.untorn is) (test.none is) at);
+    }
 
 size : (c : goal.After-self-2-1) → length c.tear.new.sectors ≡ length c.self.inside.sectors
 size c = c.tear.ensures.size ∙ ap length c.undo.ensures.back ∙ length-undone c.self.inside.notes.since c.self.inside.sectors
