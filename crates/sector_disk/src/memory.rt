@@ -110,7 +110,7 @@ impl MemDisk {
         let settled = is_settled(&self.notes, self.torn);
         undo(&mut self.sectors, &mut self.notes);
         tear(&mut self.sectors, &self.unsynced, settled, fill);
-        self.unsynced.fill(false);
+        settle(&mut self.unsynced, settled);
         self.notes.clear();
         self.torn = false;
         self.left = None;
@@ -334,6 +334,17 @@ fn is_settled(notes: &Notes, torn: bool) -> bool
     ensures none { IsTrue result → notes.now.since ≡ [] }
 {
     !torn && notes.since().is_empty()
+}
+
+// Clears the flags of the unsynced sectors. Where all are settled, it looks at none.
+#[tactic(auto, using(crate::proofs::Calls::all_settled))]
+fn settle(unsynced: &mut Vec<bool>, settled: bool)
+    requires { IsTrue settled → (at : ℕ) → IsFalse (get_or unsynced.old.items at false) }
+    ensures { unsynced.new.items ≡ replicate (length unsynced.old.items) false }
+{
+    if !settled {
+        unsynced.fill(false);
+    }
 }
 
 // Writes a fill over the unsynced sectors, in rising order. Where all are settled, it looks at none.

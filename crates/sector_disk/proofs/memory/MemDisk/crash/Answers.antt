@@ -1,4 +1,4 @@
-use Rattle.std.proofs.Common.{◌≡◌, ◌<◌, ◌∙◌, ap, sym, subst, ℕ, get_or, length, replicate, false}
+use Rattle.std.proofs.Common.{◌≡◌, ◌<◌, ◌∙◌, ap, sym, subst, ℕ, get_or, length, false}
 use Rattle.std.specs.Prelude.{IsFalse}
 use Rattle.sector_disk.specs.Disk.{Image, sector_at}
 use Rattle.sector_disk.specs.Memory.{Memory, all_synced}
@@ -21,9 +21,6 @@ tear-requires c =
 size : (c : goal.After-self-2-1) → length c.tear.new.sectors ≡ length c.self.inside.sectors
 size c = c.tear.ensures.size ∙ ap length c.undo.ensures.back ∙ length-undone c.self.inside.notes.since c.self.inside.sectors
 
-settled : (c : goal.After-self-2-1) → c.fill.new.self.items ≡ replicate (length c.self.inside.unsynced.items) false
-settled c = c.fill.ensures.items (λ y is. is) ∙ ap (λ n. replicate n false) c.self.inside.unsynced.ok.0
-
 same_size : (c : goal.After-self-2-1) → length c.self.inside.unsynced.items ≡ length c.tear.new.sectors
 same_size c = c.self.invariant.size ∙ sym (size c)
 
@@ -44,11 +41,11 @@ pub returns-clause-anew : goal.returns-clause-anew
 returns-clause-anew c =
     let after = c.tear.new.sectors in
     let cleared = c.clear.ensures in
-    begun_anew after c.fill.new.self.items c.clear.new.self.since c.clear.new.self.times c.self.inside.failures (length c.self.inside.unsynced.items)
-    (ap (λ (n : Noted). n.since) cleared) (ap (λ (n : Noted). n.times) cleared) (settled c) (same_size c)
+    begun_anew after c.settle.new.unsynced.items c.clear.new.self.since c.clear.new.self.times c.self.inside.failures (length c.self.inside.unsynced.items)
+    (ap (λ (n : Noted). n.since) cleared) (ap (λ (n : Noted). n.times) cleared) c.settle.ensures (same_size c)
     ∙ ap (λ (m : Memory). all_synced after m.failures) c.self.view_is
 
 pub invariant_of-self : goal.invariant_of-self
 invariant_of-self c =
-    none_noted c.tear.new.sectors c.fill.new.self.items c.clear.new.self.since (length c.self.inside.unsynced.items)
-    (ap (λ (n : Noted). n.since) c.clear.ensures) (settled c) (same_size c)
+    none_noted c.tear.new.sectors c.settle.new.unsynced.items c.clear.new.self.since (length c.self.inside.unsynced.items)
+    (ap (λ (n : Noted). n.since) c.clear.ensures) c.settle.ensures (same_size c)
