@@ -15,7 +15,7 @@ ghost use Rattle.runs.specs.World.{World, start};
 
 use crate::member::{self, handle, nothing_sent};
 use crate::outcome::{Deed, Outcome, Refusal};
-use durable_node::DurableNode;
+use durable_node::{DurableNode, formatted_disk};
 use group_task::NodeId;
 use node_core::Event;
 use schedule::{Act, Fill};
@@ -231,17 +231,18 @@ impl Nodes {
     }
 }
 
-/// So many nodes, each over a new disk of so many slots.
+/// So many nodes, each over a new disk of so many slots. All disks are copies of one that was formatted.
 fn opened(alloc: Global, nodes: u8, slots: u64) -> Result<Vec<DurableNode<MemDisk>>, AllocError>
     requires most { nodes ≤ NODES }
     requires least_slots { 4 ≤ slots }
     requires most_slots { slots ≤ 4096 }
     ensures { IfOk result (λ members. AreOpened slots nodes nodes members.items) }
 {
-    let mut members = Vec::with_capacity(alloc, usize::from(nodes))?;
+    let disk = formatted_disk(alloc, slots)?;
+    let mut members = Vec::new(alloc);
     for number in 0..nodes {
         let id = NodeId::numbered(number);
-        let node = DurableNode::open(alloc, id, nodes, slots)?;
+        let node = DurableNode::open_copy(alloc, id, nodes, &disk)?;
         members.push(node)?;
     }
     Ok(members)

@@ -1,12 +1,15 @@
 -- A node that comes up on a disk that was just formatted.
-use Rattle.std.proofs.Common.{◌≡◌, ◌≤◌, ℕ, true, false, Option, Some, None, Result, Ok, Err, Bool, not, sym, ap, ◌∙◌, subst, refl}
+use Rattle.std.proofs.Common.{◌≡◌, ◌≤◌, ℕ, true, false, Option, Some, None, Result, Ok, Err, Bool, not, sym, ap, ◌∙◌, length, subst, refl}
 use Rattle.std.specs.Prelude.{is_some, IsOk, IsErrOf}
-use Rattle.sector_disk.specs.Memory.{Memory, state_of}
+use Rattle.sector_disk.specs.Disk.{Image, IsImage}
+use Rattle.sector_disk.specs.Memory.{Memory, all_synced, state_of}
+use Rattle.sector_disk.proofs.Crashed.{only_image}
 use Rattle.job_model.specs.Durable.{Durable, formatted}
-use Rattle.job_journal.specs.Journal.{IsSound}
+use Rattle.job_journal.specs.Journal.{IsSound, IsSoundImage}
 use Rattle.node_core.specs.declared.event.Event.TheVariants.{Recover}
 use Rattle.node_core.specs.Start.{down}
-use Rattle.node_store.specs.Store.{slots_for, AllStandFor}
+use Rattle.node_store.specs.Store.{slots_for, stands_for, AllStandFor}
+use Rattle.durable_node.specs.Fresh.{IsFresh}
 use Rattle.durable_node.specs.declared.came.Came.{Came}
 use Rattle.histories.specs.NodeState.{NodeState, opening}
 use Rattle.histories.specs.declared.fate.Fate.{Fate}
@@ -70,3 +73,16 @@ not_failed came none e = (let bad : told_as came None ≡ Err node.Device = ap (
 pub ok_not : {T E : Type 0} (r : Result T E) (e : E) → IsOk r → IsErrOf r e → ⊥
 ok_not (Ok x) e ok is = absurd cc
 ok_not (Err x) e ok is = absurd cc
+
+-- ---- a copy of a disk that was just formatted
+
+pub copy_fresh : (disk : Memory) → IsFresh disk → IsFresh (all_synced disk.contents disk.failures)
+copy_fresh disk fresh =
+    let slots = slots_for (length disk.contents) in
+    let held : IsImage (state_of disk) disk.contents = record { size = refl; same = λ at settled. refl } in
+    record {
+      enough = fresh.enough;
+      unfailed = fresh.unfailed;
+      formatted = λ image is. subst (λ (i : Image). stands_for slots i ≡ Some formatted) (sym (only_image disk.contents disk.failures image is)) (fresh.formatted disk.contents held);
+      sound = λ honest image is. subst (λ (i : Image). IsSoundImage slots i) (sym (only_image disk.contents disk.failures image is)) (fresh.sound honest disk.contents held);
+    }

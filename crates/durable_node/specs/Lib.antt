@@ -8,3 +8,4 @@ pub mod Arming
 pub mod Forgetting
 pub mod Refusing
 pub mod Compacting
+pub mod Fresh

@@ -19,4 +19,5 @@ mod remount;
 
 pub use came::Came;
 pub use fault::NodeFault;
+pub use memory::formatted_disk;
 pub use node::DurableNode;

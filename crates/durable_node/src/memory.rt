@@ -3,13 +3,11 @@ ghost use Rattle.std.specs.Prelude.{◌≡◌, ◌≤◌, ◌<◌, ◌+◌, ◌*
 ghost use Rattle.group_task.specs.declared.node.TheConstants.{NODES};
 ghost use Rattle.sector_disk.specs.Memory.{Memory, state_of, all_synced};
 ghost use Rattle.sector_disk.specs.Crash.{IsCrashed};
-ghost use Rattle.job_model.specs.Durable.{formatted};
-ghost use Rattle.job_journal.specs.Journal.{IsSound};
-ghost use Rattle.node_store.specs.Store.{slots_for, AllStandFor};
 ghost use Rattle.node_core.specs.Start.{down};
 ghost use Rattle.histories.specs.After.{after};
 ghost use Rattle.durable_node.specs.Arming.{armed_disk};
 ghost use Rattle.durable_node.specs.Forgetting.{forgotten_disk};
+ghost use Rattle.durable_node.specs.Fresh.{IsFresh};
 ghost use Rattle.durable_node.specs.Node.{Stands};
 ghost use Rattle.histories.specs.NodeState.{NodeState, opening};
 ghost use Rattle.histories.specs.declared.what.What.TheVariants.{Crashed};
@@ -43,6 +41,48 @@ impl DurableNode<MemDisk> {
         ensures found { IfOk result (λ node. node.found ≡ None) }
     {
         let disk = formatted_disk(alloc, slots)?;
+        DurableNode::open_on(alloc, id, nodes, disk)
+    }
+
+    /// A node on a copy of a disk that was just formatted, mounted and recovered. Refused where there is no memory. The
+    /// nodes of a simulated cluster open so: one format serves them all.
+    pub fn open_copy(
+        alloc: Global,
+        id: NodeId,
+        nodes: u8,
+        disk: &MemDisk,
+    ) -> Result<DurableNode<MemDisk>, AllocError>
+        requires within { id < nodes }
+        requires most { nodes ≤ NODES }
+        requires fresh { IsFresh disk.now }
+        ensures id { IfOk result (λ node. node.id ≡ id) }
+        ensures nodes { IfOk result (λ node. node.nodes ≡ nodes) }
+        ensures opens { IfOk result (λ node. Stands state_of node (opening id)) }
+        ensures sectors { IfOk result (λ node. (held : Memory) → node.disk ≡ Some held → (state_of held).sectors ≡ (state_of disk.now).sectors) }
+        ensures failures { IfOk result (λ node. (held : Memory) → node.disk ≡ Some held → held.failures ≡ 0) }
+        ensures found { IfOk result (λ node. node.found ≡ None) }
+    {
+        let copy = disk.copy(alloc)?;
+        DurableNode::open_on(alloc, id, nodes, copy)
+    }
+
+    /// A node on a disk that was just formatted, mounted and recovered.
+    fn open_on(
+        alloc: Global,
+        id: NodeId,
+        nodes: u8,
+        disk: MemDisk,
+    ) -> Result<DurableNode<MemDisk>, AllocError>
+        requires within { id < nodes }
+        requires most { nodes ≤ NODES }
+        requires fresh { IsFresh disk }
+        ensures id { IfOk result (λ node. node.id ≡ id) }
+        ensures nodes { IfOk result (λ node. node.nodes ≡ nodes) }
+        ensures opens { IfOk result (λ node. Stands state_of node (opening id)) }
+        ensures sectors { IfOk result (λ node. (held : Memory) → node.disk ≡ Some held → (state_of held).sectors ≡ (state_of disk).sectors) }
+        ensures failures { IfOk result (λ node. (held : Memory) → node.disk ≡ Some held → held.failures ≡ 0) }
+        ensures found { IfOk result (λ node. node.found ≡ None) }
+    {
         let mut node = DurableNode::down(alloc, id, nodes, disk);
         match node.recover() {
             Ok(came) if came.fault().is_none() => {}
@@ -87,13 +127,11 @@ impl DurableNode<MemDisk> {
 }
 
 /// A new disk of two areas of so many slots, formatted. Refused where there is no memory.
-fn formatted_disk(alloc: Global, slots: u64) -> Result<MemDisk, AllocError>
+pub fn formatted_disk(alloc: Global, slots: u64) -> Result<MemDisk, AllocError>
     requires least { 4 ≤ slots }
     requires greatest { slots ≤ 4096 }
     ensures sectors { IfOk result (λ disk. (state_of disk).sectors ≡ 8 + 4 * slots) }
-    ensures failures { IfOk result (λ disk. disk.failures ≡ 0) }
-    ensures formatted { IfOk result (λ disk. AllStandFor (slots_for (state_of disk).sectors) formatted (state_of disk)) }
-    ensures sound { IfOk result (λ disk. IsSound (slots_for (state_of disk).sectors) (state_of disk)) }
+    ensures fresh { IfOk result IsFresh }
 {
     let mut disk = MemDisk::new(alloc, 8 + 4 * slots)?;
     if format(&mut disk).is_err() {

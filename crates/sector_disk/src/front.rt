@@ -38,6 +38,18 @@ impl Front {
         Ok(Front { count, kept })
     }
 
+    /// The same sectors once more.
+    pub fn copy(&self, alloc: Global) -> Result<Front, AllocError>
+        ensures { IfOk result (λ copy. copy ≡ self.now) }
+    {
+        let mut kept = Vec::with_capacity(alloc, self.count)?;
+        kept.extend_from_slice(&self.kept)?;
+        Ok(Front {
+            count: self.count,
+            kept,
+        })
+    }
+
     pub fn len(&self) -> usize
         ensures { result ≡ length self.now }
     {

@@ -67,6 +67,24 @@ impl MemDisk {
         })
     }
 
+    /// A disk with what this one holds, on which nothing is unsynced. It isn't armed, and has failed as
+    /// often.
+    pub fn copy(&self, alloc: Global) -> Result<MemDisk, AllocError>
+        ensures { IfOk result (λ copy. copy ≡ all_synced self.now.contents self.now.failures) }
+    {
+        let contents = self.sectors.copy(alloc)?;
+        let unsynced = vec![in alloc; false; self.sectors.len()]?;
+        Ok(MemDisk {
+            alloc,
+            sectors: contents,
+            unsynced,
+            notes: Notes::new(alloc),
+            torn: false,
+            failures: self.failures,
+            left: None,
+        })
+    }
+
     /// Lets so many more calls of `read`, `write` and `sync` pass, and fails all later ones, until
     /// it is armed anew or crashes. A call that is out of range isn't counted.
     pub fn arm(&mut self, calls: u64)

@@ -40,6 +40,17 @@ impl Sectors {
         Ok(Sectors { count, low, high })
     }
 
+    /// The same sectors once more.
+    pub fn copy(&self, alloc: Global) -> Result<Sectors, AllocError>
+        ensures { IfOk result (λ copy. copy ≡ self.now) }
+    {
+        Ok(Sectors {
+            count: self.count,
+            low: self.low.copy(alloc)?,
+            high: self.high.copy(alloc)?,
+        })
+    }
+
     pub fn len(&self) -> usize
         ensures { result ≡ length self.now }
     {
