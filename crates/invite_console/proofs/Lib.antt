@@ -1,7 +1,6 @@
 pub mod Answering
 pub mod Deliveries
 pub mod Joins
-pub mod Pairs
 pub mod Sessions
 pub mod Shown
 pub mod Sents

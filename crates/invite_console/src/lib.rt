@@ -7,7 +7,6 @@
 
 mod acts;
 mod answers;
-mod digits;
 mod lines;
 mod printing;
 mod reasons;

@@ -2,27 +2,8 @@ ghost use Rattle.std.specs.Prelude.{◌≡◌, ◌++◌, IfOk, IfErr, OnOk, Matc
 ghost use Rattle.line_words.specs.Lines.{bytes_of, IsFaultAt, IsLineFault};
 ghost use Rattle.invite_console.specs.Lines.{line_bytes, hex_lines_of};
 
-use crate::digits::decode_pairs;
-use line_words::{LineFault, cut_line};
+use line_words::{LineFault, cut_line, push_bytes};
 use std::alloc::{AllocError, Global};
-
-/// Adds the bytes that a word spells: hex digits of either case, or a dash for no bytes. False says that it can't be read.
-fn push_bytes(bytes: &mut Vec<u8>, word: &[u8]) -> Result<bool, AllocError>
-    ensures { IfOk result (λ good. MatchOption (bytes_of word.now) (good ≡ false)
-        (λ more. (good ≡ true) × (bytes.new.items ≡ bytes.old.items ++ more))) }
-{
-    match word {
-        [] => return Ok(false),
-        [b'-'] => return Ok(true),
-        _ => {}
-    }
-    if word.len() % 2 == 1 {
-        return Ok(false);
-    }
-    let start = bytes.len();
-    bytes.resize(start + word.len() / 2, 0)?;
-    Ok(decode_pairs(word, &mut bytes[start..]))
-}
 
 /// Adds the bytes of the line of this number, which is passed over where it is empty.
 fn push_line(bytes: &mut Vec<u8>, number: u64, line: &[u8]) -> Result<(), LineFault>

@@ -1,2 +1,4 @@
 pub mod Decimals
 pub mod Splitting
+pub mod Pairs
+pub mod Read

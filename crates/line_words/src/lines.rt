@@ -1,6 +1,7 @@
-ghost use Rattle.std.specs.Prelude.{◌≡◌, MatchOption, ◌∷◌, [], IfOk, option_map};
+ghost use Rattle.std.specs.Prelude.{◌≡◌, MatchOption, ◌∷◌, [], ◌++◌, false, true, IfOk, option_map};
 ghost use Rattle.line_words.specs.Lines.{bytes_of, line_numbered, lines_of, CutsLine};
 
+use crate::digits::decode_pairs;
 use memchr::memchr;
 use std::alloc::{AllocError, Global};
 
@@ -51,17 +52,32 @@ pub fn line_numbered(text: &[u8], number: u64) -> &[u8]
 }
 
 /// The bytes that a word spells: hex digits of either case, or a dash for no bytes.
+#[tactic(auto, using(crate::proofs::Read::is_read, crate::proofs::Read::not_read))]
 pub fn bytes(alloc: Global, word: &[u8]) -> Result<Option<Vec<u8>>, AllocError>
     ensures { IfOk result (λ bytes. option_map (λ found. found.items) bytes ≡ bytes_of word.now) }
 {
+    let mut bytes = Vec::new(alloc);
+    if push_bytes(&mut bytes, word)? {
+        Ok(Some(bytes))
+    } else {
+        Ok(None)
+    }
+}
+
+/// Adds the bytes that a word spells: hex digits of either case, or a dash for no bytes. False says that it can't be read.
+pub fn push_bytes(bytes: &mut Vec<u8>, word: &[u8]) -> Result<bool, AllocError>
+    ensures { IfOk result (λ good. MatchOption (bytes_of word.now) (good ≡ false)
+        (λ more. (good ≡ true) × (bytes.new.items ≡ bytes.old.items ++ more))) }
+{
     match word {
-        [] => return Ok(None),
-        [b'-'] => return Ok(Some(Vec::new(alloc))),
+        [] => return Ok(false),
+        [b'-'] => return Ok(true),
         _ => {}
     }
-    match hex::decode(alloc, word) {
-        Ok(bytes) => Ok(Some(bytes)),
-        Err(hex::FromHexError::OutOfMemory) => Err(AllocError),
-        Err(_) => Ok(None),
+    if word.len() % 2 == 1 {
+        return Ok(false);
     }
+    let start = bytes.len();
+    bytes.resize(start + word.len() / 2, 0)?;
+    Ok(decode_pairs(word, &mut bytes[start..]))
 }

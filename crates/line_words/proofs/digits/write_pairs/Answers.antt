@@ -1,8 +1,8 @@
 use Rattle.std.proofs.Common.{arith, ◌+◌, ◌*◌}
 use Rattle.std.proofs.lemmas.List.{length-set}
 use Rattle.hex.proofs.Pairs.{decode_done}
-use Rattle.invite_console.proofs.Pairs.{pair_more}
-use Rattle.invite_console.proofs.digits.write_pairs.Goals as goal
+use Rattle.line_words.proofs.Pairs.{pair_more}
+use Rattle.line_words.proofs.digits.write_pairs.Goals as goal
 
 pub loop-place-preserved : goal.loop-place-preserved
 loop-place-preserved c =
