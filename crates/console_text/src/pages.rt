@@ -55,7 +55,8 @@ pub fn print_full<W: Write>(output: &mut W, page: &mut Vec<u8>) -> Result<(), Un
 }
 
 /// Adds a text to a page, or prints both where the page is filled by it.
-#[tactic(auto, using(crate::proofs::Handing::page_grows, crate::proofs::Handing::part_out))]
+#[inline]
+#[tactic(auto, using(crate::proofs::Handing::page_grows))]
 pub fn print_part<W: Write>(
     output: &mut W,
     page: &mut Vec<u8>,
@@ -63,10 +64,22 @@ pub fn print_part<W: Write>(
 ) -> Result<(), Unprinted>
     ensures { OnOk result (Hands (W.contents output.old) page.old.items (W.contents output.new) page.new.items part.now) }
 {
-    if part.is_empty() {
+    if part.len() < FULL - page.len().min(FULL)
+        && part.len() <= page.capacity() - page.len()
+        && page.extend_from_slice(part).is_ok()
+    {
         return Ok(());
     }
-    if part.len() < FULL - page.len().min(FULL) && page.extend_from_slice(part).is_ok() {
+    print_both(output, page, part)
+}
+
+/// Prints a page and then a text, and empties the page.
+#[inline(never)]
+#[tactic(auto, using(crate::proofs::Handing::page_stays, crate::proofs::Handing::part_out))]
+fn print_both<W: Write>(output: &mut W, page: &mut Vec<u8>, part: &[u8]) -> Result<(), Unprinted>
+    ensures { OnOk result (Hands (W.contents output.old) page.old.items (W.contents output.new) page.new.items part.now) }
+{
+    if part.is_empty() {
         return Ok(());
     }
     print_page(output, page)?;

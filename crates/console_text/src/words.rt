@@ -1,7 +1,8 @@
 //! The words that texts are made of, each added to what stands there.
 
-ghost use Rattle.std.specs.Prelude.{◌≡◌, ◌<◌, ◌*◌, ◌++◌, OnOk, decimal, length};
+ghost use Rattle.std.specs.Prelude.{◌≡◌, ◌<◌, ◌≤◌, ◌*◌, ◌++◌, OnOk, decimal, length};
 ghost use Rattle.hex.specs.Hex.{encode_lower};
+ghost use Rattle.console_text.specs.declared.words.TheConstants.{SHORT_DIGITS};
 ghost use Rattle.console_text.specs.Words.{ArePairs, bytes_text, pair_of, priority_text, work_text};
 
 use itoa::Buffer;
@@ -19,29 +20,53 @@ pub fn push_text(text: &mut Vec<u8>, word: &str) -> Result<(), AllocError>
     Ok(())
 }
 
+/// So many bytes are made room for at once where a short number is added.
+const SHORT_DIGITS: usize = 8;
+
 /// Adds a number in decimal.
-#[tactic(auto, using(crate::proofs::Decimals::two_digits))]
 pub fn push_number(text: &mut Vec<u8>, number: u64) -> Result<(), AllocError>
     ensures { OnOk result (text.new.items ≡ text.old.items ++ decimal number) }
 {
-    if number < 10 {
-        push_digit(text, number)
-    } else if number < 100 {
-        push_digit(text, number / 10)?;
-        push_digit(text, number % 10)
-    } else {
-        push_long(text, number)
+    if number < 100_000_000 && SHORT_DIGITS <= text.capacity() - text.len() {
+        return push_short(text, number);
     }
+    push_long(text, number)
 }
 
-#[tactic(auto, using(crate::proofs::Decimals::one_digit))]
-fn push_digit(text: &mut Vec<u8>, digit: u64) -> Result<(), AllocError>
-    requires { digit < 10 }
-    ensures { OnOk result (text.new.items ≡ text.old.items ++ decimal digit) }
+/// Adds a short number: its digits are written where they are to stand.
+#[inline]
+fn push_short(text: &mut Vec<u8>, number: u64) -> Result<(), AllocError>
+    requires { number < 100000000 }
+    ensures { OnOk result (text.new.items ≡ text.old.items ++ decimal number) }
 {
-    Ok(text.push(b'0' + digit as u8)?)
+    let start = text.len();
+    text.extend_from_slice(&[0; SHORT_DIGITS])?;
+    let end = start + digits_of(number);
+    itoa::write_digits(number, text, end);
+    text.truncate(end);
+    Ok(())
 }
 
+/// How many digits a short number has.
+#[inline]
+fn digits_of(number: u64) -> usize
+    requires { number < 100000000 }
+    ensures value { result ≡ length (decimal number) }
+    ensures bound { result ≤ SHORT_DIGITS }
+{
+    if number < 10_000 {
+        if number < 100 {
+            return if number < 10 { 1 } else { 2 };
+        }
+        return if number < 1_000 { 3 } else { 4 };
+    }
+    if number < 1_000_000 {
+        return if number < 100_000 { 5 } else { 6 };
+    }
+    if number < 10_000_000 { 7 } else { 8 }
+}
+
+#[inline(never)]
 fn push_long(text: &mut Vec<u8>, number: u64) -> Result<(), AllocError>
     ensures { OnOk result (text.new.items ≡ text.old.items ++ decimal number) }
 {
@@ -87,8 +112,35 @@ fn write_digits(bytes: &[u8], digits: &mut [u8])
     }
 }
 
+/// So many bytes are made room for at once where few bytes are added.
+const SHORT_HEX: usize = 48;
+
 /// Adds bytes in hex digits.
 pub fn push_hex(text: &mut Vec<u8>, bytes: &[u8]) -> Result<(), AllocError>
+    ensures { OnOk result (text.new.items ≡ text.old.items ++ encode_lower bytes.now) }
+{
+    if bytes.len() <= SHORT_HEX / 2 && SHORT_HEX <= text.capacity() - text.len() {
+        return push_short_hex(text, bytes);
+    }
+    push_long_hex(text, bytes)
+}
+
+/// Adds few bytes: their digits are written where they are to stand.
+#[inline]
+fn push_short_hex(text: &mut Vec<u8>, bytes: &[u8]) -> Result<(), AllocError>
+    requires { length bytes.now ≤ 24 }
+    ensures { OnOk result (text.new.items ≡ text.old.items ++ encode_lower bytes.now) }
+{
+    let start = text.len();
+    text.extend_from_slice(&[0; SHORT_HEX])?;
+    let end = start + 2 * bytes.len();
+    write_digits(bytes, &mut text[start..end]);
+    text.truncate(end);
+    Ok(())
+}
+
+#[inline(never)]
+fn push_long_hex(text: &mut Vec<u8>, bytes: &[u8]) -> Result<(), AllocError>
     ensures { OnOk result (text.new.items ≡ text.old.items ++ encode_lower bytes.now) }
 {
     let start = text.len();

@@ -1,3 +1,4 @@
 pub mod Behind
 pub mod Fits
 pub mod Counts
+pub mod Delivered

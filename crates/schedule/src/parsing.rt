@@ -1,6 +1,7 @@
-ghost use Rattle.std.specs.Prelude.{◌≡◌, IfOk};
+ghost use Rattle.std.specs.Prelude.{◌≡◌, IfOk, IfSome, Some};
 ghost use Rattle.line_words.specs.Words.{words_of};
 ghost use Rattle.schedule.specs.Acts.{act_of, act_with, short_act, middle_act, long_act, longest_act, submit_act};
+ghost use Rattle.schedule.specs.declared.act.Act.TheVariants.{Deliver};
 ghost use Rattle.schedule.specs.declared.verb.Verb.TheVariants.{Cut, Mend, Arm, Crash, Finish};
 
 use crate::act::{Act, Fill, Submitted};
@@ -21,6 +22,17 @@ pub fn act(alloc: Global, line: &[u8]) -> Result<Option<Act>, AllocError>
     match Verb::from_word(name) {
         Some(verb) => act_with(alloc, verb, fields),
         None => Ok(None),
+    }
+}
+
+/// The message that a line delivers. It is known by the line's first bytes: most lines of a run deliver one. None also stands for a delivery that can't be read.
+#[inline]
+pub fn delivered(line: &[u8]) -> Option<u64>
+    ensures { IfSome result (λ place. act_of (words_of line.now) ≡ Some (Deliver place)) }
+{
+    match line {
+        [b'd', b'e', b'l', b'i', b'v', b'e', b'r', b' ', place @ ..] => number(place),
+        _ => None,
     }
 }
 

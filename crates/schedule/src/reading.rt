@@ -6,7 +6,7 @@ ghost use Rattle.schedule.specs.Limits.{IsWithinLimits};
 
 use crate::act::Act;
 use crate::fields::between;
-use crate::parsing::act;
+use crate::parsing::{act, delivered};
 use crate::size::{LEAST_SLOTS, MOST_ACTS, MOST_SLOTS, Schedule, Size};
 use group_task::NODES;
 use line_words::{LineFault, cut_line, cut_word};
@@ -92,8 +92,25 @@ fn read_acts(alloc: Global, before: u64, text: &[u8]) -> Result<Vec<Act>, LineFa
     Ok(acts)
 }
 
-/// Adds the act of the line of this number, which is passed over where it is empty.
+/// Adds the act of the line of this number, which is passed over where it is empty. A delivery that has room is added at once.
+#[inline]
+#[tactic(auto, using(crate::proofs::Behind::onto_act))]
 fn read_act(alloc: Global, number: u64, line: &[u8], acts: &mut Vec<Act>) -> Result<(), LineFault>
+    ensures ok { OnOk result (Some acts.new.items ≡ onto acts.old.items line.now) }
+    ensures err { IfErr result (IsFaultAt number (onto acts.old.items line.now)) }
+{
+    if acts.len() < acts.capacity() && (acts.len() as u64) < MOST_ACTS {
+        if let Some(place) = delivered(line) {
+            acts.push_reserved(Act::Deliver(place));
+            return Ok(());
+        }
+    }
+    read_any(alloc, number, line, acts)
+}
+
+// It stands apart, so that a delivery is read quickly.
+#[inline(never)]
+fn read_any(alloc: Global, number: u64, line: &[u8], acts: &mut Vec<Act>) -> Result<(), LineFault>
     ensures ok { OnOk result (Some acts.new.items ≡ onto acts.old.items line.now) }
     ensures err { IfErr result (IsFaultAt number (onto acts.old.items line.now)) }
 {
