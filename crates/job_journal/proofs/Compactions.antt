@@ -18,7 +18,7 @@ use Rattle.job_journal.specs.Readings.{Reads, fresh, replayed}
 use Rattle.job_journal.specs.Mounted.{JournalState, Holds, AllHold, IsJournal, first_sector}
 use Rattle.job_journal.specs.Compacting.{IsWritten, records_for, compacted, other_sector}
 use Rattle.job_journal.proofs.Frames.{slots_same_from, stands_same_from, first_between, jobs_are, sound_of_prefix, prefix_of_sound}
-use Rattle.job_journal.proofs.Areas.{written_settled}
+use Rattle.job_journal.proofs.Areas.{synced_image}
 use Rattle.job_journal.proofs.Rewritten.{Anew, anew}
 
 -- a cell that has a value has no damaged slot
@@ -151,7 +151,7 @@ pub both_areas : (journal : JournalState) (old mid : DiskState) → AllHold jour
 both_areas journal old mid all w c image = record {
   holds = area_holds journal old mid all w.run c (w.run.ends c image);
   anew = anew journal.slots (other_sector journal) (jobs_of journal.table) c w.order w.room
-      (written_settled (other_sector journal) journal.slots (records_for (jobs_of journal.table)) (length journal.table.pending + 1) (length journal.table.pending + 1) mid c w.settled image w.written);
+      (subst (IsWritten (other_sector journal) journal.slots (records_for (jobs_of journal.table)) (length journal.table.pending + 1) (length journal.table.pending + 1)) (sym (synced_image mid c w.settled image)) w.written);
 }
 
 -- the areas aren't touched by the area cell's raise

@@ -84,7 +84,7 @@ fn fill_area<D: SectorDisk>(
     ensures settled { IsTrue (D.state disk.old).honest → IsOk result
         → AllSettled (D.state disk.new) }
 {
-    for filled in 0..table.pending().len() as u64 + 1 {
+    for filled in 0..record_count(table) {
         let body = record_at(table, filled).to_sector();
         let Ok(()) = fill(disk, first + 2 * filled, &body) else {
             return Err(JournalFault::Device);
@@ -117,12 +117,20 @@ fn seal_area<D: SectorDisk>(
     ensures settled { IsTrue (D.state disk.old).honest → IsOk result
         → AllSettled (D.state disk.new) }
 {
-    for sealed in 0..table.pending().len() as u64 + 1 {
+    for sealed in 0..record_count(table) {
         let Ok(()) = seal(disk, first + 2 * sealed) else {
             return Err(JournalFault::Device);
         };
     }
     Ok(())
+}
+
+// How many records stand for the jobs of a table.
+pub(crate) fn record_count(table: &JobTable) -> u64
+    requires { length table.now.pending + 1 < 2 ^ 64 }
+    ensures { result ≡ length table.now.pending + 1 }
+{
+    table.pending().len() as u64 + 1
 }
 
 // The record in this slot of an area that is written anew.
