@@ -5,6 +5,7 @@ ghost use Rattle.sector_disk.specs.Run.{Run};
 ghost use Rattle.slot_gate.specs.Slot.{slot_at, InSlots};
 ghost use Rattle.job_journal.specs.Compacting.{records_for, IsWritten};
 ghost use Rattle.job_journal.specs.Jobs.{jobs_of};
+ghost use Rattle.job_model.specs.Order.{IsInOrder};
 
 use crate::fault::JournalFault;
 use job_model::{JobTable, Record};
@@ -128,7 +129,8 @@ fn seal_area<D: SectorDisk>(
 // How many records stand for the jobs of a table.
 pub(crate) fn record_count(table: &JobTable) -> u64
     requires { length table.now.pending + 1 < 2 ^ 64 }
-    ensures { result ≡ length table.now.pending + 1 }
+    ensures count { result ≡ length table.now.pending + 1 }
+    ensures in_order { IsInOrder table.now.pending table.now.next }
 {
     table.pending().len() as u64 + 1
 }
