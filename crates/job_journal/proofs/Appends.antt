@@ -1,62 +1,28 @@
--- What an append leaves of the journal.
-use Rattle.std.proofs.Common.{◌≡◌, ◌+◌, ◌*◌, ◌<◌, ◌≤◌, ◌⊎◌, inl, inr, ⊎_elim, ℕ, List, [], ◌∷◌, ◌++◌, length, get_or, set, Bool, true, false, not, ◌==◌, ◌&&◌, nat_le, Some, None, is_some, sym, ◌∙◌, ap, subst, refl, arith, if◌then◌else◌, IsTrue}
-use Rattle.std.proofs.lemmas.Bool.{true_from_ne_false}
-use Rattle.std.proofs.lemmas.Bool.Decides.{nat_tests}
+-- What an append leaves of the journal, also behind a compaction.
+use Rattle.std.proofs.Common.{◌≡◌, ◌+◌, ◌*◌, ◌<◌, ◌⊎◌, inl, inr, ⊎_elim, ℕ, List, [], ◌∷◌, ◌++◌, length, get_or, set, Bool, true, false, ◌==◌, Some, None, is_some, sym, ◌∙◌, ap, subst, subst₂, refl, arith, if◌then◌else◌, IsTrue, Result, Ok, Err, IfOk}
 use Rattle.std.proofs.lemmas.List.{length-append}
-use Rattle.std.proofs.lemmas.List.Sums.{length-filter, count_by-le-length}
 use Rattle.sector_disk.specs.Disk.{Image, DiskState, IsImage, SameBut, AllSettled}
 use Rattle.sector_disk.specs.Run.{Run, Each}
-use Rattle.sector_disk.proofs.Runs.{run_widen}
+use Rattle.sector_disk.proofs.Runs.{run_widen, each_of_two}
 use Rattle.slot_gate.specs.Slot.{slot_at, InSlot}
 use Rattle.slot_gate.specs.Stored.{Knows, IsStored, Follows}
 use Rattle.safe_cell.specs.Mounted.{Stands}
 use Rattle.safe_cell.proofs.Values.{stands_same}
-use Rattle.job_model.specs.declared.job.Job.{Job}
 use Rattle.job_model.specs.declared.command.Command.{Command}
-use Rattle.job_model.specs.declared.command.Command.TheVariants.{Put, Done}
-use Rattle.job_model.specs.Fold.{without_job, is_pending}
 use Rattle.job_model.specs.Records.{record_of}
-use Rattle.job_journal.specs.Jobs.{Jobs, jobs_of, jobs_after, is_unknown, is_out_of_ids}
-use Rattle.job_journal.specs.Readings.{Reading, Reads, fresh, fitting, taken, found_at, then_slot, replayed}
-use Rattle.job_journal.specs.declared.place.Place.{Place}
+use Rattle.job_model.specs.Table.{Table}
+use Rattle.job_journal.specs.Jobs.{jobs_of, jobs_after, with_jobs, id_of}
+use Rattle.job_journal.specs.Readings.{Reads, fresh, taken, found_at, then_slot, replayed}
+use Rattle.job_journal.specs.declared.fault.JournalFault.{JournalFault}
 use Rattle.job_journal.specs.declared.place.Place.TheVariants.{Running}
 use Rattle.job_journal.specs.Areas.{slots_from, sealed_prefix, IsPrefix}
-use Rattle.job_journal.specs.Journal.{IsSound, IsSoundImage, ImagesSince, InJournal}
+use Rattle.job_journal.specs.Journal.{jobs_in, IsSound, IsSoundImage, ImagesSince, InJournal}
 use Rattle.job_journal.specs.Mounted.{JournalState, Holds, AllHold, IsJournal, first_sector, next_slot}
-use Rattle.job_journal.specs.Appending.{Admitted, BeforeOrAfter, appended, is_full, record_for}
-use Rattle.job_journal.proofs.Areas.{synced_image}
-use Rattle.job_journal.proofs.Frames.{first_between, Stays, stays_by, stays_now, told_of, images_of}
+use Rattle.job_journal.specs.Appending.{Admitted, BeforeOrAfter, appended, record_for}
+use Rattle.job_journal.specs.Compacting.{compacted, with_slot, KeepsJobs, HasAppended}
+use Rattle.job_journal.proofs.Commands.{leaves_room, command_taken}
+use Rattle.job_journal.proofs.Frames.{synced_image, first_between, Stays, stays_by, stays_now, told_of, images_of}
 use Rattle.job_journal.proofs.Prefixes.{size, free_slot, put_some, length_slots, nth_slots, slot_kept, slots_put, replayed_more}
-
-without_less : (id : ℕ) (jobs : List Job) → length (without_job jobs id) ≤ length jobs
-without_less id jobs =
-    let keeps : Job → Bool = λ j. not (j.id == id) in
-    omega (arith, length-filter keeps jobs, count_by-le-length keeps jobs)
-
--- the jobs after it leave room for a Base and a Done
-pub leaves_room : (slots : ℕ) (jobs : Jobs) (command : Command) → length jobs.pending + 2 ≤ slots → is_full slots jobs command ≡ false
-    → length (jobs_after jobs command).pending + 2 ≤ slots
-leaves_room slots jobs (Put work) less fits =
-    let few : length jobs.pending + 3 ≤ slots = grind (arith, nat_tests, fits) in
-    omega (arith, few, length-append jobs.pending (record { id = jobs.next; work = work } ∷ []))
-leaves_room slots jobs (Done id) less fits = omega (arith, less, without_less id jobs.pending)
-
-pub room_for : (slots : ℕ) (reading : Reading) → length reading.jobs.pending + 2 ≤ slots → fitting slots (Some reading) ≡ Some reading
-room_for slots reading less =
-    let is : nat_le (length reading.jobs.pending + 2) slots ≡ true = grind (arith, nat_tests, less) in
-    ap (λ b. if b then Some reading else None) is
-
--- its record is read as the command
-pub command_taken : (slots : ℕ) (jobs : Jobs) (place : Place) (command : Command) → length (jobs_after jobs command).pending + 2 ≤ slots
-    → is_unknown jobs command ≡ false → is_out_of_ids jobs command ≡ false
-    → taken slots (record { jobs = jobs; place = place }) (Some (record_for jobs command)) ≡ Some (record { jobs = jobs_after jobs command; place = Running })
-command_taken slots jobs place (Put work) less known ids =
-    let after : Reading = record { jobs = jobs_after jobs (Put work); place = Running } in
-    let same : (jobs.next == jobs.next) ≡ true = grind (arith, nat_tests) in
-    (λ i. fitting slots (if same i && not (ids i) then Some after else None)) ∙ room_for slots after less
-command_taken slots jobs place (Done id) less known ids =
-    let after : Reading = record { jobs = jobs_after jobs (Done id); place = Running } in
-    ap (λ b. fitting slots (if b then Some after else None)) (true_from_ne_false (is_pending jobs.pending id) (λ no. cc (ap not no))) ∙ room_for slots after less
 
 -- the slot behind the journal is unsealed
 next_unsealed : (journal : JournalState) (slot : ℕ) (d : Image) → slot ≡ next_slot journal → journal.used < journal.slots → Holds journal d → slot_at d slot ≡ None
@@ -156,3 +122,40 @@ pub append_run : (journal : JournalState) {slot : ℕ} {old new : DiskState} →
 append_run journal {slot = slot} {old = old} {new = new} at free run =
     let w = first_between journal.slots journal.area.value in
     run_widen (InSlot slot) (InJournal journal.slots) old new (λ k is. (grind (arith, w.0, at, is), grind (arith, w.1, at, free, is))) run
+
+abbrev Between : ℕ → Table → Command → Image → Type 0
+Between slots table command image = (jobs_in slots image ≡ Some (jobs_of table)) ⊎ (jobs_in slots image ≡ Some (jobs_after (jobs_of table) command))
+
+-- the disk between the two parts is sound
+pub sound_between : {was now : JournalState} {old mid : DiskState} → KeepsJobs was now → Run (InJournal was.slots) old mid → Each old mid (IsSoundImage was.slots) → IsSound now.slots mid
+sound_between {mid = mid} keeps run each = subst (λ n. IsSound n mid) (sym keeps.slots) (λ honest c image. each c (run.ends c image))
+
+pub before_since : (journal : JournalState) (command : Command) {old new : DiskState} → ImagesSince journal.slots old new (λ c. jobs_in journal.slots c ≡ Some (jobs_of journal.table))
+    → ImagesSince journal.slots old new (BeforeOrAfter journal command)
+before_since journal command before = record { each = λ c since. inl (before.each c since); sound = before.sound }
+
+pub room_images : (was now : JournalState) (command : Command) {old mid new : DiskState} → KeepsJobs was now → Run (InJournal was.slots) old mid → Run (InJournal now.slots) mid new
+    → ImagesSince was.slots old mid (λ c. jobs_in was.slots c ≡ Some (jobs_of was.table)) → ImagesSince now.slots mid new (BeforeOrAfter now command)
+    → ImagesSince was.slots old new (BeforeOrAfter was command)
+room_images was now command {old = old} {mid = mid} {new = new} keeps first second before after =
+    let behind : ImagesSince was.slots mid new (BeforeOrAfter was command) = subst₂ (λ n t. ImagesSince n mid new (Between n t command)) keeps.slots keeps.table after in
+    record {
+      each = each_of_two (InJournal now.slots) old mid new (BeforeOrAfter was command) first.later second (λ c since. inl (before.each c since)) behind.each;
+      sound = λ good. each_of_two (InJournal now.slots) old mid new (IsSoundImage was.slots) first.later second (before.sound good)
+          (behind.sound (λ honest c image. before.sound good c (first.ends c image)));
+    }
+
+still_whole : (b : Bool) (journal : JournalState) → (if b then compacted journal else journal).broken ≡ journal.broken
+still_whole true journal = refl
+still_whole false journal = refl
+
+-- a command that was written behind a free slot was appended
+pub has_appended : (was now new : JournalState) (command : Command) (answer : Result ℕ JournalFault) → KeepsJobs was now → now ≡ with_slot was
+    → IfOk answer (λ id. (id ≡ id_of (jobs_of now.table) command) × (new ≡ appended now command)) → IfOk answer (HasAppended was new command)
+has_appended was now new command (Err fault) keeps is h = tt
+has_appended was now new command (Ok id) keeps is h = record {
+  id = h.0 ∙ ap (λ (t : Table). id_of (jobs_of t) command) keeps.table;
+  table = ap (λ (w : JournalState). w.table) h.1 ∙ ap (λ (t : Table). with_jobs (jobs_after (jobs_of t) command) t) keeps.table;
+  unbroken = ap (λ (w : JournalState). w.broken) h.1 ∙ ap (λ (w : JournalState). w.broken) is ∙ still_whole (was.used == was.slots) was;
+  whole = h.1 ∙ ap (λ (w : JournalState). appended w command) is;
+}

@@ -9,17 +9,8 @@ use Rattle.job_journal.specs.Jobs.{no_jobs}
 use Rattle.job_journal.specs.Areas.{slots_from, AllUnsealed}
 use Rattle.job_journal.specs.Journal.{jobs_in, IsFormatted, IsSoundImage, InJournal}
 use Rattle.job_journal.specs.Readings.{Reads, fresh, replayed}
-use Rattle.job_journal.proofs.Areas.{synced_image}
-use Rattle.job_journal.proofs.Frames.{SameFrom, same_within, slot_same_from, cell_same_from, told_at}
-use Rattle.job_journal.proofs.Prefixes.{none_sealed}
-
--- an area without a sealed slot
-pub all_unsealed : (image : Image) (at n : ℕ) → ((k : ℕ) → k < n → slot_at image (at + 2 * k) ≡ None) → AllUnsealed (slots_from image at n)
-all_unsealed image at zero none = tt
-all_unsealed image at (suc n) none =
-    let here : slot_at image at ≡ None = ap (λ s. slot_at image s) (omega arith) ∙ none 0 (omega arith) in
-    subst (λ s. AllUnsealed (s ∷ slots_from image (at + 2) n)) (sym here)
-    (all_unsealed image (at + 2) n (λ k less. ap (λ s. slot_at image s) (omega arith) ∙ none (suc k) (omega (arith, less))))
+use Rattle.job_journal.proofs.Frames.{SameFrom, same_within, slot_same_from, cell_same_from, told_at, synced_image}
+use Rattle.job_journal.proofs.Prefixes.{none_sealed, all_unsealed}
 
 -- each image at the end
 pub formatted_image : (slots : ℕ) {mid new : DiskState} (c : Image) → ((k : ℕ) → k < 2 * slots → slot_at mid.contents (8 + 2 * k) ≡ None)

@@ -22,11 +22,3 @@ loop-filled-preserved g c =
     (λ honest so_far. written_fill c.args.first c.args.slots (records_for (jobs_of c.args.table.now)) now.filled (state now.disk).contents (state c.fill.new.disk).contents
     (c.fill.ensures.run honest).contents (ap record_of (c.in-Ok.ensures.written honest refl) ∙ c.to_sector-body.ensures.read_back ∙ sym c.record_at.ensures) so_far)
     (λ honest. c.in-Ok.ensures.settled honest refl)
-
-pub returns-clause-filled : goal.returns-clause-filled
-returns-clause-filled g c = λ honest ok empty.
-    let all : c.loop-filled.filled ≡ length c.args.table.now.pending + 1 = omega arith in
-    subst (λ n. IsWritten c.args.first c.args.slots (records_for (jobs_of c.args.table.now)) n 0 (g.D.SectorDisk.state c.loop-filled.disk).contents) all (c.loop-filled.invariant.said honest empty)
-
-pub returns-clause-settled : goal.returns-clause-settled
-returns-clause-settled g c = λ honest ok. c.loop-filled.invariant.settled honest (omega arith)

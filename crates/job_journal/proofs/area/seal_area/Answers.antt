@@ -22,11 +22,3 @@ loop-sealed-preserved g c =
     (c.seal.ensures.run honest).contents (c.in-Ok.ensures.sealed honest refl))
     (λ honest. c.in-Ok.ensures.settled honest refl)
 
-pub returns-clause-sealed : goal.returns-clause-sealed
-returns-clause-sealed g c = λ honest ok empty.
-    let count = length c.args.table.now.pending + 1 in
-    let all : c.loop-sealed.sealed ≡ count = omega arith in
-    subst (λ n. IsWritten c.args.first c.args.slots (records_for (jobs_of c.args.table.now)) count n (g.D.SectorDisk.state c.loop-sealed.disk).contents) all (c.loop-sealed.invariant.said honest empty)
-
-pub returns-clause-settled : goal.returns-clause-settled
-returns-clause-settled g c = λ honest ok. c.loop-sealed.invariant.settled honest (omega arith)
