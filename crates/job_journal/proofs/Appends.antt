@@ -1,7 +1,8 @@
 -- What an append leaves of the journal, also behind a compaction.
-use Rattle.std.proofs.Common.{◌≡◌, ◌+◌, ◌*◌, ◌<◌, ◌⊎◌, inl, inr, ⊎_elim, ℕ, List, [], ◌∷◌, ◌++◌, length, get_or, set, Bool, true, false, ◌==◌, Some, None, is_some, sym, ◌∙◌, ap, subst, subst₂, refl, arith, if◌then◌else◌, IsTrue, Result, Ok, Err, IfOk}
+use Rattle.std.proofs.Common.{◌≡◌, ◌+◌, ◌*◌, ◌<◌, ◌⊎◌, inl, inr, ⊎_elim, ℕ, List, [], ◌∷◌, length, get_or, set, Bool, true, false, ◌==◌, Some, None, is_some, sym, ◌∙◌, ap, subst, subst₂, refl}
+use Rattle.std.proofs.Common.{arith, if◌then◌else◌, IsTrue, Result, Ok, Err, IfOk}
 use Rattle.std.proofs.lemmas.List.{length-append}
-use Rattle.sector_disk.specs.Disk.{Image, DiskState, IsImage, SameBut, AllSettled}
+use Rattle.sector_disk.specs.Disk.{Image, DiskState, SameBut, AllSettled}
 use Rattle.sector_disk.specs.Run.{Run, Each}
 use Rattle.sector_disk.proofs.Runs.{run_widen, each_of_two}
 use Rattle.slot_gate.specs.Slot.{slot_at, InSlot}
@@ -40,8 +41,8 @@ pub record Touched (journal : JournalState) (slot : ℕ) (d c : Image) : Type 0 
 touched_cell : {journal : JournalState} {slot : ℕ} {d c : Image} → Touched journal slot d c → Holds journal d → Stands journal.area c
 touched_cell {journal = journal} {slot = slot} {d = d} {c = c} t h =
     let low = (first_between journal.slots journal.area.value).0 in
-    let way = h.cell in
-    stands_same journal.area d c (slot_kept slot journal.area.present d c t.same (inl (grind (arith, way, low, t.at)))) (slot_kept slot journal.area.spare d c t.same (inl (grind (arith, way, low, t.at)))) h.area
+    let kept = λ (k : ℕ) (below : k + 1 < slot). slot_kept slot k d c t.same (inl below) in
+    stands_same journal.area d c (kept journal.area.present (grind (arith, h.cell, low, t.at))) (kept journal.area.spare (grind (arith, h.cell, low, t.at))) h.area
 
 touched_slots : {journal : JournalState} {slot : ℕ} {d c : Image} → Touched journal slot d c → Holds journal d
     → let xs = slots_from d (first_sector journal) journal.slots in slots_from c (first_sector journal) journal.slots ≡ set xs (size xs) (slot_at c slot)
@@ -96,6 +97,12 @@ appended_is journal command is can = record {
   whole = is.whole;
 }
 
+-- as the code knows it
+pub as_appended : (P : JournalState → Type 0) {journal was : JournalState} (table : Table) (command : Command) → journal ≡ was
+    → table ≡ with_jobs (jobs_after (jobs_of journal.table) command) journal.table → P (appended was command) → P (record journal { used = journal.used + 1; table = table })
+as_appended P {journal = journal} table command view is h =
+    subst (λ t. P (record journal { used = journal.used + 1; table = t })) (sym is) (subst (λ w. P (appended w command)) (sym view) h)
+
 -- in each image while the slot is stored
 pub append_since : {journal : JournalState} {command : Command} {content : List ℕ} {slot : ℕ} {old new : DiskState} → IsTrue old.honest → IsJournal journal → Admitted journal command
     → record_of content ≡ Some (record_for (jobs_of journal.table) command) → slot ≡ next_slot journal → IsSound journal.slots old → AllHold journal old
@@ -104,7 +111,8 @@ append_since {journal = journal} {command = command} {slot = slot} {old = old} h
     let f = images (λ d image. ap is_some (next_unsealed journal slot d at can.free (all d image))) c since in
     let h = stays_now journal old honest all f.from f.image in
     let t : Touched journal slot f.from c = record { at = at; free = can.free; same = f.same } in
-    let before : slot_at c slot ≡ None → BeforeOrAfter journal command c × (IsSound journal.slots old → IsSoundImage journal.slots c) = λ none. let told = told_of (holds_still t h none) in (inl told.0, told.1) in
+    let before : slot_at c slot ≡ None → BeforeOrAfter journal command c × (IsSound journal.slots old → IsSoundImage journal.slots c) =
+    λ none. let told = told_of (holds_still t h none) in (inl told.0, told.1) in
     ⊎_elim (λ same. before (same ∙ next_unsealed journal slot f.from at can.free h.holds))
     (⊎_elim before (λ some. let told = told_of (holds_more is can written t good h some) in (inr told.0, told.1))) f.step)
 
@@ -118,7 +126,8 @@ append_after {journal = journal} {slot = slot} {old = old} {new = new} honest is
     (ap (λ d. slot_at d slot) (synced_image new c settled image) ∙ sealed)).holds
 
 -- the slot lies in the journal
-pub append_run : (journal : JournalState) {slot : ℕ} {old new : DiskState} → slot ≡ next_slot journal → journal.used < journal.slots → Run (InSlot slot) old new → Run (InJournal journal.slots) old new
+pub append_run : (journal : JournalState) {slot : ℕ} {old new : DiskState} → slot ≡ next_slot journal → journal.used < journal.slots → Run (InSlot slot) old new
+    → Run (InJournal journal.slots) old new
 append_run journal {slot = slot} {old = old} {new = new} at free run =
     let w = first_between journal.slots journal.area.value in
     run_widen (InSlot slot) (InJournal journal.slots) old new (λ k is. (grind (arith, w.0, at, is), grind (arith, w.1, at, free, is))) run

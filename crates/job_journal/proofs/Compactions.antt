@@ -1,23 +1,167 @@
--- What a compaction leaves, in each image.
-use Rattle.std.proofs.Common.{◌≡◌, ◌+◌, ◌*◌, ◌<◌, ◌≤◌, ◌⊎◌, ⊎_elim, ℕ, length, Some, sym, ◌∙◌, ap, subst, arith, IsTrue}
+-- What a compaction leaves, in each image: an area written slot by slot, what it reads as in the end, and the area cell's raise.
+use Rattle.std.proofs.Common.{◌≡◌, ◌+◌, ◌*◌, ◌<◌, ◌≤◌, ℕ, zero, suc, List, [], ◌∷◌, ◌++◌, length, map, slice_get, Option, Some, sym, ◌∙◌, ap, subst, arith, IsTrue, ◌⊎◌, ⊎_elim}
 use Rattle.std.proofs.lemmas.Bool.Decides.{nat_tests}
-use Rattle.sector_disk.specs.Disk.{Image, DiskState, IsImage, SameBut, AllSettled, Laws}
+use Rattle.std.proofs.lemmas.List.{append-nil, append_assoc, length-append, length-map}
+use Rattle.std.proofs.lemmas.Option.{slice_get-map}
+use Rattle.std.specs.Prelude.{option_map}
+use borrow.Author.Count.{below_more}
+use Rattle.sector_disk.specs.Disk.{Image, DiskState, Laws, Counts, SameBut, AllSettled, sector_at, IsImage}
 use Rattle.sector_disk.specs.Run.{Run, Each}
-use Rattle.sector_disk.proofs.Runs.{run_widen, each_of_two, run_of_two}
-use Rattle.slot_gate.specs.Slot.{InSlot, InSlots}
+use Rattle.sector_disk.proofs.Runs.{run_widen, each_of_two}
+use Rattle.slot_gate.specs.Slot.{slot_at, InSlots, InSlot}
+use Rattle.slot_gate.proofs.Calls.{run_on}
+use Rattle.slot_gate.proofs.Rows.{Erased, erased_start}
+use Rattle.slot_gate.proofs.Slots.{slot_same}
 use Rattle.safe_cell.specs.Cell.{cell_at}
 use Rattle.safe_cell.specs.Mounted.{CellState, IsCellAt, Stands, AllStand, raised}
 use Rattle.safe_cell.proofs.Raised.{raised_way}
+use Rattle.job_model.specs.declared.job.Job.{Job}
+use Rattle.job_model.specs.declared.record.Record.{Record}
 use Rattle.job_model.specs.Order.{IsInOrder}
-use Rattle.job_journal.specs.Jobs.{jobs_of}
-use Rattle.job_journal.specs.declared.place.Place.TheVariants.{Keeping}
-use Rattle.job_journal.specs.Areas.{slots_from, sealed_prefix, first_of}
-use Rattle.job_journal.specs.Journal.{jobs_in, IsSound, ImagesSince, InJournal}
-use Rattle.job_journal.specs.Readings.{Reads, fresh, replayed}
-use Rattle.job_journal.specs.Mounted.{JournalState, Holds, AllHold, IsJournal, first_sector}
+use Rattle.job_model.specs.Records.{record_of}
+use Rattle.job_journal.specs.Jobs.{Jobs, jobs_of}
+use Rattle.job_journal.specs.Areas.{slots_from, sealed_prefix, IsPrefix, first_of}
+use Rattle.job_journal.specs.Readings.{Reading, Reads, fresh, taken, found_at, replayed}
+use Rattle.job_journal.specs.Journal.{found_from, jobs_in, IsSound, ImagesSince, InJournal}
 use Rattle.job_journal.specs.Compacting.{IsWritten, records_for, other_sector}
+use Rattle.job_journal.specs.declared.place.Place.TheVariants.{Keeping}
+use Rattle.job_journal.specs.Mounted.{JournalState, Holds, AllHold, IsJournal, first_sector}
+use Rattle.job_journal.proofs.Prefixes.{none_sealed, all_unsealed}
+use Rattle.job_journal.proofs.Commands.{kept, room_for, keep_taken}
 use Rattle.job_journal.proofs.Frames.{slots_same_from, stands_same_from, first_between, Stays, stays_by, stays_now, Told, told_at, told_of, images_of, synced_image}
-use Rattle.job_journal.proofs.Areas.{Anew, anew}
+
+-- an area in which some slots were written, each by one call: what is said of it then, and that the calls end synced
+pub record Writing (first slots : ℕ) (Said : ℕ → Image → Type 0) (old now : DiskState) (done : ℕ) : Type 0 where
+  pub calls : Erased first slots old now 0
+  pub said : IsTrue old.honest → Said 0 old.contents → Said done now.contents
+  pub settled : IsTrue old.honest → 0 < done → AllSettled now
+
+pub writing_start : (first slots : ℕ) (Said : ℕ → Image → Type 0) (disk : DiskState) → (IsTrue disk.honest → Laws disk) → Writing first slots Said disk disk 0
+writing_start first slots Said disk laws =
+    record { calls = erased_start first slots disk laws; said = λ honest was. was; settled = λ honest less. absurd (omega (arith, less)) }
+
+pub writing_more : (first slots : ℕ) {Said : ℕ → Image → Type 0} {here : ℕ → Type 0} {old mid new : DiskState} {done : ℕ} {failed ok : Type 0} → ok → ((k : ℕ) → here k → InSlots first slots k)
+    → Writing first slots Said old mid done → Counts mid new failed ok → (IsTrue mid.honest → Run here mid new)
+    → (IsTrue mid.honest → Said done mid.contents → Said (done + 1) new.contents) → (IsTrue mid.honest → AllSettled new) → Writing first slots Said old new (done + 1)
+writing_more first slots {old = old} {mid = mid} was_ok into so_far counts run said settled = record {
+  calls = record {
+    sectors = counts.sectors ∙ so_far.calls.sectors;
+    honest = counts.honest ∙ so_far.calls.honest;
+    failures = counts.unchanged was_ok ∙ so_far.calls.failures;
+    run = run_on (InSlots first slots) into so_far.calls.honest so_far.calls.run run;
+    unsealed = λ honest k less. absurd (omega (arith, less));
+  };
+  said = λ honest was. said (still honest) (so_far.said honest was);
+  settled = λ honest less. settled (still honest);
+}
+  where
+    still : IsTrue old.honest → IsTrue mid.honest
+    still = subst (λ b. IsTrue b) (sym so_far.calls.honest)
+
+-- one body more
+pub written_fill : (first slots : ℕ) (records : List Record) (filled : ℕ) (d c : Image) → SameBut (λ k. k ≡ first + 2 * filled) d c
+    → record_of (sector_at c (first + 2 * filled)) ≡ slice_get records filled → IsWritten first slots records filled 0 d → IsWritten first slots records (filled + 1) 0 c
+written_fill first slots records filled d c same here so_far = record {
+  bodies = below_more (λ k. record_of (sector_at c (first + 2 * k)) ≡ slice_get records k) filled
+      (λ k before. ap record_of (same.same (first + 2 * k) (λ is. omega (arith, is, before))) ∙ so_far.bodies k before) here;
+  sealed = λ k less. absurd (omega (arith, less));
+  free = λ k le less. grind (arith, nat_tests, same.same (first + 2 * k + 1) (λ is. omega (arith, is)), so_far.free k le less);
+}
+
+-- one seal more
+pub written_seal : (first slots : ℕ) (records : List Record) (filled sealed : ℕ) (d c : Image) → SameBut (λ k. k ≡ first + 2 * sealed + 1) d c
+    → slot_at c (first + 2 * sealed) ≡ Some (sector_at d (first + 2 * sealed)) → IsWritten first slots records filled sealed d → IsWritten first slots records filled (sealed + 1) c
+written_seal first slots records filled sealed d c same here so_far = record {
+  bodies = λ k less. ap record_of (body k) ∙ so_far.bodies k less;
+  sealed = below_more (λ k. slot_at c (first + 2 * k) ≡ Some (sector_at c (first + 2 * k))) sealed
+      (λ k before. slot k (λ is. omega (arith, is, before)) ∙ so_far.sealed k before ∙ ap (λ s. Some s) (sym (body k))) (here ∙ ap (λ s. Some s) (sym (body sealed)));
+  free = λ k le less. slot k (λ is. omega (arith, is, le)) ∙ so_far.free k (omega (arith, le)) less;
+}
+  where
+    body : (k : ℕ) → sector_at c (first + 2 * k) ≡ sector_at d (first + 2 * k)
+    body k = same.same (first + 2 * k) (λ is. omega (arith, is))
+
+    slot : (k : ℕ) → (k ≡ sealed → ⊥) → slot_at c (first + 2 * k) ≡ slot_at d (first + 2 * k)
+    slot k other = slot_same c d (first + 2 * k) (same.same (first + 2 * k + 1) (λ is. other (omega (arith, is)))) (body k)
+
+-- the record behind the first, of the job in the place before
+pub record_behind : (jobs : Jobs) (slot place : ℕ) (job : Job) → slot ≡ place + 1 → slice_get jobs.pending place ≡ Some job → slice_get (records_for jobs) slot ≡ Some (Record.Keep job)
+record_behind jobs slot place job is some =
+    let there : slot ≡ suc place = omega (arith, is) in
+    ap (λ k. slice_get (records_for jobs) k) there ∙ slice_get-map Record.Keep jobs.pending place ∙ ap (λ o. option_map Record.Keep o) some
+
+abbrev some_each : List Record → List (Option Record)
+some_each records = map (λ r. Some r) records
+
+-- in an area with all of its records and nothing else the sealed slots are a prefix, and their bodies are the records
+whole_slots : (at n : ℕ) (records : List Record) (c : Image) → length records ≤ n → IsWritten at n records (length records) (length records) c
+    → IsPrefix (slots_from c at n) × (map record_of (sealed_prefix (slots_from c at n)) ≡ some_each records)
+whole_slots at n [] c fits h =
+    let none = none_sealed (slots_from c at n) (all_unsealed c at n (λ k less. h.free k (omega arith) less)) in
+    (none.1, ap (λ bodies. map record_of bodies) none.0)
+whole_slots at zero (r ∷ rs) c fits h = absurd (omega (arith, fits))
+whole_slots at (suc n) (r ∷ rs) c fits h =
+    let xs = slots_from c (at + 2) n in
+    let here : slot_at c at ≡ Some (sector_at c at) = subst (λ s. slot_at c s ≡ Some (sector_at c s)) first (h.sealed 0 (omega arith)) in
+    let body : record_of (sector_at c at) ≡ Some r = subst (λ s. record_of (sector_at c s) ≡ Some r) first (h.bodies 0 (omega arith)) in
+    let rest = whole_slots (at + 2) n rs c (omega (arith, fits)) (record {
+      bodies = λ k less. ap (λ s. record_of (sector_at c s)) (there k) ∙ h.bodies (suc k) (omega (arith, less));
+      sealed = λ k less. subst (λ s. slot_at c s ≡ Some (sector_at c s)) (sym (there k)) (h.sealed (suc k) (omega (arith, less)));
+      free = λ k le less. ap (λ s. slot_at c s) (there k) ∙ h.free (suc k) (omega (arith, le)) (omega (arith, less));
+    }) in
+    (subst (λ s. IsPrefix (s ∷ xs)) (sym here) rest.0, ap (λ s. map record_of (sealed_prefix (s ∷ xs))) here ∙ (λ i. body i ∷ rest.1 i))
+  where
+    first : at + 2 * 0 ≡ at
+    first = omega arith
+
+    there : (k : ℕ) → at + 2 + 2 * k ≡ at + 2 * suc k
+    there k = omega arith
+
+-- one record that is allowed
+read_one : (slots at : ℕ) (r : Record) (body : List ℕ) (bodies : List (List ℕ)) (before after : Reading) → record_of body ≡ Some r → taken slots before (Some r) ≡ Some after
+    → replayed slots at (Reads before) (body ∷ bodies) ≡ replayed slots (at + 2) (Reads after) bodies
+read_one slots at r body bodies before after is allows = ap (λ o. replayed slots (at + 2) (found_at at o) bodies) (ap (λ o. taken slots before o) is ∙ allows)
+
+keeps_read : (slots at next : ℕ) (done rest : List Job) (bodies : List (List ℕ)) → IsInOrder (done ++ rest) next → length done + length rest + 2 ≤ slots
+    → map record_of bodies ≡ some_each (map Record.Keep rest) → replayed slots at (Reads (kept next done)) bodies ≡ Reads (kept next (done ++ rest))
+keeps_read slots at next done [] [] order fits is = ap (λ jobs. Reads (kept next jobs)) (sym (append-nil done))
+keeps_read slots at next done (job ∷ rest) [] order fits is = cc
+keeps_read slots at next done [] (body ∷ bodies) order fits is = cc
+keeps_read slots at next done (job ∷ rest) (body ∷ bodies) order fits is =
+    let here : record_of body ≡ Some (Record.Keep job) = cc in
+    let others : map record_of bodies ≡ some_each (map Record.Keep rest) = cc in
+    let more = append_assoc done (job ∷ []) rest in
+    read_one slots at (Record.Keep job) body bodies (kept next done) (kept next (done ++ job ∷ [])) here (keep_taken slots next done rest job order fits)
+    ∙ keeps_read slots (at + 2) next (done ++ job ∷ []) rest bodies (subst (λ jobs. IsInOrder jobs next) (sym more) order) (omega (arith, fits, length-append done (job ∷ []))) others
+    ∙ ap (λ jobs. Reads (kept next jobs)) more
+
+all_read : (slots at : ℕ) (jobs : Jobs) (bodies : List (List ℕ)) → IsInOrder jobs.pending jobs.next → length jobs.pending + 2 ≤ slots
+    → map record_of bodies ≡ some_each (records_for jobs) → replayed slots at (Reads fresh) bodies ≡ Reads (kept jobs.next jobs.pending)
+all_read slots at jobs [] order fits is = cc
+all_read slots at jobs (body ∷ bodies) order fits is =
+    let here : record_of body ≡ Some (Record.Base jobs.next) = cc in
+    let others : map record_of bodies ≡ some_each (map Record.Keep jobs.pending) = cc in
+    read_one slots at (Record.Base jobs.next) body bodies fresh (kept jobs.next []) here (room_for slots (kept jobs.next []) (omega (arith, fits)))
+    ∙ keeps_read slots (at + 2) jobs.next [] jobs.pending bodies order (omega (arith, fits)) others
+
+-- what an area that was written anew tells
+pub record Anew (slots first : ℕ) (jobs : Jobs) (c : Image) : Type 0 where
+  pub reads : found_from slots c first ≡ Reads (kept jobs.next jobs.pending)
+  pub prefix : IsPrefix (slots_from c first slots)
+  pub count : length (sealed_prefix (slots_from c first slots)) ≡ length jobs.pending + 1
+
+pub anew : (slots first : ℕ) (jobs : Jobs) (c : Image) → IsInOrder jobs.pending jobs.next → length jobs.pending + 2 ≤ slots
+    → IsWritten first slots (records_for jobs) (length jobs.pending + 1) (length jobs.pending + 1) c → Anew slots first jobs c
+anew slots first jobs c order fits written =
+    let records = records_for jobs in
+    let bodies = sealed_prefix (slots_from c first slots) in
+    let count : length jobs.pending + 1 ≡ length records = omega (arith, length-map jobs.pending Record.Keep) in
+    let whole = whole_slots first slots records c (omega (arith, fits, count)) (subst (λ k. IsWritten first slots records k k c) count written) in
+    record {
+      reads = all_read slots first jobs bodies order fits whole.1;
+      prefix = whole.0;
+      count = sym (length-map bodies record_of) ∙ ap length whole.1 ∙ length-map records (λ r. Some r) ∙ sym count;
+    }
 
 -- while nothing is done
 pub still_since : (journal : JournalState) (disk : DiskState) → IsTrue disk.honest → Laws disk → AllHold journal disk
@@ -38,15 +182,14 @@ area_stays journal {other = other} {old = old} honest all at run c since =
 pub record Written (journal : JournalState) (other : ℕ) (old mid : DiskState) : Type 0 where
   pub at : other ≡ other_sector journal
   pub run : Run (InSlots other journal.slots) old mid
-  pub order : IsInOrder journal.table.pending journal.table.next
   pub written : IsWritten other journal.slots (records_for (jobs_of journal.table)) (length journal.table.pending + 1) (length journal.table.pending + 1) mid.contents
   pub settled : AllSettled mid
 
-written_anew : {journal : JournalState} {other : ℕ} {old mid : DiskState} → IsJournal journal → Written journal other old mid → (c : Image) → IsImage mid c
-    → Anew journal.slots (other_sector journal) (jobs_of journal.table) c
-written_anew {journal = journal} {other = other} {mid = mid} is w c image =
+written_anew : {journal : JournalState} {other : ℕ} {old mid : DiskState} → IsJournal journal → IsInOrder journal.table.pending journal.table.next → Written journal other old mid
+    → (c : Image) → IsImage mid c → Anew journal.slots (other_sector journal) (jobs_of journal.table) c
+written_anew {journal = journal} {other = other} {mid = mid} is order w c image =
     let count = length journal.table.pending + 1 in
-    subst (λ o. Anew journal.slots o (jobs_of journal.table) c) w.at (anew journal.slots other (jobs_of journal.table) c w.order is.pending
+    subst (λ o. Anew journal.slots o (jobs_of journal.table) c) w.at (anew journal.slots other (jobs_of journal.table) c order is.pending
     (subst (λ d. IsWritten other journal.slots (records_for (jobs_of journal.table)) count count d) (sym (synced_image mid c w.settled image)) w.written))
 
 -- the areas aren't touched by the area cell's raise
@@ -57,19 +200,20 @@ area_kept journal v d c way same =
     (record { same = λ k le lt. same.same k (λ is. grind (arith, le, (first_between journal.slots v).0, way, is)) })
 
 -- each image while the area cell is raised: whichever area counts, it has the same jobs
-raise_told : {journal : JournalState} {other : ℕ} {old mid new : DiskState} → IsTrue old.honest → IsJournal journal → AllHold journal old → Written journal other old mid
-    → Run (InSlot journal.area.spare) mid new → Each mid new (λ c. (cell_at c 4 ≡ Some journal.area.value) ⊎ (cell_at c 4 ≡ Some (journal.area.value + 1)))
+raise_told : {journal : JournalState} {other : ℕ} {old mid new : DiskState} → IsTrue old.honest → IsJournal journal → IsInOrder journal.table.pending journal.table.next → AllHold journal old
+    → Written journal other old mid → Run (InSlot journal.area.spare) mid new → Each mid new (λ c. (cell_at c 4 ≡ Some journal.area.value) ⊎ (cell_at c 4 ≡ Some (journal.area.value + 1)))
     → Each mid new (Told (IsSound journal.slots old) journal)
-raise_told {journal = journal} honest is all w run values c since =
+raise_told {journal = journal} honest is order all w run values c since =
     let f = run.follows c since in
     let v = journal.area.value in
     let was = area_stays journal honest all w.at w.run f.0 (w.run.ends f.0 f.1) in
-    let next = written_anew is w f.0 f.1 in
+    let next = written_anew is order w f.0 f.1 in
     ⊎_elim (λ before. told_at journal.slots v f.0 c (area_kept journal v f.0 c is.cell f.2) before is.present was.holds.reads was.prefix)
     (λ after. told_at journal.slots (v + 1) f.0 c (area_kept journal (v + 1) f.0 c is.cell f.2) after (omega arith) next.reads (λ _. next.prefix)) (values c since)
 
 -- What the code knows of the journal is known of its view. First while the other area is written:
-pub area_run : {journal was : JournalState} {other : ℕ} {old mid : DiskState} → journal ≡ was → other ≡ other_sector journal → Run (InSlots other journal.slots) old mid → Run (InJournal was.slots) old mid
+pub area_run : {journal was : JournalState} {other : ℕ} {old mid : DiskState} → journal ≡ was → other ≡ other_sector journal → Run (InSlots other journal.slots) old mid
+    → Run (InJournal was.slots) old mid
 area_run {journal = journal} {other = other} {old = old} {mid = mid} view at run =
     let w = first_between journal.slots (journal.area.value + 1) in
     subst (λ j. Run (InJournal j.slots) old mid) view
@@ -82,34 +226,32 @@ area_since {journal = journal} {old = old} {mid = mid} view at run honest =
     (λ all. images_of (λ c since. told_of (area_stays journal honest all at run c since)))
 
 -- then while the area cell is raised
-pub compact_run : {journal was : JournalState} {other : ℕ} {old mid new : DiskState} → journal ≡ was → IsJournal journal → other ≡ other_sector journal → Run (InSlots other journal.slots) old mid
-    → Run (InSlot journal.area.spare) mid new → Run (InJournal was.slots) old new
-compact_run {journal = journal} {was = was} {old = old} {mid = mid} {new = new} view is at first second =
-    run_of_two (InJournal was.slots) old mid new (area_run view at first) (subst (λ j. Run (InJournal j.slots) mid new) view
-    (run_widen (InSlot journal.area.spare) (InJournal journal.slots) mid new (λ k here. (grind (arith, is.cell, here), grind (arith, is.cell, here))) second))
+pub compact_run : {journal was : JournalState} {other : ℕ} {old mid new : DiskState} → journal ≡ was → IsJournal journal → other ≡ other_sector journal → mid.honest ≡ old.honest
+    → (IsTrue old.honest → Run (InSlots other journal.slots) old mid) → (IsTrue mid.honest → Run (InSlot journal.area.spare) mid new) → IsTrue old.honest → Run (InJournal was.slots) old new
+compact_run {was = was} view is at same first second =
+    run_on (InJournal was.slots) (λ k here. subst (λ j. InJournal j.slots k) view (grind (arith, is.cell, here), grind (arith, is.cell, here))) same (λ honest. area_run view at (first honest)) second
 
 -- the area cell is as it was while the other area is written
 pub area_stands : {journal : JournalState} {other : ℕ} {old mid : DiskState} → IsTrue old.honest → AllHold journal old → Written journal other old mid → AllStand journal.area mid
 area_stands {journal = journal} honest all w d image = (area_stays journal honest all w.at w.run d (w.run.ends d image)).holds.area
 
-pub compact_since : {journal was : JournalState} {other : ℕ} {old mid new : DiskState} → journal ≡ was → IsTrue old.honest → IsJournal journal → Written journal other old mid
-    → Run (InSlot journal.area.spare) mid new
+pub compact_since : {journal was : JournalState} {other : ℕ} {old mid new : DiskState} → journal ≡ was → IsTrue old.honest → IsJournal journal → IsInOrder journal.table.pending journal.table.next
+    → Written journal other old mid → Run (InSlot journal.area.spare) mid new
     → (AllStand journal.area mid → Each mid new (λ c. (cell_at c 4 ≡ Some journal.area.value) ⊎ (cell_at c 4 ≡ Some (journal.area.value + 1))))
     → AllHold was old → ImagesSince was.slots old new (λ c. jobs_in was.slots c ≡ Some (jobs_of was.table))
-compact_since {journal = journal} {old = old} {mid = mid} {new = new} view honest is w run values =
+compact_since {journal = journal} {old = old} {mid = mid} {new = new} view honest is order w run values =
     subst (λ j. AllHold j old → ImagesSince j.slots old new (λ c. jobs_in j.slots c ≡ Some (jobs_of j.table))) view
     (λ all. images_of (each_of_two (InSlot journal.area.spare) old mid new (Told (IsSound journal.slots old) journal) w.run.later run
-    (λ c since. told_of (area_stays journal honest all w.at w.run c since)) (raise_told honest is all w run (values (area_stands honest all w)))))
+    (λ c since. told_of (area_stays journal honest all w.at w.run c since)) (raise_told honest is order all w run (values (area_stands honest all w)))))
 
 -- the disk in the end
-pub compact_after : {journal was : JournalState} {area : CellState} {used other : ℕ} {old mid new : DiskState} → journal ≡ was → IsTrue old.honest → IsJournal journal → Written journal other old mid
-    → Run (InSlot journal.area.spare) mid new → area ≡ raised journal.area → used ≡ length journal.table.pending + 1 → (AllStand journal.area mid → AllStand area new)
-    → AllHold was old → AllHold (record journal { area = area; used = used }) new
-compact_after {journal = journal} {area = area} {used = used} {old = old} {new = new} view honest is w run here count stand known c image =
+pub compact_after : {journal was : JournalState} {area : CellState} {used other : ℕ} {old mid new : DiskState} → journal ≡ was → IsTrue old.honest → IsJournal journal
+    → IsInOrder journal.table.pending journal.table.next → Written journal other old mid → Run (InSlot journal.area.spare) mid new → area ≡ raised journal.area
+    → used ≡ length journal.table.pending + 1 → (AllStand journal.area mid → AllStand area new) → AllHold was old → AllHold (record journal { area = area; used = used }) new
+compact_after {journal = journal} {area = area} {used = used} {old = old} {new = new} view honest is order w run here count stand known c image =
     let f = run.follows c (run.ends c image) in
-    let next = written_anew is w f.0 f.1 in
+    let next = written_anew is order w f.0 f.1 in
     let v = journal.area.value + 1 in
-    let first = first_of journal.slots v in
     let same = area_kept journal v f.0 c is.cell f.2 in
     let stands = stand (area_stands honest (subst (λ j. AllHold j old) (sym view) known) w) c image in
     subst (λ a. Holds (record journal { area = a; used = used }) c) (sym here) (record {
@@ -117,6 +259,6 @@ compact_after {journal = journal} {area = area} {used = used} {old = old} {new =
       present = omega arith;
       area = subst (λ a. Stands a c) here stands;
       place = Keeping;
-      reads = ap (λ ys. replayed journal.slots first (Reads fresh) (sealed_prefix ys)) same ∙ next.reads;
+      reads = ap (λ ys. replayed journal.slots (first_of journal.slots v) (Reads fresh) (sealed_prefix ys)) same ∙ next.reads;
       used = ap (λ ys. length (sealed_prefix ys)) same ∙ next.count ∙ sym count;
     })

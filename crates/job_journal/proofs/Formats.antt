@@ -1,12 +1,12 @@
 -- What is found in areas that are unsealed.
-use Rattle.std.proofs.Common.{◌≡◌, ◌+◌, ◌*◌, ◌<◌, ℕ, zero, suc, ◌∷◌, Some, None, sym, ◌∙◌, ap, subst, refl, arith}
+use Rattle.std.proofs.Common.{◌≡◌, ◌+◌, ◌*◌, ◌<◌, ℕ, Some, None, ◌∙◌, ap, refl, arith}
 use Rattle.sector_disk.specs.Disk.{Image, DiskState, IsImage, AllSettled}
 use Rattle.sector_disk.specs.Run.{Run}
 use Rattle.sector_disk.proofs.Runs.{run_widen}
 use Rattle.slot_gate.specs.Slot.{slot_at, InSlots}
 use Rattle.safe_cell.specs.Cell.{InCell, cell_at}
 use Rattle.job_journal.specs.Jobs.{no_jobs}
-use Rattle.job_journal.specs.Areas.{slots_from, AllUnsealed}
+use Rattle.job_journal.specs.Areas.{slots_from}
 use Rattle.job_journal.specs.Journal.{jobs_in, IsFormatted, IsSoundImage, InJournal}
 use Rattle.job_journal.specs.Readings.{Reads, fresh, replayed}
 use Rattle.job_journal.proofs.Frames.{SameFrom, same_within, slot_same_from, cell_same_from, told_at, synced_image}

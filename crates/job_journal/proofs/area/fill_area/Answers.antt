@@ -1,10 +1,10 @@
-use Rattle.std.proofs.Common.{◌≡◌, ◌+◌, ◌*◌, length, sym, ◌∙◌, ap, subst, refl, arith}
+use Rattle.std.proofs.Common.{sym, ◌∙◌, ap, refl, arith}
 use Rattle.job_model.specs.Records.{record_of}
 use Rattle.slot_gate.specs.Slot.{InSlots}
 use Rattle.slot_gate.proofs.Calls.{run_on}
 use Rattle.job_journal.specs.Jobs.{jobs_of}
-use Rattle.job_journal.specs.Compacting.{IsWritten, records_for}
-use Rattle.job_journal.proofs.Areas.{writing_start, writing_more, written_fill}
+use Rattle.job_journal.specs.Compacting.{records_for}
+use Rattle.job_journal.proofs.Compactions.{writing_start, writing_more, written_fill}
 use Rattle.job_journal.proofs.area.fill_area.Goals as goal
 
 pub loop-filled-init : goal.loop-filled-init

@@ -17,37 +17,37 @@ pub returns-in_default-write_area-clause-images : goal.returns-in_default-write_
 returns-in_default-write_area-clause-images g c = λ honest. area_since c.self.view_is c.other_sector-other.ensures (c.write_area.ensures.run honest) honest
 
 pub returns-in_default-raise-clause-run : goal.returns-in_default-raise-clause-run
-returns-in_default-raise-clause-run g c = λ honest.
-    compact_run c.self.view_is c.self.invariant c.other_sector-other.ensures (c.write_area.ensures.run honest) (c.raise.ensures.run (subst (λ b. IsTrue b) (sym c.write_area.ensures.counts.honest) honest))
+returns-in_default-raise-clause-run g c =
+    compact_run c.self.view_is c.self.invariant c.other_sector-other.ensures c.write_area.ensures.counts.honest c.write_area.ensures.run c.raise.ensures.run
 
 pub returns-in_default-raise-clause-images : goal.returns-in_default-raise-clause-images
 returns-in_default-raise-clause-images g c = λ honest.
     let still = subst (λ b. IsTrue b) (sym c.write_area.ensures.counts.honest) honest in
-    let run = c.write_area.ensures.run honest in
-    compact_since c.self.view_is honest c.self.invariant
-    (record { at = c.other_sector-other.ensures; run = run; order = c.record_count-records.ensures.in_order; written = c.in-Ok.ensures.written honest refl; settled = c.in-Ok.ensures.settled honest refl })
+    let done = c.in-Ok.ensures in
+    compact_since c.self.view_is honest c.self.invariant c.record_count-records.ensures.in_order
+    (record { at = c.other_sector-other.ensures; run = c.write_area.ensures.run honest; written = done.written honest refl; settled = done.settled honest refl })
     (c.raise.ensures.run still) (c.raise.ensures.images 4 still c.self.invariant.cell)
 
 pub returns-clause-run : goal.returns-clause-run
-returns-clause-run g c = λ honest.
-    compact_run c.self.view_is c.self.invariant c.other_sector-other.ensures (c.write_area.ensures.run honest) (c.raise.ensures.run (subst (λ b. IsTrue b) (sym c.write_area.ensures.counts.honest) honest))
+returns-clause-run g c =
+    compact_run c.self.view_is c.self.invariant c.other_sector-other.ensures c.write_area.ensures.counts.honest c.write_area.ensures.run c.raise.ensures.run
 
 pub returns-clause-images : goal.returns-clause-images
 returns-clause-images g c = λ honest.
     let still = subst (λ b. IsTrue b) (sym c.write_area.ensures.counts.honest) honest in
-    let run = c.write_area.ensures.run honest in
-    compact_since c.self.view_is honest c.self.invariant
-    (record { at = c.other_sector-other.ensures; run = run; order = c.record_count-records.ensures.in_order; written = c.in-Ok.ensures.written honest refl; settled = c.in-Ok.ensures.settled honest refl })
+    let done = c.in-Ok.ensures in
+    compact_since c.self.view_is honest c.self.invariant c.record_count-records.ensures.in_order
+    (record { at = c.other_sector-other.ensures; run = c.write_area.ensures.run honest; written = done.written honest refl; settled = done.settled honest refl })
     (c.raise.ensures.run still) (c.raise.ensures.images 4 still c.self.invariant.cell)
 
 pub returns-clause-after : goal.returns-clause-after
 returns-clause-after g c = λ honest ok.
     let still = subst (λ b. IsTrue b) (sym c.write_area.ensures.counts.honest) honest in
-    let run = c.write_area.ensures.run honest in
+    let done = c.in-Ok.ensures in
     record {
       settled = c.in-Ok-raise.ensures.settled still refl;
-      holds = compact_after c.self.view_is honest c.self.invariant
-          (record { at = c.other_sector-other.ensures; run = run; order = c.record_count-records.ensures.in_order; written = c.in-Ok.ensures.written honest refl; settled = c.in-Ok.ensures.settled honest refl })
+      holds = compact_after c.self.view_is honest c.self.invariant c.record_count-records.ensures.in_order
+          (record { at = c.other_sector-other.ensures; run = c.write_area.ensures.run honest; written = done.written honest refl; settled = done.settled honest refl })
           (c.raise.ensures.run still) c.in-Ok-raise.ensures.ok.1 c.record_count-records.ensures.count
           (λ stand. (c.in-Ok-raise.ensures.after 4 still c.self.invariant.cell stand refl).1);
     }

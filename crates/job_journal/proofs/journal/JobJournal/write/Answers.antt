@@ -1,7 +1,6 @@
-use Rattle.std.proofs.Common.{◌+◌, sym, subst, refl}
+use Rattle.std.proofs.Common.{refl}
 use Rattle.job_journal.specs.Mounted.{AllHold, IsJournal}
-use Rattle.job_journal.specs.Appending.{appended}
-use Rattle.job_journal.proofs.Appends.{append_since, append_after, append_run, appended_is}
+use Rattle.job_journal.proofs.Appends.{append_since, append_after, append_run, appended_is, as_appended}
 use Rattle.job_journal.proofs.journal.JobJournal.write.Goals as goal
 
 pub returns-in_default-clause-run : goal.returns-in_default-clause-run
@@ -20,20 +19,15 @@ returns-clause-images g c = λ honest sound all.
 
 pub returns-clause-after : goal.returns-clause-after
 returns-clause-after g c = λ honest ok.
-    let new = g.D.SectorDisk.state c.store.new.disk in
-    let was = c.self.inside in
     let done = c.in-Ok.ensures in
     record {
       settled = done.settled honest refl;
-      holds = λ known.
-          subst (λ t. AllHold (record { slots = was.slots; area = was.area; used = was.used + 1; table = t; broken = was.broken }) new) (sym c.apply.ensures.table)
-          (subst (λ w. AllHold (appended w c.args.command) new) (sym c.self.view_is)
+      holds = λ known. as_appended (λ w. AllHold w (g.D.SectorDisk.state c.store.new.disk)) c.apply.new.table c.args.command c.self.view_is c.apply.ensures.table
           (append_after honest c.next_slot-slot.ensures.kept c.requires.admitted c.body_for-body.ensures c.next_slot-slot.ensures.slot known.0 known.1
-          (c.store.ensures.run honest) (done.settled honest refl) (done.sealed honest refl)));
+          (c.store.ensures.run honest) (done.settled honest refl) (done.sealed honest refl));
     }
 
 pub invariant_of-self-2 : goal.invariant_of-self-2
 invariant_of-self-2 g c =
-    let was = c.self.inside in
-    subst (λ t. IsJournal (record { slots = was.slots; area = was.area; used = was.used + 1; table = t; broken = was.broken })) (sym c.apply.ensures.table)
-    (subst (λ w. IsJournal (appended w c.args.command)) (sym c.self.view_is) (appended_is c.args.self.now c.args.command c.next_slot-slot.ensures.kept c.requires.admitted))
+    as_appended (λ w. IsJournal w) c.apply.new.table c.args.command c.self.view_is c.apply.ensures.table
+    (appended_is c.args.self.now c.args.command c.next_slot-slot.ensures.kept c.requires.admitted)
