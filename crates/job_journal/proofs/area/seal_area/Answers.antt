@@ -19,4 +19,3 @@ loop-sealed-preserved g c =
     (λ honest. written_seal c.args.first c.args.slots _ (length c.args.table.now.pending + 1) now.sealed (state now.disk).contents (state c.seal.new.disk).contents
     (c.seal.ensures.run honest).contents (c.in-Ok.ensures.sealed honest refl))
     (λ honest. c.in-Ok.ensures.settled honest refl)
-
