@@ -1,274 +1,264 @@
--- What a compaction leaves, in each image.
-use Rattle.std.proofs.Common.{◌≡◌, ◌+◌, ◌*◌, ◌%◌, ◌<◌, ◌≤◌, ◌⊎◌, ⊎_elim, ℕ, List, length, Bool, true, false, ◌==◌, Option, Some, None, is_none, sym, ◌∙◌, ap, subst, refl, arith, Ok, Err, IsOk, IfOk, Result, if◌then◌else◌, IsTrue}
+-- What a compaction leaves, in each image: an area written slot by slot, what it reads as in the end, and the area cell's raise.
+use Rattle.std.proofs.Common.{◌≡◌, ◌+◌, ◌*◌, ◌<◌, ◌≤◌, ℕ, zero, suc, List, [], ◌∷◌, ◌++◌, length, map, slice_get, Option, Some, sym, ◌∙◌, ap, subst, arith, IsTrue, ◌⊎◌, ⊎_elim}
 use Rattle.std.proofs.lemmas.Bool.Decides.{nat_tests}
-use Rattle.sector_disk.specs.Disk.{Image, DiskState, IsImage, SameBut, AllSettled, Laws}
+use Rattle.std.proofs.lemmas.List.{append-nil, append_assoc, length-append, length-map}
+use Rattle.std.proofs.lemmas.Option.{slice_get-map}
+use Rattle.std.specs.Prelude.{option_map}
+use borrow.Author.Count.{below_more}
+use Rattle.sector_disk.specs.Disk.{Image, DiskState, Laws, Counts, SameBut, AllSettled, sector_at, IsImage}
 use Rattle.sector_disk.specs.Run.{Run, Each}
-use Rattle.sector_disk.proofs.Runs.{run_widen, each_of_two, run_of_two}
-use Rattle.slot_gate.specs.Slot.{slot_at, InSlot, InSlots}
-use Rattle.safe_cell.specs.Body.{body_value}
-use Rattle.safe_cell.specs.Cell.{cell_at, cell_of, greater}
-use Rattle.safe_cell.specs.Mounted.{CellState, IsCellAt, AllStand, raised}
+use Rattle.sector_disk.proofs.Runs.{run_widen, each_of_two}
+use Rattle.slot_gate.specs.Slot.{slot_at, InSlots, InSlot}
+use Rattle.slot_gate.proofs.Calls.{run_on}
+use Rattle.slot_gate.proofs.Rows.{Erased, erased_start}
+use Rattle.slot_gate.proofs.Slots.{slot_same}
+use Rattle.safe_cell.specs.Cell.{cell_at}
+use Rattle.safe_cell.specs.Mounted.{CellState, IsCellAt, Stands, AllStand, raised}
 use Rattle.safe_cell.proofs.Raised.{raised_way}
+use Rattle.job_model.specs.declared.job.Job.{Job}
+use Rattle.job_model.specs.declared.record.Record.{Record}
 use Rattle.job_model.specs.Order.{IsInOrder}
-use Rattle.job_journal.specs.Jobs.{jobs_of}
+use Rattle.job_model.specs.Records.{record_of}
+use Rattle.job_journal.specs.Jobs.{Jobs, jobs_of}
+use Rattle.job_journal.specs.Areas.{slots_from, sealed_prefix, IsPrefix, first_of}
+use Rattle.job_journal.specs.Readings.{Reading, Reads, fresh, taken, found_at, replayed}
+use Rattle.job_journal.specs.Journal.{found_from, jobs_in, IsSound, ImagesSince, InJournal}
+use Rattle.job_journal.specs.Compacting.{IsWritten, records_for, other_sector}
 use Rattle.job_journal.specs.declared.place.Place.TheVariants.{Keeping}
-use Rattle.job_journal.specs.Areas.{slots_from, sealed_prefix, IsPrefix, area_of, first_of}
-use Rattle.job_journal.specs.Journal.{found_from, found_by, found_in, jobs_by, jobs_in, damage_of, IsSoundArea, IsSoundImage, ImagesSince, InJournal}
-use Rattle.job_journal.specs.Readings.{Reads, fresh, replayed}
 use Rattle.job_journal.specs.Mounted.{JournalState, Holds, AllHold, IsJournal, first_sector}
-use Rattle.job_journal.specs.Compacting.{IsWritten, records_for, compacted, other_sector}
-use Rattle.job_journal.proofs.Frames.{slots_same_from, stands_same_from, first_between, jobs_are, sound_of_prefix, prefix_of_sound}
-use Rattle.job_journal.proofs.Areas.{written_settled}
-use Rattle.job_journal.proofs.Rewritten.{Anew, anew}
+use Rattle.job_journal.proofs.Prefixes.{none_sealed, all_unsealed}
+use Rattle.job_journal.proofs.Commands.{kept, room_for, keep_taken}
+use Rattle.job_journal.proofs.Frames.{slots_same_from, stands_same_from, first_between, Stays, stays_by, stays_now, Told, told_at, told_of, images_of, synced_image}
 
--- a cell that has a value has no damaged slot
-both_told : (x y : Option ℕ) (v : ℕ) → greater x y ≡ Some v → (is_none x ≡ false) × (is_none y ≡ false)
-both_told (Some a) (Some b) v h = (refl, refl)
-both_told (Some a) None v h = cc
-both_told None y v h = cc
+-- an area in which some slots were written, each by one call: what is said of it then, and that the calls end synced
+pub record Writing (first slots : ℕ) (Said : ℕ → Image → Type 0) (old now : DiskState) (done : ℕ) : Type 0 where
+  pub calls : Erased first slots old now 0
+  pub said : IsTrue old.honest → Said 0 old.contents → Said done now.contents
+  pub settled : IsTrue old.honest → 0 < done → AllSettled now
 
-one_told : (x : Option ℕ) (v : ℕ) → x ≡ Some v → is_none x ≡ false
-one_told x v h = ap is_none h
+pub writing_start : (first slots : ℕ) (Said : ℕ → Image → Type 0) (disk : DiskState) → (IsTrue disk.honest → Laws disk) → Writing first slots Said disk disk 0
+writing_start first slots Said disk laws =
+    record { calls = erased_start first slots disk laws; said = λ honest was. was; settled = λ honest less. absurd (omega (arith, less)) }
 
-whole_slots : (at : ℕ) (a b : Option (List ℕ)) (v : ℕ) → cell_of a b ≡ Some v → damage_of at a b ≡ None
-whole_slots at None None v h = cc
-whole_slots at None (Some b) v h = ap (λ d. if d then Some (at + 2) else None) (one_told (body_value b) v h)
-whole_slots at (Some a) None v h = ap (λ d. if d then Some at else None) (one_told (body_value a) v h)
-whole_slots at (Some a) (Some b) v h =
-    let both = both_told (body_value a) (body_value b) v h in
-    ap (λ d. if d then Some at else (if is_none (body_value b) then Some (at + 2) else None)) both.0
-    ∙ ap (λ d. if d then Some (at + 2) else None) both.1
+pub writing_more : (first slots : ℕ) {Said : ℕ → Image → Type 0} {here : ℕ → Type 0} {old mid new : DiskState} {done : ℕ} {failed ok : Type 0} → ok → ((k : ℕ) → here k → InSlots first slots k)
+    → Writing first slots Said old mid done → Counts mid new failed ok → (IsTrue mid.honest → Run here mid new)
+    → (IsTrue mid.honest → Said done mid.contents → Said (done + 1) new.contents) → (IsTrue mid.honest → AllSettled new) → Writing first slots Said old new (done + 1)
+writing_more first slots {old = old} {mid = mid} was_ok into so_far counts run said settled = record {
+  calls = record {
+    sectors = counts.sectors ∙ so_far.calls.sectors;
+    honest = counts.honest ∙ so_far.calls.honest;
+    failures = counts.unchanged was_ok ∙ so_far.calls.failures;
+    run = run_on (InSlots first slots) into so_far.calls.honest so_far.calls.run run;
+    unsealed = λ honest k less. absurd (omega (arith, less));
+  };
+  said = λ honest was. said (still honest) (so_far.said honest was);
+  settled = λ honest less. settled (still honest);
+}
+  where
+    still : IsTrue old.honest → IsTrue mid.honest
+    still = subst (λ b. IsTrue b) (sym so_far.calls.honest)
 
-area_at : (slots v : ℕ) (c : Image) → cell_at c 4 ≡ Some v → 0 < v → area_of slots (cell_at c 4) ≡ Some (first_of slots v)
-area_at slots v c is some =
-    let other : (v == 0) ≡ false = grind (arith, nat_tests, some) in
-    ap (λ o. area_of slots o) is ∙ ap (λ b. if b then None else Some (first_of slots v)) other
+-- one body more
+pub written_fill : (first slots : ℕ) (records : List Record) (filled : ℕ) (d c : Image) → SameBut (λ k. k ≡ first + 2 * filled) d c
+    → record_of (sector_at c (first + 2 * filled)) ≡ slice_get records filled → IsWritten first slots records filled 0 d → IsWritten first slots records (filled + 1) 0 c
+written_fill first slots records filled d c same here so_far = record {
+  bodies = below_more (λ k. record_of (sector_at c (first + 2 * k)) ≡ slice_get records k) filled
+      (λ k before. ap record_of (same.same (first + 2 * k) (λ is. omega (arith, is, before))) ∙ so_far.bodies k before) here;
+  sealed = λ k less. absurd (omega (arith, less));
+  free = λ k le less. grind (arith, nat_tests, same.same (first + 2 * k + 1) (λ is. omega (arith, is)), so_far.free k le less);
+}
 
--- what is found under a value of the area cell
-pub found_at_value : (slots v : ℕ) (c : Image) → cell_at c 4 ≡ Some v → 0 < v → found_in slots c ≡ found_from slots c (first_of slots v)
-found_at_value slots v c is some =
-    ap (λ o. found_by slots c o (area_of slots (cell_at c 4))) (whole_slots 4 (slot_at c 4) (slot_at c 6) v is)
-    ∙ ap (λ a. found_by slots c None a) (area_at slots v c is some)
+-- one seal more
+pub written_seal : (first slots : ℕ) (records : List Record) (filled sealed : ℕ) (d c : Image) → SameBut (λ k. k ≡ first + 2 * sealed + 1) d c
+    → slot_at c (first + 2 * sealed) ≡ Some (sector_at d (first + 2 * sealed)) → IsWritten first slots records filled sealed d → IsWritten first slots records filled (sealed + 1) c
+written_seal first slots records filled sealed d c same here so_far = record {
+  bodies = λ k less. ap record_of (body k) ∙ so_far.bodies k less;
+  sealed = below_more (λ k. slot_at c (first + 2 * k) ≡ Some (sector_at c (first + 2 * k))) sealed
+      (λ k before. slot k (λ is. omega (arith, is, before)) ∙ so_far.sealed k before ∙ ap (λ s. Some s) (sym (body k))) (here ∙ ap (λ s. Some s) (sym (body sealed)));
+  free = λ k le less. slot k (λ is. omega (arith, is, le)) ∙ so_far.free k (omega (arith, le)) less;
+}
+  where
+    body : (k : ℕ) → sector_at c (first + 2 * k) ≡ sector_at d (first + 2 * k)
+    body k = same.same (first + 2 * k) (λ is. omega (arith, is))
 
-pub sound_at_value : (slots v : ℕ) (c : Image) → cell_at c 4 ≡ Some v → 0 < v → IsPrefix (slots_from c (first_of slots v) slots) → IsSoundImage slots c
-sound_at_value slots v c is some prefix = subst (λ a. IsSoundArea slots c a) (sym (area_at slots v c is some)) prefix
+    slot : (k : ℕ) → (k ≡ sealed → ⊥) → slot_at c (first + 2 * k) ≡ slot_at d (first + 2 * k)
+    slot k other = slot_same c d (first + 2 * k) (same.same (first + 2 * k + 1) (λ is. other (omega (arith, is)))) (body k)
 
--- the next value of the area cell names the other area
-other_way : (slots : ℕ) (b n : Bool) → (b ≡ true → n ≡ false) → (b ≡ false → n ≡ true) → (k : ℕ)
-    → (if b then 8 else 8 + 2 * slots) ≤ k → k < (if b then 8 else 8 + 2 * slots) + 2 * slots → InSlots (if n then 8 else 8 + 2 * slots) slots k → ⊥
-other_way slots true true odd even k above below is = absurd (let no : true ≡ false = odd refl in cc)
-other_way slots true false odd even k above below is = omega (arith, below, is.0)
-other_way slots false true odd even k above below is = omega (arith, above, is.1)
-other_way slots false false odd even k above below is = absurd (let no : false ≡ true = even refl in cc)
+-- the record behind the first, of the job in the place before
+pub record_behind : (jobs : Jobs) (slot place : ℕ) (job : Job) → slot ≡ place + 1 → slice_get jobs.pending place ≡ Some job → slice_get (records_for jobs) slot ≡ Some (Record.Keep job)
+record_behind jobs slot place job is some =
+    let there : slot ≡ suc place = omega (arith, is) in
+    ap (λ k. slice_get (records_for jobs) k) there ∙ slice_get-map Record.Keep jobs.pending place ∙ ap (λ o. option_map Record.Keep o) some
 
-odd_next : (v : ℕ) → (v % 2 == 1) ≡ true → ((v + 1) % 2 == 1) ≡ false
-odd_next v h = grind (arith, nat_tests, h)
+abbrev some_each : List Record → List (Option Record)
+some_each records = map (λ r. Some r) records
 
-even_next : (v : ℕ) → (v % 2 == 1) ≡ false → ((v + 1) % 2 == 1) ≡ true
-even_next v h = grind (arith, nat_tests, h)
+-- in an area with all of its records and nothing else the sealed slots are a prefix, and their bodies are the records
+whole_slots : (at n : ℕ) (records : List Record) (c : Image) → length records ≤ n → IsWritten at n records (length records) (length records) c
+    → IsPrefix (slots_from c at n) × (map record_of (sealed_prefix (slots_from c at n)) ≡ some_each records)
+whole_slots at n [] c fits h =
+    let none = none_sealed (slots_from c at n) (all_unsealed c at n (λ k less. h.free k (omega arith) less)) in
+    (none.1, ap (λ bodies. map record_of bodies) none.0)
+whole_slots at zero (r ∷ rs) c fits h = absurd (omega (arith, fits))
+whole_slots at (suc n) (r ∷ rs) c fits h =
+    let xs = slots_from c (at + 2) n in
+    let here : slot_at c at ≡ Some (sector_at c at) = subst (λ s. slot_at c s ≡ Some (sector_at c s)) first (h.sealed 0 (omega arith)) in
+    let body : record_of (sector_at c at) ≡ Some r = subst (λ s. record_of (sector_at c s) ≡ Some r) first (h.bodies 0 (omega arith)) in
+    let rest = whole_slots (at + 2) n rs c (omega (arith, fits)) (record {
+      bodies = λ k less. ap (λ s. record_of (sector_at c s)) (there k) ∙ h.bodies (suc k) (omega (arith, less));
+      sealed = λ k less. subst (λ s. slot_at c s ≡ Some (sector_at c s)) (sym (there k)) (h.sealed (suc k) (omega (arith, less)));
+      free = λ k le less. ap (λ s. slot_at c s) (there k) ∙ h.free (suc k) (omega (arith, le)) (omega (arith, less));
+    }) in
+    (subst (λ s. IsPrefix (s ∷ xs)) (sym here) rest.0, ap (λ s. map record_of (sealed_prefix (s ∷ xs))) here ∙ (λ i. body i ∷ rest.1 i))
+  where
+    first : at + 2 * 0 ≡ at
+    first = omega arith
 
--- the areas don't meet
-areas_apart : (slots v k : ℕ) → first_of slots v ≤ k → k < first_of slots v + 2 * slots → InSlots (first_of slots (v + 1)) slots k → ⊥
-areas_apart slots v k above below is = other_way slots (v % 2 == 1) ((v + 1) % 2 == 1) (odd_next v) (even_next v) k above below is
+    there : (k : ℕ) → at + 2 + 2 * k ≡ at + 2 * suc k
+    there k = omega arith
 
--- an image of a disk whose other area alone was written
-present_same : (journal : JournalState) (d c : Image) → SameBut (InSlots (other_sector journal) journal.slots) d c
-    → slots_from c (first_sector journal) journal.slots ≡ slots_from d (first_sector journal) journal.slots
-present_same journal d c same =
-    slots_same_from (first_sector journal) journal.slots d c
-    (record { same = λ k le lt. same.same k (areas_apart journal.slots journal.area.value k le lt) })
+-- one record that is allowed
+read_one : (slots at : ℕ) (r : Record) (body : List ℕ) (bodies : List (List ℕ)) (before after : Reading) → record_of body ≡ Some r → taken slots before (Some r) ≡ Some after
+    → replayed slots at (Reads before) (body ∷ bodies) ≡ replayed slots (at + 2) (Reads after) bodies
+read_one slots at r body bodies before after is allows = ap (λ o. replayed slots (at + 2) (found_at at o) bodies) (ap (λ o. taken slots before o) is ∙ allows)
 
--- while the other area is written the journal stays as it was
-pub holds_beside : (journal : JournalState) (d c : Image) → SameBut (InSlots (other_sector journal) journal.slots) d c → Holds journal d → Holds journal c
-holds_beside journal d c same h =
-    let as_was = present_same journal d c same in
-    let low = first_between journal.slots (journal.area.value + 1) in
-    let first = first_sector journal in
+keeps_read : (slots at next : ℕ) (done rest : List Job) (bodies : List (List ℕ)) → IsInOrder (done ++ rest) next → length done + length rest + 2 ≤ slots
+    → map record_of bodies ≡ some_each (map Record.Keep rest) → replayed slots at (Reads (kept next done)) bodies ≡ Reads (kept next (done ++ rest))
+keeps_read slots at next done [] [] order fits is = ap (λ jobs. Reads (kept next jobs)) (sym (append-nil done))
+keeps_read slots at next done (job ∷ rest) [] order fits is = cc
+keeps_read slots at next done [] (body ∷ bodies) order fits is = cc
+keeps_read slots at next done (job ∷ rest) (body ∷ bodies) order fits is =
+    let here : record_of body ≡ Some (Record.Keep job) = cc in
+    let others : map record_of bodies ≡ some_each (map Record.Keep rest) = cc in
+    let more = append_assoc done (job ∷ []) rest in
+    read_one slots at (Record.Keep job) body bodies (kept next done) (kept next (done ++ job ∷ [])) here (keep_taken slots next done rest job order fits)
+    ∙ keeps_read slots (at + 2) next (done ++ job ∷ []) rest bodies (subst (λ jobs. IsInOrder jobs next) (sym more) order) (omega (arith, fits, length-append done (job ∷ []))) others
+    ∙ ap (λ jobs. Reads (kept next jobs)) more
+
+all_read : (slots at : ℕ) (jobs : Jobs) (bodies : List (List ℕ)) → IsInOrder jobs.pending jobs.next → length jobs.pending + 2 ≤ slots
+    → map record_of bodies ≡ some_each (records_for jobs) → replayed slots at (Reads fresh) bodies ≡ Reads (kept jobs.next jobs.pending)
+all_read slots at jobs [] order fits is = cc
+all_read slots at jobs (body ∷ bodies) order fits is =
+    let here : record_of body ≡ Some (Record.Base jobs.next) = cc in
+    let others : map record_of bodies ≡ some_each (map Record.Keep jobs.pending) = cc in
+    read_one slots at (Record.Base jobs.next) body bodies fresh (kept jobs.next []) here (room_for slots (kept jobs.next []) (omega (arith, fits)))
+    ∙ keeps_read slots (at + 2) jobs.next [] jobs.pending bodies order (omega (arith, fits)) others
+
+-- what an area that was written anew tells
+pub record Anew (slots first : ℕ) (jobs : Jobs) (c : Image) : Type 0 where
+  pub reads : found_from slots c first ≡ Reads (kept jobs.next jobs.pending)
+  pub prefix : IsPrefix (slots_from c first slots)
+  pub count : length (sealed_prefix (slots_from c first slots)) ≡ length jobs.pending + 1
+
+pub anew : (slots first : ℕ) (jobs : Jobs) (c : Image) → IsInOrder jobs.pending jobs.next → length jobs.pending + 2 ≤ slots
+    → IsWritten first slots (records_for jobs) (length jobs.pending + 1) (length jobs.pending + 1) c → Anew slots first jobs c
+anew slots first jobs c order fits written =
+    let records = records_for jobs in
+    let bodies = sealed_prefix (slots_from c first slots) in
+    let count : length jobs.pending + 1 ≡ length records = omega (arith, length-map jobs.pending Record.Keep) in
+    let whole = whole_slots first slots records c (omega (arith, fits, count)) (subst (λ k. IsWritten first slots records k k c) count written) in
     record {
-      cell = h.cell;
-      present = h.present;
-      area = stands_same_from 4 journal.area d c h.cell (record { same = λ k le lt. same.same k (λ is. omega (arith, lt, is.0, low.0)) }) h.area;
-      place = h.place;
-      reads = ap (λ ys. replayed journal.slots first (Reads fresh) (sealed_prefix ys)) as_was ∙ h.reads;
-      used = ap (λ ys. length (sealed_prefix ys)) as_was ∙ h.used;
+      reads = all_read slots first jobs bodies order fits whole.1;
+      prefix = whole.0;
+      count = sym (length-map bodies record_of) ∙ ap length whole.1 ∙ length-map records (λ r. Some r) ∙ sym count;
     }
-
-pub prefix_beside : (journal : JournalState) (d c : Image) → SameBut (InSlots (other_sector journal) journal.slots) d c
-    → IsPrefix (slots_from d (first_sector journal) journal.slots) → IsPrefix (slots_from c (first_sector journal) journal.slots)
-prefix_beside journal d c same prefix = subst IsPrefix (sym (present_same journal d c same)) prefix
-
--- each image while the other area is written
-pub area_holds : (journal : JournalState) (old mid : DiskState) → AllHold journal old → Run (InSlots (other_sector journal) journal.slots) old mid → Each old mid (Holds journal)
-area_holds journal old mid all run c since =
-    let f = run.follows c since in
-    holds_beside journal f.0 c f.2 (all f.0 f.1)
-
-area_images : (journal : JournalState) (old mid : DiskState) → AllHold journal old → Run (InSlots (other_sector journal) journal.slots) old mid
-    → Each old mid (λ c. jobs_in journal.slots c ≡ Some (jobs_of journal.table))
-area_images journal old mid all run c since = jobs_are journal c (area_holds journal old mid all run c since)
-
-pub area_prefix : (journal : JournalState) (old mid : DiskState) → AllHold journal old → ((d : Image) → IsImage old d → IsSoundImage journal.slots d)
-    → Run (InSlots (other_sector journal) journal.slots) old mid → Each old mid (λ c. IsPrefix (slots_from c (first_sector journal) journal.slots))
-area_prefix journal old mid all sound run c since =
-    let f = run.follows c since in
-    prefix_beside journal f.0 c f.2 (prefix_of_sound journal f.0 (all f.0 f.1) (sound f.0 f.1))
-
-area_sound : (journal : JournalState) (old mid : DiskState) → AllHold journal old → ((d : Image) → IsImage old d → IsSoundImage journal.slots d)
-    → Run (InSlots (other_sector journal) journal.slots) old mid → Each old mid (IsSoundImage journal.slots)
-area_sound journal old mid all sound run c since =
-    sound_of_prefix journal c (area_holds journal old mid all run c since) (area_prefix journal old mid all sound run c since)
 
 -- while nothing is done
 pub still_since : (journal : JournalState) (disk : DiskState) → IsTrue disk.honest → Laws disk → AllHold journal disk
     → ImagesSince journal.slots disk disk (λ c. jobs_in journal.slots c ≡ Some (jobs_of journal.table))
-still_since journal disk honest laws all = record {
-  each = λ c since. jobs_are journal c (all c (laws.only_now c since));
-  sound = λ sound c since. sound honest c (laws.only_now c since);
-}
+still_since journal disk honest laws all = images_of (λ c since. told_of (stays_now journal disk honest all c (laws.only_now c since)))
 
--- while the other area is written
-pub area_since : (journal : JournalState) (old mid : DiskState) → IsTrue old.honest → AllHold journal old → Run (InSlots (other_sector journal) journal.slots) old mid
-    → ImagesSince journal.slots old mid (λ c. jobs_in journal.slots c ≡ Some (jobs_of journal.table))
-area_since journal old mid honest all run = record {
-  each = area_images journal old mid all run;
-  sound = λ sound. area_sound journal old mid all (sound honest) run;
-}
+-- each image while the other area is written: the journal stays as it was
+area_stays : (journal : JournalState) {other : ℕ} {old mid : DiskState} → IsTrue old.honest → AllHold journal old → other ≡ other_sector journal
+    → Run (InSlots other journal.slots) old mid → Each old mid (Stays (IsSound journal.slots old) journal)
+area_stays journal {other = other} {old = old} honest all at run c since =
+    let f = run.follows c since in
+    let was = stays_now journal old honest all f.0 f.1 in
+    let low = first_between journal.slots (journal.area.value + 1) in
+    stays_by (stands_same_from 4 journal.area f.0 c was.holds.cell (record { same = λ k le lt. f.2.same k (λ is. omega (arith, lt, is.0, at, low.0)) }) was.holds.area)
+    (slots_same_from (first_sector journal) journal.slots f.0 c (record { same = λ k le lt. f.2.same k (λ is. grind (arith, nat_tests, at, le, lt, is.0, is.1)) })) was
 
--- what the disk has once the other area is written
-pub record BothAreas (journal : JournalState) (c : Image) : Type 0 where
-  pub holds : Holds journal c
-  pub anew : Anew journal.slots (other_sector journal) (jobs_of journal.table) c
-
--- the premises of a compaction
-pub record Written (journal : JournalState) (old mid : DiskState) : Type 0 where
-  pub order : IsInOrder journal.table.pending journal.table.next
-  pub room : length journal.table.pending + 2 ≤ journal.slots
-  pub run : Run (InSlots (other_sector journal) journal.slots) old mid
-  pub written : IsWritten (other_sector journal) journal.slots (records_for (jobs_of journal.table)) (length journal.table.pending + 1) (length journal.table.pending + 1) mid.contents
+-- the other area once it is written
+pub record Written (journal : JournalState) (other : ℕ) (old mid : DiskState) : Type 0 where
+  pub at : other ≡ other_sector journal
+  pub run : Run (InSlots other journal.slots) old mid
+  pub written : IsWritten other journal.slots (records_for (jobs_of journal.table)) (length journal.table.pending + 1) (length journal.table.pending + 1) mid.contents
   pub settled : AllSettled mid
 
-pub both_areas : (journal : JournalState) (old mid : DiskState) → AllHold journal old → Written journal old mid → (c : Image) → IsImage mid c → BothAreas journal c
-both_areas journal old mid all w c image = record {
-  holds = area_holds journal old mid all w.run c (w.run.ends c image);
-  anew = anew journal.slots (other_sector journal) (jobs_of journal.table) c w.order w.room
-      (written_settled (other_sector journal) journal.slots (records_for (jobs_of journal.table)) (length journal.table.pending + 1) (length journal.table.pending + 1) mid c w.settled image w.written);
-}
+written_anew : {journal : JournalState} {other : ℕ} {old mid : DiskState} → IsJournal journal → IsInOrder journal.table.pending journal.table.next → Written journal other old mid
+    → (c : Image) → IsImage mid c → Anew journal.slots (other_sector journal) (jobs_of journal.table) c
+written_anew {journal = journal} {other = other} {mid = mid} is order w c image =
+    let count = length journal.table.pending + 1 in
+    subst (λ o. Anew journal.slots o (jobs_of journal.table) c) w.at (anew journal.slots other (jobs_of journal.table) c order is.pending
+    (subst (λ d. IsWritten other journal.slots (records_for (jobs_of journal.table)) count count d) (sym (synced_image mid c w.settled image)) w.written))
 
 -- the areas aren't touched by the area cell's raise
-spare_low : (cell : CellState) → IsCellAt 4 cell → (k : ℕ) → InSlot cell.spare k → (4 ≤ k) × (k < 8)
-spare_low cell way k is =
-    ⊎_elim
-    (λ w. ⊎_elim (λ e. (omega (arith, w.1, e), omega (arith, w.1, e))) (λ e. (omega (arith, w.1, e), omega (arith, w.1, e))) is)
-    (λ w. ⊎_elim (λ e. (omega (arith, w.1, e), omega (arith, w.1, e))) (λ e. (omega (arith, w.1, e), omega (arith, w.1, e))) is)
-    way
-
 area_kept : (journal : JournalState) (v : ℕ) (d c : Image) → IsCellAt 4 journal.area → SameBut (InSlot journal.area.spare) d c
     → slots_from c (first_of journal.slots v) journal.slots ≡ slots_from d (first_of journal.slots v) journal.slots
 area_kept journal v d c way same =
     slots_same_from (first_of journal.slots v) journal.slots d c
-    (record { same = λ k le lt. same.same k (λ is. omega (arith, le, (first_between journal.slots v).0, (spare_low journal.area way k is).1)) })
-
-found_kept : (journal : JournalState) (v : ℕ) (d c : Image) → IsCellAt 4 journal.area → SameBut (InSlot journal.area.spare) d c
-    → found_from journal.slots c (first_of journal.slots v) ≡ found_from journal.slots d (first_of journal.slots v)
-found_kept journal v d c way same =
-    ap (λ ys. replayed journal.slots (first_of journal.slots v) (Reads fresh) (sealed_prefix ys)) (area_kept journal v d c way same)
+    (record { same = λ k le lt. same.same k (λ is. grind (arith, le, (first_between journal.slots v).0, way, is)) })
 
 -- each image while the area cell is raised: whichever area counts, it has the same jobs
-pub raise_images : (journal : JournalState) (old mid new : DiskState) → IsJournal journal → AllHold journal old → Written journal old mid → Run (InSlot journal.area.spare) mid new
-    → Each mid new (λ c. (cell_at c 4 ≡ Some journal.area.value) ⊎ (cell_at c 4 ≡ Some (journal.area.value + 1)))
-    → Each mid new (λ c. jobs_in journal.slots c ≡ Some (jobs_of journal.table))
-raise_images journal old mid new is all w run values c since =
+raise_told : {journal : JournalState} {other : ℕ} {old mid new : DiskState} → IsTrue old.honest → IsJournal journal → IsInOrder journal.table.pending journal.table.next → AllHold journal old
+    → Written journal other old mid → Run (InSlot journal.area.spare) mid new → Each mid new (λ c. (cell_at c 4 ≡ Some journal.area.value) ⊎ (cell_at c 4 ≡ Some (journal.area.value + 1)))
+    → Each mid new (Told (IsSound journal.slots old) journal)
+raise_told {journal = journal} honest is order all w run values c since =
     let f = run.follows c since in
-    let both = both_areas journal old mid all w f.0 f.1 in
     let v = journal.area.value in
-    ⊎_elim
-    (λ before. ap jobs_by (found_at_value journal.slots v c before is.present ∙ found_kept journal v f.0 c is.cell f.2 ∙ both.holds.reads))
-    (λ after. ap jobs_by (found_at_value journal.slots (v + 1) c after (omega arith) ∙ found_kept journal (v + 1) f.0 c is.cell f.2 ∙ both.anew.reads))
-    (values c since)
+    let was = area_stays journal honest all w.at w.run f.0 (w.run.ends f.0 f.1) in
+    let next = written_anew is order w f.0 f.1 in
+    ⊎_elim (λ before. told_at journal.slots v f.0 c (area_kept journal v f.0 c is.cell f.2) before is.present was.holds.reads was.prefix)
+    (λ after. told_at journal.slots (v + 1) f.0 c (area_kept journal (v + 1) f.0 c is.cell f.2) after (omega arith) next.reads (λ _. next.prefix)) (values c since)
 
-pub raise_sound : (journal : JournalState) (old mid new : DiskState) → IsJournal journal → AllHold journal old → ((d : Image) → IsImage old d → IsSoundImage journal.slots d)
-    → Written journal old mid → Run (InSlot journal.area.spare) mid new
-    → Each mid new (λ c. (cell_at c 4 ≡ Some journal.area.value) ⊎ (cell_at c 4 ≡ Some (journal.area.value + 1)))
-    → Each mid new (IsSoundImage journal.slots)
-raise_sound journal old mid new is all sound w run values c since =
-    let f = run.follows c since in
-    let both = both_areas journal old mid all w f.0 f.1 in
-    let v = journal.area.value in
-    ⊎_elim
-    (λ before. sound_at_value journal.slots v c before is.present
-    (subst IsPrefix (sym (area_kept journal v f.0 c is.cell f.2)) (area_prefix journal old mid all sound w.run f.0 (w.run.ends f.0 f.1))))
-    (λ after. sound_at_value journal.slots (v + 1) c after (omega arith)
-    (subst IsPrefix (sym (area_kept journal (v + 1) f.0 c is.cell f.2)) both.anew.prefix))
-    (values c since)
-
--- the sectors of both parts
-pub in_areas : (journal : JournalState) (old new : DiskState) → Run (InSlots (other_sector journal) journal.slots) old new → Run (InJournal journal.slots) old new
-in_areas journal old new run =
+-- What the code knows of the journal is known of its view. First while the other area is written:
+pub area_run : {journal was : JournalState} {other : ℕ} {old mid : DiskState} → journal ≡ was → other ≡ other_sector journal → Run (InSlots other journal.slots) old mid
+    → Run (InJournal was.slots) old mid
+area_run {journal = journal} {other = other} {old = old} {mid = mid} view at run =
     let w = first_between journal.slots (journal.area.value + 1) in
-    run_widen (InSlots (other_sector journal) journal.slots) (InJournal journal.slots) old new (λ k is. (omega (arith, is.0, w.0), omega (arith, is.1, w.1))) run
+    subst (λ j. Run (InJournal j.slots) old mid) view
+    (run_widen (InSlots other journal.slots) (InJournal journal.slots) old mid (λ k is. (omega (arith, is.0, at, w.0), omega (arith, is.1, at, w.1))) run)
 
-pub in_cell : (journal : JournalState) (old new : DiskState) → IsJournal journal → Run (InSlot journal.area.spare) old new → Run (InJournal journal.slots) old new
-in_cell journal old new is run =
-    run_widen (InSlot journal.area.spare) (InJournal journal.slots) old new
-    (λ k here. let low = spare_low journal.area is.cell k here in (low.0, omega (arith, low.1))) run
+pub area_since : {journal was : JournalState} {other : ℕ} {old mid : DiskState} → journal ≡ was → other ≡ other_sector journal → Run (InSlots other journal.slots) old mid → IsTrue old.honest
+    → AllHold was old → ImagesSince was.slots old mid (λ c. jobs_in was.slots c ≡ Some (jobs_of was.table))
+area_since {journal = journal} {old = old} {mid = mid} view at run honest =
+    subst (λ j. AllHold j old → ImagesSince j.slots old mid (λ c. jobs_in j.slots c ≡ Some (jobs_of j.table))) view
+    (λ all. images_of (λ c since. told_of (area_stays journal honest all at run c since)))
 
--- both parts together
-pub compact_run : (journal : JournalState) (old mid new : DiskState) → IsJournal journal → Run (InSlots (other_sector journal) journal.slots) old mid → Run (InSlot journal.area.spare) mid new → Run (InJournal journal.slots) old new
-compact_run journal old mid new is first second = run_of_two (InJournal journal.slots) old mid new (in_areas journal old mid first) (in_cell journal mid new is second)
-
-pub compact_since : (journal : JournalState) (old mid new : DiskState) → IsTrue old.honest → IsJournal journal → AllHold journal old → Written journal old mid
-    → Run (InSlot journal.area.spare) mid new → Each mid new (λ c. (cell_at c 4 ≡ Some journal.area.value) ⊎ (cell_at c 4 ≡ Some (journal.area.value + 1)))
-    → ImagesSince journal.slots old new (λ c. jobs_in journal.slots c ≡ Some (jobs_of journal.table))
-compact_since journal old mid new honest is all w run values = record {
-  each = each_of_two (InSlot journal.area.spare) old mid new (λ c. jobs_in journal.slots c ≡ Some (jobs_of journal.table)) w.run.later run
-      (area_images journal old mid all w.run) (raise_images journal old mid new is all w run values);
-  sound = λ sound. each_of_two (InSlot journal.area.spare) old mid new (IsSoundImage journal.slots) w.run.later run
-      (area_sound journal old mid all (sound honest) w.run) (raise_sound journal old mid new is all (sound honest) w run values);
-}
-
--- the disk in the end
-pub compact_after : (journal : JournalState) (old mid new : DiskState) → IsJournal journal → AllHold journal old → Written journal old mid → Run (InSlot journal.area.spare) mid new
-    → AllStand (raised journal.area) new → AllHold (compacted journal) new
-compact_after journal old mid new is all w run stand c image =
-    let f = run.follows c (run.ends c image) in
-    let both = both_areas journal old mid all w f.0 f.1 in
-    let next = journal.area.value + 1 in
-    record {
-      cell = raised_way 4 journal.area is.cell;
-      present = omega arith;
-      area = stand c image;
-      place = Keeping;
-      reads = found_kept journal next f.0 c is.cell f.2 ∙ both.anew.reads;
-      used = ap (λ ys. length (sealed_prefix ys)) (area_kept journal next f.0 c is.cell f.2) ∙ both.anew.count;
-    }
+-- then while the area cell is raised
+pub compact_run : {journal was : JournalState} {other : ℕ} {old mid new : DiskState} → journal ≡ was → IsJournal journal → other ≡ other_sector journal → mid.honest ≡ old.honest
+    → (IsTrue old.honest → Run (InSlots other journal.slots) old mid) → (IsTrue mid.honest → Run (InSlot journal.area.spare) mid new) → IsTrue old.honest → Run (InJournal was.slots) old new
+compact_run {was = was} view is at same first second =
+    run_on (InJournal was.slots) (λ k here. subst (λ j. InJournal j.slots k) view (grind (arith, is.cell, here), grind (arith, is.cell, here))) same (λ honest. area_run view at (first honest)) second
 
 -- the area cell is as it was while the other area is written
-pub area_stands : (journal : JournalState) (old mid : DiskState) → AllHold journal old → Run (InSlots (other_sector journal) journal.slots) old mid → AllStand journal.area mid
-area_stands journal old mid all run d image = (area_holds journal old mid all run d (run.ends d image)).area
+pub area_stands : {journal : JournalState} {other : ℕ} {old mid : DiskState} → IsTrue old.honest → AllHold journal old → Written journal other old mid → AllStand journal.area mid
+area_stands {journal = journal} honest all w d image = (area_stays journal honest all w.at w.run d (w.run.ends d image)).holds.area
 
--- what was written, by the sector in which it begins
-pub written_at : (journal : JournalState) (other : ℕ) (old mid : DiskState) → other ≡ other_sector journal → IsInOrder journal.table.pending journal.table.next
-    → length journal.table.pending + 2 ≤ journal.slots → Run (InSlots other journal.slots) old mid
-    → IsWritten other journal.slots (records_for (jobs_of journal.table)) (length journal.table.pending + 1) (length journal.table.pending + 1) mid.contents → AllSettled mid
-    → Written journal old mid
-written_at journal other old mid at order room run written settled = record {
-  order = order;
-  room = room;
-  run = subst (λ a. Run (InSlots a journal.slots) old mid) at run;
-  written = subst (λ a. IsWritten a journal.slots (records_for (jobs_of journal.table)) (length journal.table.pending + 1) (length journal.table.pending + 1) mid.contents) at written;
-  settled = settled;
-}
+pub compact_since : {journal was : JournalState} {other : ℕ} {old mid new : DiskState} → journal ≡ was → IsTrue old.honest → IsJournal journal → IsInOrder journal.table.pending journal.table.next
+    → Written journal other old mid → Run (InSlot journal.area.spare) mid new
+    → (AllStand journal.area mid → Each mid new (λ c. (cell_at c 4 ≡ Some journal.area.value) ⊎ (cell_at c 4 ≡ Some (journal.area.value + 1))))
+    → AllHold was old → ImagesSince was.slots old new (λ c. jobs_in was.slots c ≡ Some (jobs_of was.table))
+compact_since {journal = journal} {old = old} {mid = mid} {new = new} view honest is order w run values =
+    subst (λ j. AllHold j old → ImagesSince j.slots old new (λ c. jobs_in j.slots c ≡ Some (jobs_of j.table))) view
+    (λ all. images_of (each_of_two (InSlot journal.area.spare) old mid new (Told (IsSound journal.slots old) journal) w.run.later run
+    (λ c since. told_of (area_stays journal honest all w.at w.run c since)) (raise_told honest is order all w run (values (area_stands honest all w)))))
 
--- what an answer says where it is Ok
-pub where_ok : (A E : Type 0) (answer : Result A E) (P : A → Type 0) (Q : Type 0) → ((v : A) → P v → Q) → IsOk answer → IfOk answer P → Q
-where_ok A E (Ok v) P Q so ok h = so v h
-where_ok A E (Err e) P Q so ok h = cc
-
--- the disk in the end, as the code knows it
-pub compact_ends : (journal : JournalState) (area : CellState) (used : ℕ) (old mid new : DiskState) → IsJournal journal → AllHold journal old → Written journal old mid
-    → Run (InSlot journal.area.spare) mid new → area ≡ raised journal.area → used ≡ length journal.table.pending + 1 → AllStand area new
-    → AllHold (record journal { area = area; used = used }) new
-compact_ends journal area used old mid new is all w run here count stand =
-    let after = compact_after journal old mid new is all w run (subst (λ a. AllStand a new) here stand) in
-    subst (λ a. AllHold (record journal { area = a; used = used }) new) (sym here)
-    (subst (λ k. AllHold (record journal { area = raised journal.area; used = k }) new) (sym count) after)
+-- the disk in the end
+pub compact_after : {journal was : JournalState} {area : CellState} {used other : ℕ} {old mid new : DiskState} → journal ≡ was → IsTrue old.honest → IsJournal journal
+    → IsInOrder journal.table.pending journal.table.next → Written journal other old mid → Run (InSlot journal.area.spare) mid new → area ≡ raised journal.area
+    → used ≡ length journal.table.pending + 1 → (AllStand journal.area mid → AllStand area new) → AllHold was old → AllHold (record journal { area = area; used = used }) new
+compact_after {journal = journal} {area = area} {used = used} {old = old} {new = new} view honest is order w run here count stand known c image =
+    let f = run.follows c (run.ends c image) in
+    let next = written_anew is order w f.0 f.1 in
+    let v = journal.area.value + 1 in
+    let same = area_kept journal v f.0 c is.cell f.2 in
+    let stands = stand (area_stands honest (subst (λ j. AllHold j old) (sym view) known) w) c image in
+    subst (λ a. Holds (record journal { area = a; used = used }) c) (sym here) (record {
+      cell = raised_way 4 journal.area is.cell;
+      present = omega arith;
+      area = subst (λ a. Stands a c) here stands;
+      place = Keeping;
+      reads = ap (λ ys. replayed journal.slots (first_of journal.slots v) (Reads fresh) (sealed_prefix ys)) same ∙ next.reads;
+      used = ap (λ ys. length (sealed_prefix ys)) same ∙ next.count ∙ sym count;
+    })

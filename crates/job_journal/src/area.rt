@@ -5,6 +5,7 @@ ghost use Rattle.sector_disk.specs.Run.{Run};
 ghost use Rattle.slot_gate.specs.Slot.{slot_at, InSlots};
 ghost use Rattle.job_journal.specs.Compacting.{records_for, IsWritten};
 ghost use Rattle.job_journal.specs.Jobs.{jobs_of};
+ghost use Rattle.job_model.specs.Order.{IsInOrder};
 
 use crate::fault::JournalFault;
 use job_model::{JobTable, Record};
@@ -84,7 +85,7 @@ fn fill_area<D: SectorDisk>(
     ensures settled { IsTrue (D.state disk.old).honest → IsOk result
         → AllSettled (D.state disk.new) }
 {
-    for filled in 0..table.pending().len() as u64 + 1 {
+    for filled in 0..record_count(table) {
         let body = record_at(table, filled).to_sector();
         let Ok(()) = fill(disk, first + 2 * filled, &body) else {
             return Err(JournalFault::Device);
@@ -117,12 +118,21 @@ fn seal_area<D: SectorDisk>(
     ensures settled { IsTrue (D.state disk.old).honest → IsOk result
         → AllSettled (D.state disk.new) }
 {
-    for sealed in 0..table.pending().len() as u64 + 1 {
+    for sealed in 0..record_count(table) {
         let Ok(()) = seal(disk, first + 2 * sealed) else {
             return Err(JournalFault::Device);
         };
     }
     Ok(())
+}
+
+// How many records stand for the jobs of a table.
+pub(crate) fn record_count(table: &JobTable) -> u64
+    requires { length table.now.pending + 1 < 2 ^ 64 }
+    ensures count { result ≡ length table.now.pending + 1 }
+    ensures in_order { IsInOrder table.now.pending table.now.next }
+{
+    table.pending().len() as u64 + 1
 }
 
 // The record in this slot of an area that is written anew.

@@ -1,5 +1,5 @@
 // A journal moved into its other area, with no record in it but those of the pending jobs.
-ghost use Rattle.std.specs.Prelude.{◌≡◌, ◌⊎◌, ◌<◌, ◌≤◌, ◌+◌, ◌-◌, ◌*◌, ◌^◌, IsTrue, IsOk, IsErrOf, IsSome, Some, None};
+ghost use Rattle.std.specs.Prelude.{◌≡◌, ◌≢◌, ◌⊎◌, ◌<◌, ◌≤◌, ◌+◌, ◌-◌, ◌*◌, ◌^◌, IsTrue, IsOk, IsErrOf, IsSome, Some, None};
 ghost use Rattle.sector_disk.specs.Disk.{Counts};
 ghost use Rattle.sector_disk.specs.Run.{Run};
 ghost use Rattle.job_journal.specs.Appending.{Answers};
@@ -9,9 +9,10 @@ ghost use Rattle.job_journal.specs.Jobs.{jobs_of};
 ghost use Rattle.job_journal.specs.Journal.{jobs_in, ImagesSince, InJournal};
 ghost use Rattle.job_journal.specs.Mounted.{AllHold, Lasts, IsJournal};
 
-use crate::area::write_area;
+use crate::area::{record_count, write_area};
 use crate::fault::JournalFault;
-use crate::journal::{JobJournal, first_sector};
+use crate::journal::{JobJournal, first_under};
+use safe_cell::SafeCell;
 use sector_disk::SectorDisk;
 
 impl JobJournal {
@@ -49,16 +50,16 @@ impl JobJournal {
         if let Some(fault) = self.refuse_compaction() {
             return Err(fault);
         }
-        let records = self.table.pending().len() as u64 + 1;
-        let other = other_sector(self.slots, self.area.value());
-        if write_area(disk, other, self.slots, &self.table).is_err() {
+        let records = record_count(&self.table);
+        let other = other_sector(self.slots, &self.area);
+        let Ok(()) = write_area(disk, other, self.slots, &self.table) else {
             self.broken = true;
             return Err(JournalFault::Device);
-        }
-        if self.area.raise(disk).is_err() {
+        };
+        let Ok(_) = self.area.raise(disk) else {
             self.broken = true;
             return Err(JournalFault::Device);
-        }
+        };
         self.used = records;
         Ok(())
     }
@@ -72,6 +73,7 @@ impl JobJournal {
         ensures device_alone { IsOk result ⊎ IsErrOf result JournalFault.Device }
         ensures device { IsErrOf result JournalFault.Device → IsGivenUp self.old self.new }
         ensures ok { IsOk result → self.new ≡ with_slot self.old }
+        ensures kept { KeepsJobs self.old self.new }
         ensures run { IsTrue (D.state disk.old).honest
             → Run (InJournal self.old.slots) (D.state disk.old) (D.state disk.new) }
         ensures images { IsTrue (D.state disk.old).honest → AllHold self.old (D.state disk.old)
@@ -101,11 +103,11 @@ impl JobJournal {
     }
 }
 
-// The first sector of the area that isn't present under this value of the area cell.
-fn other_sector(slots: u64, value: u64) -> u64
+// The first sector of the area that isn't present.
+fn other_sector(slots: u64, area: &SafeCell) -> u64
     requires most { slots ≤ 4096 }
-    requires below { value < 2 ^ 64 - 1 }
-    ensures { result ≡ first_of slots (value + 1) }
+    requires below { area.now.value ≢ 2 ^ 64 - 1 }
+    ensures { result ≡ first_of slots (area.now.value + 1) }
 {
-    first_sector(slots, value + 1)
+    first_under(slots, area.value() + 1)
 }

@@ -3,7 +3,7 @@ use Rattle.std.proofs.lemmas.Option.{slice_get_read}
 use Rattle.job_model.specs.declared.job.Job.{Job}
 use Rattle.std.specs.Prelude.{get_or, List}
 use Rattle.job_journal.specs.Jobs.{jobs_of}
-use Rattle.job_journal.proofs.Areas.{record_behind}
+use Rattle.job_journal.proofs.Compactions.{record_behind}
 use Rattle.job_journal.proofs.area.record_at.Goals as goal
 
 pub returns-else-slot-eq0 : goal.returns-else-slot-eq0

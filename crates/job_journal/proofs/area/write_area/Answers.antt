@@ -1,19 +1,14 @@
-use Rattle.std.proofs.Common.{subst, sym, ◌∙◌, IsTrue}
-use Rattle.sector_disk.proofs.Runs.{run_of_two}
+use Rattle.std.proofs.Common.{◌∙◌}
 use Rattle.slot_gate.specs.Slot.{InSlots}
+use Rattle.slot_gate.proofs.Calls.{run_on}
 use Rattle.job_journal.proofs.area.write_area.Goals as goal
 
 pub returns-in_default-fill_area-clause-run : goal.returns-in_default-fill_area-clause-run
-returns-in_default-fill_area-clause-run g c = λ honest.
-    let state = g.D.SectorDisk.state in
-    run_of_two (InSlots c.args.first c.args.slots) (state c.args.disk.now) (state c.erase.new.disk) (state c.fill_area.new.disk) (c.erase.ensures.run honest)
-    (c.fill_area.ensures.run (subst (λ b. IsTrue b) (sym c.erase.ensures.counts.honest) honest))
+returns-in_default-fill_area-clause-run g c =
+    run_on (InSlots c.args.first c.args.slots) (λ k is. is) c.erase.ensures.counts.honest c.erase.ensures.run c.fill_area.ensures.run
 
 pub returns-clause-run : goal.returns-clause-run
-returns-clause-run g c = λ honest.
-    let state = g.D.SectorDisk.state in
+returns-clause-run g c =
     let touched = InSlots c.args.first c.args.slots in
-    run_of_two touched (state c.args.disk.now) (state c.fill_area.new.disk) (state c.seal_area.new.disk)
-    (run_of_two touched (state c.args.disk.now) (state c.erase.new.disk) (state c.fill_area.new.disk) (c.erase.ensures.run honest)
-    (c.fill_area.ensures.run (subst (λ b. IsTrue b) (sym c.erase.ensures.counts.honest) honest)))
-    (c.seal_area.ensures.run (subst (λ b. IsTrue b) (sym (c.fill_area.ensures.counts.honest ∙ c.erase.ensures.counts.honest)) honest))
+    run_on touched (λ k is. is) (c.fill_area.ensures.counts.honest ∙ c.erase.ensures.counts.honest)
+    (run_on touched (λ k is. is) c.erase.ensures.counts.honest c.erase.ensures.run c.fill_area.ensures.run) c.seal_area.ensures.run
