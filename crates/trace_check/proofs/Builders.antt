@@ -5,15 +5,17 @@ use Rattle.std.proofs.lemmas.List.Elements.{All-push, All-weaker}
 use Rattle.job_model.specs.declared.payload.TheConstants.{PAYLOAD_CAPACITY}
 use Rattle.wire_msg.specs.Envelope.{Envelope}
 use Rattle.message_list.specs.Letters.{Kept}
+use Rattle.node_core.specs.declared.event.Event.{Event}
 use Rattle.node_core.specs.declared.event.Event.TheVariants as on
+use Rattle.histories.specs.What.{brought}
 use Rattle.trace_check.specs.declared.trace.Deed.{Deed}
 use Rattle.trace_check.specs.declared.trace.Deed.TheVariants as deed
 use Rattle.trace_check.specs.declared.kept.KeptDeed.{KeptDeed}
 use Rattle.trace_check.specs.declared.kept.KeptEntry.{KeptEntry}
-use Rattle.trace_check.specs.Building.{Building, handled, delivery, kept_delivery}
+use Rattle.trace_check.specs.Building.{Building, handled, delivery, kept_delivery, kept_handled}
 use Rattle.trace_check.specs.Claims.{Claim, brought_by}
 use Rattle.trace_check.specs.Traces.{claim}
-use Rattle.trace_check.specs.Kept.{kept_deed, payload_in, delivered, part, deed_said, claim_said, EntryStands}
+use Rattle.trace_check.specs.Kept.{kept_event, kept_deed, payload_of, payload_in, delivered, part, deed_said, claim_said, EntryStands}
 use Rattle.trace_check.proofs.KeptEntries.{part_same, claims_same, take_whole, deed_again, deed_stands, entry_longer}
 
 -- from a place on
@@ -128,3 +130,38 @@ entry_is ms ms' p p' start end d x m b is last =
     ap (λ (y : KeptDeed). record { deed = y; start = start; end = end }) is ∙ ap (λ (n : ℕ). record { deed = kept_deed (length ms') (length p') d; start = start; end = n }) last
     ∙ ap (λ (xs : List Envelope). record { deed = kept_deed (length xs) (length p') d; start = start; end = length xs }) m
     ∙ ap (λ (q : List ℕ). record { deed = kept_deed (length ms) (length q) d; start = start; end = length ms }) b
+
+-- ---- an event that was handled, or in which the device failed
+
+kept_again : (failed : Bool) (event : Event) (m p : ℕ) → kept_handled failed (kept_event m p event) ≡ kept_deed m p (handled failed event)
+kept_again true event m p = refl
+kept_again false event m p = refl
+
+quiet : (failed : Bool) (event : Event) → brought (Some event) ≡ [] → brought_by (handled failed event) ≡ []
+quiet true event is = is
+quiet false event is = is
+
+payload_again : (failed : Bool) (event : Event) → payload_in (handled failed event) ≡ payload_of event
+payload_again true event = refl
+payload_again false event = refl
+
+module _ (failed : Bool) (event : Event) (es es' : List KeptEntry) (ms : List Envelope) (p p' : List ℕ) (start end : ℕ) (x : KeptDeed) (none : brought (Some event) ≡ [])
+    (all : All (EntryStands (length ms) (length p)) es) (within : start ≤ length ms) (bytes : p' ≡ p ++ payload_of event) (deed : x ≡ kept_handled failed (kept_event (length ms) (length p) event)) (last : end ≡ length ms)
+    (more : es' ≡ es ++ (record { deed = x; start = start; end = end }) ∷ []) where
+  abbrev d : Deed
+  d = handled failed event
+
+  messages : ms ≡ ms ++ brought_by d
+  messages = sym (append-nil ms) ∙ ap (λ (xs : List Envelope). ms ++ xs) (sym (quiet failed event none))
+
+  payloads : p' ≡ p ++ payload_in d
+  payloads = bytes ∙ ap (λ (xs : List ℕ). p ++ xs) (sym (payload_again failed event))
+
+  entries : es' ≡ es ++ entry_from ms p start d ∷ []
+  entries = more ∙ ap (λ (e : KeptEntry). es ++ e ∷ []) (entry_is ms ms p p start end d x refl refl (deed ∙ kept_again failed event (length ms) (length p)) last)
+
+  pub handled_stands : length (payload_of event) ≤ PAYLOAD_CAPACITY → All (EntryStands (length ms) (length p')) es'
+  handled_stands few = entry_stands es es' ms ms p p' start d (subst (λ (xs : List ℕ). length xs ≤ PAYLOAD_CAPACITY) (sym (payload_again failed event)) few) all within messages payloads entries
+
+  pub handled_built : (was : List Claim) (pending : List Envelope) → map (claim_said ms p) es ≡ was → drop start ms ≡ pending → map (claim_said ms p') es' ≡ was ++ claim (handled failed event) pending ∷ []
+  handled_built was pending claims left = entry_built es es' ms ms p p' start d was pending claims left all within messages payloads entries

@@ -7,6 +7,7 @@ use Rattle.trace_check.specs.declared.trace.Deed.{Deed}
 use Rattle.trace_check.specs.declared.trace.Deed.TheVariants as deed
 use Rattle.trace_check.specs.declared.kept.KeptDeed.{KeptDeed}
 use Rattle.trace_check.specs.declared.kept.KeptDeed.TheVariants as done
+use Rattle.trace_check.specs.declared.kept.KeptEvent.{KeptEvent}
 use Rattle.trace_check.specs.declared.kept.KeptEvent.TheVariants as kept
 use Rattle.trace_check.specs.Claims.{Claim}
 
@@ -25,6 +26,11 @@ handled false event = deed.Done event
 abbrev pub delivery : Bool → List Envelope → List Claim
 delivery failed [] = []
 delivery failed (m ∷ ms) = record { deed = handled failed (on.Deliver m); sent = ms } ∷ []
+
+-- the deed of an event, as it is kept
+abbrev pub kept_handled : Bool → KeptEvent → KeptDeed
+kept_handled true event = done.Faulted event
+kept_handled false event = done.Done event
 
 -- the deed of such an entry, as it is kept, where the message stands at this place
 abbrev pub kept_delivery : Bool → ℕ → KeptDeed

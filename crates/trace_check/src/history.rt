@@ -1,7 +1,9 @@
 ghost use Rattle.std.specs.Prelude.{◌≡◌, ◌≤◌, ◌<◌, ◌+◌, ◌-◌, ◌^◌, [], ◌∷◌, ◌++◌, length, slice_get, option_map, Some, None, IfSome, IsNone, IsTrue, ◌↔◌, OnOk, OnErr};
 ghost use Rattle.wire_msg.specs.Envelope.{Envelope};
 ghost use Rattle.wire_msg.specs.Spelling.{Spells};
-ghost use Rattle.trace_check.specs.Building.{delivery, kept_delivery};
+ghost use Rattle.trace_check.specs.Building.{delivery, handled, kept_delivery, kept_handled};
+ghost use Rattle.job_model.specs.declared.payload.TheConstants.{PAYLOAD_CAPACITY};
+ghost use Rattle.node_core.specs.declared.event.Event.TheVariants.{Finish, Submit};
 ghost use Rattle.trace_check.specs.Claims.{Claim, brought_by};
 ghost use Rattle.trace_check.specs.Traces.{claim, claim_seen};
 ghost use Rattle.trace_check.specs.Views.{Stands, claim_kept};
@@ -9,7 +11,7 @@ ghost use Rattle.trace_check.specs.Views.{Stands, claim_kept};
 use crate::kept::{KeptDeed, KeptEntry, KeptEvent, brought_at, deed_said, keep_deed};
 use crate::trace::Deed;
 use group_task::NodeId;
-use job_model::PAYLOAD_CAPACITY;
+use job_model::{PAYLOAD_CAPACITY, Queue};
 use message_list::MessageList;
 use std::alloc::{AllocError, Global};
 use std::marker::Model;
@@ -232,6 +234,53 @@ impl HistoryBuilder {
         Ok(())
     }
 
+    /// Finishes an entry of a job that was submitted, as `finish` does, with no event that has room for the longest payload: its
+    /// event was handled, or the device failed in it.
+    pub fn finish_submit(
+        &mut self,
+        queue: Queue,
+        priority: u8,
+        payload: &[u8],
+        failed: bool,
+    ) -> Result<(), AllocError>
+        requires { length payload.now ≤ PAYLOAD_CAPACITY }
+        ensures added { OnOk result (self.new.claims ≡ self.old.claims ++ claim (handled failed (Submit (record { queue = queue; priority = priority; payload = payload.now }))) self.old.pending ∷ []) }
+        ensures none { OnOk result (self.new.pending ≡ []) }
+        ensures refused { OnErr result ((self.new.claims ≡ self.old.claims) × (self.new.pending ≡ self.old.pending)) }
+    {
+        self.entries.reserve(1)?;
+        let first = self.pending;
+        let start = self.payloads.len();
+        self.payloads.extend_from_slice(payload)?;
+        let end = self.messages.len();
+        let event = KeptEvent::Submit(queue, priority, start, payload.len() as u16);
+        self.entries.push_reserved(KeptEntry {
+            deed: kept_handled(failed, event),
+            start: first,
+            end,
+        });
+        self.pending = end;
+        Ok(())
+    }
+
+    /// Finishes an entry of a job that was finished, as `finish` does: its event was handled, or the device failed in it.
+    pub fn finish_done(&mut self, origin: NodeId, id: u64, failed: bool) -> Result<(), AllocError>
+        ensures added { OnOk result (self.new.claims ≡ self.old.claims ++ claim (handled failed (Finish origin id)) self.old.pending ∷ []) }
+        ensures none { OnOk result (self.new.pending ≡ []) }
+        ensures refused { OnErr result ((self.new.claims ≡ self.old.claims) × (self.new.pending ≡ self.old.pending)) }
+    {
+        self.entries.reserve(1)?;
+        let first = self.pending;
+        let end = self.messages.len();
+        self.entries.push_reserved(KeptEntry {
+            deed: kept_handled(failed, KeptEvent::Finish(origin, id)),
+            start: first,
+            end,
+        });
+        self.pending = end;
+        Ok(())
+    }
+
     /// The history of the entries that were finished.
     pub fn build(self) -> History
         ensures { result ≡ self.claims }
@@ -254,7 +303,13 @@ impl HistoryBuilder {
 fn kept_delivery(failed: bool, place: usize) -> KeptDeed
     ensures { result ≡ kept_delivery failed place }
 {
-    let event = KeptEvent::Deliver(place);
+    kept_handled(failed, KeptEvent::Deliver(place))
+}
+
+/// The deed of an event that was handled, or in which the device failed.
+fn kept_handled(failed: bool, event: KeptEvent) -> KeptDeed
+    ensures { result ≡ kept_handled failed event }
+{
     if failed {
         KeptDeed::Faulted(event)
     } else {

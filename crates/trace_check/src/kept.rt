@@ -120,28 +120,38 @@ pub fn event_said(messages: &MessageList, payloads: &[u8], event: KeptEvent) -> 
     requires { EventStands (length messages.now.messages) (length payloads.now) event }
     ensures { result ≡ event_said messages.now.messages payloads.now event }
 {
+    let mut said = Event::Recover;
+    read_event(messages, payloads, event, &mut said);
+    said
+}
+
+/// Makes `said` an event, read back, in place, since an event is long.
+pub fn read_event(messages: &MessageList, payloads: &[u8], event: KeptEvent, said: &mut Event)
+    requires { EventStands (length messages.now.messages) (length payloads.now) event }
+    ensures { said.new ≡ event_said messages.now.messages payloads.now event }
+{
     match event {
-        KeptEvent::CheckTimer => Event::CheckTimer,
-        KeptEvent::MergeTimer => Event::MergeTimer,
-        KeptEvent::AcceptTimer => Event::AcceptTimer,
-        KeptEvent::ReadyTimer => Event::ReadyTimer,
-        KeptEvent::CoordTimer => Event::CoordTimer,
-        KeptEvent::DispatchTimer => Event::DispatchTimer,
+        KeptEvent::CheckTimer => *said = Event::CheckTimer,
+        KeptEvent::MergeTimer => *said = Event::MergeTimer,
+        KeptEvent::AcceptTimer => *said = Event::AcceptTimer,
+        KeptEvent::ReadyTimer => *said = Event::ReadyTimer,
+        KeptEvent::CoordTimer => *said = Event::CoordTimer,
+        KeptEvent::DispatchTimer => *said = Event::DispatchTimer,
         KeptEvent::Deliver(place) => match messages.get(place) {
-            Some(message) => Event::Deliver(message),
+            Some(message) => *said = Event::Deliver(message),
             None => unreachable!(),
         },
         KeptEvent::Submit(queue, priority, start, len) => {
             let bytes = &payloads[start..start + usize::from(len)];
             let payload = Payload::new(bytes).unwrap();
-            Event::Submit(Work {
+            *said = Event::Submit(Work {
                 queue,
                 priority,
                 payload,
-            })
+            });
         }
-        KeptEvent::Finish(origin, id) => Event::Finish(origin, id),
-        KeptEvent::Recover => Event::Recover,
+        KeptEvent::Finish(origin, id) => *said = Event::Finish(origin, id),
+        KeptEvent::Recover => *said = Event::Recover,
     }
 }
 

@@ -16,7 +16,7 @@ ghost use Rattle.trace_check.specs.Views.{Stands, claim_kept};
 ghost use Rattle.trace_check.specs.declared.trace.Deed.TheVariants as deed;
 
 use crate::history::{EntryView, KeptView, Sent};
-use crate::kept::{KeptDeed, KeptEvent, event_said};
+use crate::kept::{KeptDeed, KeptEvent, event_said, read_event};
 use crate::ledger::Ledger;
 use crate::trace::{Deed, RecoverFault};
 use group_task::NodeId;
@@ -153,8 +153,9 @@ impl Replica {
         ensures nodes { self.new.nodes ≡ self.old.nodes }
         ensures judged { IfOk result (Judged self.old self.new (Did (event_said kept.now.messages.now.messages kept.now.payloads.now event)) sent.now) }
     {
-        let event = event_said(kept.messages, kept.payloads, event);
-        self.handle(&event, sent)
+        let mut said = Event::Recover;
+        read_event(kept.messages, kept.payloads, event, &mut said);
+        self.handle(&said, sent)
     }
 
     /// An event as it is kept, in whose command the device failed.

@@ -1,7 +1,13 @@
 -- What is added to a history is the entry that its fields and texts say.
-use Rattle.std.proofs.Common.{◌≡◌, ℕ, ◌<◌, Bool, true, false, List, [], ◌∷◌, ◌++◌, length, Option, Some, None, option_map, option_and_then, refl, sym, ap, ◌∙◌, subst, arith, append-nil}
+use Rattle.std.proofs.Common.{◌≡◌, ℕ, ◌<◌, ◌≤◌, Bool, true, false, List, [], ◌∷◌, ◌++◌, length, Option, Some, None, option_map, option_and_then, refl, sym, ap, ◌∙◌, subst, arith, append-nil}
 use Rattle.std.proofs.lemmas.Option.{same_Some}
+use Rattle.std.specs.Prelude.{if◌then◌else◌}
+use Rattle.std.proofs.lemmas.Bool.{le-leb}
 use Rattle.serde_json.specs.Find.{as_str}
+use Rattle.hex.specs.Hex.{decode_of}
+use Rattle.group_task.specs.declared.node.TheConstants.{NODES}
+use Rattle.job_model.specs.declared.payload.TheConstants.{PAYLOAD_CAPACITY}
+use Rattle.job_model.specs.declared.queue.TheConstants.{QUEUES}
 use Rattle.wire_msg.specs.Envelope.{Envelope}
 use Rattle.node_core.specs.declared.event.Event.{Event}
 use Rattle.node_core.specs.declared.event.Event.TheVariants as on
@@ -9,7 +15,7 @@ use Rattle.trace_check.specs.declared.trace.Deed.{Deed}
 use Rattle.trace_check.specs.Building.{handled, delivery}
 use Rattle.trace_check.specs.Claims.{Claim}
 use Rattle.trace_text.specs.Fields.{Found}
-use Rattle.trace_text.specs.Entries.{done_in, device_in, deliver_in, spelled_in}
+use Rattle.trace_text.specs.Entries.{done_in, device_in, deliver_in, spelled_in, good, below, bytes_in, short, submitted, submit_in, finish_in, number_in, priority_in}
 use Rattle.trace_text.specs.Places.{with_device}
 use Rattle.trace_text.specs.Streams.{claim_with}
 use Rattle.trace_text.proofs.Lists.{and_then}
@@ -66,3 +72,25 @@ entry_added none all texts of d old new empty added is more =
     ∙ ap (λ (o : Option (List Envelope)). behind old (claim_with (Some d) o)) b.1
     ∙ ap (λ (xs : List Envelope). Some (old ++ (record { deed = d; sent = xs }) ∷ [])) sent
     ∙ ap (λ (cs : List Claim). Some cs) (sym more)
+
+-- an event other than a delivery that was handled, or in which the device failed
+pub event_added : (none all : List Envelope) (texts : Option (List Envelope)) (f : Found) (o : Option Event) (event : Event) (failed : Bool) (old new : List Claim) → none ≡ [] → option_map (λ (ms : List Envelope). none ++ ms) texts ≡ Some all
+    → o ≡ Some event → device_in f.fault ≡ Some failed → new ≡ old ++ (record { deed = handled failed event; sent = all }) ∷ [] → behind old (claim_with (with_device f o) texts) ≡ Some new
+event_added none all texts f o event failed old new empty added is device more =
+    entry_added none all texts (with_device f o) (done_in event failed) old new empty added (device_some f o event failed is device)
+    (more ∙ ap (λ (d : Deed). old ++ (record { deed = d; sent = all }) ∷ []) (handled_is failed event))
+
+-- a job that was submitted, by its fields
+pub submit_read : (f : Found) (q p : ℕ) (text bytes : List ℕ) → option_and_then (below QUEUES) (number_in f.queue) ≡ Some q → priority_in f.priority ≡ Some p → option_and_then as_str f.payload ≡ Some text
+    → good (decode_of text) ≡ Some bytes → length bytes ≤ PAYLOAD_CAPACITY → submit_in f ≡ Some (on.Submit (record { queue = q; priority = p; payload = bytes }))
+submit_read f q p text bytes queue priority said read few =
+    ap (λ (o : Option ℕ). submitted o (priority_in f.priority) (option_and_then short (bytes_in f.payload))) queue
+    ∙ ap (λ (o : Option ℕ). submitted (Some q) o (option_and_then short (bytes_in f.payload))) priority
+    ∙ ap (λ (o : Option (List ℕ)). submitted (Some q) (Some p) (option_and_then short (option_and_then (λ (t : List ℕ). good (decode_of t)) o))) said
+    ∙ ap (λ (o : Option (List ℕ)). submitted (Some q) (Some p) (option_and_then short o)) read
+    ∙ ap (λ (b : Bool). submitted (Some q) (Some p) (if b then Some bytes else None)) (le-leb (length bytes) PAYLOAD_CAPACITY few)
+
+-- a job that was finished, by its fields
+pub finish_read : (f : Found) (origin id : ℕ) → option_and_then (below NODES) (number_in f.origin) ≡ Some origin → number_in f.id ≡ Some id → finish_in f ≡ Some (on.Finish origin id)
+finish_read f origin id from is =
+    ap (λ (o : Option ℕ). option_and_then (λ (n : ℕ). option_map (λ (i : ℕ). on.Finish n i) (number_in f.id)) o) from ∙ ap (λ (o : Option ℕ). option_map (λ (i : ℕ). on.Finish origin i) o) is

@@ -1,4 +1,5 @@
 ghost use Rattle.std.specs.Prelude.{◌≡◌, option_map, option_and_then, if◌then◌else◌};
+ghost use Rattle.std.specs.Str.{bytes_eq};
 ghost use Rattle.serde_json.specs.Find.{get, as_str, as_bool};
 ghost use Rattle.serde_json.specs.View.{view};
 ghost use Rattle.trace_text.specs.Fields.{data_of, found_by, found_in, found_put, nothing_found};
@@ -78,6 +79,21 @@ impl<'a> Fields<'a> {
         }
     }
 
+    /// Forgets all fields.
+    pub(crate) fn clear(&mut self)
+        ensures { found_by self.new ≡ nothing_found }
+    {
+        self.name = None;
+        self.message = None;
+        self.fault = None;
+        self.kept = None;
+        self.queue = None;
+        self.priority = None;
+        self.payload = None;
+        self.origin = None;
+        self.id = None;
+    }
+
     /// The fields of a JSON value.
     pub(crate) fn of_tree(value: &'a Value) -> Fields<'a>
         ensures { found_by result ≡ found_in (view value.now) }
@@ -99,26 +115,34 @@ impl<'a> Fields<'a> {
     pub(crate) fn put(&mut self, key: &str, field: Field<'a>)
         ensures { found_by self.new ≡ found_put (found_by self.old) key.now (data_of field.entry) }
     {
-        if key == "do" {
+        if is_word(key, "do") {
             self.name = Some(field);
-        } else if key == "msg" {
+        } else if is_word(key, "msg") {
             self.message = Some(field);
-        } else if key == "fault" {
+        } else if is_word(key, "fault") {
             self.fault = Some(field);
-        } else if key == "kept" {
+        } else if is_word(key, "kept") {
             self.kept = Some(field);
-        } else if key == "queue" {
+        } else if is_word(key, "queue") {
             self.queue = Some(field);
-        } else if key == "priority" {
+        } else if is_word(key, "priority") {
             self.priority = Some(field);
-        } else if key == "payload" {
+        } else if is_word(key, "payload") {
             self.payload = Some(field);
-        } else if key == "origin" {
+        } else if is_word(key, "origin") {
             self.origin = Some(field);
-        } else if key == "id" {
+        } else if is_word(key, "id") {
             self.id = Some(field);
         }
     }
+}
+
+/// Whether a text is this word. Most are of another length, which is asked first.
+#[inline]
+pub(crate) fn is_word(text: &str, word: &str) -> bool
+    ensures { result ≡ bytes_eq text.now word.now }
+{
+    text.len() == word.len() && text == word
 }
 
 fn member<'a>(value: &'a Value, key: &str) -> Option<Field<'a>>

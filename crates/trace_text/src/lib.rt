@@ -6,6 +6,7 @@
 #![tactic(auto)]
 
 mod adding;
+mod digits;
 mod fault;
 mod fields;
 mod parts;

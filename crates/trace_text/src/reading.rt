@@ -10,7 +10,7 @@ ghost use Rattle.trace_text.specs.Fields.{data_of, found_by};
 ghost use Rattle.trace_text.specs.Entries.{claim_of, good, below, bytes_in, spelled_in, messages_in, number_in, priority_in, deliver_in, submit_in, finish_in, event_in, device_in, recover_in, deed_named, deed_in, claim_in};
 ghost use Rattle.trace_text.specs.Places.{IsRead, recovery_said, with_device};
 
-use crate::fields::{Field, Fields};
+use crate::fields::{Field, Fields, is_word};
 use group_task::{NODES, NodeId};
 use job_model::{Payload, QUEUES, Queue, Work};
 use node_core::Event;
@@ -56,7 +56,7 @@ pub(crate) fn text_of<'a>(field: Option<Field<'a>>) -> Option<&'a str>
 }
 
 /// A whole number of a field.
-fn number_of(field: Option<Field<'_>>) -> Option<u64>
+pub(crate) fn number_of(field: Option<Field<'_>>) -> Option<u64>
     ensures { result ≡ number_in (option_map data_of field.entry) }
 {
     field?.number()
@@ -139,7 +139,7 @@ fn read_named(
 ) -> Result<bool, AllocError>
     ensures { IfOk result (λ some. IsRead some deed.new (deed_named (found_by fields.now) name.now)) }
 {
-    if name == "deliver" {
+    if is_word(name, "deliver") {
         return read_deliver(room, fields, deed);
     }
     read_other(room, fields, name, deed)
@@ -155,15 +155,15 @@ pub(crate) fn read_other(
     requires { bytes_eq name.now (codes "deliver") ≡ false }
     ensures { IfOk result (λ some. IsRead some deed.new (deed_named (found_by fields.now) name.now)) }
 {
-    if name == "none" {
+    if is_word(name, "none") {
         *deed = Deed::Nothing;
         return Ok(true);
     }
-    if name == "crash" {
+    if is_word(name, "crash") {
         *deed = Deed::Crashed;
         return Ok(true);
     }
-    if name == "recover" {
+    if is_word(name, "recover") {
         return Ok(read_recover(fields, deed));
     }
     read_done(room, fields, name, deed)
@@ -230,10 +230,10 @@ fn recovery_of(fields: &Fields<'_>) -> Option<(bool, Option<RecoverFault>)>
         return Some((kept, None));
     };
     let text = fault.text()?;
-    if text == "mount" {
+    if is_word(text, "mount") {
         return Some((kept, Some(RecoverFault::Mount)));
     }
-    if text == "raise" {
+    if is_word(text, "raise") {
         return Some((kept, Some(RecoverFault::Raise)));
     }
     None
@@ -249,21 +249,21 @@ fn read_event(
     requires { bytes_eq name.now (codes "deliver") ≡ false }
     ensures { IfOk result (λ some. IsRead some event.new (event_in (found_by fields.now) name.now)) }
 {
-    if name == "check" {
+    if is_word(name, "check") {
         *event = Event::CheckTimer;
-    } else if name == "merge" {
+    } else if is_word(name, "merge") {
         *event = Event::MergeTimer;
-    } else if name == "accept" {
+    } else if is_word(name, "accept") {
         *event = Event::AcceptTimer;
-    } else if name == "ready" {
+    } else if is_word(name, "ready") {
         *event = Event::ReadyTimer;
-    } else if name == "coord" {
+    } else if is_word(name, "coord") {
         *event = Event::CoordTimer;
-    } else if name == "dispatch" {
+    } else if is_word(name, "dispatch") {
         *event = Event::DispatchTimer;
-    } else if name == "submit" {
+    } else if is_word(name, "submit") {
         return read_submit(room, fields, event);
-    } else if name == "finish" {
+    } else if is_word(name, "finish") {
         return Ok(read_finish(fields, event));
     } else {
         return Ok(false);
@@ -332,7 +332,7 @@ fn read_submit(
 }
 
 // A priority is left out where it is 0.
-fn priority_of(priority: Option<Field<'_>>) -> Option<u8>
+pub(crate) fn priority_of(priority: Option<Field<'_>>) -> Option<u8>
     ensures { result ≡ priority_in (option_map data_of priority.entry) }
 {
     let Some(priority) = priority else {
@@ -359,7 +359,7 @@ fn read_finish(fields: &Fields<'_>, event: &mut Event) -> bool
     true
 }
 
-fn queue_of(number: Option<u64>) -> Option<Queue>
+pub(crate) fn queue_of(number: Option<u64>) -> Option<Queue>
     ensures { result ≡ option_and_then (below QUEUES) number }
 {
     let number = number?;
@@ -370,7 +370,7 @@ fn queue_of(number: Option<u64>) -> Option<Queue>
     }
 }
 
-fn node_of(number: Option<u64>) -> Option<NodeId>
+pub(crate) fn node_of(number: Option<u64>) -> Option<NodeId>
     ensures { result ≡ option_and_then (below NODES) number }
 {
     let number = number?;

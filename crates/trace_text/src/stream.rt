@@ -18,7 +18,7 @@ ghost use Rattle.trace_text.specs.Streams.{data_at, items_at, members_at, histor
 ghost use Rattle.trace_text.specs.Wholes.{trace_of, in_shape, shape_in};
 
 use crate::adding::{Desk, add_entry};
-use crate::fields::{Field, Fields};
+use crate::fields::{Field, Fields, is_word};
 use fast_float::Numeral;
 use group_task::NODES;
 use json::{Invalid, Reader, Scratch, Token};
@@ -128,10 +128,10 @@ fn read_part(
     ensures part { OnOk result (parse_map (parted_put (parted_by parts.old) key.now) (data_at 126 reader.old) ≡ Some (parted_by parts.new, reader.new)) }
     ensures shorter { OnOk result (length reader.new < length reader.old) }
 {
-    if key == "nodes" {
+    if is_word(key, "nodes") {
         let nodes = read_number(reader)?;
         parts.nodes = Some(nodes);
-    } else if key == "histories" {
+    } else if is_word(key, "histories") {
         let histories = read_histories(alloc, reader)?;
         parts.histories = Some(histories);
     } else {
@@ -223,7 +223,7 @@ fn read_entry<'a>(
     ensures shorter { OnOk result (length reader.new < length reader.old) }
 {
     open_object(reader)?;
-    draft.fields = Fields::new();
+    draft.fields.clear();
     draft.has_sent = false;
     read_members(reader, draft)?;
     if !draft.has_sent {
@@ -247,7 +247,7 @@ fn read_member<'a>(reader: &mut Reader<'a>, key: &str, draft: &mut Draft<'a>) ->
     ensures member { OnOk result (parse_map (drafted_put (drafted_by draft.old) key.now) (data_at 123 reader.old) ≡ Some (drafted_by draft.new, reader.new)) }
     ensures shorter { OnOk result (length reader.new < length reader.old) }
 {
-    if key == "sent" {
+    if is_word(key, "sent") {
         open_list(reader)?;
         read_texts(reader, &mut draft.texts)?;
         draft.has_sent = true;
@@ -288,7 +288,8 @@ fn read_scalar<'a>(reader: &mut Reader<'a>) -> Result<Field<'a>, Halt>
     }
 }
 
-/// The number of these digits.
+/// The number of these digits. It stands apart, so that what reads a text is short.
+#[inline(never)]
 fn whole_number(text: &str) -> Option<u64>
     ensures { IfSome result (λ n. number_of text.now ≡ Some (unsigned n)) }
 {

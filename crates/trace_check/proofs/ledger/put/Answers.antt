@@ -18,6 +18,6 @@ put_step old mid new work next pending step counter =
 pub returns-clause-step : goal.returns-clause-step
 returns-clause-step c =
     elim c.if-not-can_apply.branch [
-      | then-not-can_apply+in_ok-table w ↦ put_step c.args.table.now c.if-not-can_apply.table c.apply.new.self c.args.work (ap (λ (t : Table). t.next) w.table-is ∙ w.in_ok-table.ensures.next) (ap (λ (t : Table). t.pending) w.table-is ∙ w.in_ok-table.ensures.pending) c.apply.ensures.step
-      | else-not-can_apply w ↦ put_step c.args.table.now c.if-not-can_apply.table c.apply.new.self c.args.work (ap (λ (t : Table). t.next) w.table-is) (ap (λ (t : Table). t.pending) w.table-is) c.apply.ensures.step
+      | then-not-can_apply+in_ok-table w ↦ put_step c.args.table.now c.if-not-can_apply.table c.apply.new.self c.args.work.now (ap (λ (t : Table). t.next) w.table-is ∙ w.in_ok-table.ensures.next) (ap (λ (t : Table). t.pending) w.table-is ∙ w.in_ok-table.ensures.pending) c.apply.ensures.step
+      | else-not-can_apply w ↦ put_step c.args.table.now c.if-not-can_apply.table c.apply.new.self c.args.work.now (ap (λ (t : Table). t.next) w.table-is) (ap (λ (t : Table). t.pending) w.table-is) c.apply.ensures.step
     ]

@@ -28,7 +28,7 @@ returns-clause-entry c =
     let has : draft.has_sent ≡ true = grind (arith, c.if-not-draft.false) in
     let texts : c.deref.result.now ≡ draft.texts.items = search rules in
     let sent : sent_in (drafted_by draft) ≡ messages_of (map (λ s. s.now) c.deref.result.now) = rw (has, texts) refl in
-    let read = ap (λ (f : Found). members_at drafted_put 123 (length ts) (f, None) ts) c.new-draft.ensures in
+    let read = ap (λ (f : Found). members_at drafted_put 123 (length ts) (f, None) ts) c.clear.ensures in
     on_ok _ _ c.add_entry.result
     (λ made. ap (λ (xs : List Token). parse_map add (converted claim_in (data_at 124 xs))) c.in_ok-open_object.ensures
     ∙ entry_there ts r (drafted_by draft) old new (sym read ∙ c.in_ok-read_members.ensures.members) (ap (λ (o : Option (List Envelope)). option_map add (claim_with deed o)) sent ∙ made))
