@@ -214,10 +214,14 @@ impl<'a> Reader<'a> {
 
 /// Reads all of the bytes: the sender, the receiver, and the body into its place.
 #[tactic(auto, unfolding(crate::specs::Reading::whole_at))]
+#[inline(always)]
 pub(crate) fn read(bytes: &[u8], body: &mut Body) -> Option<(NodeId, NodeId)>
     ensures value { option_map (λ ends. record { sender = ends.0; receiver = ends.1; body = body.new }) result ≡ whole_at bytes.now }
     ensures differ { IfSome result (λ ends. ends.0 ≢ ends.1) }
 {
+    if bytes.len() < 6 {
+        return None;
+    }
     let mut reader = Reader { rest: bytes };
     let version = reader.byte()?;
     let kind = reader.byte()?;
@@ -245,11 +249,9 @@ pub fn decode(bytes: &[u8]) -> Result<Message, WireFault>
     ensures only { (m : Envelope) → Spells m bytes.now → result ≡ Ok m }
     ensures fault { IfErr result (λ e. e ≡ WireFault.Malformed) }
 {
-    let mut body = Body::AreYouCoordinator;
-    let Some((sender, receiver)) = read(bytes, &mut body) else {
-        return Err(WireFault::Malformed);
-    };
-    Ok(Message::between(sender, receiver, body))
+    let mut message = Message::blank();
+    decode_into(bytes, &mut message)?;
+    Ok(message)
 }
 
 /// Makes `message` the one that the bytes spell, as `decode` reads it, but in place, since a message is long. Where they spell
