@@ -8,3 +8,4 @@ pub mod Sims
 pub mod Outs
 pub mod Keeping
 pub mod Endings
+pub mod Letters

@@ -26,11 +26,12 @@ fn are_digits(bytes: &[u8]) -> bool
     all
 }
 
+/// The bit of 32 is the case of a letter: with it, one test is enough for both.
 #[inline]
 fn is_digit(byte: u8) -> bool
     ensures { result ≡ is_hex_digit byte }
 {
-    matches!(byte, b'0'..=b'9' | b'a'..=b'f' | b'A'..=b'F')
+    byte.wrapping_sub(b'0') < 10 || (byte | 32).wrapping_sub(b'a') < 6
 }
 
 fn write_pairs(digits: &[u8], out: &mut [u8])

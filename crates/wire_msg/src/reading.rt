@@ -1,5 +1,6 @@
-ghost use Rattle.std.specs.Prelude.{◌≡◌, ◌<◌, ℕ, List, length, take, drop, ◌≢◌, Some, IfSome, IfOk, IsOk, OnOk, IfErr, Ok, option_map};
+ghost use Rattle.std.specs.Prelude.{◌≡◌, ◌<◌, ◌≤◌, ℕ, List, length, take, drop, ◌≢◌, Some, IfSome, IfOk, IsOk, OnOk, IfErr, Ok, option_map};
 ghost use Rattle.std.specs.Int.{w16, w64};
+ghost use Rattle.job_model.specs.declared.payload.TheConstants.{PAYLOAD_CAPACITY};
 ghost use Rattle.job_model.specs.declared.queue.TheConstants.{QUEUES};
 ghost use Rattle.group_task.specs.declared.node.TheConstants.{NODES};
 ghost use Rattle.wire_msg.specs.Envelope.{Envelope};
@@ -11,7 +12,7 @@ use crate::fault::WireFault;
 use crate::message::Message;
 use crate::version::version_of;
 use group_task::{GroupNo, Members, NodeId, Task, share};
-use job_model::{Payload, Queue, Work};
+use job_model::{PAYLOAD_CAPACITY, Payload, Queue, Work};
 
 /// What is left to read. After a `None` it isn't read any further.
 #[derive(Drop)]
@@ -19,7 +20,8 @@ struct Reader<'a> {
     rest: &'a [u8],
 }
 
-impl Reader<'_> {
+impl<'a> Reader<'a> {
+    #[inline(always)]
     fn byte(&mut self) -> Option<u8>
         ensures { seen result self.new.rest.now ≡ byte_at self.old.rest.now }
     {
@@ -28,6 +30,7 @@ impl Reader<'_> {
         Some(*first)
     }
 
+    #[inline(always)]
     fn u16(&mut self) -> Option<u16>
         ensures { seen result self.new.rest.now ≡ number_at w16 self.old.rest.now }
     {
@@ -39,6 +42,7 @@ impl Reader<'_> {
         Some(u16::from_be_bytes([front[0], front[1]]))
     }
 
+    #[inline(always)]
     fn u64(&mut self) -> Option<u64>
         ensures { seen result self.new.rest.now ≡ number_at w64 self.old.rest.now }
     {
@@ -53,6 +57,7 @@ impl Reader<'_> {
     }
 
     #[tactic(auto, unfolding(crate::specs::Reading::below_at))]
+    #[inline(always)]
     fn node(&mut self) -> Option<NodeId>
         ensures { seen result self.new.rest.now ≡ below_at NODES self.old.rest.now }
     {
@@ -61,6 +66,7 @@ impl Reader<'_> {
     }
 
     #[tactic(auto, unfolding(crate::specs::Reading::below_at))]
+    #[inline(always)]
     fn queue(&mut self) -> Option<Queue>
         ensures { seen result self.new.rest.now ≡ below_at QUEUES self.old.rest.now }
     {
@@ -69,6 +75,7 @@ impl Reader<'_> {
     }
 
     #[tactic(auto, unfolding(crate::specs::Reading::truth_at))]
+    #[inline(always)]
     fn truth(&mut self) -> Option<bool>
         ensures { seen result self.new.rest.now ≡ truth_at self.old.rest.now }
     {
@@ -80,6 +87,7 @@ impl Reader<'_> {
     }
 
     #[tactic(auto, unfolding(crate::specs::Reading::group_at))]
+    #[inline(always)]
     fn group(&mut self) -> Option<GroupNo>
         ensures { seen result self.new.rest.now ≡ group_at self.old.rest.now }
     {
@@ -88,6 +96,7 @@ impl Reader<'_> {
         GroupNo::new(creator, count)
     }
 
+    #[inline(always)]
     fn members(&mut self, count: u8) -> Option<Members>
         ensures { seen result self.new.rest.now ≡ members_at count 0 self.old.rest.now }
     {
@@ -105,6 +114,7 @@ impl Reader<'_> {
     }
 
     #[tactic(auto, unfolding(crate::specs::Reading::task_at))]
+    #[inline(always)]
     fn task(&mut self) -> Option<Task>
         ensures { seen result self.new.rest.now ≡ task_at self.old.rest.now }
     {
@@ -119,20 +129,23 @@ impl Reader<'_> {
     }
 
     #[tactic(auto, unfolding(crate::specs::Reading::payload_at))]
-    fn payload(&mut self) -> Option<Payload>
-        ensures { seen result self.new.rest.now ≡ payload_at self.old.rest.now }
+    #[inline(always)]
+    fn payload(&mut self) -> Option<&'a [u8]>
+        ensures value { seen (option_map (λ bytes. bytes.now) result) self.new.rest.now ≡ payload_at self.old.rest.now }
+        ensures fits { IfSome result (λ bytes. length bytes.now ≤ PAYLOAD_CAPACITY) }
     {
         let len = usize::from(self.u16()?);
-        if self.rest.len() < len {
+        if self.rest.len() < len || len > PAYLOAD_CAPACITY {
             return None;
         }
         let (bytes, rest) = self.rest.split_at(len);
         self.rest = rest;
-        Payload::new(bytes)
+        Some(bytes)
     }
 
     /// The priority: 0 where none is written.
     #[tactic(auto, unfolding(crate::specs::Reading::priority_at))]
+    #[inline(always)]
     fn priority(&mut self, written: bool) -> Option<u8>
         ensures { seen result self.new.rest.now ≡ priority_at written self.old.rest.now }
     {
@@ -145,6 +158,7 @@ impl Reader<'_> {
 
     /// Reads a Work into the place where it will stay.
     #[tactic(auto, unfolding(crate::specs::Reading::work_at))]
+    #[inline(always)]
     fn work(&mut self, with_priority: bool, body: &mut Body) -> Option<()>
         ensures { option_map (λ _. (body.new, self.new.rest.now)) result ≡ work_at with_priority self.old.rest.now }
     {
@@ -152,23 +166,34 @@ impl Reader<'_> {
         let id = self.u64()?;
         let queue = self.queue()?;
         let priority = self.priority(with_priority)?;
-        let payload = self.payload()?;
-        let work = Work {
-            queue,
-            priority,
-            payload,
+        let bytes = self.payload()?;
+        let Some(payload) = Payload::new(bytes) else {
+            return None;
         };
-        *body = Body::Work { group, id, work };
+        *body = Body::Work {
+            group,
+            id,
+            work: Work {
+                queue,
+                priority,
+                payload,
+            },
+        };
         Some(())
     }
 
     /// Reads the body into the place where it will stay, since it has room for the longest payload.
     #[tactic(auto, unfolding(crate::specs::Reading::body_at, crate::specs::Reading::here_at))]
+    #[inline(always)]
     fn body(&mut self, kind: u8, body: &mut Body) -> Option<()>
         ensures { option_map (λ _. (body.new, self.new.rest.now)) result ≡ body_at kind self.old.rest.now }
     {
         match kind {
-            1 => *body = Body::AreYouCoordinator,
+            1 => {
+                if !matches!(body, Body::AreYouCoordinator) {
+                    *body = Body::AreYouCoordinator;
+                }
+            }
             2 => *body = Body::Coordinator(self.truth()?),
             3 => *body = Body::AreYouThere(self.group()?),
             4 => {
@@ -179,9 +204,8 @@ impl Reader<'_> {
             6 => *body = Body::Accept(self.group()?),
             7 => *body = Body::Ready(self.task()?),
             8 => *body = Body::ReadyAck(self.group()?),
-            9 => self.work(false, body)?,
+            9 | 11 => self.work(kind == 11, body)?,
             10 => *body = Body::Done(self.u64()?),
-            11 => self.work(true, body)?,
             _ => return None,
         }
         Some(())
@@ -190,10 +214,14 @@ impl Reader<'_> {
 
 /// Reads all of the bytes: the sender, the receiver, and the body into its place.
 #[tactic(auto, unfolding(crate::specs::Reading::whole_at))]
+#[inline(always)]
 pub(crate) fn read(bytes: &[u8], body: &mut Body) -> Option<(NodeId, NodeId)>
     ensures value { option_map (λ ends. record { sender = ends.0; receiver = ends.1; body = body.new }) result ≡ whole_at bytes.now }
     ensures differ { IfSome result (λ ends. ends.0 ≢ ends.1) }
 {
+    if bytes.len() < 6 {
+        return None;
+    }
     let mut reader = Reader { rest: bytes };
     let version = reader.byte()?;
     let kind = reader.byte()?;
@@ -221,11 +249,9 @@ pub fn decode(bytes: &[u8]) -> Result<Message, WireFault>
     ensures only { (m : Envelope) → Spells m bytes.now → result ≡ Ok m }
     ensures fault { IfErr result (λ e. e ≡ WireFault.Malformed) }
 {
-    let mut body = Body::AreYouCoordinator;
-    let Some((sender, receiver)) = read(bytes, &mut body) else {
-        return Err(WireFault::Malformed);
-    };
-    Ok(Message::between(sender, receiver, body))
+    let mut message = Message::blank();
+    decode_into(bytes, &mut message)?;
+    Ok(message)
 }
 
 /// Makes `message` the one that the bytes spell, as `decode` reads it, but in place, since a message is long. Where they spell

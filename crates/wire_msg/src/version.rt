@@ -53,6 +53,7 @@ fn version_telling(sender: NodeId, receiver: NodeId, task: &Task) -> u8
 }
 
 /// The version of a message between these nodes that says this.
+#[inline(always)]
 pub(crate) fn version_of(sender: NodeId, receiver: NodeId, body: &Body) -> u8
     ensures { result ≡ version_of (record { sender = sender; receiver = receiver; body = body.now }) }
 {

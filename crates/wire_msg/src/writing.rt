@@ -161,16 +161,10 @@ fn spell(out: &mut Vec<u8>, message: &Message) -> Result<(), AllocError>
     let receiver = message.receiver().number();
     let body = message.body();
     let len = len_of(body);
+    let kind = kind_of(body);
     let version = version_of(message.sender(), message.receiver(), body);
     out.reserve(6 + usize::from(len))?;
-    put_head(
-        out,
-        version,
-        kind_of(body),
-        sender,
-        receiver,
-        len.to_be_bytes(),
-    );
+    put_head(out, version, kind, sender, receiver, len.to_be_bytes());
     put_body(out, body)?;
     Ok(())
 }
