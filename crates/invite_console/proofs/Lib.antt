@@ -8,4 +8,3 @@ pub mod Sims
 pub mod Outs
 pub mod Keeping
 pub mod Endings
-pub mod Letters
