@@ -188,15 +188,22 @@ pub fn told_ready(
     let told = is_told(id, from, task, vector);
     if told && matches!(vector.phase, Phase::Reorganization) {
         let messages = with_room(room)?;
-        let answer = Message::between(id, from, Body::ReadyAck(vector.group));
+        let answer = Message::between(id, from, Body::ReadyAck(copied(vector.group)));
         return Ok(reply(Act::Mark(Note::Told(task)), messages, answer));
     }
     if told && matches!(vector.phase, Phase::Normal) {
         let messages = with_room(room)?;
-        let answer = Message::between(id, from, Body::ReadyAck(vector.group));
+        let answer = Message::between(id, from, Body::ReadyAck(copied(vector.group)));
         return Ok(reply(Act::Stay(None), messages, answer));
     }
     Ok(nothing(room))
+}
+
+/// The same group, made of its parts: a message that is made of it is then written once, and isn't copied.
+fn copied(group: GroupNo) -> GroupNo
+    ensures { result ≡ group }
+{
+    GroupNo::numbered(group.creator(), group.count())
 }
 
 /// Whether the task is that of the node's group, told by its coordinator, and makes it a member.

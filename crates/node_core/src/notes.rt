@@ -28,8 +28,7 @@ pub enum Note {
 
 /// Makes the change that is noted.
 pub fn take_note(vector: &mut Vector, note: Note)
-    ensures state { state_of vector.new ≡ noted note (state_of vector.old) }
-    ensures room { vector.new.hand.room ≡ vector.old.hand.room }
+    ensures { state_of vector.new ≡ noted note (state_of vector.old) }
 {
     match note {
         Note::Found(found) => {
