@@ -90,7 +90,7 @@ impl Plan {
     {
         match &self.act {
             Act::Stay(done) => done_lent(*done),
-            Act::Mark(_) => Wanted::None,
+            Act::Mark(_) => done_lent(None),
             Act::Settle(change) => done_lent(change.done),
             Act::Invite(_) | Act::Recover => Wanted::Raise,
             Act::Place(_, work) => Wanted::Put(work),
