@@ -1,4 +1,5 @@
 pub mod Coming
+pub mod Settled
 pub mod Members
 pub mod Doings
 pub mod Quiet

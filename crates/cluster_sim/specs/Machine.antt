@@ -1,9 +1,10 @@
 -- What contracts see of a cluster, and what it stands for.
-use Rattle.std.specs.Prelude.{ℕ, ◌≡◌, ◌≢◌, ◌+◌, ◌*◌, ◌≤◌, Bool, true, false, List, length, slice_get, Option, Some, None, option_map}
+use Rattle.std.specs.Prelude.{ℕ, ◌≡◌, ◌≢◌, ◌+◌, ◌*◌, ◌≤◌, ◌⊎◌, Bool, true, false, List, length, slice_get, Option, Some, None, option_map}
 use Rattle.group_task.specs.declared.node.TheConstants.{NODES}
 use Rattle.sector_disk.specs.Disk.{Counts}
 use Rattle.sector_disk.specs.Memory.{Memory, state_of}
 use Rattle.sim_net.specs.Network.{Network, after_all_sent}
+use Rattle.durable_node.specs.Forgetting.{forgotten_disk}
 use Rattle.durable_node.specs.Node.{Node, Stands}
 use Rattle.histories.specs.NodeState.{NodeState, opening}
 use Rattle.histories.specs.declared.what.What.{What}
@@ -130,6 +131,10 @@ pub record IsSame (old new : Node Memory) : Type 0 where
 -- nothing but what the last call mounted has changed
 abbrev pub IsUntouchedNode : Node Memory → Node Memory → Type 0
 IsUntouchedNode old new = new ≡ record old { found = new.found }
+
+-- it is as it was, or its disk forgot the moments before
+abbrev pub IsSettled : Node Memory → Node Memory → Type 0
+IsSettled old new = (new ≡ old) ⊎ (new ≡ record old { disk = forgotten_disk old.disk })
 
 -- ---- the cluster
 

@@ -9,7 +9,7 @@ ghost use Rattle.durable_node.specs.Stepping.{CameOf};
 ghost use Rattle.histories.specs.Fates.{what_of};
 ghost use Rattle.histories.specs.declared.what.What.TheVariants.{Rests, Crashed};
 ghost use Rattle.histories.specs.declared.what.Rest.TheVariants.{Nothing};
-ghost use Rattle.cluster_sim.specs.Machine.{IsOfSize, IsSame, IsCounted, IsUntouchedNode, CameAt, Comes, CompactedAs, bare_outcome, is_mounting};
+ghost use Rattle.cluster_sim.specs.Machine.{IsOfSize, IsSame, IsCounted, IsUntouchedNode, CameAt, Comes, CompactedAs, IsSettled, bare_outcome, is_mounting};
 ghost use Rattle.cluster_sim.specs.Operated.{IsLeftWith};
 ghost use Rattle.cluster_sim.specs.Told.{IsCompactionTold, came_told};
 ghost use Rattle.durable_node.specs.Faults.{fault_of};
@@ -25,7 +25,7 @@ use std::alloc::AllocError;
 use wire_msg::Message;
 
 /// An event at a node. Room for its messages is taken first, so that none is kept back once the event is handled.
-/// The disk forgets the moments before.
+/// Where the event wrote on the disk, it forgets the moments before.
 ///
 /// Refused where there is no memory: the node and the network stay as they were.
 pub(crate) fn handle(
@@ -48,7 +48,7 @@ pub(crate) fn handle(
         Ok(came) => came,
         Err(_) => return Err(AllocError),
     };
-    node.forget();
+    forget_written(node, &came);
     send_all(net, &came.sent);
     Ok(Deed {
         outcome: outcome_of(&came, first),
@@ -56,6 +56,15 @@ pub(crate) fn handle(
         acked: came.answer,
         mounted: is_mounting(came.fate),
     })
+}
+
+/// Lets a node's disk forget the moments before, where the event may have written on it: no other event adds to them.
+fn forget_written(node: &mut DurableNode<MemDisk>, came: &Came)
+    ensures { IsSettled node.old node.new }
+{
+    if came.tried.is_some() || matches!(came.fate, Fate::MountFailed) {
+        node.forget();
+    }
 }
 
 /// Whether the disk was mounted.

@@ -13,8 +13,30 @@ use node_core::Wanted;
 use node_store::{NodeStore, StoreFault};
 use sector_disk::SectorDisk;
 
-/// Carries out the command that a plan wants, and gives its answer.
+/// Carries out the command that a plan wants, and gives its answer. Most plans want none.
+#[inline(always)]
 pub(crate) fn carry<D: SectorDisk>(
+    store: &mut NodeStore<D>,
+    wants: &Wanted<'_>,
+) -> Result<Option<u64>, NodeFault>
+    requires ready { IsReady D.state store.old }
+    requires pending { (id : ℕ) → lent_by wants.now ≡ Some (Done id) → is_pending (durable_of store.old).pending id ≡ true }
+    ensures answers { AnswersTo (disk_refusal (durable_of store.old) (area_of store.old) (lent_by wants.now)) result }
+    ensures ok { IfOk result (Carried store.old store.new (lent_by wants.now)) }
+    ensures failed { IsErrOf result NodeFault.Device → IsCut store.old store.new (lent_by wants.now) }
+    ensures refused { IfErr result (λ fault. fault ≢ NodeFault.Device → (store.new ≡ store.old) × CantCarry store.old.journal.slots (durable_of store.old) (lent_by wants.now) fault) }
+    ensures store { KeepsSound D.state store.old store.new (IsErrOf result NodeFault.Device) }
+    ensures disk { Writes D.state store.old store.new (lent_by wants.now) (IsOk result) }
+{
+    match wants {
+        Wanted::None => Ok(None),
+        _ => write(store, wants),
+    }
+}
+
+/// The same for a command that is written.
+#[inline(never)]
+fn write<D: SectorDisk>(
     store: &mut NodeStore<D>,
     wants: &Wanted<'_>,
 ) -> Result<Option<u64>, NodeFault>

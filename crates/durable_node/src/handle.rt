@@ -1,5 +1,6 @@
-ghost use Rattle.std.specs.Prelude.{◌≡◌, ◌≤◌, ◌↔◌, ℕ, IsTrue, IsOk, IfOk, IfErr, IsErrOf, length, option_map};
+ghost use Rattle.std.specs.Prelude.{◌≡◌, ◌≢◌, ◌≤◌, ◌↔◌, ℕ, IsTrue, IsOk, IfOk, IfErr, IfSome, IsErrOf, OnErr, Some, None, Err, length, option_map};
 ghost use Rattle.node_core.specs.declared.fault.CoreFault.TheVariants.{NoMemory};
+ghost use Rattle.node_core.specs.Core.{IsPlanFor};
 ghost use Rattle.node_core.specs.Most.{most_of};
 ghost use Rattle.node_core.specs.NodeStep.{IsSpent};
 ghost use Rattle.node_core.specs.Planned.{lent_by};
@@ -19,7 +20,8 @@ use crate::carry::carry;
 use crate::fault::NodeFault;
 use group_task::NodeId;
 use histories::{Fate, Refusal};
-use node_core::{CoreFault, Durable, Event, NodeCore, Wanted};
+use job_model::JobTable;
+use node_core::{CoreFault, Durable, Event, NodeCore, Plan, Wanted};
 use node_store::NodeStore;
 use sector_disk::SectorDisk;
 use std::alloc::Global;
@@ -48,7 +50,7 @@ pub(crate) fn handle<D: SectorDisk>(
     ensures store { KeepsSound D.state store.old store.new (IsErrOf (told result) NodeFault.Device) }
     ensures disk { Writes D.state store.old store.new (wants_of id (durable_of store.old).pending event.now core.old.state) (IsOk (told result)) }
 {
-    let plan = match core.plan_step(event, store.table()) {
+    let plan = match planned(alloc, core, event, store.table()) {
         Ok(plan) => plan,
         Err(CoreFault::NoMemory) => return Err(NodeFault::Core(CoreFault::NoMemory)),
         Err(fault) => {
@@ -77,6 +79,28 @@ pub(crate) fn handle<D: SectorDisk>(
         answer,
         sent,
     })
+}
+
+/// What an event will make of the core. The plan of a delivery is made apart: most events are deliveries, and each call of a function
+/// pays for the size of its locals, of which the other events have many.
+fn planned(
+    alloc: Global,
+    core: &mut NodeCore,
+    event: &Event,
+    table: &JobTable,
+) -> Result<Plan, CoreFault>
+    ensures kept { core.new ≡ record core.old { room = core.new.room } }
+    ensures plan { IfOk result (IsPlanFor core.new table.now.pending event.now) }
+    ensures done { IfOk result (λ _. refusal_of core.old.nodes core.old.id event.now core.old.state ≡ None) }
+    ensures refused { IfSome (refusal_of core.old.nodes core.old.id event.now core.old.state) (λ fault. result ≡ Err fault) }
+    ensures memory { IfErr result (λ fault. fault ≢ CoreFault.NoMemory
+        → refusal_of core.old.nodes core.old.id event.now core.old.state ≡ Some fault) }
+    ensures unchanged { OnErr result (core.new ≡ core.old) }
+{
+    match event {
+        Event::Deliver(message) => core.plan_delivery(message, table, Vec::new(alloc)),
+        _ => core.plan_step(event, table),
+    }
 }
 
 /// Why the disk can't take a command, by how it is told.

@@ -4,7 +4,7 @@ ghost use Rattle.std.specs.Prelude.{◌≡◌, ◌≢◌, ◌+◌, ◌<◌, ◌�
 ghost use Rattle.message_list.specs.Letters.{letter_of, noted, task_kept, work_kept, payload_kept, kind_of, body_of, message_of, HasNumber, CanBeRead, HasPayload, work_said};
 ghost use Rattle.job_model.specs.declared.payload.TheConstants.{PAYLOAD_CAPACITY};
 
-use group_task::{GroupNo, NodeId, Task};
+use group_task::{GroupNo, NodeId, Task, share};
 use job_model::{PAYLOAD_CAPACITY, Payload, Queue, Work};
 use wire_msg::{Body, Message};
 
@@ -183,17 +183,51 @@ pub fn read_letter(
             let group = GroupNo::numbered(creator, number);
             message.set(sender, receiver, Body::Accept(group));
         }
-        Kind::Ready => message.set(sender, receiver, Body::Ready(tasks[number as usize])),
+        Kind::Ready => {
+            let task = &tasks[number as usize];
+            read_ready(task, sender, receiver, message);
+        }
         Kind::ReadyAck => {
             let group = GroupNo::numbered(creator, number);
             message.set(sender, receiver, Body::ReadyAck(group));
         }
         Kind::Work => {
-            let body = work_said(payloads, &works[number as usize]);
-            message.set(sender, receiver, body);
+            let work = &works[number as usize];
+            read_work(payloads, work, sender, receiver, message);
         }
         Kind::Done => message.set(sender, receiver, Body::Done(number)),
     }
+}
+
+/// Makes `message` the Ready that tells this task. It stands apart, as [`read_work`] does, and takes the task to pieces, so that the
+/// whole message is written once.
+#[inline(never)]
+fn read_ready(task: &Task, sender: NodeId, receiver: NodeId, message: &mut Message)
+    requires { sender ≢ receiver }
+    ensures { message.new ≡ record { sender = sender; receiver = receiver; body = Body.Ready task.now } }
+{
+    let members = task.members();
+    let group = task.group();
+    let group = GroupNo::numbered(group.creator(), group.count());
+    message.set(sender, receiver, Body::Ready(share(group, members)));
+}
+
+/// Makes `message` the Work that is kept. It stands apart, since each call of a function pays for the size of its locals, and here a
+/// whole message is one.
+#[inline(never)]
+fn read_work(
+    payloads: &[u8],
+    work: &KeptWork,
+    sender: NodeId,
+    receiver: NodeId,
+    message: &mut Message,
+)
+    requires ends { sender ≢ receiver }
+    requires payload { HasPayload (length payloads.now) work.now }
+    ensures { message.new ≡ record { sender = sender; receiver = receiver; body = work_said payloads.now work.now } }
+{
+    let body = work_said(payloads, work);
+    message.set(sender, receiver, body);
 }
 
 /// A Work with its payload.

@@ -61,7 +61,7 @@ impl MessageList {
     }
 
     /// Makes room for so many more messages, whatever they say.
-    #[inline]
+    #[inline(always)]
     pub fn reserve(&mut self, more: usize) -> Result<(), AllocError>
         ensures messages { self.new.messages ≡ self.old.messages }
         ensures room { OnOk result (self.new.room ≡ max self.old.room more) }

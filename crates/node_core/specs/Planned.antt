@@ -13,13 +13,14 @@ use Rattle.node_core.specs.declared.plan.Standing.{Standing}
 use Rattle.node_core.specs.declared.plan.HandChange.{HandChange}
 use Rattle.node_core.specs.declared.plan.HandChange.TheVariants.{Keep, Clear, Lose, Gain}
 use Rattle.node_core.specs.declared.plan.Act.{Act}
-use Rattle.node_core.specs.declared.plan.Act.TheVariants.{Stay, Settle, Invite, Recover, Place}
+use Rattle.node_core.specs.declared.plan.Act.TheVariants.{Stay, Mark, Settle, Invite, Recover, Place}
 use Rattle.node_core.specs.declared.plan.Plan.{Plan}
 use Rattle.node_core.specs.declared.phase.Phase.TheVariants.{Election}
 use Rattle.node_core.specs.declared.vector.Vector.{Vector}
 use Rattle.node_core.specs.State.{State}
 use Rattle.node_core.specs.Effect.{Effect, quietly}
 use Rattle.node_core.specs.Words.{letter, to_each, own_group, regrouped, without_held}
+use Rattle.node_core.specs.Noted.{noted}
 use Rattle.node_core.specs.Timers.{recovery}
 use Rattle.node_core.specs.Consistent.{IsConsistent}
 
@@ -61,6 +62,7 @@ hand_after (Gain jobs) hand = hand ++ jobs.items
 -- what carrying out the plan makes of the state, where answer is the new count or the new id
 abbrev pub carried : ℕ → Act → ℕ → State → Effect → Effect
 carried self (Stay job) answer s ready = ready
+carried self (Mark note) answer s ready = record ready { state = noted note s }
 carried self (Settle change) answer s ready = record ready { state = with_standing change.value.standing (hand_after change.value.hand s.hand) }
 carried self (Invite receivers) answer s ready = record {
   state = record (regrouped self answer s) { phase = Election };
@@ -86,6 +88,7 @@ done_wanted (Some id) = Some (Done id)
 -- the command that a plan with this act wants
 abbrev pub act_wants : Act → Option Command
 act_wants (Stay job) = done_wanted job
+act_wants (Mark note) = None
 act_wants (Settle change) = done_wanted change.value.done
 act_wants (Invite receivers) = Some Raise
 act_wants Recover = Some Raise
@@ -112,6 +115,7 @@ lent_by (lent.Done id) = Some (Done id)
 -- how many messages carrying out the plan sends
 abbrev pub act_sends : ℕ → Act → List Envelope → ℕ
 act_sends self (Stay job) messages = length messages
+act_sends self (Mark note) messages = length messages
 act_sends self (Settle change) messages = length messages
 act_sends self (Invite receivers) messages = length receivers
 act_sends self Recover messages = 0
@@ -129,6 +133,7 @@ hand_gain (Gain jobs) = vec_len jobs
 
 abbrev pub gain_of : Act → ℕ
 gain_of (Stay job) = 0
+gain_of (Mark note) = 0
 gain_of (Settle change) = hand_gain change.value.hand
 gain_of (Invite receivers) = 0
 gain_of Recover = 0
@@ -137,6 +142,7 @@ gain_of (Place to work) = 1
 -- the plan can be carried out without growth, and leaves a consistent state
 abbrev pub CanAct : ℕ → ℕ → State → Act → List Envelope → ℕ → Type 0
 CanAct nodes self s (Stay job) sent room = Unit {0}
+CanAct nodes self s (Mark note) sent room = IsConsistent nodes self (noted note s)
 CanAct nodes self s (Settle change) sent room = IsConsistent nodes self (with_standing change.value.standing (hand_after change.value.hand s.hand))
 CanAct nodes self s (Invite receivers) sent room = (sent ≡ []) × (length receivers ≤ room) × AreOthers nodes self receivers
 CanAct nodes self s Recover sent room = sent ≡ []

@@ -133,14 +133,14 @@ fn plan_message(
     match body {
         Body::AreYouCoordinator => messages::asked_coordinator(room, nodes, id, from, vector),
         Body::Coordinator(agreed) => {
-            messages::answered_coordinator(alloc, room, nodes, id, from, *agreed, vector)
+            Ok(messages::answered_coordinator(room, nodes, id, from, *agreed, vector))
         }
         Body::Invitation(group) => messages::invited(alloc, room, nodes, id, *group, vector),
-        Body::Accept(group) => messages::accepted(alloc, room, nodes, id, from, *group, vector),
-        Body::Ready(task) => messages::told_ready(alloc, room, nodes, id, from, *task, vector),
-        Body::ReadyAck(group) => messages::acknowledged(
-            alloc, room, nodes, id, from, *group, vector,
-        ),
+        Body::Accept(group) => Ok(messages::accepted(room, nodes, id, from, *group, vector)),
+        Body::Ready(task) => messages::told_ready(room, nodes, id, from, *task, vector),
+        Body::ReadyAck(group) => {
+            Ok(messages::acknowledged(room, nodes, id, from, *group, vector))
+        }
         Body::AreYouThere(group) => messages::asked_there(room, nodes, id, from, *group, vector),
         Body::Here(group, agreed) => {
             messages::answered_there(alloc, room, nodes, id, from, *group, *agreed, vector)

@@ -15,12 +15,13 @@ ghost use Rattle.node_core.specs.Consistent.{IsConsistent};
 
 use crate::guards::{awaits_ready, leads};
 use crate::in_hand::InHand;
+use crate::notes::Note;
 use crate::operator::recovery;
 use crate::others::{with_other, without_other};
 use crate::phase::Phase;
 use crate::plan::{
-    Act, HandChange, Plan, Standing, changed, nothing, quietly, reply, standing_of, with_room,
-    write_to_each,
+    Act, HandChange, Plan, Standing, changed, marked, nothing, quietly, reply, standing_of,
+    with_room, write_to_each,
 };
 use crate::vector::Vector;
 use group_task::{GroupNo, Members, NodeId, Task, owner};
@@ -57,32 +58,26 @@ pub fn asked_coordinator(
 /// Coordinator: a coordinator that checks notes the others.
 #[tactic(auto, unfolding(crate::specs::Messages::answered_coordinator))]
 pub fn answered_coordinator(
-    alloc: Global,
     room: Vec<Message>,
     nodes: u8,
     id: NodeId,
     from: NodeId,
     agreed: bool,
     vector: &Vector,
-) -> Result<Plan, AllocError>
+) -> Plan
     requires room { room.items ≡ [] }
     requires other { id ≢ from }
     requires known { from < nodes }
     requires consistent { IsConsistent nodes id (state_of vector.now) }
-    ensures row { IfOk result (λ plan. IsPlanOf nodes id (state_of vector.now) plan None
-        (λ _. answered_coordinator id from agreed (state_of vector.now))) }
-    ensures none { IfOk result (λ plan. plan_sends id plan ≡ 0) }
-    ensures memory { Spares (delivered_takes id from (says.Coordinator agreed) (state_of vector.now)) result }
+    ensures row { IsPlanOf nodes id (state_of vector.now) result None (λ _. answered_coordinator id from agreed (state_of vector.now)) }
+    ensures none { plan_sends id result ≡ 0 }
+    ensures gain { gain_of result.act ≡ 0 }
 {
     if agreed && leads(id, vector) && vector.checking {
-        let standing = Standing {
-            found: with_other(nodes, id, vector.found, from),
-            ..standing_of(vector)
-        };
-        let change = changed(alloc, standing, HandChange::Keep, None)?;
-        return Ok(quietly(room, change));
+        let found = with_other(nodes, id, vector.found, from);
+        return marked(room, Note::Found(found));
     }
-    Ok(nothing(room))
+    nothing(room)
 }
 
 /// Invitation: a Normal node stops its work and joins, and a coordinator passes the invitation on to its members.
@@ -112,19 +107,8 @@ pub fn invited(
     let mut messages = Vec::with_capacity(alloc, with_creator.len())?;
     write_to_each(&mut messages, id, members, &Body::Invitation(group));
     messages.push_reserved(Message::between(id, creator, Body::Accept(group)));
-    let standing = Standing {
-        phase: Phase::Reorganization,
-        coordinator: creator,
-        group,
-        up: Members::new(),
-        task: None,
-        found: Members::new(),
-        unready: Members::new(),
-        checking: false,
-        probing: false,
-    };
     Ok(Plan {
-        act: Act::Settle(changed(alloc, standing, HandChange::Clear, None)?),
+        act: Act::Mark(Note::Joined(group)),
         messages,
     })
 }
@@ -156,40 +140,34 @@ fn passed_on(nodes: u8, id: NodeId, group: GroupNo, vector: &Vector) -> Members
 /// Accept: the coordinator of a new group notes who joined.
 #[tactic(auto, unfolding(crate::specs::Messages::accepted))]
 pub fn accepted(
-    alloc: Global,
     room: Vec<Message>,
     nodes: u8,
     id: NodeId,
     from: NodeId,
     group: GroupNo,
     vector: &Vector,
-) -> Result<Plan, AllocError>
+) -> Plan
     requires room { room.items ≡ [] }
     requires other { id ≢ from }
     requires known { from < nodes }
     requires consistent { IsConsistent nodes id (state_of vector.now) }
-    ensures row { IfOk result (λ plan. IsPlanOf nodes id (state_of vector.now) plan None (λ _. accepted id from group (state_of vector.now))) }
-    ensures none { IfOk result (λ plan. plan_sends id plan ≡ 0) }
-    ensures memory { Spares (delivered_takes id from (says.Accept group) (state_of vector.now)) result }
+    ensures row { IsPlanOf nodes id (state_of vector.now) result None (λ _. accepted id from group (state_of vector.now)) }
+    ensures none { plan_sends id result ≡ 0 }
+    ensures gain { gain_of result.act ≡ 0 }
 {
     if matches!(vector.phase, Phase::Election)
         && vector.coordinator.is(id)
         && group.is(vector.group)
     {
-        let standing = Standing {
-            up: with_other(nodes, id, vector.up, from),
-            ..standing_of(vector)
-        };
-        let change = changed(alloc, standing, HandChange::Keep, None)?;
-        return Ok(quietly(room, change));
+        let up = with_other(nodes, id, vector.up, from);
+        return marked(room, Note::Accepted(up));
     }
-    Ok(nothing(room))
+    nothing(room)
 }
 
 /// Ready: a member takes the task from its coordinator, and says so each time that it is told.
 #[tactic(auto, unfolding(crate::specs::Messages::told_ready))]
 pub fn told_ready(
-    alloc: Global,
     room: Vec<Message>,
     nodes: u8,
     id: NodeId,
@@ -209,22 +187,23 @@ pub fn told_ready(
 {
     let told = is_told(id, from, task, vector);
     if told && matches!(vector.phase, Phase::Reorganization) {
-        let standing = Standing {
-            task: Some(task),
-            phase: Phase::Normal,
-            ..standing_of(vector)
-        };
-        let change = changed(alloc, standing, HandChange::Keep, None)?;
         let messages = with_room(room)?;
-        let answer = Message::between(id, from, Body::ReadyAck(vector.group));
-        return Ok(reply(Act::Settle(change), messages, answer));
+        let answer = Message::between(id, from, Body::ReadyAck(copied(vector.group)));
+        return Ok(reply(Act::Mark(Note::Told(task)), messages, answer));
     }
     if told && matches!(vector.phase, Phase::Normal) {
         let messages = with_room(room)?;
-        let answer = Message::between(id, from, Body::ReadyAck(vector.group));
+        let answer = Message::between(id, from, Body::ReadyAck(copied(vector.group)));
         return Ok(reply(Act::Stay(None), messages, answer));
     }
     Ok(nothing(room))
+}
+
+/// The same group, made of its parts: a message that is made of it is then written once, and isn't copied.
+fn copied(group: GroupNo) -> GroupNo
+    ensures { result ≡ group }
+{
+    GroupNo::numbered(group.creator(), group.count())
 }
 
 /// Whether the task is that of the node's group, told by its coordinator, and makes it a member.
@@ -240,37 +219,24 @@ fn is_told(id: NodeId, from: NodeId, task: Task, vector: &Vector) -> bool
 /// ReadyAck: the coordinator is Normal once all members are ready.
 #[tactic(auto, unfolding(crate::specs::Messages::acknowledged))]
 pub fn acknowledged(
-    alloc: Global,
     room: Vec<Message>,
     nodes: u8,
     id: NodeId,
     from: NodeId,
     group: GroupNo,
     vector: &Vector,
-) -> Result<Plan, AllocError>
+) -> Plan
     requires room { room.items ≡ [] }
     requires consistent { IsConsistent nodes id (state_of vector.now) }
-    ensures row { IfOk result (λ plan. IsPlanOf nodes id (state_of vector.now) plan None
-        (λ _. acknowledged id from group (state_of vector.now))) }
-    ensures none { IfOk result (λ plan. plan_sends id plan ≡ 0) }
-    ensures memory { Spares (delivered_takes id from (says.ReadyAck group) (state_of vector.now)) result }
+    ensures row { IsPlanOf nodes id (state_of vector.now) result None (λ _. acknowledged id from group (state_of vector.now)) }
+    ensures none { plan_sends id result ≡ 0 }
+    ensures gain { gain_of result.act ≡ 0 }
 {
     if !(awaits_ready(id, vector) && group.is(vector.group)) {
-        return Ok(nothing(room));
+        return nothing(room);
     }
     let unready = without_other(nodes, id, vector.unready, from);
-    let phase = if unready.is_empty() {
-        Phase::Normal
-    } else {
-        Phase::Reorganization
-    };
-    let standing = Standing {
-        unready,
-        phase,
-        ..standing_of(vector)
-    };
-    let change = changed(alloc, standing, HandChange::Keep, None)?;
-    Ok(quietly(room, change))
+    marked(room, Note::Awaited(unready))
 }
 
 /// AreYouThere: a node that is up says whether it coordinates that group, with the asking node among its members.

@@ -18,6 +18,7 @@ use crate::commit::{invite_each, place, recover, regroup, settle};
 use crate::event::Event;
 use crate::events::{plan_delivery, plan_event};
 use crate::fault::CoreFault;
+use crate::notes::take_note;
 use crate::phase::Phase;
 use crate::plan::{Act, Plan};
 use crate::vector::Vector;
@@ -216,6 +217,7 @@ impl NodeCore {
         let Plan { act, mut messages } = plan;
         match act {
             Act::Stay(_) => {}
+            Act::Mark(note) => take_note(&mut self.vector, note),
             Act::Settle(change) => settle(&mut self.vector, change),
             Act::Invite(receivers) => {
                 let group = GroupNo::numbered(self.id, answer);

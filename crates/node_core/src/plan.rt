@@ -6,6 +6,7 @@ ghost use Rattle.node_core.specs.Planned.{gain_of, hand_gain, done_wanted, lent_
 
 use crate::durable::{Durable, Wanted};
 use crate::in_hand::InHand;
+use crate::notes::Note;
 use crate::phase::Phase;
 use crate::vector::Vector;
 use group_task::{GroupNo, Members, NodeId, Task};
@@ -50,6 +51,8 @@ pub struct Change {
 pub enum Act {
     /// Leaves the node as it is. Where there is an id, the job is done.
     Stay(Option<u64>),
+    /// Makes the change that is noted.
+    Mark(Note),
     /// Makes this change.
     Settle(Box<Change>),
     /// Makes a new group, and invites these nodes into it.
@@ -74,6 +77,7 @@ impl Plan {
     {
         match &self.act {
             Act::Stay(done) => done_wanted(*done),
+            Act::Mark(_) => Durable::None,
             Act::Settle(change) => done_wanted(change.done),
             Act::Invite(_) | Act::Recover => Durable::Raise,
             Act::Place(_, work) => Durable::Put(**work),
@@ -86,6 +90,7 @@ impl Plan {
     {
         match &self.act {
             Act::Stay(done) => done_lent(*done),
+            Act::Mark(_) => done_lent(None),
             Act::Settle(change) => done_lent(change.done),
             Act::Invite(_) | Act::Recover => Wanted::Raise,
             Act::Place(_, work) => Wanted::Put(work),
@@ -99,7 +104,7 @@ impl Plan {
         match &self.act {
             Act::Settle(change) => change.hand.gain(),
             Act::Place(_, _) => 1,
-            Act::Stay(_) | Act::Invite(_) | Act::Recover => 0,
+            Act::Stay(_) | Act::Mark(_) | Act::Invite(_) | Act::Recover => 0,
         }
     }
 }
@@ -218,6 +223,17 @@ pub fn changed(
     )?)
 }
 
+/// The change that is noted, and nothing is sent.
+pub fn marked(room: Vec<Message>, note: Note) -> Plan
+    requires { room.items ≡ [] }
+    ensures { (result.act ≡ Act.Mark note) × (result.messages.items ≡ []) }
+{
+    Plan {
+        act: Act::Mark(note),
+        messages: room,
+    }
+}
+
 /// A change, and nothing is sent.
 pub fn quietly(room: Vec<Message>, change: Box<Change>) -> Plan
     requires { room.items ≡ [] }
@@ -235,7 +251,7 @@ pub fn with_room(mut room: Vec<Message>) -> Result<Vec<Message>, AllocError>
     ensures empty { IfOk result (λ messages. messages.items ≡ []) }
     ensures room { IfOk result (λ messages. 1 ≤ vec_capacity messages) }
 {
-    room.reserve(1)?;
+    room.reserve_exact(1)?;
     Ok(room)
 }
 

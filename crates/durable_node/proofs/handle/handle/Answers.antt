@@ -25,21 +25,21 @@ pub returns-then-not-is_device-clause-what : goal.returns-then-not-is_device-cla
 returns-then-not-is_device-clause-what g c =
     let d = durable_of c.args.store.now in
     let wants : lent_by c.wanted-wants.result ≡ wants_of c.args.id d.pending c.args.event.now c.args.core.now.state =
-    wanted_so _ _ c.args.core.now c.plan_step.new.self c.args.id c.args.event.now c.table.result.now c.args.store.now.journal.table
-    c.wanted-wants.ensures c.in-Ok.ensures.plan.wants_is c.plan_step.ensures.kept c.requires.over.of.id c.table.ensures in
+    wanted_so _ _ c.args.core.now c.planned.new.core c.args.id c.args.event.now c.table.result.now c.args.store.now.journal.table
+    c.wanted-wants.ensures c.in-Ok.ensures.plan.wants_is c.planned.ensures.kept c.requires.over.of.id c.table.ensures in
     let not_device : c.in-Err-carry.fault ≢ node.Device = (λ e. not_so c.is_device.result c.if-not-is_device.true (c.is_device.ensures.1 e)) in
     let carried = c.in-Err-carry.ensures.refused not_device in
     let turned = turned_as c.args.store.now.journal.slots c.args.nodes c.args.id c.args.core.now.state d (durable_of c.carry.new.store) c.args.event.now c.in-Err-carry.fault (lent_by c.wanted-wants.result)
     (reason_of c.refusal.result) (rw (c.requires.over.of.nodes, c.requires.over.of.id) at c.in-Ok.ensures.done) (ap (λ (st : StoreState _). durable_of st) carried.0) wants carried.1 c.refusal.ensures in
     rw c.silent-then-not-is_device.ensures.fate
-    (turned.0, c.silent-then-not-is_device.ensures.silent, record { same_state = ap (λ (k : Core). k.state) c.plan_step.ensures.kept; same_store = carried.0; same_doubt = refl })
+    (turned.0, c.silent-then-not-is_device.ensures.silent, record { same_state = ap (λ (k : Core). k.state) c.planned.ensures.kept; same_store = carried.0; same_doubt = refl })
 
 pub returns-then-not-is_device-clause-answers : goal.returns-then-not-is_device-clause-answers
 returns-then-not-is_device-clause-answers g c =
     let d = durable_of c.args.store.now in
     let wants : lent_by c.wanted-wants.result ≡ wants_of c.args.id d.pending c.args.event.now c.args.core.now.state =
-    wanted_so _ _ c.args.core.now c.plan_step.new.self c.args.id c.args.event.now c.table.result.now c.args.store.now.journal.table
-    c.wanted-wants.ensures c.in-Ok.ensures.plan.wants_is c.plan_step.ensures.kept c.requires.over.of.id c.table.ensures in
+    wanted_so _ _ c.args.core.now c.planned.new.core c.args.id c.args.event.now c.table.result.now c.args.store.now.journal.table
+    c.wanted-wants.ensures c.in-Ok.ensures.plan.wants_is c.planned.ensures.kept c.requires.over.of.id c.table.ensures in
     let not_device : c.in-Err-carry.fault ≢ node.Device = (λ e. not_so c.is_device.result c.if-not-is_device.true (c.is_device.ensures.1 e)) in
     let carried = c.in-Err-carry.ensures.refused not_device in
     let none = rw (c.requires.over.of.nodes, c.requires.over.of.id) at c.in-Ok.ensures.done in

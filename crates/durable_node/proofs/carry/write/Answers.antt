@@ -6,7 +6,7 @@ use Rattle.durable_node.specs.declared.fault.NodeFault.{NodeFault}
 use Rattle.durable_node.specs.Faults.{fault_for}
 use Rattle.durable_node.specs.Carrying.{Writes}
 use Rattle.durable_node.proofs.Mounts.{written}
-use Rattle.durable_node.proofs.carry.carry.Goals as goal
+use Rattle.durable_node.proofs.carry.write.Goals as goal
 
 -- what is told as done was done
 done_of : (r : Result ℕ StoreFault) (t : Result (Option ℕ) NodeFault) → IfErr r (λ fault. t ≡ Err (fault_for fault)) → IsOk t → IsOk r
