@@ -25,7 +25,7 @@ use std::alloc::AllocError;
 use wire_msg::Message;
 
 /// An event at a node. Room for its messages is taken first, so that none is kept back once the event is handled.
-/// The disk forgets the moments before.
+/// Where the event wrote on the disk, it forgets the moments before.
 ///
 /// Refused where there is no memory: the node and the network stay as they were.
 pub(crate) fn handle(
@@ -58,7 +58,7 @@ pub(crate) fn handle(
     })
 }
 
-/// Lets a node's disk forget the moments before, where the event may have written on it: else there are none.
+/// Lets a node's disk forget the moments before, where the event may have written on it: no other event adds to them.
 fn forget_written(node: &mut DurableNode<MemDisk>, came: &Came)
     ensures { IsSettled node.old node.new }
 {
