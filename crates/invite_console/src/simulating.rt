@@ -36,22 +36,25 @@ pub fn sim<R: Read, W: Write>(
     ensures reads { input.old.left ≤ input.new.left + 16777216 }
 {
     match read_source(alloc, input) {
-        Ok(bytes) => sim_to(alloc, telling, &bytes, output),
+        Ok(bytes) => sim_to(alloc, telling, bytes, output),
         Err(trouble) => tell(alloc, output, Err(trouble)),
     }
 }
 
-/// Prints what `sim` prints for the bytes of an input.
-fn sim_to<W: Write>(alloc: Global, telling: Telling, input: &[u8], output: &mut W) -> Ended
-    ensures prints { Prints (IsSimulation telling) (Some input.now) (W.contents output.old) (W.contents output.new) result.ending }
-    ensures why { IsWhy schedule_flaw (Some input.now) result.ending result.why.items }
+/// Prints what `sim` prints for the bytes of an input. They are let go before the run.
+fn sim_to<W: Write>(alloc: Global, telling: Telling, input: Vec<u8>, output: &mut W) -> Ended
+    ensures prints { Prints (IsSimulation telling) (Some input.items) (W.contents output.old) (W.contents output.new) result.ending }
+    ensures why { IsWhy schedule_flaw (Some input.items) result.ending result.why.items }
 {
-    match read_schedule(alloc, input) {
-        Ok(schedule) => Ended {
-            ending: simulate(alloc, telling, &schedule, output),
-            why: Vec::new(alloc),
-        },
-        Err(LineFault::BadLine(number)) => match bad_schedule(alloc, input, number) {
+    match read_schedule(alloc, &input) {
+        Ok(schedule) => {
+            drop(input);
+            Ended {
+                ending: simulate(alloc, telling, &schedule, output),
+                why: Vec::new(alloc),
+            }
+        }
+        Err(LineFault::BadLine(number)) => match bad_schedule(alloc, &input, number) {
             Ok(told) => tell(alloc, output, Ok(told)),
             Err(_) => tell(alloc, output, Err(Trouble::NoMemory)),
         },
