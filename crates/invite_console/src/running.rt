@@ -17,6 +17,9 @@ use runs::left_by_a_run;
 use schedule::{Act, Schedule};
 use std::alloc::{AllocError, Global};
 
+/// The line of an act takes about so many bytes.
+const LINE: usize = 12;
+
 /// Where what is kept of an act ends: it begins where that of the act before it ended.
 #[derive(Clone, Copy)]
 pub(crate) struct Kept {
@@ -51,7 +54,7 @@ pub(crate) fn run_schedule(
     left_by_a_run();
     let mut cluster = Simulation::open(alloc, schedule.size.nodes, schedule.size.slots)?;
     let mut kept = Vec::with_capacity(alloc, schedule.acts.len())?;
-    let mut text = Vec::new(alloc);
+    let mut text = Vec::with_capacity(alloc, schedule.acts.len().saturating_mul(LINE))?;
     keep_acts(
         alloc,
         telling,

@@ -10,12 +10,15 @@ use crate::work::Work;
 use std::alloc::{AllocError, Global};
 use std::marker::Model;
 
+// So many free places before the jobs are left as they are.
+const LEFT_FREE: usize = 8;
+
 /// The jobs that are pending, in order of id, and the id of the next one.
 ///
 /// Ids begin at 0 and rise by one with each job that is put, so none ever comes again, unless
 /// [`JobTable::restart`] begins anew; the greatest is 18446744073709551614. No call but [`JobTable::with_room`] takes memory, which is for twice
 /// as many jobs as there is room for: so a job at the front is taken out as fast as one at the end, and each
-/// job that is put pays for at most one move to the front.
+/// job that is put or taken out pays for at most one move to the front.
 #[derive(Drop)]
 pub struct JobTable {
     next: u64,
@@ -192,7 +195,8 @@ fn place_of(jobs: &[Job], next: u64, id: u64) -> Option<usize>
     }
 }
 
-// Sees to it that a place is free behind the jobs: where none is, they move to the front.
+// Sees to it that a place is free behind the jobs. Where none is they move to the front, and already
+// where more places before them are free than jobs would move: so jobs that come and go stay in few places.
 fn make_place(places: &mut Vec<Job>, start: &mut usize)
     requires { start.old ≤ length places.old.items }
     ensures jobs { drop start.new places.new.items ≡ drop start.old places.old.items }
@@ -201,10 +205,10 @@ fn make_place(places: &mut Vec<Job>, start: &mut usize)
     ensures free { length (drop start.old places.old.items) < vec_capacity places.old
         → length places.new.items < vec_capacity places.new }
 {
-    if places.len() < places.capacity() {
+    let jobs = places.len() - *start;
+    if places.len() < places.capacity() && *start <= jobs.max(LEFT_FREE) {
         return;
     }
-    let jobs = places.len() - *start;
     places.as_mut_slice().copy_within(*start.., 0);
     places.truncate(jobs);
     *start = 0;

@@ -4,4 +4,3 @@ pub mod Acts
 pub mod Text
 pub mod Limits
 pub mod Flaws
-pub mod Kept

@@ -1,4 +1,4 @@
-ghost use Rattle.std.specs.Prelude.{◌≡◌, [], IfOk};
+ghost use Rattle.std.specs.Prelude.{◌≡◌, IfOk};
 
 use group_task::NodeId;
 use job_model::{NewJob, Work};
@@ -7,44 +7,33 @@ use std::marker::Model;
 
 /// What a crash leaves in the sectors that weren't synced, in their order.
 ///
-/// It is kept apart from its act: a schedule is a long list of acts, and most crashes leave nothing.
+/// It is kept apart from its act: a schedule is a long list of acts, and few of them are crashes.
 #[derive(Drop)]
 pub struct Fill {
-    bytes: Option<Box<Vec<u8>>>,
+    bytes: Box<Vec<u8>>,
 }
 
 impl Model for Fill {
     ghost use Rattle.std.specs.Prelude.{ℕ, List};
-    ghost use Rattle.schedule.specs.Kept.{fill_of};
 
     ghost Value = { List ℕ };
 
-    ghost view = { fill_of };
+    ghost view = { λ a. a.bytes.value.items };
 }
 
 impl Fill {
-    /// No bytes.
-    pub fn none() -> Fill
-        ensures { result ≡ [] }
-    {
-        Fill { bytes: None }
-    }
-
     pub fn new(alloc: Global, bytes: Vec<u8>) -> Result<Fill, AllocError>
         ensures { IfOk result (λ fill. fill ≡ bytes.items) }
     {
         Ok(Fill {
-            bytes: Some(Box::new(alloc, bytes)?),
+            bytes: Box::new(alloc, bytes)?,
         })
     }
 
     pub fn as_slice(&self) -> &[u8]
         ensures { result.now ≡ self.now }
     {
-        match &self.bytes {
-            Some(bytes) => bytes,
-            None => &[],
-        }
+        &self.bytes
     }
 }
 

@@ -42,7 +42,7 @@ fn act_with(alloc: Global, verb: Verb, fields: &[u8]) -> Result<Option<Act>, All
     ensures { IfOk result (λ act. act ≡ act_with verb (words_of fields.now)) }
 {
     let Some((first, more)) = cut_word(fields) else {
-        return Ok(short(verb, fields));
+        return short(alloc, verb, fields);
     };
     let Some((second, rest)) = cut_word(more) else {
         return middle(alloc, verb, first, more);
@@ -57,22 +57,22 @@ fn act_with(alloc: Global, verb: Verb, fields: &[u8]) -> Result<Option<Act>, All
 }
 
 /// A verb with one field.
-fn short(verb: Verb, field: &[u8]) -> Option<Act>
-    ensures { result ≡ short_act verb field.now }
+fn short(alloc: Global, verb: Verb, field: &[u8]) -> Result<Option<Act>, AllocError>
+    ensures { IfOk result (λ act. act ≡ short_act verb field.now) }
 {
     match verb {
-        Verb::Check => Some(Act::Check(node(field)?)),
-        Verb::Merge => Some(Act::Merge(node(field)?)),
-        Verb::Accept => Some(Act::Accept(node(field)?)),
-        Verb::Ready => Some(Act::Ready(node(field)?)),
-        Verb::Coord => Some(Act::Coord(node(field)?)),
-        Verb::Dispatch => Some(Act::Dispatch(node(field)?)),
-        Verb::Deliver => Some(Act::Deliver(number(field)?)),
-        Verb::Lose => Some(Act::Lose(number(field)?)),
-        Verb::Crash => Some(Act::Crash(node(field)?, Fill::none())),
-        Verb::Recover => Some(Act::Recover(node(field)?)),
-        Verb::Compact => Some(Act::Compact(node(field)?)),
-        Verb::Cut | Verb::Mend | Verb::Submit | Verb::Finish | Verb::Arm => None,
+        Verb::Check => Ok(node(field).map(Act::Check)),
+        Verb::Merge => Ok(node(field).map(Act::Merge)),
+        Verb::Accept => Ok(node(field).map(Act::Accept)),
+        Verb::Ready => Ok(node(field).map(Act::Ready)),
+        Verb::Coord => Ok(node(field).map(Act::Coord)),
+        Verb::Dispatch => Ok(node(field).map(Act::Dispatch)),
+        Verb::Deliver => Ok(number(field).map(Act::Deliver)),
+        Verb::Lose => Ok(number(field).map(Act::Lose)),
+        Verb::Crash => bare_crash(alloc, field),
+        Verb::Recover => Ok(node(field).map(Act::Recover)),
+        Verb::Compact => Ok(node(field).map(Act::Compact)),
+        Verb::Cut | Verb::Mend | Verb::Submit | Verb::Finish | Verb::Arm => Ok(None),
     }
 }
 
@@ -139,6 +139,17 @@ fn arm(first: &[u8], second: &[u8]) -> Option<Act>
     ensures { result ≡ middle_act Arm first.now second.now }
 {
     Some(Act::Arm(node(first)?, number(second)?))
+}
+
+/// A crash that leaves nothing.
+fn bare_crash(alloc: Global, field: &[u8]) -> Result<Option<Act>, AllocError>
+    ensures { IfOk result (λ act. act ≡ short_act Crash field.now) }
+{
+    let Some(node) = node(field) else {
+        return Ok(None);
+    };
+    let fill = Fill::new(alloc, Vec::new(alloc))?;
+    Ok(Some(Act::Crash(node, fill)))
 }
 
 fn crash(alloc: Global, first: &[u8], second: &[u8]) -> Result<Option<Act>, AllocError>

@@ -6,6 +6,9 @@ use crate::overwritten::{Overwritten, clear_noted};
 use std::alloc::{AllocError, Global};
 use std::marker::Model;
 
+/// For so many notes room is kept when they are forgotten.
+const KEPT_ROOM: usize = 16;
+
 /// The notes of the times from one sync to the next that are over, and those of the time since.
 ///
 /// They stand in one list, the first first. So a write takes memory for the bytes that it
@@ -83,7 +86,7 @@ impl Notes {
         self.notes.pop()
     }
 
-    /// Drops the notes of the times that are over. Their room stays.
+    /// Drops the notes of the times that are over. Their room stays, unless it is that of a compaction.
     pub fn forget(&mut self)
         ensures { self.new ≡ record self.old { times = [] } }
     {
@@ -91,6 +94,9 @@ impl Notes {
         self.notes.truncate(self.notes.len() - self.closed);
         self.ends.clear();
         self.closed = 0;
+        if self.notes.capacity() > KEPT_ROOM {
+            self.shrink_to_fit();
+        }
     }
 
     /// Gives back the room in which no note stands.
@@ -98,6 +104,7 @@ impl Notes {
         ensures { self.new ≡ self.old }
     {
         self.notes.shrink_to_fit();
+        self.ends.shrink_to_fit();
     }
 
     pub fn clear(&mut self)
