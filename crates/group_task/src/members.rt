@@ -33,6 +33,7 @@ impl Model for Members {
 
 impl Members {
     /// The empty set.
+    #[tactic(auto, unfolding(crate::specs::Bits::ids_of))]
     #[inline]
     pub fn new() -> Members
         ensures { result ≡ [] }
@@ -53,6 +54,7 @@ impl Members {
     }
 
     /// The nodes stand in rising order, each once, and below [`NODES`](crate::NODES). This function is the law, and does nothing.
+    #[tactic(auto, using(crate::proofs::Words::set_word))]
     #[inline]
     pub(crate) fn rise(&self)
         ensures { IsSet self.now }
@@ -61,6 +63,7 @@ impl Members {
     }
 
     /// How many nodes the set has.
+    #[tactic(auto, using(crate::proofs::Words::length_word, crate::proofs::Words::set_word, crate::proofs::Words::few_members))]
     #[inline]
     pub fn len(&self) -> usize
         ensures value { result ≡ length self.now }
@@ -79,6 +82,7 @@ impl Members {
     }
 
     /// Whether the node is in the set.
+    #[tactic(auto, using(crate::proofs::Words::contains_word))]
     #[inline]
     pub fn contains(&self, id: NodeId) -> bool
         ensures { result ≡ has self.now id }
@@ -87,6 +91,7 @@ impl Members {
     }
 
     /// Whether all nodes of the set are below this one.
+    #[tactic(auto, using(crate::proofs::Words::below_word))]
     #[inline]
     pub fn are_below(&self, limit: NodeId) -> bool
         ensures { result ≡ are_below limit self.now }
@@ -124,6 +129,7 @@ impl Members {
     }
 
     /// Adds a node, which may be there already.
+    #[tactic(auto, using(crate::proofs::Words::insert_word, crate::proofs::Words::or_fits))]
     #[inline]
     pub fn insert(&mut self, id: NodeId)
         ensures { self.new ≡ with_id self.old id }
@@ -132,6 +138,7 @@ impl Members {
     }
 
     /// Takes a node out, which may be absent.
+    #[tactic(auto, using(crate::proofs::Words::remove_word))]
     #[inline]
     pub fn remove(&mut self, id: NodeId)
         ensures { self.new ≡ without_id self.old id }
@@ -170,6 +177,7 @@ impl Members {
     }
 
     /// The nodes of either set.
+    #[tactic(auto, using(crate::proofs::Words::either_word, crate::proofs::Words::or_fits))]
     #[inline]
     pub fn or(self, other: Members) -> Members
         ensures { result ≡ either_of self other }
@@ -190,6 +198,7 @@ impl PartialEq for Members {
 
     ghost laws = { partial_equiv_from_equiv nat_list_eq_equiv };
 
+    #[tactic(auto, using(crate::proofs::Words::same_word))]
     #[inline]
     fn eq(&self, other: &Members) -> bool {
         self.word == other.word

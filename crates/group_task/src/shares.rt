@@ -8,6 +8,7 @@ pub fn one_owner()
 
 /// No member of a group owns two queues more than another. This function is the law, and does
 /// nothing.
+#[tactic(auto, using(crate::proofs::ShareLaws::even_shares))]
 pub fn even_shares()
     ensures { IsEven }
 {}

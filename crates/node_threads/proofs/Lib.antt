@@ -1,8 +1,4 @@
 pub mod Places
 pub mod Facts
-pub mod Carrying
 pub mod Runs
-pub mod Wires
-pub mod Gathers
-pub mod Ending
-pub mod Fitting
+pub mod Links

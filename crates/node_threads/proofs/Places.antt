@@ -1,5 +1,5 @@
 -- Places of lists.
-use Rattle.std.proofs.Common.{◌≡◌, ◌≢◌, ℕ, zero, suc, ◌<◌, Option, Some, None, List, [], ◌∷◌, ◌++◌, map, length, slice_get, slice_index_or, get_or, option_map, refl, ap, sym, ◌∙◌, subst, inl, inr, arith}
+use Rattle.std.proofs.Common.{◌≡◌, ◌≢◌, ℕ, zero, suc, ◌+◌, ◌<◌, ◌⊎◌, Option, Some, None, List, [], ◌∷◌, ◌++◌, map, length, slice_get, slice_index_or, get_or, option_map, refl, ap, sym, ◌∙◌, subst, inl, inr, arith}
 use Rattle.std.proofs.lemmas.Option.{slice_get-map, slice_get-get_or, same_Some}
 use Rattle.histories.specs.Lists.{IsAmong}
 use Rattle.node_lock.specs.declared.run.Run.{Run}
@@ -20,11 +20,12 @@ among_at x (y ∷ xs) (inl same) = (0, omega arith, sym same)
 among_at x (y ∷ xs) (inr later) = let rest = among_at x xs later in let lt = rest.1 in (suc rest.0, omega (arith, lt), rest.2)
 
 pub at_map : {A B : Type 0} (f : A → B) (xs : List A) (k : ℕ) (y : B) → slice_get (map f xs) k ≡ Some y → (x : A) × (slice_get xs k ≡ Some x) × (f x ≡ y)
-at_map f xs k y at = by_option (slice_get xs k) refl (sym (slice_get-map f xs k) ∙ at)
-  where
-    by_option : (o : Option _) → slice_get xs k ≡ o → option_map f o ≡ Some y → (x : _) × (slice_get xs k ≡ Some x) × (f x ≡ y)
-    by_option None is e = absurd cc
-    by_option (Some x) is e = (x, is, same_Some (f x) y e)
+at_map f [] k y at = absurd cc
+at_map f (x ∷ xs) zero y at = (x, refl, same_Some (f x) y at)
+at_map f (x ∷ xs) (suc k) y at = at_map f xs k y at
+
+pub at_or_before : (k n : ℕ) → k < n + 1 → (k < n) ⊎ (k ≡ n)
+at_or_before k n lt = grind (arith, lt)
 
 -- what stands in a list stays there when the list is added to
 pub get_more : {A : Type 0} (xs ys : List A) (k : ℕ) (x : A) → slice_get xs k ≡ Some x → slice_get (xs ++ ys) k ≡ Some x

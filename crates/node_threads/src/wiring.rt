@@ -14,6 +14,7 @@ use std::alloc::{AllocError, Global};
 use std::mem;
 
 /// A link for each ordered pair of different nodes.
+#[tactic(auto, using(crate::proofs::Links::unlinked_wired))]
 pub(crate) fn wire(alloc: Global, nodes: u8, capacity: usize) -> Result<Vec<Ends>, AllocError>
     requires { nodes ≤ NODES }
     ensures { IfOk result (λ ends. AreWired nodes capacity ends.items) }
@@ -26,6 +27,7 @@ pub(crate) fn wire(alloc: Global, nodes: u8, capacity: usize) -> Result<Vec<Ends
 }
 
 /// So many nodes with no links.
+#[tactic(auto, using(crate::proofs::Links::none_unlinked, crate::proofs::Links::unlinked_pushed))]
 fn unlinked(alloc: Global, nodes: u8) -> Result<Vec<Ends>, AllocError>
     ensures { IfOk result (λ ends. AreUnlinked nodes ends.items) }
 {

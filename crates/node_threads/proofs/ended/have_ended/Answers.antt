@@ -1,6 +1,6 @@
 use Rattle.std.proofs.Common.{◌≡◌, ◌<◌, Some, length, slice_get, refl, arith}
 use Rattle.std.proofs.lemmas.Option.{slice_get_read}
-use Rattle.node_threads.proofs.Fitting.{ended_fits, one_more_fits}
+use Rattle.node_threads.proofs.Facts.{ended_fits, one_more_fits}
 use Rattle.node_threads.proofs.ended.have_ended.Goals as goal
 
 pub loop-node-preserved : goal.loop-node-preserved

@@ -1,7 +1,7 @@
 use Rattle.std.proofs.Common.{◌≡◌, ◌≤◌, length, rules}
 use Rattle.node_lock.specs.declared.held.TheConstants.{MOST_ENTRIES}
 use Rattle.node_lock.specs.Planned.{plan_len, turns_of}
-use Rattle.node_threads.proofs.Fitting.{is_more_as}
+use Rattle.node_threads.proofs.Facts.{is_more_as}
 use Rattle.node_threads.proofs.ended.is_full.Goals as goal
 
 pub returns : goal.returns

@@ -4,7 +4,7 @@ use Rattle.node_lock.specs.declared.run.Run.{Run}
 use Rattle.node_lock.specs.Kept.{Log}
 use Rattle.node_threads.specs.Nodes.{NodeEnds, run_at}
 use Rattle.node_threads.specs.Ended.{HasEnded}
-use Rattle.node_threads.proofs.Ending.{AreEndedBelow, ended_more}
+use Rattle.node_threads.proofs.Facts.{ended_more}
 use Rattle.node_threads.proofs.ended.take_all.Goals as goal
 
 pub loop-node-preserved : goal.loop-node-preserved
@@ -14,11 +14,9 @@ loop-node-preserved c =
     let plan = c.index-plans-node.result in
     let log = c.in_ok-history.history in
     let mine = c.in_ok-history.ends in
-    let histories : c.push_reserved.new.self.items ≡ c.loop-node.histories.items ++ log ∷ [] = c.push_reserved.ensures.items ∙ ap (λ (xs : List Log). xs ++ log ∷ []) c.reserve.ensures.items in
-    let left : c.push_reserved-in-loop-node.new.self.items ≡ c.loop-node.left.items ++ mine ∷ [] = c.push_reserved-in-loop-node.ensures.items ∙ ap (λ (xs : List NodeEnds). xs ++ mine ∷ []) c.reserve-in-loop-node.ensures.items in
     let at : slice_get plans node ≡ Some plan = slice_get_read plans (length plans) node plan refl c.loop-node-test.true c.index-plans-node.is in
     let is : c.run-run.result ≡ run_at c.args.size node = c.run-run.ensures ∙ ap (run_at c.args.size) c.numbered.ensures in
     let has : HasEnded (run_at c.args.size node) plan log.turns mine = subst (λ (r : Run). HasEnded r plan log.turns mine) is c.in_ok-history.ensures in
-    subst (λ (xs : List Log). AreEndedBelow (node + 1) c.args.size plans xs c.push_reserved-in-loop-node.new.self.items) (sym histories)
-    (subst (λ (xs : List NodeEnds). AreEndedBelow (node + 1) c.args.size plans (c.loop-node.histories.items ++ log ∷ []) xs) (sym left)
-    (ended_more node c.args.size plans c.loop-node.histories.items c.loop-node.left.items plan log mine at has c.loop-node.invariant))
+    ended_more node c.args.size plans c.loop-node.histories.items c.loop-node.left.items plan log mine c.push_reserved.new.self.items c.push_reserved-in-loop-node.new.self.items
+    (c.push_reserved.ensures.items ∙ ap (λ (xs : List Log). xs ++ log ∷ []) c.reserve.ensures.items)
+    (c.push_reserved-in-loop-node.ensures.items ∙ ap (λ (xs : List NodeEnds). xs ++ mine ∷ []) c.reserve-in-loop-node.ensures.items) at has c.loop-node.invariant

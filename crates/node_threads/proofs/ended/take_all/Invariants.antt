@@ -1,4 +1,4 @@
-use Rattle.node_threads.proofs.Ending.{AreEndedBelow}
+use Rattle.node_threads.proofs.Facts.{AreEndedBelow}
 use Rattle.node_threads.proofs.ended.take_all.Given as goal
 
 abbrev pub invariant-loop-node : goal.invariant-loop-node

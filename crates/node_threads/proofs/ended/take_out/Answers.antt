@@ -1,4 +1,5 @@
 use Rattle.std.proofs.Common.{◌≡◌, ℕ, Bool, true, false, not, sym, ◌∙◌, ap, arith, refl}
+use Rattle.std.proofs.lemmas.Bool.{not-false}
 use Rattle.std.proofs.lemmas.Bool.Decides.{nat_tests}
 use Rattle.node_lock.specs.declared.run.Run.{Run}
 use Rattle.node_lock.specs.contracts.run.RunPartialEq as eq
@@ -7,10 +8,6 @@ use Rattle.node_threads.proofs.ended.take_out.Goals as goal
 
 abbrev run_of : ℕ → ℕ → ℕ → ℕ → Run
 run_of node nodes slots capacity = record { node = node; nodes = nodes; slots = slots; capacity = capacity }
-
-not_false : (b : Bool) → false ≡ not b → b ≡ true
-not_false true e = refl
-not_false false e = absurd cc
 
 -- `==` on runs says that they are one
 run_same : (a b : Run) → eq.TheImpl.eq-value.it a b ≡ true → a ≡ b
@@ -25,7 +22,7 @@ pub returns : goal.returns
 returns c =
     let p = c.into_parts-parts.ensures.parts in
     let h = c.into_held-held.result in
-    let same : c.run.result ≡ c.args.run = run_same c.run.result c.args.run (not_false _ (sym c.if-ne.false ∙ c.ne.ensures)) in
+    let same : c.run.result ≡ c.args.run = run_same c.run.result c.args.run (not-false _ (sym c.ne.ensures ∙ c.if-ne.false)) in
     let ends = c.new.ensures in
     record {
       view = h;

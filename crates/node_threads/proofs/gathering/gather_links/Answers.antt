@@ -1,5 +1,5 @@
 use Rattle.std.proofs.Common.{◌≡◌, length, vec_len, subst, rules}
-use Rattle.node_threads.proofs.Gathers.{AreGatheredBelow, sender_gathered, all_gathered, end_of}
+use Rattle.node_threads.proofs.Links.{AreGatheredBelow, sender_gathered, all_gathered, end_of}
 use Rattle.node_threads.proofs.gathering.gather_links.Goals as goal
 
 pub loop-sender-preserved : goal.loop-sender-preserved

@@ -1,4 +1,4 @@
-use Rattle.node_threads.proofs.Gathers.{AreGatheredBelow}
+use Rattle.node_threads.proofs.Links.{AreGatheredBelow}
 use Rattle.node_threads.proofs.gathering.gather_links.Given as goal
 
 abbrev pub invariant-loop-sender : goal.invariant-loop-sender

@@ -1,6 +1,7 @@
-use Rattle.std.proofs.Common.{◌≡◌, ◌<◌, IfSome, length, vec_len, refl, subst, rules}
+use Rattle.std.proofs.Common.{◌≡◌, ◌<◌, ◌∙◌, ap, List, [], ◌∷◌, ◌++◌, IfSome, length, vec_len, refl, subst, rules}
+use Rattle.link_ring.specs.declared.gathering.LinkEnd.{LinkEnd}
 use Rattle.node_threads.specs.Links.{TookEnds}
-use Rattle.node_threads.proofs.Gathers.{IsGathering, gathered_as, passed_as, gathered_more, end_of}
+use Rattle.node_threads.proofs.Links.{IsGathering, gathers, gathers_past, gathered_more, end_of}
 use Rattle.node_threads.proofs.gathering.gather_sender.Goals as goal
 use Rattle.node_threads.proofs.gathering.gather_sender.Goals.{then-receiver-sender+in_ok-put+in_ok-link+in_ok-reserve, else-receiver-sender}
 
@@ -17,10 +18,10 @@ loop-receiver-preserved c =
           let link = w.in_ok-link.link in
           let took : TookEnds s r p t left w.next_ends.new.left.items = subst (λ o. IfSome o (λ ends. TookEnds s r ends.0 ends.1 left w.next_ends.new.left.items)) w.in_ok-put.ensures.ok_part w.next_ends.ensures in
           let said = w.in_ok-link.ensures in
-          rw (w.left-is, w.links-is) (gathered_as s r c.args.left.now.items left w.next_ends.new.left.items c.args.links.now.items links w.reserve.new.self.items w.push_reserved.new.self.items p t link
-          w.push_reserved.ensures.items w.reserve.ensures.items took w.if-receiver-sender.true
+          rw (w.left-is, w.links-is) (gathers s r c.args.left.now.items left w.next_ends.new.left.items c.args.links.now.items links w.push_reserved.new.self.items p t link
+          (w.push_reserved.ensures.items ∙ ap (λ (xs : List LinkEnd). xs ++ link ∷ []) w.reserve.ensures.items) took w.if-receiver-sender.true
           (record { paired = said.paired.0 refl; sender = said.nodes.0; receiver = said.nodes.1; put = said.messages.0; taken = said.messages.1 }) c.loop-receiver.invariant)
-      | else-receiver-sender w ↦ rw (w.left-is, w.links-is) (passed_as s r c.args.left.now.items left c.args.links.now.items links w.if-receiver-sender.false c.loop-receiver.invariant)
+      | else-receiver-sender w ↦ rw (w.left-is, w.links-is) (gathers_past s r c.args.left.now.items left c.args.links.now.items links w.if-receiver-sender.false c.loop-receiver.invariant)
     ]
 
 pub returns : goal.returns

@@ -1,4 +1,4 @@
-use Rattle.node_threads.proofs.Gathers.{IsGathering}
+use Rattle.node_threads.proofs.Links.{IsGathering}
 use Rattle.node_threads.proofs.gathering.gather_sender.Given as goal
 
 abbrev pub invariant-loop-receiver : goal.invariant-loop-receiver

@@ -1,4 +1,4 @@
-use Rattle.node_threads.proofs.Fitting.{all_fit}
+use Rattle.node_threads.proofs.Facts.{all_fit}
 use Rattle.node_threads.proofs.Runs.{whole_run}
 use Rattle.node_threads.proofs.run.run_threads.Goals as goal
 

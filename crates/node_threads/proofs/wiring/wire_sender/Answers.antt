@@ -1,6 +1,6 @@
-use Rattle.std.proofs.Common.{◌≡◌, ◌∙◌, subst}
+use Rattle.std.proofs.Common.{◌≡◌, ◌∙◌, refl, subst}
 use Rattle.link_ring.specs.Sides.{unused}
-use Rattle.node_threads.proofs.Wires.{IsWiring, linked_as, passed_as, ends_with, end_of}
+use Rattle.node_threads.proofs.Links.{IsWiring, linked_as, wires_past, ends_with, end_of}
 use Rattle.node_threads.proofs.wiring.wire_sender.Goals as goal
 use Rattle.node_threads.proofs.wiring.wire_sender.Goals.{then-receiver-sender+in_ok-put+in_ok-add_ends, else-receiver-sender}
 
@@ -14,10 +14,10 @@ loop-receiver-preserved c =
       | then-receiver-sender+in_ok-put+in_ok-add_ends w ↦
           let ends_are : unused w.numbered.result w.numbered-then-receiver-sender.result capacity ≡ unused s r capacity = λ i. unused (w.numbered.ensures i) (w.numbered-then-receiver-sender.ensures i) capacity in
           rw w.ends-is (linked_as nodes capacity s r w.in_ok-put.put w.in_ok-put.take c.loop-receiver.ends.items w.add_ends.new.ends.items c.loop-receiver-test.true w.if-receiver-sender.true (w.in_ok-put.ensures.0 ∙ ends_are) (w.in_ok-put.ensures.1 ∙ ends_are) w.in_ok-add_ends.ensures c.loop-receiver.invariant)
-      | else-receiver-sender w ↦ rw w.ends-is (passed_as nodes capacity s r c.loop-receiver.ends.items c.requires.within.0 w.if-receiver-sender.false c.loop-receiver.invariant)
+      | else-receiver-sender w ↦ rw w.ends-is (wires_past nodes capacity s r c.loop-receiver.ends.items c.requires.within.0 w.if-receiver-sender.false c.loop-receiver.invariant)
     ]
 
 pub returns : goal.returns
 returns c =
     ends_with c.args.nodes c.args.capacity c.args.sender c.loop-receiver.ends.items
-    (subst (λ n. IsWiring c.args.nodes c.args.capacity c.args.sender n c.loop-receiver.ends.items) (end_of c.loop-receiver.receiver c.args.nodes c.loop-receiver.auto.receiver-end c.loop-receiver-test.false) c.loop-receiver.invariant)
+    (subst (λ n. IsWiring c.args.nodes c.args.capacity c.args.sender n c.loop-receiver.ends.items) (end_of c.loop-receiver.receiver c.args.nodes c.args.nodes c.args.nodes c.loop-receiver.auto.receiver-end c.loop-receiver-test.false refl refl) c.loop-receiver.invariant)

@@ -1,4 +1,4 @@
-use Rattle.node_threads.proofs.Wires.{IsWiring}
+use Rattle.node_threads.proofs.Links.{IsWiring}
 use Rattle.node_threads.proofs.wiring.wire_sender.Given as goal
 
 abbrev pub invariant-loop-receiver : goal.invariant-loop-receiver
