@@ -5,8 +5,11 @@
 //! longer (the task of a Ready, a Work with its payload) in lists beside. A message that is asked for is made once more.
 #![tactic(auto)]
 
+mod lent;
 mod letter;
 mod list;
+mod opened;
 mod spelling;
 
+pub use lent::LentMessage;
 pub use list::MessageList;

@@ -1,10 +1,13 @@
 ghost use Rattle.std.specs.Prelude.{◌≡◌, ◌-◌, ◌+◌, ◌<◌, ◌≤◌, ◌↔◌, [], ◌∷◌, ◌++◌, length, max, option_map, slice_get, Some, None, IfSome, IsTrue, MatchBool, OnOk, OnErr};
 ghost use Rattle.wire_msg.specs.Spelling.{spelling, IsMessage};
+ghost use Rattle.message_list.specs.Lent.{message_at, message_opened, IsOpened};
 ghost use Rattle.message_list.specs.Letters.{ends_of};
 
+use crate::lent::LentMessage;
 use crate::letter::{
     KeptWork, Letter, is_message, keep_payload, keep_task, keep_work, letter_of, read_letter,
 };
+use crate::opened::Opened;
 use crate::spelling::{spell_letter, spell_message};
 use group_task::{NodeId, Task};
 use job_model::PAYLOAD_CAPACITY;
@@ -138,6 +141,31 @@ impl MessageList {
         match self.letters.get(place) {
             Some(letter) => is_message(&self.tasks, &self.works, &self.payloads, letter, message),
             None => false,
+        }
+    }
+
+    /// The message at a place, counted from 0, lent as it is kept.
+    pub fn lend(&self, place: usize) -> Option<LentMessage<'_>>
+        ensures { result ≡ slice_get self.now.messages place }
+    {
+        if place < self.letters.len() {
+            Some(LentMessage { list: self, place })
+        } else {
+            None
+        }
+    }
+
+    /// The letter at a place, with what is kept beside it.
+    pub(crate) fn opened(&self, place: usize) -> Opened<'_>
+        requires { place < length self.now.messages }
+        ensures message { message_opened result ≡ message_at self.now.messages place }
+        ensures opened { IsOpened result }
+    {
+        Opened {
+            tasks: &self.tasks,
+            works: &self.works,
+            payloads: &self.payloads,
+            letter: &self.letters[place],
         }
     }
 

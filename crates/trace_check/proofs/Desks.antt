@@ -5,7 +5,6 @@ use Rattle.std.proofs.lemmas.Bool.Decides.{nat_tests}
 use Rattle.group_task.specs.Ids.{has, with_id, without_id}
 use Rattle.group_task.proofs.Words.{has-with_id, has-without_id}
 use Rattle.wire_msg.specs.Envelope.{Envelope}
-use Rattle.wire_msg.specs.Spelling.{IsMessage}
 use Rattle.histories.specs.Lists.{IsAmong, Each}
 use Rattle.histories.specs.NodeState.{NodeState}
 use Rattle.histories.specs.What.{AreAddressed}
@@ -66,7 +65,7 @@ taken_same n past = let same : (n == n) ≡ true = grind (arith, nat_tests) in r
 taken_other : (k n : ℕ) (past : List ℕ) → k ≢ n → taken k (n ∷ past) ≡ taken k past
 taken_other k n past other = let apart : (n == k) ≡ false = test_other n k (λ same. other (sym same)) in rw apart refl
 
-module _ (hs : List (List Claim)) (seats seats' : List Seat) (ready stopped : List ℕ) (posted : List (List ℕ)) (past : List ℕ) (n : ℕ) (old new : Seat) (desk : IsDesk hs seats ready stopped posted past) (reseats : Reseats seats seats' n new) (at : slice_get seats n ≡ Some old) where
+module _ (hs : List (List Claim)) (seats seats' : List Seat) (ready stopped : List ℕ) (posted : List Envelope) (past : List ℕ) (n : ℕ) (old new : Seat) (desk : IsDesk hs seats ready stopped posted past) (reseats : Reseats seats seats' n new) (at : slice_get seats n ≡ Some old) where
   -- the node is stopped
   pub stop_desk : new.place ≡ old.place → IsDead hs past n → IsDesk hs seats' (without_id ready n) (with_id stopped n) posted past
   stop_desk same is_dead = record {
@@ -101,7 +100,7 @@ module _ (hs : List (List Claim)) (seats seats' : List Seat) (ready stopped : Li
   }
 
 -- the node waits
-pub wait_desk : (hs : List (List Claim)) (seats : List Seat) (ready stopped : List ℕ) (posted : List (List ℕ)) (past : List ℕ) (n : ℕ) → IsDesk hs seats ready stopped posted past
+pub wait_desk : (hs : List (List Claim)) (seats : List Seat) (ready stopped : List ℕ) (posted : List Envelope) (past : List ℕ) (n : ℕ) → IsDesk hs seats ready stopped posted past
     → (MayTake hs past n → ⊥) → IsDesk hs seats (without_id ready n) stopped posted past
 wait_desk hs seats ready stopped posted past n desk cant = record {
   count = desk.count;
@@ -131,7 +130,7 @@ sent_before hs past n c (m ∷ ms) k turned none sent addressed = (
   sent_before hs past n c ms k turned none sent.1 addressed.1,
 )
 
-module _ (hs : List (List Claim)) (seats seats' : List Seat) (ready ready' stopped : List ℕ) (posted posted' : List (List ℕ)) (past : List ℕ) (n : ℕ) (old new : Seat) where
+module _ (hs : List (List Claim)) (seats seats' : List Seat) (ready ready' stopped : List ℕ) (posted posted' : List Envelope) (past : List ℕ) (n : ℕ) (old new : Seat) where
   pub may_take : IsDesk hs seats ready stopped posted past → slice_get seats n ≡ Some old → has ready n ≡ true → (t : IsTaken hs posted n old new) → MayTake hs past n
   may_take desk at is_ready t =
       let fits = desk.fits n old at in
@@ -140,7 +139,7 @@ module _ (hs : List (List Claim)) (seats seats' : List Seat) (ready ready' stopp
         claim = t.claim;
         next = subst (λ (k : ℕ). slice_get (history hs n) k ≡ Some t.claim) fits.place t.next;
         possible = subst (λ (w : Twin). MayCome w.id w.nodes w.node t.claim) twin t.possible;
-        sent = each_more (λ (m : Envelope). IsMessage m × IsPosted posted m) (λ (m : Envelope). IsSent hs past m) (brought_by t.claim.deed) (λ m is. (desk.posts m is.0).0 is.1) t.sent;
+        sent = each_more (λ (m : Envelope). IsPosted posted m) (λ (m : Envelope). IsSent hs past m) (brought_by t.claim.deed) (λ m is. (desk.posts m).0 is) t.sent;
         addressed = t.addressed;
       }
 
@@ -181,9 +180,9 @@ module _ (hs : List (List Claim)) (seats seats' : List Seat) (ready ready' stopp
         ];
         legal = (may, desk.legal);
         least = (λ m less. desk.waits m (first m less), desk.least);
-        posts = λ m is. (
-          λ there. elim ((all.posts m is).0 there) [ inl now ↦ turned.adds m now | inr before ↦ turned.keeps m ((desk.posts m is).0 before) ],
-          λ sent. (all.posts m is).1 (elim (turned.sends m sent) [ inl before ↦ inr ((desk.posts m is).1 before) | inr now ↦ inl now ]),
+        posts = λ m. (
+          λ there. elim ((all.posts m).0 there) [ inl now ↦ turned.adds m now | inr before ↦ turned.keeps m ((desk.posts m).0 before) ],
+          λ sent. (all.posts m).1 (elim (turned.sends m sent) [ inl before ↦ inr ((desk.posts m).1 before) | inr now ↦ inl now ]),
         );
         live = λ k is. elim (all.only k is) [ inl before ↦ desk.live k before | inr live ↦ live ];
         waits = λ k not_ready later.
@@ -209,25 +208,25 @@ module _ (hs : List (List Claim)) (seats seats' : List Seat) (ready ready' stopp
 
 -- ---- messages that are sent
 
-pub posts_none : (stopped : List ℕ) (posted : List (List ℕ)) (ready : List ℕ) → PostsAll stopped posted posted ready ready []
+pub posts_none : (stopped : List ℕ) (posted : List Envelope) (ready : List ℕ) → PostsAll stopped posted posted ready ready []
 posts_none stopped posted ready = record {
-  posts = λ m is. (λ there. inr there, λ either. elim either [ inl none ↦ absurd none | inr before ↦ before ]);
+  posts = λ m. (λ there. inr there, λ either. elim either [ inl none ↦ absurd none | inr before ↦ before ]);
   grows = λ k is. is;
   wakes = λ m none. absurd none;
   only = λ k is. inl is;
 }
 
 -- one message, whose receiver is woken
-pub posts_one : (stopped : List ℕ) (posted posted' : List (List ℕ)) (ready ready' : List ℕ) (m : Envelope) → Posts posted posted' m
+pub posts_one : (stopped : List ℕ) (posted posted' : List Envelope) (ready ready' : List ℕ) (m : Envelope) → Posts posted posted' m
     → ready' ≡ cond (has stopped m.receiver) ready (with_id ready m.receiver) → PostsAll stopped posted posted' ready ready' (m ∷ [])
 posts_one stopped posted posted' ready ready' m posts is =
     elim (cases_Bool (has stopped m.receiver)) [
       | inl gone ↦ (
           let same : ready' ≡ ready = is ∙ ap (λ (b : Bool). cond b ready (with_id ready m.receiver)) gone in
           record {
-            posts = λ n is_n. (
-              λ there. elim ((posts n is_n).0 there) [ inl now ↦ inl (inl now) | inr before ↦ inr before ],
-              λ either. (posts n is_n).1 (elim either [ inl now ↦ elim now [ inl it ↦ inl it | inr none ↦ absurd none ] | inr before ↦ inr before ]),
+            posts = λ n. (
+              λ there. elim ((posts n).0 there) [ inl now ↦ inl (inl now) | inr before ↦ inr before ],
+              λ either. (posts n).1 (elim either [ inl now ↦ elim now [ inl it ↦ inl it | inr none ↦ absurd none ] | inr before ↦ inr before ]),
             );
             grows = λ k was. ap (λ (r : List ℕ). has r k) same ∙ was;
             wakes = λ n among live. elim among [
@@ -241,9 +240,9 @@ posts_one stopped posted posted' ready ready' m posts is =
           let more : ready' ≡ with_id ready m.receiver = is ∙ ap (λ (b : Bool). cond b ready (with_id ready m.receiver)) live in
           let grown : (k : ℕ) → has ready' k ≡ (eqb k m.receiver || has ready k) = λ k. ap (λ (r : List ℕ). has r k) more ∙ has-with_id m.receiver k ready in
           record {
-            posts = λ n is_n. (
-              λ there. elim ((posts n is_n).0 there) [ inl now ↦ inl (inl now) | inr before ↦ inr before ],
-              λ either. (posts n is_n).1 (elim either [ inl now ↦ elim now [ inl it ↦ inl it | inr none ↦ absurd none ] | inr before ↦ inr before ]),
+            posts = λ n. (
+              λ there. elim ((posts n).0 there) [ inl now ↦ inl (inl now) | inr before ↦ inr before ],
+              λ either. (posts n).1 (elim either [ inl now ↦ elim now [ inl it ↦ inl it | inr none ↦ absurd none ] | inr before ↦ inr before ]),
             );
             grows = λ k was. grown k ∙ or_right (eqb k m.receiver) (has ready k) was;
             wakes = λ n among _. elim among [
@@ -259,17 +258,17 @@ posts_one stopped posted posted' ready ready' m posts is =
     ]
 
 -- and some more
-pub posts_more : (stopped : List ℕ) (p0 p1 p2 : List (List ℕ)) (r0 r1 r2 : List ℕ) (xs ys : List Envelope) → PostsAll stopped p0 p1 r0 r1 xs → PostsAll stopped p1 p2 r1 r2 ys
+pub posts_more : (stopped : List ℕ) (p0 p1 p2 : List Envelope) (r0 r1 r2 : List ℕ) (xs ys : List Envelope) → PostsAll stopped p0 p1 r0 r1 xs → PostsAll stopped p1 p2 r1 r2 ys
     → PostsAll stopped p0 p2 r0 r2 (xs ++ ys)
 posts_more stopped p0 p1 p2 r0 r1 r2 xs ys a b = record {
-  posts = λ m is. (
-    λ there. elim ((b.posts m is).0 there) [
+  posts = λ m. (
+    λ there. elim ((b.posts m).0 there) [
       | inl later ↦ inl (among_right m xs ys later)
-      | inr before ↦ elim ((a.posts m is).0 before) [ inl early ↦ inl (among_left m xs ys early) | inr old ↦ inr old ]
+      | inr before ↦ elim ((a.posts m).0 before) [ inl early ↦ inl (among_left m xs ys early) | inr old ↦ inr old ]
     ],
-    λ either. (b.posts m is).1 (elim either [
-      | inl among ↦ elim (among_either m xs ys among) [ inl early ↦ inr ((a.posts m is).1 (inl early)) | inr later ↦ inl later ]
-      | inr old ↦ inr ((a.posts m is).1 (inr old))
+    λ either. (b.posts m).1 (elim either [
+      | inl among ↦ elim (among_either m xs ys among) [ inl early ↦ inr ((a.posts m).1 (inl early)) | inr later ↦ inl later ]
+      | inr old ↦ inr ((a.posts m).1 (inr old))
     ]),
   );
   grows = λ k was. b.grows k (a.grows k was);

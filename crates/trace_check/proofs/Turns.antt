@@ -48,7 +48,7 @@ reseats_set seats n s = record { count = set_length seats n s; here = λ t at. s
 
 -- ---- the three answers
 
-pub desk_stops : (hs : List (List Claim)) (seats : List Seat) (ready stopped : List ℕ) (posted : List (List ℕ)) (past : List ℕ) (n : ℕ) (old new : Seat) → IsDesk hs seats ready stopped posted past → has ready n ≡ true
+pub desk_stops : (hs : List (List Claim)) (seats : List Seat) (ready stopped : List ℕ) (posted : List Envelope) (past : List ℕ) (n : ℕ) (old new : Seat) → IsDesk hs seats ready stopped posted past → has ready n ≡ true
     → slice_get seats n ≡ Some old → Judges hs posted n old new Stops → IsDesk hs (slice_set seats n new) (without_id ready n) (with_id stopped n) posted past
 desk_stops hs seats ready stopped posted past n old new desk is_ready at judged =
     let fits = desk.fits n old at in
@@ -57,7 +57,7 @@ desk_stops hs seats ready stopped posted past n old new desk is_ready at judged 
     (λ c next possible addressed.
     judged.1 c (subst (λ (k : ℕ). slice_get (history hs n) k ≡ Some c) (sym fits.place) next) (subst (λ (w : Twin). MayCome w.id w.nodes w.node c) (sym twin) possible) addressed)
 
-pub desk_waits : (hs : List (List Claim)) (seats : List Seat) (ready stopped : List ℕ) (posted : List (List ℕ)) (past : List ℕ) (n : ℕ) (old new : Seat) → IsDesk hs seats ready stopped posted past
+pub desk_waits : (hs : List (List Claim)) (seats : List Seat) (ready stopped : List ℕ) (posted : List Envelope) (past : List ℕ) (n : ℕ) (old new : Seat) → IsDesk hs seats ready stopped posted past
     → slice_get seats n ≡ Some old → Judges hs posted n old new Waits → IsDesk hs (slice_set seats n new) (without_id ready n) stopped posted past
 desk_waits hs seats ready stopped posted past n old new desk at judged =
     let fits = desk.fits n old at in
@@ -67,9 +67,9 @@ desk_waits hs seats ready stopped posted past n old new desk at judged =
     (wait_desk hs seats ready stopped posted past n desk (λ may.
     let brought = unsent.brought may.claim (subst (λ (k : ℕ). slice_get (history hs n) k ≡ Some may.claim) (sym fits.place) may.next) in
     let sent : Each (λ (m : Envelope). IsSent hs past m) (unsent.message ∷ []) = subst (λ (ms : List Envelope). Each (λ (m : Envelope). IsSent hs past m) ms) brought may.sent in
-    unsent.unsent ((desk.posts unsent.message unsent.is_message).1 sent.0)))
+    unsent.unsent ((desk.posts unsent.message).1 sent.0)))
 
-pub desk_takes : (hs : List (List Claim)) (seats : List Seat) (ready ready' stopped : List ℕ) (posted posted' : List (List ℕ)) (order : List ℕ) (n : ℕ) (old new : Seat) (c : Claim) → IsDesk hs seats ready stopped posted (reverse order)
+pub desk_takes : (hs : List (List Claim)) (seats : List Seat) (ready ready' stopped : List ℕ) (posted posted' : List Envelope) (order : List ℕ) (n : ℕ) (old new : Seat) (c : Claim) → IsDesk hs seats ready stopped posted (reverse order)
     → has ready n ≡ true → ((m : ℕ) → m < n → has ready m ≡ false) → slice_get seats n ≡ Some old → IsTaken hs posted n old new → slice_get (history hs n) old.place ≡ Some c
     → PostsAll stopped posted posted' ready ready' c.sent → IsDesk hs (slice_set seats n new) ready' stopped posted' (reverse (order ++ n ∷ []))
 desk_takes hs seats ready ready' stopped posted posted' order n old new c desk is_ready first at t next all =
@@ -82,7 +82,7 @@ desk_takes hs seats ready ready' stopped posted posted' order n old new c desk i
 pub none_past : (hs : List (List Claim)) (n : ℕ) → length hs ≤ n → history hs n ≡ []
 none_past hs n past = ap claims_of (slice_get_past hs n past)
 
-pub desk_without : (hs : List (List Claim)) (seats : List Seat) (ready stopped : List ℕ) (posted : List (List ℕ)) (past : List ℕ) (n : ℕ) → IsDesk hs seats ready stopped posted past → length seats ≤ n
+pub desk_without : (hs : List (List Claim)) (seats : List Seat) (ready stopped : List ℕ) (posted : List Envelope) (past : List ℕ) (n : ℕ) → IsDesk hs seats ready stopped posted past → length seats ≤ n
     → IsDesk hs seats (without_id ready n) stopped posted past
 desk_without hs seats ready stopped posted past n desk outside =
     let count = desk.count in
@@ -128,7 +128,7 @@ desk_opens hs nodes seats size count each = record {
   };
   legal = tt;
   least = tt;
-  posts = λ m _. (λ there. absurd cc, λ sent. let before = sent.before in absurd (omega (arith, before)));
+  posts = λ m. (λ there. absurd cc, λ sent. let before = sent.before in absurd (omega (arith, before)));
   live = λ n _. refl;
   waits = λ n not_ready may.
       elim (cases_lt n nodes) [
@@ -168,14 +168,14 @@ outside_taken hs past n legal outside =
     let none : length (history hs n) ≡ 0 = ap (λ (h : List Claim). length h) (none_past hs n outside) in
     omega (arith, few, none)
 
-pub desk_stuck : (hs : List (List Claim)) (seats : List Seat) (ready stopped : List ℕ) (posted : List (List ℕ)) (past : List ℕ) → IsDesk hs seats ready stopped posted past → ready ≡ [] → IsStuck hs past
+pub desk_stuck : (hs : List (List Claim)) (seats : List Seat) (ready stopped : List ℕ) (posted : List Envelope) (past : List ℕ) → IsDesk hs seats ready stopped posted past → ready ≡ [] → IsStuck hs past
 desk_stuck hs seats ready stopped posted past desk none n may = desk.waits n (ap (λ (ids : List ℕ). has ids n) none) may
 
 -- the same under other names
-pub desk_same : (hs : List (List Claim)) (s s' : List Seat) (r r' t t' : List ℕ) (p p' : List (List ℕ)) (past : List ℕ) → s' ≡ s → r' ≡ r → t' ≡ t → p' ≡ p → IsDesk hs s r t p past → IsDesk hs s' r' t' p' past
+pub desk_same : (hs : List (List Claim)) (s s' : List Seat) (r r' t t' : List ℕ) (p p' : List Envelope) (past : List ℕ) → s' ≡ s → r' ≡ r → t' ≡ t → p' ≡ p → IsDesk hs s r t p past → IsDesk hs s' r' t' p' past
 desk_same hs s s' r r' t t' p p' past es er et ep desk =
     subst (λ (x : List Seat). IsDesk hs x r' t' p' past) (sym es)
-    (subst (λ (x : List ℕ). IsDesk hs s x t' p' past) (sym er) (subst (λ (x : List ℕ). IsDesk hs s r x p' past) (sym et) (subst (λ (x : List (List ℕ)). IsDesk hs s r t x past) (sym ep) desk)))
+    (subst (λ (x : List ℕ). IsDesk hs s x t' p' past) (sym er) (subst (λ (x : List ℕ). IsDesk hs s r x p' past) (sym et) (subst (λ (x : List Envelope). IsDesk hs s r t x past) (sym ep) desk)))
 
 -- the seat at a place of the list
 pub seat_at : (seats : List Seat) (k n : ℕ) (s : Seat) → k ≡ n → k < length seats → s ≡ slice_index_or seats k s → slice_get seats n ≡ Some s

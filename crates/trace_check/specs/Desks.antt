@@ -2,7 +2,6 @@
 use Rattle.std.specs.Prelude.{◌≡◌, ◌↔◌, ◌⊎◌, ℕ, ◌+◌, Bool, true, false, List, [], ◌∷◌, length, reverse, Some, slice_get}
 use Rattle.group_task.specs.Ids.{has}
 use Rattle.wire_msg.specs.Envelope.{Envelope}
-use Rattle.wire_msg.specs.Spelling.{IsMessage}
 use Rattle.histories.specs.Lists.{IsAmong, Each}
 use Rattle.histories.specs.What.{AreAddressed}
 use Rattle.trace_check.specs.declared.desk.Seat.{Seat}
@@ -28,12 +27,12 @@ pub record SeatFits (hs : List (List Claim)) (past : List ℕ) (n : ℕ) (stoppe
   pub replica : stopped ≡ false → s.replica ≡ twin_at hs past n
 
 -- after the turns of the past, newest first
-pub record IsDesk (hs : List (List Claim)) (seats : List Seat) (ready stopped : List ℕ) (posted : List (List ℕ)) (past : List ℕ) : Type 0 where
+pub record IsDesk (hs : List (List Claim)) (seats : List Seat) (ready stopped : List ℕ) (posted : List Envelope) (past : List ℕ) : Type 0 where
   pub count : length seats ≡ length hs
   pub fits : (n : ℕ) (s : Seat) → slice_get seats n ≡ Some s → SeatFits hs past n (has stopped n) s
   pub legal : IsLegal hs past
   pub least : IsLeast hs past
-  pub posts : (m : Envelope) → IsMessage m → IsPosted posted m ↔ IsSent hs past m
+  pub posts : (m : Envelope) → IsPosted posted m ↔ IsSent hs past m
   pub live : (n : ℕ) → has ready n ≡ true → has stopped n ≡ false
   pub waits : (n : ℕ) → has ready n ≡ false → MayTake hs past n → ⊥
   pub dead : (n : ℕ) → has stopped n ≡ true → IsDead hs past n
@@ -44,31 +43,30 @@ Fits hs d = IsDesk hs d.seats.items d.ready d.stopped d.posted (reverse d.order.
 -- ---- what is said of a node's next entry
 
 -- what it is brought wasn't sent
-pub record IsUnsent (hs : List (List Claim)) (posted : List (List ℕ)) (n place : ℕ) : Type 0 where
+pub record IsUnsent (hs : List (List Claim)) (posted : List Envelope) (n place : ℕ) : Type 0 where
   pub message : Envelope
-  pub is_message : IsMessage message
   pub unsent : IsPosted posted message → ⊥
   pub brought : (c : Claim) → slice_get (history hs n) place ≡ Some c → brought_by c.deed ≡ message ∷ []
 
 -- it can be taken, and the seat stands after it
-pub record IsTaken (hs : List (List Claim)) (posted : List (List ℕ)) (n : ℕ) (old new : Seat) : Type 0 where
+pub record IsTaken (hs : List (List Claim)) (posted : List Envelope) (n : ℕ) (old new : Seat) : Type 0 where
   pub claim : Claim
   pub next : slice_get (history hs n) old.place ≡ Some claim
   pub possible : MayCome old.replica.id old.replica.nodes old.replica.node claim
-  pub sent : Each (λ (m : Envelope). IsMessage m × IsPosted posted m) (brought_by claim.deed)
+  pub sent : Each (IsPosted posted) (brought_by claim.deed)
   pub addressed : AreAddressed n (brought_by claim.deed)
   pub place : new.place ≡ old.place + 1
   pub replica : new.replica ≡ record { id = old.replica.id; nodes = old.replica.nodes; node = after_claim old.replica.id old.replica.nodes old.replica.node claim }
 
-abbrev pub Judges : List (List Claim) → List (List ℕ) → ℕ → Seat → Seat → Judgement → Type 0
+abbrev pub Judges : List (List Claim) → List Envelope → ℕ → Seat → Seat → Judgement → Type 0
 Judges hs posted n old new Stops =
     (new.place ≡ old.place) × ((c : Claim) → slice_get (history hs n) old.place ≡ Some c → MayCome old.replica.id old.replica.nodes old.replica.node c → AreAddressed n (brought_by c.deed) → ⊥)
 Judges hs posted n old new Waits = (new ≡ old) × IsUnsent hs posted n old.place
 Judges hs posted n old new Takes = IsTaken hs posted n old new
 
 -- these messages are sent, and wake their receivers
-pub record PostsAll (stopped : List ℕ) (posted posted' : List (List ℕ)) (ready ready' : List ℕ) (sent : List Envelope) : Type 0 where
-  pub posts : (m : Envelope) → IsMessage m → IsPosted posted' m ↔ (IsAmong m sent ⊎ IsPosted posted m)
+pub record PostsAll (stopped : List ℕ) (posted posted' : List Envelope) (ready ready' : List ℕ) (sent : List Envelope) : Type 0 where
+  pub posts : (m : Envelope) → IsPosted posted' m ↔ (IsAmong m sent ⊎ IsPosted posted m)
   pub grows : (k : ℕ) → has ready k ≡ true → has ready' k ≡ true
   pub wakes : (m : Envelope) → IsAmong m sent → has stopped m.receiver ≡ false → has ready' m.receiver ≡ true
   pub only : (k : ℕ) → has ready' k ≡ true → (has ready k ≡ true) ⊎ (has stopped k ≡ false)

@@ -2,7 +2,6 @@ pub mod Building
 pub mod Claims
 pub mod Desks
 pub mod Kept
-pub mod Keys
 pub mod Orders
 pub mod Posts
 pub mod Runs

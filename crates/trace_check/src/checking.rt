@@ -26,13 +26,17 @@ pub fn check(alloc: Global, trace: &Trace) -> Result<Verdict, AllocError>
     unreachable!()
 }
 
-/// All nodes opened, and no entry is taken.
-fn open(alloc: Global, trace: &Trace) -> Result<Desk, AllocError>
+/// All nodes opened, and no entry is taken. There is room for as many messages as there are entries, which is about as many as are sent.
+fn open<'a>(alloc: Global, trace: &'a Trace) -> Result<Desk<'a>, AllocError>
     ensures fits { IfOk result (Fits trace.now) }
     ensures order { IfOk result (λ desk. desk.order.items ≡ []) }
 {
+    let mut entries = 0usize;
+    for history in trace.histories() {
+        entries = entries.saturating_add(history.len());
+    }
     let nodes = trace.nodes();
-    let mut seats = Vec::new(alloc);
+    let mut seats = Vec::with_capacity(alloc, usize::from(nodes))?;
     for number in 0..nodes {
         let replica = Replica::new(alloc, NodeId::numbered(number), nodes)?;
         seats.push(Seat { replica, place: 0 })?;
@@ -41,14 +45,14 @@ fn open(alloc: Global, trace: &Trace) -> Result<Desk, AllocError>
         seats,
         ready: Members::below(nodes),
         stopped: Members::new(),
-        posted: Posted::new(alloc),
+        posted: Posted::with_room(alloc, entries)?,
         message: Message::blank(),
-        order: Vec::new(alloc),
+        order: Vec::with_capacity(alloc, entries)?,
     })
 }
 
 /// The least node that can takes its next entry. False where none can.
-fn take_turn(trace: &Trace, desk: &mut Desk) -> Result<bool, AllocError>
+fn take_turn<'a>(trace: &'a Trace, desk: &mut Desk<'a>) -> Result<bool, AllocError>
     requires { Fits trace.now desk.old }
     ensures fits { IfOk result (λ _. Fits trace.now desk.new) }
     ensures more { IfOk result (λ more. more ≡ true → length desk.new.order.items ≡ length desk.old.order.items + 1) }
@@ -71,7 +75,7 @@ fn least(ready: &Members) -> Option<NodeId>
 }
 
 /// The node takes its next entry, if it can.
-fn take_next(trace: &Trace, desk: &mut Desk, id: NodeId) -> Result<bool, AllocError>
+fn take_next<'a>(trace: &'a Trace, desk: &mut Desk<'a>, id: NodeId) -> Result<bool, AllocError>
     requires fits { Fits trace.now desk.old }
     requires ready { has desk.old.ready id ≡ true }
     requires least { (m : ℕ) → m < id → has desk.old.ready m ≡ false }
@@ -87,7 +91,7 @@ fn take_next(trace: &Trace, desk: &mut Desk, id: NodeId) -> Result<bool, AllocEr
     let place = desk.seats[index].place;
     match judge(
         trace,
-        &mut desk.posted,
+        &desk.posted,
         &mut desk.message,
         &mut desk.seats[index],
         id,
@@ -113,7 +117,7 @@ fn take_next(trace: &Trace, desk: &mut Desk, id: NodeId) -> Result<bool, AllocEr
 }
 
 /// The verdict, which decides whether some order is a run.
-fn decided(trace: &Trace, desk: Desk) -> Verdict
+fn decided(trace: &Trace, desk: Desk<'_>) -> Verdict
     requires fits { Fits trace.now desk }
     requires none { desk.ready ≡ [] }
     ensures verdict { IsVerdict trace.now result }
@@ -123,7 +127,7 @@ fn decided(trace: &Trace, desk: Desk) -> Verdict
 }
 
 /// The verdict, once no entry more can be taken.
-fn verdict(trace: &Trace, desk: Desk) -> Verdict
+fn verdict(trace: &Trace, desk: Desk<'_>) -> Verdict
     requires fits { Fits trace.now desk }
     requires none { desk.ready ≡ [] }
     ensures { IsVerdict trace.now result }

@@ -20,13 +20,13 @@ pub(crate) struct Seat {
 
 /// A check that is under way.
 #[derive(Drop)]
-pub(crate) struct Desk {
+pub(crate) struct Desk<'a> {
     pub(crate) seats: Vec<Seat>,
     /// The nodes whose next entry may be possible: the others' isn't, before more is sent.
     pub(crate) ready: Members,
     /// The nodes whose next entry isn't possible, whatever is sent. Their replicas are spoiled.
     pub(crate) stopped: Members,
-    pub(crate) posted: Posted,
+    pub(crate) posted: Posted<'a>,
     /// The message that was delivered last, in whose place the next one is read, since a message is long.
     pub(crate) message: Message,
     /// The nodes in the order in which their entries were taken.
@@ -43,15 +43,14 @@ pub(crate) enum Judgement {
 }
 
 /// What can be said of the node's next entry. If it can be taken, it is.
-pub(crate) fn judge(
-    trace: &Trace,
-    posted: &mut Posted,
+pub(crate) fn judge<'a>(
+    trace: &'a Trace,
+    posted: &Posted<'a>,
     message: &mut Message,
     seat: &mut Seat,
     id: NodeId,
 ) -> Result<Judgement, AllocError>
-    ensures posted { posted.new ≡ posted.old }
-    ensures judges { IfOk result (Judges trace.now posted.old id seat.old seat.new) }
+    ensures { IfOk result (Judges trace.now posted.now id seat.old seat.new) }
 {
     let Some(brought) = trace.brought(id, seat.place) else {
         return Ok(Judgement::Stops);
@@ -60,7 +59,7 @@ pub(crate) fn judge(
         if receiver != id {
             return Ok(Judgement::Stops);
         }
-        if !posted.contains(&brought, 0)? {
+        if !posted.contains(&brought, 0) {
             return Ok(Judgement::Waits);
         }
     }
@@ -75,11 +74,11 @@ pub(crate) fn judge(
 }
 
 /// The messages are sent: who waits for one of them may go on.
-pub(crate) fn post_all(
-    posted: &mut Posted,
+pub(crate) fn post_all<'a>(
+    posted: &mut Posted<'a>,
     ready: &mut Members,
     stopped: &Members,
-    sent: &Sent<'_>,
+    sent: &Sent<'a>,
 ) -> Result<(), AllocError>
     ensures { OnOk result (PostsAll stopped.now posted.old posted.new ready.old ready.new sent.now) }
 {
@@ -90,11 +89,11 @@ pub(crate) fn post_all(
 }
 
 /// The message at a place of these is sent.
-fn post(
-    posted: &mut Posted,
+fn post<'a>(
+    posted: &mut Posted<'a>,
     ready: &mut Members,
     stopped: &Members,
-    sent: &Sent<'_>,
+    sent: &Sent<'a>,
     place: usize,
 ) -> Result<(), AllocError>
     requires { place < length sent.now }

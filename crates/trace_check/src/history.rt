@@ -12,7 +12,7 @@ use crate::kept::{KeptDeed, KeptEntry, KeptEvent, brought_at, deed_said, keep_de
 use crate::trace::Deed;
 use group_task::NodeId;
 use job_model::{PAYLOAD_CAPACITY, Queue};
-use message_list::MessageList;
+use message_list::{LentMessage, MessageList};
 use std::alloc::{AllocError, Global};
 use std::marker::Model;
 use wire_msg::Message;
@@ -421,6 +421,17 @@ impl<'a> Sent<'a> {
         if place < self.end - self.start {
             let (_, receiver) = self.messages.ends(self.start + place)?;
             Some(receiver)
+        } else {
+            None
+        }
+    }
+
+    /// The message at this place, lent as it is kept.
+    pub(crate) fn lend(&self, place: usize) -> Option<LentMessage<'a>>
+        ensures { result ≡ slice_get self.now place }
+    {
+        if place < self.end - self.start {
+            self.messages.lend(self.start + place)
         } else {
             None
         }

@@ -8,7 +8,7 @@ use Rattle.trace_check.proofs.checking.open.Goals as goal
 
 pub loop-number-init : goal.loop-number-init
 loop-number-init c =
-    let none = c.new-seats.ensures.items in
+    let none = c.in_ok-seats.ensures.items in
     (ap (λ (ss : List Seat). length ss) none, subst (λ (ss : List Seat). AreOpen c.nodes-nodes.result ss) (sym none) (λ n s at. absurd cc))
 
 pub loop-number-preserved : goal.loop-number-preserved
@@ -34,5 +34,5 @@ returns-clause-fits c =
     let test = c.loop-number-test.false in
     let end = c.loop-number.auto.number-end in
     let count : length c.loop-number.seats.items ≡ length hs = omega (arith, len, test, end, size) in
-    subst (λ (order : List ℕ). IsDesk hs c.loop-number.seats.items c.below.result c.new-2.result c.new-3.result (reverse order)) (sym c.new-4.ensures.items)
-    (desk_same hs _ _ _ _ _ _ _ _ [] refl c.below.ensures c.new-2.ensures c.new-3.ensures (desk_opens hs c.nodes-nodes.result c.loop-number.seats.items size count c.loop-number.invariant.1))
+    subst (λ (order : List ℕ). IsDesk hs c.loop-number.seats.items c.below.result c.new-2.result c.in_ok-with_room.field-0 (reverse order)) (sym c.in_ok-with_capacity.ensures.items)
+    (desk_same hs _ _ _ _ _ _ _ _ [] refl c.below.ensures c.new-2.ensures c.in_ok-with_room.ensures (desk_opens hs c.nodes-nodes.result c.loop-number.seats.items size count c.loop-number.invariant.1))

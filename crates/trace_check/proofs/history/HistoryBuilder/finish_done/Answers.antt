@@ -1,4 +1,4 @@
-use Rattle.std.proofs.Common.{◌≡◌, ℕ, List, [], ◌∷◌, ◌++◌, refl, sym, ap, ◌∙◌, arith, append-nil}
+use Rattle.std.proofs.Common.{◌≡◌, List, [], ◌∷◌, ◌++◌, refl, sym, ap, ◌∙◌, arith, append-nil}
 use Rattle.node_core.specs.declared.event.Event.TheVariants.{Finish}
 use Rattle.trace_check.specs.declared.kept.KeptEntry.{KeptEntry}
 use Rattle.trace_check.specs.Building.{Building}

@@ -1,7 +1,6 @@
-use Rattle.std.proofs.Common.{◌≡◌, ℕ, List, [], ◌∷◌, ◌++◌, length, refl, sym, ap, ◌∙◌, arith, rules}
+use Rattle.std.proofs.Common.{◌≡◌, ℕ, List, [], ◌∷◌, ◌++◌, length, refl, ap, ◌∙◌, arith, rules}
 use Rattle.job_model.specs.declared.work.Work.{Work}
 use Rattle.node_core.specs.declared.event.Event.TheVariants.{Submit}
-use Rattle.trace_check.specs.declared.kept.KeptDeed.{KeptDeed}
 use Rattle.trace_check.specs.declared.kept.KeptEntry.{KeptEntry}
 use Rattle.trace_check.specs.declared.kept.KeptEvent.TheVariants as kept
 use Rattle.trace_check.specs.Building.{Building, kept_handled}

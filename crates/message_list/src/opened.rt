@@ -1,0 +1,103 @@
+//! A message as it is kept, with the lists beside it, in which its longer parts stand.
+
+ghost use Rattle.std.specs.Prelude.{◌≡◌, ◌↔◌, IsTrue, length};
+ghost use Rattle.message_list.specs.Letters.{HasPayload, work_said};
+ghost use Rattle.message_list.specs.Lent.{body_opened, message_opened, mark_by, mark_of, IsOpened};
+
+use crate::letter::{KeptWork, Kind, Letter};
+use group_task::Task;
+
+/// A letter, lent with what is kept beside it.
+#[derive(Clone, Copy)]
+pub struct Opened<'a> {
+    pub tasks: &'a [Task],
+    pub works: &'a [KeptWork],
+    pub payloads: &'a [u8],
+    pub letter: &'a Letter,
+}
+
+/// Whether they are one message.
+pub fn is_same(one: &Opened<'_>, other: &Opened<'_>) -> bool
+    requires one { IsOpened one.now }
+    requires other { IsOpened other.now }
+    ensures { IsTrue result ↔ (message_opened one.now ≡ message_opened other.now) }
+{
+    one.letter.sender == other.letter.sender
+        && one.letter.receiver == other.letter.receiver
+        && is_same_body(one, other)
+}
+
+/// Whether they say the same.
+fn is_same_body(one: &Opened<'_>, other: &Opened<'_>) -> bool
+    requires one { IsOpened one.now }
+    requires other { IsOpened other.now }
+    ensures { IsTrue result ↔ (body_opened one.now ≡ body_opened other.now) }
+{
+    let (a, b) = (one.letter, other.letter);
+    if a.kind != b.kind {
+        return false;
+    }
+    match a.kind {
+        Kind::AreYouCoordinator | Kind::Coordinator(_) => true,
+        Kind::AreYouThere | Kind::Here(_) | Kind::Invitation | Kind::Accept | Kind::ReadyAck =>
+            a.creator == b.creator && a.number == b.number,
+        Kind::Ready => one.tasks[a.number as usize] == other.tasks[b.number as usize],
+        Kind::Work => is_same_work(
+            one.payloads,
+            &one.works[a.number as usize],
+            other.payloads,
+            &other.works[b.number as usize],
+        ),
+        Kind::Done => a.number == b.number,
+    }
+}
+
+/// Whether two Works say the same.
+fn is_same_work(payloads: &[u8], one: &KeptWork, other_payloads: &[u8], other: &KeptWork) -> bool
+    requires one { HasPayload (length payloads.now) one.now }
+    requires other { HasPayload (length other_payloads.now) other.now }
+    ensures { IsTrue result ↔ (work_said payloads.now one.now ≡ work_said other_payloads.now other.now) }
+{
+    one.group == other.group
+        && one.id == other.id
+        && one.queue == other.queue
+        && one.priority == other.priority
+        && &payloads[one.start..one.start + one.len]
+            == &other_payloads[other.start..other.start + other.len]
+}
+
+/// The mark of the message: equal messages have one mark, and few others share it.
+pub fn mark(one: &Opened<'_>) -> u128
+    requires { IsOpened one.now }
+    ensures { result ≡ mark_of (message_opened one.now) }
+{
+    let letter = one.letter;
+    let (node, number) = (letter.creator.number(), letter.number);
+    match letter.kind {
+        Kind::AreYouCoordinator => mark_by(letter, 0, 0, 0),
+        Kind::Coordinator(_) => mark_by(letter, 1, 0, 0),
+        Kind::AreYouThere => mark_by(letter, 2, node, number),
+        Kind::Here(_) => mark_by(letter, 3, node, number),
+        Kind::Invitation => mark_by(letter, 4, node, number),
+        Kind::Accept => mark_by(letter, 5, node, number),
+        Kind::Ready => {
+            let group = one.tasks[number as usize].group();
+            mark_by(letter, 6, group.creator().number(), group.count())
+        }
+        Kind::ReadyAck => mark_by(letter, 7, node, number),
+        Kind::Work => {
+            let work = &one.works[number as usize];
+            mark_by(letter, 8, work.group.creator().number(), work.id)
+        }
+        Kind::Done => mark_by(letter, 9, 0, number),
+    }
+}
+
+/// The mark of a message between the ends of a letter, whose body has this kind, and names this node and this number.
+fn mark_by(letter: &Letter, kind: u8, node: u8, number: u64) -> u128
+    ensures { result ≡ mark_by letter.now.sender letter.now.receiver kind node number }
+{
+    let ends = u64::from(letter.sender.number()) * 256 + u64::from(letter.receiver.number());
+    let named = (ends * 256 + u64::from(node)) * 256 + u64::from(kind);
+    u128::from(named) * 2u128.pow(64) + u128::from(number)
+}
