@@ -1,21 +1,43 @@
--- An act that comes to a node is a step of that node.
-use Rattle.std.proofs.Common.{◌≡◌, ◌≢◌, ◌&&◌, ℕ, Bool, true, false, [], ◌∷◌, slice_get, Option, Some, None, Result, Ok, Err, refl, sym, ap, subst, ne_eqb, eq-eqb}
+-- An act that comes to a node is a step of that node, and what was seen of it tells what came of it.
+use Rattle.std.proofs.Common.{◌≡◌, ◌≢◌, ℕ, Bool, true, false, [], ◌∷◌, slice_get, Option, Some, None, Result, Ok, Err, refl, sym, subst, ne_eqb, eq-eqb, arith, ◌⊎◌, inl, inr, ◌∙◌}
 use Rattle.std.specs.Prelude.{nat_lt, if◌then◌else◌, option_and_then}
 use Rattle.wire_msg.specs.Envelope.{Envelope}
-use Rattle.node_core.specs.declared.event.Event.TheVariants as on
 use Rattle.histories.specs.declared.what.What.{What}
 use Rattle.schedule.specs.declared.act.Act.{Act}
-use Rattle.schedule.specs.declared.act.Act.TheVariants as act
 use Rattle.sim_net.specs.declared.fault.NetFault.{NetFault}
-use Rattle.sim_net.specs.Network.{found, delivery}
+use Rattle.sim_net.specs.Network.{delivery}
 use Rattle.runs.specs.World.{World}
-use Rattle.runs.specs.Step.{Step, Takes, Cuts, Mends, Denies, Stranger, sent_after}
+use Rattle.runs.specs.Step.{Step, Takes, sent_after}
 use Rattle.runs.specs.Run.{entry_at}
-use Rattle.runs.specs.Acts.{At, Brings, IsStepOf, lost_step, if_known, ActOutcome, is_compaction, if_compaction, fall_outcome}
+use Rattle.runs.specs.Acts.{At, Brings, IsStepOf, ActOutcome, is_compaction, if_compaction, fall_outcome, what_outcome}
 use Rattle.run_trace.specs.declared.bringing.Brought.{Brought}
 use Rattle.run_trace.specs.declared.bringing.Brought.TheVariants.{Event, Recovery, Arming, Crash, Compaction}
 use Rattle.run_trace.specs.Bringing.{delivered, brought_by, CameOf}
-use Rattle.run_trace.proofs.Histories.{some_is}
+use Rattle.job_model.specs.Durable.{Durable}
+use Rattle.node_core.specs.declared.durable.Durable.{Durable as Wanted}
+use Rattle.node_core.specs.Start.{down}
+use Rattle.node_core.specs.State.{is_down}
+use Rattle.durable_node.specs.Node.{told_doubt}
+use Rattle.durable_node.specs.Remounting.{IsKeptIn}
+use Rattle.durable_node.proofs.Settling.{settled_so}
+use Rattle.histories.specs.NodeState.{NodeState, settled}
+use Rattle.histories.specs.declared.what.What.TheVariants.{Did, Refused, Faulted, Rests, Crashed, Recovered, MountFailed, RaiseFailed, RaiseRefused}
+use Rattle.trace_check.specs.declared.trace.Deed.TheVariants.{Nothing}
+use Rattle.histories.specs.What.{event_of, brought}
+use Rattle.histories.specs.After.{after, sent_at, found_at}
+use Rattle.histories.specs.Possible.{IsSettling, IsPossible, IsOfSlots}
+use Rattle.cluster_sim.specs.Told.{told}
+use Rattle.trace_check.specs.declared.trace.Deed.{Deed}
+use Rattle.run_trace.specs.declared.telling.Ended.{Ended}
+use Rattle.run_trace.specs.declared.telling.Rise.{Rise}
+use Rattle.run_trace.specs.declared.telling.Rise.TheVariants.{Mounted}
+use Rattle.run_trace.specs.Telling.{IsRise, ended, deed_told}
+use Rattle.run_trace.specs.Traced.{deed_of}
+use Rattle.node_core.specs.declared.event.Event.TheVariants as on
+use Rattle.schedule.specs.declared.act.Act.TheVariants as act
+
+pub some_is : {A : Type 0} (x y : A) → Some x ≡ Some y → x ≡ y
+some_is x y is = cc
 
 -- what would be told of it: a compaction in which the device failed is told as a fault
 abbrev pub as_told : Brought → What → ActOutcome → ActOutcome
@@ -76,47 +98,8 @@ step_at nodes w (act.Compact m) n b step is of = comes_at (act.Compact m) (nat_l
 abbrev pub IsQuiet : ℕ → World → Step → Type 0
 IsQuiet nodes w step = (k : ℕ) → entry_at k nodes w step ≡ []
 
-denied : (nodes : ℕ) (w : World) (step : Step) → step ≡ Denies Stranger → IsQuiet nodes w step
-denied nodes w step is k = ap (λ (s : Step). entry_at k nodes w s) is
-
-none_at : (nodes : ℕ) (w : World) (t : Bool) (m number : ℕ) (b : Brought) (step : Step) → if_there t (m, b) ≡ None → At t m number (CameOf b) step → IsQuiet nodes w step
-none_at nodes w true m number b step is at = absurd cc
-none_at nodes w false m number b step is at = denied nodes w step at
-
-none_delivered : (nodes : ℕ) (w : World) (number : ℕ) (r : Result Envelope NetFault) (step : Step)
-    → option_and_then (λ (comes : ℕ × Brought). if nat_lt comes.0 nodes then Some comes else None) (delivered r) ≡ None → Brings nodes number r step → IsQuiet nodes w step
-none_delivered nodes w number (Ok m) step is brings = none_at nodes w (nat_lt m.receiver nodes) m.receiver number (Event (on.Deliver m)) step is brings
-none_delivered nodes w number (Err why) step is brings = λ k. ap (λ (s : Step). entry_at k nodes w s) brings
-
-lost_quiet : (nodes : ℕ) (w : World) (number : ℕ) (r : Result Envelope NetFault) (step : Step) → step ≡ lost_step number r → IsQuiet nodes w step
-lost_quiet nodes w number (Ok m) step is k = ap (λ (s : Step). entry_at k nodes w s) is
-lost_quiet nodes w number (Err why) step is k = ap (λ (s : Step). entry_at k nodes w s) is
-
-cut_quiet : (nodes : ℕ) (w : World) (x y : ℕ) (t : Bool) (step : Step) → step ≡ if_known t (Cuts x y) → IsQuiet nodes w step
-cut_quiet nodes w x y true step is k = ap (λ (s : Step). entry_at k nodes w s) is
-cut_quiet nodes w x y false step is k = ap (λ (s : Step). entry_at k nodes w s) is
-
-mend_quiet : (nodes : ℕ) (w : World) (x y : ℕ) (t : Bool) (step : Step) → step ≡ if_known t (Mends x y) → IsQuiet nodes w step
-mend_quiet nodes w x y true step is k = ap (λ (s : Step). entry_at k nodes w s) is
-mend_quiet nodes w x y false step is k = ap (λ (s : Step). entry_at k nodes w s) is
-
 pub none_comes : (nodes : ℕ) (w : World) (a : Act) (step : Step) → brought_by nodes w.net a ≡ None → IsStepOf nodes w a step → IsQuiet nodes w step
-none_comes nodes w (act.Check m) step is of = none_at nodes w (nat_lt m nodes) m 0 (Event on.CheckTimer) step is of
-none_comes nodes w (act.Merge m) step is of = none_at nodes w (nat_lt m nodes) m 0 (Event on.MergeTimer) step is of
-none_comes nodes w (act.Accept m) step is of = none_at nodes w (nat_lt m nodes) m 0 (Event on.AcceptTimer) step is of
-none_comes nodes w (act.Ready m) step is of = none_at nodes w (nat_lt m nodes) m 0 (Event on.ReadyTimer) step is of
-none_comes nodes w (act.Coord m) step is of = none_at nodes w (nat_lt m nodes) m 0 (Event on.CoordTimer) step is of
-none_comes nodes w (act.Dispatch m) step is of = none_at nodes w (nat_lt m nodes) m 0 (Event on.DispatchTimer) step is of
-none_comes nodes w (act.Deliver k) step is of = none_delivered nodes w k (delivery w.net k) step is of
-none_comes nodes w (act.Lose k) step is of = lost_quiet nodes w k (found w.net k) step of
-none_comes nodes w (act.Cut x y) step is of = cut_quiet nodes w x y (nat_lt x nodes && nat_lt y nodes) step of
-none_comes nodes w (act.Mend x y) step is of = mend_quiet nodes w x y (nat_lt x nodes && nat_lt y nodes) step of
-none_comes nodes w (act.Submit m work) step is of = none_at nodes w (nat_lt m nodes) m 0 (Event (on.Submit work)) step is of
-none_comes nodes w (act.Finish m origin id) step is of = none_at nodes w (nat_lt m nodes) m 0 (Event (on.Finish origin id)) step is of
-none_comes nodes w (act.Arm m calls) step is of = none_at nodes w (nat_lt m nodes) m 0 Arming step is of
-none_comes nodes w (act.Crash m fill) step is of = none_at nodes w (nat_lt m nodes) m 0 Crash step is of
-none_comes nodes w (act.Recover m) step is of = none_at nodes w (nat_lt m nodes) m 0 Recovery step is of
-none_comes nodes w (act.Compact m) step is of = none_at nodes w (nat_lt m nodes) m 0 Compaction step is of
+none_comes nodes w a step none of k = grind arith
 
 -- ---- one that does adds its entry to the history of its node, and to no other
 
@@ -125,3 +108,49 @@ entry_here n nodes w number what = rw (eq-eqb n n refl) refl
 
 pub entry_elsewhere : (n m nodes : ℕ) (w : World) (number : ℕ) (what : What) → m ≢ n → entry_at m nodes w (Takes n number what) ≡ []
 entry_elsewhere n m nodes w number what other = rw (ne_eqb n m (λ is. other (sym is))) refl
+
+-- It may as well have come, with the same effect, and is told so. A job that was done and wasn't pending is no other state with it than without.
+pub record IsRetold (slots n nodes : ℕ) (s : NodeState) (b : Brought) (what : What) (deed : Deed) : Type 0 where
+  pub other : What
+  pub came : CameOf b other
+  pub possible : IsPossible n nodes s other
+  pub of_slots : IsOfSlots slots n nodes s other
+  pub brings : brought (event_of other) ≡ brought (event_of what)
+  pub leaves : after n nodes s other ≡ after n nodes s what
+  pub sends : sent_at n nodes s other ≡ sent_at n nodes s what
+  pub told : deed_of other ≡ deed
+
+abbrev ended_by : ActOutcome → Ended
+ended_by o = ended (told o)
+
+module _ (slots n nodes first : ℕ) (s : NodeState) (rise : Rise) (doubt : Option (Wanted × ℕ)) (found : Option Durable) (in_doubt : doubt ≡ told_doubt s.durable s.doubt)
+    (stood : IsRise (is_down s.state.phase) doubt found rise) where
+  abbrev Retold : Brought → What → Type 0
+  Retold b what = IsRetold slots n nodes s b what (deed_told b rise (ended_by (as_told b what (what_outcome n nodes first s what))))
+
+  as_it_is : (b : Brought) (what : What) → CameOf b what → IsPossible n nodes s what → IsOfSlots slots n nodes s what → found ≡ found_at s what → (found_at s what ≡ None) ⊎ (deed_of what ≡ Nothing) → Retold b what
+  as_it_is b what came possible of_slots at none = record { other = what; came = came; possible = possible; of_slots = of_slots; brings = refl; leaves = refl; sends = refl; told = grind arith }
+
+  -- what was found has the command in doubt, or hasn't, as the flag tells
+  mounted_at : (r : Rise) (kept : Bool) → IsRise (is_down s.state.phase) doubt found r → is_down s.state.phase ≡ true → IsSettling kept s.doubt → found ≡ Some (settled kept s)
+      → (flag : Bool) × (r ≡ Mounted flag) × IsSettling flag s.doubt × (settled flag s ≡ settled kept s)
+  mounted_at (Mounted flag) kept is down settling some =
+      let found_it = some_is is.1.0 (settled kept s) (sym is.1.1 ∙ some) in
+      let so = settled_so s is.1.0 flag kept (subst (λ (o : Option (Wanted × ℕ)). IsKeptIn o is.1.0 flag) in_doubt is.1.2) settling found_it in
+      (flag, refl, so.0, sym so.1 ∙ found_it)
+  mounted_at r kept is down settling some = absurd (let bad : true ≡ false = grind arith in cc)
+
+  pub retold : (b : Brought) (what : What) → CameOf b what → IsPossible n nodes s what → IsOfSlots slots n nodes s what → found ≡ found_at s what → Retold b what
+  retold b (Recovered kept) came possible of_slots at =
+      let m = mounted_at rise kept stood possible.0 possible.1 at in
+      record { other = Recovered m.0; came = (grind arith); possible = (possible.0, m.2, rw m.3 possible.2); of_slots = tt; brings = refl; leaves = rw m.3 refl; sends = refl; told = grind arith }
+  retold b (RaiseFailed kept) came possible of_slots at =
+      let m = mounted_at rise kept stood possible.0 possible.1 at in
+      record { other = RaiseFailed m.0; came = (grind arith); possible = (possible.0, m.2, rw m.3 possible.2); of_slots = tt; brings = refl; leaves = rw m.3 refl; sends = refl; told = grind arith }
+  retold b (Did e) came possible of_slots at = as_it_is b (Did e) came possible of_slots at (inl refl)
+  retold b (Refused e fault) came possible of_slots at = as_it_is b (Refused e fault) came possible of_slots at (inl refl)
+  retold b (Faulted e) came possible of_slots at = as_it_is b (Faulted e) came possible of_slots at (inl refl)
+  retold b (Rests rest) came possible of_slots at = as_it_is b (Rests rest) came possible of_slots at (inl refl)
+  retold b Crashed came possible of_slots at = as_it_is b Crashed came possible of_slots at (inl refl)
+  retold b MountFailed came possible of_slots at = as_it_is b MountFailed came possible of_slots at (inl refl)
+  retold b (RaiseRefused kept) came possible of_slots at = as_it_is b (RaiseRefused kept) came possible of_slots at (inr refl)

@@ -38,7 +38,7 @@ pub fn trace_of(alloc: Global, schedule: &Schedule) -> Result<Trace, AllocError>
 }
 
 /// A history of no entries for each node.
-#[tactic(auto, using(crate::proofs::Histories::one_more))]
+#[tactic(auto, using(crate::proofs::Tracings::one_more))]
 fn begun(alloc: Global, nodes: u8) -> Result<Vec<History>, AllocError>
     ensures { IfOk result (λ histories. histories.items ≡ replicate nodes []) }
 {
@@ -133,7 +133,7 @@ fn step(cluster: &mut Simulation, act: &Act) -> Result<Ended, AllocError>
 }
 
 /// The messages from this place on.
-#[tactic(auto, using(crate::proofs::Histories::sent_more, crate::proofs::Histories::sent_all))]
+#[tactic(auto, using(crate::proofs::Tracings::sent_more, crate::proofs::Tracings::sent_all))]
 fn sent_since(
     alloc: Global,
     messages: &MessageList,

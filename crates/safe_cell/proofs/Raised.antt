@@ -1,73 +1,56 @@
 -- What a raise leaves, in each image.
-use Rattle.std.proofs.Common.{◌≡◌, ◌+◌, ◌<◌, ◌^◌, ◌⊎◌, inl, inr, ⊎_elim, ℕ, List, Bool, false, Some, sym, ◌∙◌, ap, subst, refl, arith}
+use Rattle.std.proofs.Common.{◌≡◌, ◌+◌, ◌<◌, ◌^◌, ◌⊎◌, inl, inr, ⊎_elim, ℕ, List, Bool, false, Some, ◌∙◌, ap, arith}
 use Rattle.sector_disk.specs.Disk.{Image, DiskState, SameBut, AllSettled}
 use Rattle.sector_disk.specs.Run.{Run, Each}
 use Rattle.slot_gate.specs.Slot.{slot_at, InSlot}
 use Rattle.slot_gate.specs.Stored.{IsStored, Follows, Knows}
 use Rattle.slot_gate.proofs.Slots.{slot_same, slot_settled}
-use Rattle.safe_cell.specs.Body.{body_value, body_of}
-use Rattle.safe_cell.specs.Cell.{cell_at}
+use Rattle.safe_cell.specs.Body.{body_of}
+use Rattle.safe_cell.specs.Cell.{cell_at, AllHave}
 use Rattle.safe_cell.specs.Mounted.{CellState, IsCellAt, IsSpare, Stands, raised, AllStand}
 use Rattle.safe_cell.proofs.Bodies.{body_value-body_of}
-use Rattle.safe_cell.proofs.Values.{spare_known, stands_for}
+use Rattle.safe_cell.proofs.Values.{spare_known, stands_for, all_have}
 
 -- a raise leaves the cell where it is
 pub raised_way : (at : ℕ) (cell : CellState) → IsCellAt at cell → IsCellAt at (raised cell)
 raised_way at cell way = ⊎_elim (λ w. inr (w.1, w.0)) (λ w. inl (w.1, w.0)) way
 
--- the present slot is another than the spare one
-present_apart : (at : ℕ) (cell : CellState) → IsCellAt at cell → (k : ℕ) → InSlot cell.present k → InSlot cell.spare k → ⊥
-present_apart at cell way k p s =
-    ⊎_elim
-    (λ w. ⊎_elim (λ a. ⊎_elim (λ b. omega (arith, w.0, w.1, a, b)) (λ b. omega (arith, w.0, w.1, a, b)) s) (λ a. ⊎_elim (λ b. omega (arith, w.0, w.1, a, b)) (λ b. omega (arith, w.0, w.1, a, b)) s) p)
-    (λ w. ⊎_elim (λ a. ⊎_elim (λ b. omega (arith, w.0, w.1, a, b)) (λ b. omega (arith, w.0, w.1, a, b)) s) (λ a. ⊎_elim (λ b. omega (arith, w.0, w.1, a, b)) (λ b. omega (arith, w.0, w.1, a, b)) s) p)
-    way
-
 present_same : (at : ℕ) (cell : CellState) (d c : Image) → IsCellAt at cell → SameBut (InSlot cell.spare) d c → slot_at c cell.present ≡ slot_at d cell.present
-present_same at cell d c way same =
-    slot_same c d cell.present
-    (same.same (cell.present + 1) (present_apart at cell way (cell.present + 1) (inr refl)))
-    (same.same cell.present (present_apart at cell way cell.present (inl refl)))
+present_same at cell d c way same = slot_same c d cell.present (same.same (cell.present + 1) (omega arith)) (same.same cell.present (omega arith))
 
 -- with the next value sealed in the spare slot
-stands_raised : (at : ℕ) (cell : CellState) (body : List ℕ) (d c : Image) → IsCellAt at cell → body_value body ≡ Some (cell.value + 1) → Stands cell d → SameBut (InSlot cell.spare) d c → slot_at c cell.spare ≡ Some body → Stands (raised cell) c
-stands_raised at cell body d c way is h same sealed = record {
-  body = body;
+stands_raised : (at : ℕ) (cell : CellState) (d c : Image) → IsCellAt at cell → cell.value + 1 < 2 ^ 64 → Stands cell d → SameBut (InSlot cell.spare) d c → slot_at c cell.spare ≡ Some (body_of (cell.value + 1)) → Stands (raised cell) c
+stands_raised at cell d c way fits h same sealed = record {
+  body = body_of (cell.value + 1);
   present = sealed;
-  value = is;
+  value = body_value-body_of (cell.value + 1) fits;
   spare = (h.body, cell.value, present_same at cell d c way same ∙ h.present, h.value, omega arith);
 }
 
--- in each image while the spare slot is changed the value is as it was or the next
-before_or_after : (at : ℕ) (cell : CellState) (old : DiskState) (body : List ℕ) (c : Image) → IsCellAt at cell → body_value body ≡ Some (cell.value + 1)
-    → AllStand cell old → Follows (InSlot cell.spare) old cell.spare (IsStored body) c
-    → (cell_at c at ≡ Some cell.value) ⊎ (cell_at c at ≡ Some (cell.value + 1))
-before_or_after at cell old body c way is all f =
-    let h = all f.from f.image in
-    let present = present_same at cell f.from c way f.same ∙ h.present in
-    let as_was : (s : Bool) → IsSpare s cell.value (slot_at c cell.spare) → (cell_at c at ≡ Some cell.value) =
-    λ s spare. stands_for at (record { present = cell.present; spare = cell.spare; spare_sealed = s; value = cell.value; broken = cell.broken }) c way (record { body = h.body; present = present; value = h.value; spare = spare }) in
-    ⊎_elim
-    (λ same. inl (as_was cell.spare_sealed (subst (λ o. IsSpare cell.spare_sealed cell.value o) (sym same) h.spare)))
-    (⊎_elim
-    (λ none. inl (as_was false none))
-    (λ some. inr (stands_for at (raised cell) c (raised_way at cell way) (stands_raised at cell body f.from c way is h f.same some))))
-    f.step
-
--- while the next value is put into the spare slot
+-- in each image while the next value is put into the spare slot, the value is as it was or the next
 pub raise_images : (at : ℕ) (cell : CellState) (old new : DiskState) (body : List ℕ) → body ≡ body_of (cell.value + 1) → cell.value + 1 < 2 ^ 64
     → IsCellAt at cell → AllStand cell old
     → (Knows old cell.spare cell.spare_sealed → Each old new (Follows (InSlot cell.spare) old cell.spare (IsStored body)))
     → Each old new (λ c. (cell_at c at ≡ Some cell.value) ⊎ (cell_at c at ≡ Some (cell.value + 1)))
 raise_images at cell old new body is fits way all images c since =
-    before_or_after at cell old body c way (ap body_value is ∙ body_value-body_of (cell.value + 1) fits) all
-    (images (λ d image. spare_known cell.spare_sealed cell.value (slot_at d cell.spare) (all d image).spare) c since)
+    let f = images (λ d image. spare_known cell.spare_sealed cell.value (slot_at d cell.spare) (all d image).spare) c since in
+    let h = all f.from f.image in
+    let as_was : (s : Bool) → IsSpare s cell.value (slot_at c cell.spare) → (cell_at c at ≡ Some cell.value) =
+    λ s spare. stands_for at (record cell { spare_sealed = s }) c way (record { body = h.body; present = present_same at cell f.from c way f.same ∙ h.present; value = h.value; spare = spare }) in
+    ⊎_elim
+    (λ same. inl (as_was cell.spare_sealed (rw same h.spare)))
+    (⊎_elim
+    (λ none. inl (as_was false none))
+    (λ some. inr (stands_for at (raised cell) c (raised_way at cell way) (stands_raised at cell f.from c way fits h f.same (some ∙ ap (λ b. Some b) is)))))
+    f.step
 
 -- once all of it is synced
 pub raise_after : (at : ℕ) (cell : CellState) (old new : DiskState) (body : List ℕ) → body ≡ body_of (cell.value + 1) → cell.value + 1 < 2 ^ 64
     → IsCellAt at cell → AllStand cell old → Run (InSlot cell.spare) old new → AllSettled new → slot_at new.contents cell.spare ≡ Some body
-    → AllStand (raised cell) new
-raise_after at cell old new body is fits way all run settled sealed c image =
+    → AllHave at (cell.value + 1) new × AllStand (raised cell) new
+raise_after at cell old new body is fits way all run settled sealed =
+    let stands : AllStand (raised cell) new = λ c image.
     let f = run.follows c (run.ends c image) in
-    stands_raised at cell body f.0 c way (ap body_value is ∙ body_value-body_of (cell.value + 1) fits) (all f.0 f.1) f.2
-    (slot_settled new cell.spare c (settled cell.spare) (settled (cell.spare + 1)) image ∙ sealed)
+    stands_raised at cell f.0 c way fits (all f.0 f.1) f.2
+    (slot_settled new cell.spare c (settled cell.spare) (settled (cell.spare + 1)) image ∙ sealed ∙ ap (λ b. Some b) is) in
+    (all_have at (raised cell) new (raised_way at cell way) stands, stands)

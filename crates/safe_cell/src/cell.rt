@@ -1,5 +1,5 @@
 // The cell: two slots, of which the one with the greater value counts.
-ghost use Rattle.std.specs.Prelude.{◌≡◌, ◌⊎◌, ◌↔◌, ◌<◌, ◌+◌, ◌-◌, ◌^◌, ℕ, IsTrue, IsFalse, IsOk, IfOk, IsSome, IfSome, IsNone, IsErrOf, Some, None, true, false};
+ghost use Rattle.std.specs.Prelude.{◌≡◌, ◌⊎◌, ◌<◌, ◌+◌, ◌-◌, ◌^◌, ℕ, IsTrue, IsFalse, IsOk, IfOk, IfErr, IsSome, IsErrOf, Some, None, true, false};
 ghost use Rattle.sector_disk.specs.Disk.{Image, Counts, AllSettled};
 ghost use Rattle.sector_disk.specs.Run.{Run, Each};
 ghost use Rattle.slot_gate.specs.Slot.{slot_at, InSlot};
@@ -45,23 +45,27 @@ impl Model for SafeCell {
 impl SafeCell {
     // The cell at a sector, by the values of its sealed slots: the first one counts where both are
     // equal.
-    pub(crate) fn of_values(at: u64, first: Option<u64>, second: Option<u64>) -> Option<SafeCell>
+    pub(crate) fn of_values(
+        at: u64,
+        first: Option<u64>,
+        second: Option<u64>,
+    ) -> Result<SafeCell, CellFault>
         requires { at + 3 < 2 ^ 64 }
-        ensures none { IsNone result ↔ ((first ≡ None) × (second ≡ None)) }
-        ensures place { IfSome result (λ cell. IsCellAt at cell × IsFalse cell.broken) }
+        ensures none { IfErr result (λ fault. (fault ≡ CellFault.NotFormatted) × (first ≡ None) × (second ≡ None)) }
+        ensures place { IfOk result (λ cell. IsCellAt at cell × IsFalse cell.broken) }
         ensures stands { (c : Image)
             → IsRead (slot_at c at) first → IsRead (slot_at c (at + 2)) second
-            → IfSome result (λ cell. Stands cell c) }
-        ensures before { IfSome result (λ cell. first ≡ Some cell.value → cell.present ≡ at) }
+            → IfOk result (λ cell. Stands cell c) }
+        ensures before { IfOk result (λ cell. first ≡ Some cell.value → cell.present ≡ at) }
     {
         let (present, spare, spare_sealed, value) = match (first, second) {
-            (None, None) => return None,
+            (None, None) => return Err(CellFault::NotFormatted),
             (Some(first), None) => (at, at + 2, false, first),
             (None, Some(second)) => (at + 2, at, false, second),
             (Some(first), Some(second)) if first < second => (at + 2, at, true, second),
             (Some(first), Some(_)) => (at, at + 2, true, first),
         };
-        Some(SafeCell {
+        Ok(SafeCell {
             present,
             spare,
             spare_sealed,

@@ -43,10 +43,7 @@ pub fn format<D: SectorDisk>(disk: &mut D, at: u64, value: u64) -> Result<(), Ce
     if erase(disk, at).is_err() {
         return Err(CellFault::Device);
     }
-    if store(disk, at, false, &body_for(value)).is_err() {
-        return Err(CellFault::Device);
-    }
-    Ok(())
+    store(disk, at, false, &body_for(value)).or(Err(CellFault::Device))
 }
 
 // Unseals both slots.

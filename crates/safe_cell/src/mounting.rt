@@ -40,7 +40,7 @@ pub fn mount<D: SectorDisk>(disk: &mut D, at: u64) -> Result<SafeCell, CellFault
 {
     let first = read_slot(disk, at)?;
     let second = read_slot(disk, at + 2)?;
-    SafeCell::of_values(at, first, second).ok_or(CellFault::NotFormatted)
+    SafeCell::of_values(at, first, second)
 }
 
 // The value of a slot, if it is sealed.
