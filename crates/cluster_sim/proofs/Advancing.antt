@@ -56,10 +56,7 @@ hands_grow nodes w (Takes m number what) = by_state (slice_get w.states m) refl
     by_state None at = λ n x at_n. unmoved w n x (rw at at at_n)
     by_state (Some s) at = states_keep (AtMost w) nodes w m number what s at
         (λ t was. (let same : s ≡ t = is_some s t (sym at ∙ was) in subst (λ (y : NodeState). length (after m nodes s what).state.hand ≤ length y.state.hand + length y.durable.pending + 1) same (step_gains m nodes s what))) (unmoved w)
-hands_grow nodes w (Loses k) = unmoved w
-hands_grow nodes w (Cuts a b) = unmoved w
-hands_grow nodes w (Mends a b) = unmoved w
-hands_grow nodes w (Denies why) = unmoved w
+hands_grow nodes w _ = unmoved w
 
 -- the room for pending jobs is enough
 enough : (slots : ℕ) (node : Node Memory) (s : NodeState) → Stands state_of node s → length s.durable.pending ≤ slots → length s.durable.pending ≤ pending_room slots (is_down node.state.phase) node.kept
@@ -120,27 +117,17 @@ hand_fits old new report w r a o n limit tells acted fits node at =
 -- ---- what was mounted
 
 found_settled : (s : NodeState) (what : What) (d : Durable) → found_at s what ≡ Some d → (kept : Bool) × (d ≡ settled kept s)
-found_settled s (Did event) d is = absurd (let bad = is in cc)
-found_settled s (Refused event fault) d is = absurd (let bad = is in cc)
-found_settled s (Faulted event) d is = absurd (let bad = is in cc)
-found_settled s (Rests rest) d is = absurd (let bad = is in cc)
-found_settled s Crashed d is = absurd (let bad = is in cc)
 found_settled s (Recovered kept) d is = (kept, sym (is_some (settled kept s) d is))
-found_settled s MountFailed d is = absurd (let bad = is in cc)
 found_settled s (RaiseFailed kept) d is = (kept, sym (is_some (settled kept s) d is))
 found_settled s (RaiseRefused kept) d is = (kept, sym (is_some (settled kept s) d is))
+found_settled s _ d is = absurd (let bad = is in cc)
 
 -- a node that mounts is down
 mounts_down : (id nodes : ℕ) (s : NodeState) (what : What) → IsPossible id nodes s what → is_mounting what ≡ true → is_down s.state.phase ≡ true
-mounts_down id nodes s (Did event) may is = absurd cc
-mounts_down id nodes s (Refused event fault) may is = absurd cc
-mounts_down id nodes s (Faulted event) may is = absurd cc
-mounts_down id nodes s (Rests rest) may is = absurd cc
-mounts_down id nodes s Crashed may is = absurd cc
 mounts_down id nodes s (Recovered kept) may is = may.0
-mounts_down id nodes s MountFailed may is = absurd cc
 mounts_down id nodes s (RaiseFailed kept) may is = may.0
 mounts_down id nodes s (RaiseRefused kept) may is = may.0
+mounts_down id nodes s _ may is = absurd cc
 
 -- ---- one act, at the node that it names
 
@@ -171,10 +158,7 @@ named_step w a deed new n node s p named at was = by_step p.acted.step p.acted.n
           tells = subst (λ (k : ℕ). DeedOf k (length w.states) s what deed) same (tells s was_m);
           found = shows node s (subst (λ (k : ℕ). slice_get new.nodes k ≡ Some node) (sym same) at) was_m;
         })
-    by_step (Loses k) of may shows tells = inr (tells.0, tells.1, λ nodes counts. (refl, refl))
-    by_step (Cuts x y) of may shows tells = inr (tells.0, tells.1, λ nodes counts. (refl, refl))
-    by_step (Mends x y) of may shows tells = inr (tells.0, tells.1, λ nodes counts. (refl, refl))
-    by_step (Denies why) of may shows tells = inr (tells.0, tells.1, λ nodes counts. (refl, refl))
+    by_step _ of may shows tells = inr (tells.0, tells.1, λ nodes counts. (refl, refl))
 
 -- the node that code names
 pub named_by : (count : ℕ) (old : Machine) (net : Network) (a : Act) (n : ℕ) → count ≡ length old.nodes → net ≡ old.net → n ≡ node_named count net.sent a → n ≡ node_named (length old.nodes) old.net.sent a

@@ -1,12 +1,12 @@
 -- A node whose journal is compacted: nothing is sent.
-use Rattle.std.proofs.Common.{◌≡◌, ◌≢◌, ◌⊎◌, inl, inr, ℕ, length, refl, sym, ◌∙◌, ap, Option, None, Result, Ok, Err}
+use Rattle.std.proofs.Common.{true, ◌≡◌, ◌≢◌, ◌⊎◌, inl, inr, ℕ, length, refl, sym, ◌∙◌, ap, Option, None, Result, Ok, Err}
 use Rattle.std.specs.Prelude.{IsOk, IsErrOf, IfErr}
 use Rattle.sector_disk.specs.Memory.{Memory, state_of}
 use Rattle.sim_net.specs.Network.{Network}
 use Rattle.node_core.specs.declared.fault.CoreFault.TheVariants.{Down}
 use Rattle.durable_node.specs.declared.fault.NodeFault.{NodeFault}
 use Rattle.durable_node.specs.declared.fault.NodeFault.TheVariants as node
-use Rattle.durable_node.specs.Compacting.{CompactTold, IsMovedNode, IsFallenNode}
+use Rattle.durable_node.specs.Compacting.{CompactTold, RestTold, IsMovedNode, IsFallenNode}
 use Rattle.durable_node.specs.Node.{Node, Stands}
 use Rattle.histories.specs.NodeState.{NodeState}
 use Rattle.histories.specs.declared.what.What.{What}
@@ -19,99 +19,47 @@ use Rattle.durable_node.proofs.Serves.{is_device}
 use Rattle.cluster_sim.specs.declared.outcome.Outcome.{Outcome}
 use Rattle.cluster_sim.specs.declared.outcome.Outcome.TheVariants as outcome
 use Rattle.cluster_sim.specs.declared.outcome.Refusal.TheVariants as refusal
-use Rattle.cluster_sim.specs.Machine.{IsCounted, Comes, CompactedAs, bare_outcome}
-use Rattle.cluster_sim.specs.Told.{IsCompactionTold}
+use Rattle.cluster_sim.specs.Machine.{IsCounted, Comes, bare}
+use Rattle.cluster_sim.specs.Told.{IsCompactionTold, told}
+use Rattle.runs.specs.Acts.{IsCompaction, CompactRest, rest_outcome}
+use Rattle.histories.specs.declared.what.Rest.{Rest}
 use Rattle.runs.proofs.Sending.{none_sent}
-
-err_same : {A : Type 0} (fault why : NodeFault) (result : Result A NodeFault) → result ≡ Err fault → result ≡ Err why → fault ≡ why
-err_same fault why result is told = let both = sym is ∙ told in cc
-
-ok_not_err : {A : Type 0} (a : A) (why : NodeFault) (result : Result A NodeFault) → result ≡ Ok a → result ≡ Err why → ⊥
-ok_not_err a why result is told = let both = sym is ∙ told in cc
-
--- a refusal is told as it is
-refused_as : (fault why : NodeFault) (o : Outcome) → fault ≡ why → (why ≡ node.Device → ⊥) → ((fault ≡ node.Device) × (o ≡ outcome.Faulted)) ⊎ ((fault ≢ node.Device) × (o ≡ outcome.Refused (refusal.Node fault))) → o ≡ outcome.Refused (refusal.Node why)
-refused_as fault why o same other is = elim is [
-  | inl device ↦ absurd (other (sym same ∙ device.0))
-  | inr told ↦ told.1 ∙ ap (λ (f : NodeFault). outcome.Refused (refusal.Node f)) same
-]
-
-fallen_as : (fault : NodeFault) (o : Outcome) → fault ≡ node.Device → ((fault ≡ node.Device) × (o ≡ outcome.Faulted)) ⊎ ((fault ≢ node.Device) × (o ≡ outcome.Refused (refusal.Node fault))) → o ≡ outcome.Faulted
-fallen_as fault o same is = elim is [ inl device ↦ device.1 | inr told ↦ absurd (told.0 same) ]
 
 not_faulted : (o shown : Outcome) → o ≡ shown → (shown ≡ outcome.Faulted → ⊥) → o ≡ outcome.Faulted → ⊥
 not_faulted o shown is other bad = other (sym is ∙ bad)
 
-module _ (slots id nodes : ℕ) (s : NodeState) (o : Outcome) (new : Node Memory) (net : Network) where
-  abbrev Ends : Type 0
-  Ends = Comes slots id nodes (CompactedAs o) s (bare_outcome (length net.sent) o) new net net
+-- one that rests is told as it is
+rest_told : {A : Type 0} (first : ℕ) (o : Outcome) (rest : Rest) (result : Result A NodeFault) → RestTold rest result → IsCompactionTold first result o → CompactRest rest × (o ≡ told (rest_outcome first rest))
+rest_told first o Nothing result is shown = absurd is
+rest_told first o Compacted (Ok a) is shown = (tt, shown)
+rest_told first o Compacted (Err fault) is shown = absurd cc
+rest_told first o _ (Ok a) is shown = absurd (let bad = is in cc)
+rest_told first o _ (Err fault) is shown = elim shown [
+  | inl device ↦ absurd (cc (is, device.0))
+  | inr other ↦ (tt, other.1 ∙ (let same = is in cc))
+]
 
-  done_comes : o ≡ outcome.Done None (length net.sent) 0 → IsPossible id nodes s (Rests Compacted) → new.found ≡ None → Stands state_of new s → Ends
-  done_comes is may none stands = record {
-    what = Rests Compacted;
-    is = not_faulted o _ is (λ bad. cc);
-    possible = may;
-    of_slots = tt;
-    is_told = ap (λ (x : Outcome). bare_outcome (length net.sent) x) is;
-    sent = sym (none_sent net);
-    found = none;
-    stands = stands;
-  }
+fall_told : {A : Type 0} (first : ℕ) (o : Outcome) (result : Result A NodeFault) → result ≡ Err node.Device → IsCompactionTold first result o → o ≡ outcome.Faulted
+fall_told first o (Ok a) is shown = absurd (let bad = is in cc)
+fall_told first o (Err fault) is shown = elim shown [ inl device ↦ device.1 | inr other ↦ absurd (other.0 (let same = is in cc)) ]
 
-  down_comes : o ≡ outcome.Refused (refusal.Node (node.Core Down)) → IsPossible id nodes s (Rests CompactDown) → new.found ≡ None → Stands state_of new s → Ends
-  down_comes is may none stands = record {
-    what = Rests CompactDown;
-    is = not_faulted o _ is (λ bad. cc);
-    possible = may;
-    of_slots = tt;
-    is_told = ap (λ (x : Outcome). bare_outcome (length net.sent) x) is;
-    sent = sym (none_sent net);
-    found = none;
-    stands = stands;
-  }
-
-  worn_comes : o ≡ outcome.Refused (refusal.Node node.Exhausted) → IsPossible id nodes s (Rests CompactWorn) → new.found ≡ None → Stands state_of new s → Ends
-  worn_comes is may none stands = record {
-    what = Rests CompactWorn;
-    is = not_faulted o _ is (λ bad. cc);
-    possible = may;
-    of_slots = tt;
-    is_told = ap (λ (x : Outcome). bare_outcome (length net.sent) x) is;
-    sent = sym (none_sent net);
-    found = none;
-    stands = stands;
-  }
-
-  fallen_comes : o ≡ outcome.Faulted → new.found ≡ None → Stands state_of new (after id nodes s Crashed) → Ends
-  fallen_comes is none stands = record {
-    what = Crashed;
-    is = is;
-    possible = tt;
-    of_slots = tt;
-    is_told = ap (λ (x : Outcome). bare_outcome (length net.sent) x) is;
-    sent = sym (none_sent net);
-    found = none;
-    stands = stands;
-  }
-
-  pub compacted_comes : {A : Type 0} (what : What) (result : Result A NodeFault) → CompactTold what result → IsPossible id nodes s what → IsCompactionTold (length net.sent) result o → new.found ≡ None
-      → Stands state_of new (after id nodes s what) → Ends
-  compacted_comes (Did event) result is may told none stands = absurd is
-  compacted_comes (Refused event fault) result is may told none stands = absurd is
-  compacted_comes (Faulted event) result is may told none stands = absurd is
-  compacted_comes (Rests Nothing) result is may told none stands = absurd is
-  compacted_comes (Rests Compacted) (Ok a) is may told none stands = done_comes told may none stands
-  compacted_comes (Rests Compacted) (Err fault) is may told none stands = absurd cc
-  compacted_comes (Rests CompactDown) (Ok a) is may told none stands = absurd (ok_not_err a _ _ refl is)
-  compacted_comes (Rests CompactDown) (Err fault) is may told none stands = down_comes (refused_as fault (node.Core Down) o (err_same fault _ _ refl is) (λ bad. cc) told) may none stands
-  compacted_comes (Rests CompactWorn) (Ok a) is may told none stands = absurd (ok_not_err a _ _ refl is)
-  compacted_comes (Rests CompactWorn) (Err fault) is may told none stands = worn_comes (refused_as fault node.Exhausted o (err_same fault _ _ refl is) (λ bad. cc) told) may none stands
-  compacted_comes Crashed (Ok a) is may told none stands = absurd (ok_not_err a _ _ refl is)
-  compacted_comes Crashed (Err fault) is may told none stands = fallen_comes (fallen_as fault o (err_same fault _ _ refl is) told) none stands
-  compacted_comes (Recovered kept) result is may told none stands = absurd is
-  compacted_comes MountFailed result is may told none stands = absurd is
-  compacted_comes (RaiseFailed kept) result is may told none stands = absurd is
-  compacted_comes (RaiseRefused kept) result is may told none stands = absurd is
+pub compacted_comes : {A : Type 0} (slots id nodes : ℕ) (s : NodeState) (o : Outcome) (new : Node Memory) (net : Network) (what : What) (result : Result A NodeFault) → CompactTold what result → IsPossible id nodes s what
+    → IsCompactionTold (length net.sent) result o → new.found ≡ None → Stands state_of new (after id nodes s what) → Comes slots id nodes true IsCompaction s (bare o) new net net
+compacted_comes slots id nodes s o new net (Rests rest) result is may shown none stands =
+    let by = rest_told (length net.sent) o rest result is shown in
+    record { what = Rests rest; is = by.0; possible = may; of_slots = tt; is_told = by.1; tells = record { tried = refl; acked = refl; mounted = refl }; sent = sym (none_sent net); found = none; stands = stands }
+compacted_comes slots id nodes s o new net Crashed result is may shown none stands = record {
+  what = Crashed;
+  is = tt;
+  possible = tt;
+  of_slots = tt;
+  is_told = fall_told (length net.sent) o result is shown;
+  tells = record { tried = refl; acked = refl; mounted = refl };
+  sent = sym (none_sent net);
+  found = none;
+  stands = stands;
+}
+compacted_comes slots id nodes s o new net _ result is may shown none stands = absurd is
 
 -- a compaction mounts nothing
 pub nothing_found : {A : Type 0} (old new : Node Memory) (result : Result A NodeFault) → (IsOk result → IsMovedNode old new) → (IsErrOf result node.Device → IsFallenNode old new)

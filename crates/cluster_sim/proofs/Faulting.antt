@@ -19,6 +19,7 @@ use Rattle.runs.specs.Reporting.{node_named, node_or_first, receiver_or_first}
 use Rattle.cluster_sim.specs.Machine.{Machine, IsCounted, disk_of, FaultsAt}
 use Rattle.runs.proofs.Runs.{get_set_same, get_set_other}
 use Rattle.cluster_sim.proofs.Members.{true_within}
+use Rattle.cluster_sim.proofs.Doings.{taken_as}
 
 -- a disk that isn't called
 still_counted : (disk : Option Memory) (o : Outcome) → (o ≡ outcome.Faulted → ⊥) → IsCounted disk disk o
@@ -37,48 +38,26 @@ pub first_is : (n count : ℕ) → n < count → node_or_first count n ≡ n
 first_is n count within = rw (true_within n count within) refl
 
 -- one node did
-pub faults_here : (slots n : ℕ) (nodes : List (Node Memory)) (old new : Node Memory) (net net' : Network) (o : Outcome) (now : Machine) → record { slots = slots; nodes = nodes; net = net } ≡ now → slice_get nodes n ≡ Some old
-    → IsCounted old.disk new.disk o → FaultsAt (node_or_first (length now.nodes) n) now (record { slots = slots; nodes = slice_set nodes n new; net = net' }) o
-faults_here slots n nodes old new net net' o now view at counted =
-    subst (λ (m : Machine). FaultsAt (node_or_first (length m.nodes) n) m (record { slots = slots; nodes = slice_set nodes n new; net = net' }) o) view
-    (subst (λ (k : ℕ). FaultsAt k (record { slots = slots; nodes = nodes; net = net }) (record { slots = slots; nodes = slice_set nodes n new; net = net' }) o) (sym (first_is n (length nodes) (slice_get_within nodes n old at)))
-    (record {
-      here = subst (λ (x : Option (Node Memory)). IsCounted (disk_of x) (disk_of (slice_get (slice_set nodes n new) n)) o) (sym at)
-          (subst (λ (x : Option (Node Memory)). IsCounted old.disk (disk_of x) o) (sym (get_set_same nodes n old new at)) counted);
-      elsewhere = λ k other. get_set_other nodes k n new other;
-    }))
-
 pub faults_if : {E : Type 0} (slots n : ℕ) (nodes : List (Node Memory)) (old new : Node Memory) (net net' : Network) (result : Result Deed E) (now : Machine) → record { slots = slots; nodes = nodes; net = net } ≡ now
     → slice_get nodes n ≡ Some old → IfOk result (λ (d : Deed). IsCounted old.disk new.disk d.outcome)
     → IfOk result (λ (d : Deed). FaultsAt (node_or_first (length now.nodes) n) now (record { slots = slots; nodes = slice_set nodes n new; net = net' }) d.outcome)
-faults_if slots n nodes old new net net' (Ok d) now view at counted = faults_here slots n nodes old new net net' d.outcome now view at counted
+faults_if slots n nodes old new net net' (Ok d) now view at counted =
+    subst (λ (m : Machine). FaultsAt (node_or_first (length m.nodes) n) m (record { slots = slots; nodes = slice_set nodes n new; net = net' }) d.outcome) view
+    (subst (λ (k : ℕ). FaultsAt k (record { slots = slots; nodes = nodes; net = net }) (record { slots = slots; nodes = slice_set nodes n new; net = net' }) d.outcome) (sym (first_is n (length nodes) (slice_get_within nodes n old at)))
+    (record {
+      here = subst (λ (x : Option (Node Memory)). IsCounted (disk_of x) (disk_of (slice_get (slice_set nodes n new) n)) d.outcome) (sym at)
+          (subst (λ (x : Option (Node Memory)). IsCounted old.disk (disk_of x) d.outcome) (sym (get_set_same nodes n old new at)) counted);
+      elsewhere = λ k other. get_set_other nodes k n new other;
+    }))
 faults_if slots n nodes old new net net' (Err e) now view at counted = tt
 
 -- ---- the node that an act names
-
-named_by_event : (a : Act) (n : ℕ) (event : Event) (nodes : ℕ) (sent : List Envelope) → event_at a ≡ Some (n, event) → node_named nodes sent a ≡ node_or_first nodes n
-named_by_event (act.Check k) n event nodes sent is = ap (λ (p : ℕ × Event). node_or_first nodes p.0) (is_some _ _ is)
-named_by_event (act.Merge k) n event nodes sent is = ap (λ (p : ℕ × Event). node_or_first nodes p.0) (is_some _ _ is)
-named_by_event (act.Accept k) n event nodes sent is = ap (λ (p : ℕ × Event). node_or_first nodes p.0) (is_some _ _ is)
-named_by_event (act.Ready k) n event nodes sent is = ap (λ (p : ℕ × Event). node_or_first nodes p.0) (is_some _ _ is)
-named_by_event (act.Coord k) n event nodes sent is = ap (λ (p : ℕ × Event). node_or_first nodes p.0) (is_some _ _ is)
-named_by_event (act.Dispatch k) n event nodes sent is = ap (λ (p : ℕ × Event). node_or_first nodes p.0) (is_some _ _ is)
-named_by_event (act.Deliver k) n event nodes sent is = absurd (let bad = is in cc)
-named_by_event (act.Lose k) n event nodes sent is = absurd (let bad = is in cc)
-named_by_event (act.Cut a b) n event nodes sent is = absurd (let bad = is in cc)
-named_by_event (act.Mend a b) n event nodes sent is = absurd (let bad = is in cc)
-named_by_event (act.Submit k work) n event nodes sent is = ap (λ (p : ℕ × Event). node_or_first nodes p.0) (is_some _ _ is)
-named_by_event (act.Finish k origin id) n event nodes sent is = ap (λ (p : ℕ × Event). node_or_first nodes p.0) (is_some _ _ is)
-named_by_event (act.Arm k calls) n event nodes sent is = absurd (let bad = is in cc)
-named_by_event (act.Crash k fill) n event nodes sent is = absurd (let bad = is in cc)
-named_by_event (act.Recover k) n event nodes sent is = ap (λ (p : ℕ × Event). node_or_first nodes p.0) (is_some _ _ is)
-named_by_event (act.Compact k) n event nodes sent is = absurd (let bad = is in cc)
 
 pub faults_named : {E : Type 0} (a : Act) (n : ℕ) (event : Event) (was now new : Machine) (result : Result Deed E) → was ≡ now → event_at a ≡ Some (n, event)
     → IfOk result (λ (d : Deed). FaultsAt (node_or_first (length was.nodes) n) was new d.outcome) → IfOk result (λ (d : Deed). FaultsAt (node_named (length now.nodes) now.net.sent a) now new d.outcome)
 faults_named a n event was now new result view is faults =
     subst (λ (m : Machine). IfOk result (λ (d : Deed). FaultsAt (node_named (length m.nodes) m.net.sent a) m new d.outcome)) view
-    (subst (λ (k : ℕ). IfOk result (λ (d : Deed). FaultsAt k was new d.outcome)) (sym (named_by_event a n event (length was.nodes) was.net.sent is)) faults)
+    (subst (λ (k : ℕ). IfOk result (λ (d : Deed). FaultsAt k was new d.outcome)) (sym ((taken_as a n event is).named (length was.nodes) was.net.sent)) faults)
 
 pub faults_received : {E : Type 0} (nodes : ℕ) (sent : List Envelope) (k receiver : ℕ) (m : Envelope) (old new : Machine) (result : Result Deed E) → slice_get sent k ≡ Some m → receiver ≡ m.receiver
     → IfOk result (λ (d : Deed). FaultsAt (node_or_first nodes receiver) old new d.outcome) → IfOk result (λ (d : Deed). FaultsAt (receiver_or_first nodes (slice_get sent k)) old new d.outcome)

@@ -19,17 +19,6 @@ use Rattle.cluster_sim.specs.Machine.{IsOfSize, IsSame, IsCounted, Comes}
 use Rattle.cluster_sim.proofs.Coming.{some_of}
 use Rattle.runs.proofs.Sending.{none_sent}
 
-armed_size : (slots calls : ℕ) (disk : Option Memory) → IsOfSize slots disk → IsOfSize slots (armed_disk calls disk)
-armed_size slots calls None size d at = absurd cc
-armed_size slots calls (Some was) size d at = ap (λ (m : Memory). length m.contents) (sym (is_some (record was { left = Some calls }) d at)) ∙ size was refl
-
-pub arm_same : (calls : ℕ) (old new : Node Memory) → new ≡ record old { disk = armed_disk calls old.disk; found = None } → IsSame old new
-arm_same calls old new is = record {
-  id = ap (λ (n : Node Memory). n.id) is;
-  nodes = ap (λ (n : Node Memory). n.nodes) is;
-  size = λ slots size d at. armed_size slots calls old.disk size d (sym (ap (λ (n : Node Memory). n.disk) is) ∙ at);
-}
-
 pub crash_same : (fill : List ℕ) (old new : Node Memory) → IsSome old.disk → new ≡ record old { state = down old.id; disk = new.disk; kept = None; area = None; found = None }
     → ((was now : Memory) → old.disk ≡ Some was → new.disk ≡ Some now → IsCrashed was fill now.contents × (now ≡ all_synced now.contents was.failures)) → IsSame old new
 crash_same fill old new has is crashed = record {
@@ -38,14 +27,6 @@ crash_same fill old new has is crashed = record {
   size = λ slots size d at. let was = some_of old.disk has in (crashed was.0 d was.1 at).0.size ∙ size was.0 was.1;
 }
 
-pub armed_comes : (slots id nodes : ℕ) (s : NodeState) (o : Outcome) (new : Node Memory) (net : Network) → o ≡ outcome.Done None (length net.sent) 0 → new.found ≡ None → Stands state_of new s
-    → Comes slots id nodes (λ what. what ≡ Rests Nothing) s o new net net
-armed_comes slots id nodes s o new net is none stands = record { what = Rests Nothing; is = refl; possible = tt; of_slots = tt; is_told = is; sent = sym (none_sent net); found = none; stands = stands }
-
-pub crashed_comes : (slots id nodes : ℕ) (s : NodeState) (o : Outcome) (new : Node Memory) (net : Network) → o ≡ outcome.Done None (length net.sent) 0 → new.found ≡ None → Stands state_of new (after id nodes s Crashed)
-    → Comes slots id nodes (λ what. what ≡ Crashed) s o new net net
-crashed_comes slots id nodes s o new net is none stands = record { what = Crashed; is = refl; possible = tt; of_slots = tt; is_told = is; sent = sym (none_sent net); found = none; stands = stands }
-
 -- ---- what is counted of their disks
 
 -- a memory with as many failures as before
@@ -53,20 +34,8 @@ same_failures : (was now : Memory) (o : Outcome) → length now.contents ≡ len
     → Counts (state_of was) (state_of now) (o ≡ outcome.Faulted) (o ≢ outcome.Faulted)
 same_failures was now o size same quiet = record { sectors = size; honest = refl; later = omega (arith, same); unchanged = λ _. same; cause = λ is. absurd (quiet is) }
 
-armed_disks : (calls : ℕ) (disk : Option Memory) (o : Outcome) → (o ≡ outcome.Faulted → ⊥) → IsCounted disk (armed_disk calls disk) o
-armed_disks calls None o quiet was now old new = absurd cc
-armed_disks calls (Some d) o quiet was now old new =
-    let before : d ≡ was = is_some d was old in
-    let after : record d { left = Some calls } ≡ now = is_some (record d { left = Some calls }) now new in
-    same_failures was now o (ap (λ (m : Memory). length m.contents) (sym after) ∙ ap (λ (m : Memory). length m.contents) before)
-    (ap (λ (m : Memory). m.failures) (sym after) ∙ ap (λ (m : Memory). m.failures) before) quiet
-
 pub done_quiet : (o : Outcome) (answer : Option ℕ) (first many : ℕ) → o ≡ outcome.Done answer first many → o ≡ outcome.Faulted → ⊥
 done_quiet o answer first many is bad = let both = sym is ∙ bad in cc
-
-pub armed_counted : (calls : ℕ) (old new : Node Memory) (o : Outcome) (first : ℕ) → new ≡ record old { disk = armed_disk calls old.disk; found = None } → o ≡ outcome.Done None first 0 → IsCounted old.disk new.disk o
-armed_counted calls old new o first is told =
-    subst (λ (d : Option Memory). IsCounted old.disk d o) (sym (ap (λ (n : Node Memory). n.disk) is)) (armed_disks calls old.disk o (done_quiet o None first 0 told))
 
 pub crash_counted : (fill : List ℕ) (old new : Node Memory) (o : Outcome) (first : ℕ)
     → ((was now : Memory) → old.disk ≡ Some was → new.disk ≡ Some now → IsCrashed was fill now.contents × (now ≡ all_synced now.contents was.failures)) → o ≡ outcome.Done None first 0 → IsCounted old.disk new.disk o

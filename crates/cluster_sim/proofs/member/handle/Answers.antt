@@ -6,7 +6,7 @@ use Rattle.durable_node.specs.Faults.{fault_of, told}
 use Rattle.durable_node.specs.Stepping.{CountsOf}
 use Rattle.cluster_sim.specs.Told.{came_told}
 use Rattle.cluster_sim.proofs.Settled.{settled_id, settled_nodes, steps_and_settles, counts_and_settles}
-use Rattle.cluster_sim.proofs.Coming.{same_by, comes_by, came_counted, stuck_untouched}
+use Rattle.cluster_sim.proofs.Coming.{same_by, comes_by, came_counted}
 use Rattle.cluster_sim.proofs.member.handle.Goals as goal
 
 counts : (c : goal.After-drop-came) → CountsOf state_of c.args.node.now.disk c.forget_written.new.node.disk (told (Ok c.in-Ok.came))
@@ -20,9 +20,6 @@ returns-clause-same c =
 
 pub returns-in-Err-clause-same : goal.returns-in-Err-clause-same
 returns-in-Err-clause-same c = same_by c.args.node.now c.step.new.self (told c.step.result) c.step.ensures.id c.step.ensures.nodes c.step.ensures.counts
-
-pub returns-in-Err-clause-memory : goal.returns-in-Err-clause-memory
-returns-in-Err-clause-memory c = λ s stands. stuck_untouched c.args.node.now c.step.new.self c.args.event.now _ s c.step.ensures.counts.was_there c.in-Err.ensures.stuck stands
 
 pub returns-clause-came : goal.returns-clause-came
 returns-clause-came c =

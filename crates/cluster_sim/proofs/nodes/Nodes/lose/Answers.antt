@@ -18,11 +18,3 @@ returns-clause-acted c = λ w stands.
       | in-Err b ↦ not_lost_by w c.args.number b.in-Err.fault machine c.args.self.now c.lose.new.self.network c.match-lose.result c.self.view_is stands
           ((c.lose.ensures.refused b.in-Err.fault).0 b.in-Err.is) (ap network b.in-Err.ensures.unchanged) b.result-is
     ]
-
-pub returns-clause-faults : goal.returns-clause-faults
-returns-clause-faults c =
-    let nodes = ap (λ (m : Machine). m.nodes) c.self.view_is in
-    elim c.match-lose.branch [
-      | in-Ok b ↦ faults_still 0 c.args.self.now _ c.match-lose.result nodes (done_quiet c.match-lose.result None _ 0 (b.result-is ∙ b.nothing_sent.ensures))
-      | in-Err b ↦ faults_still 0 c.args.self.now _ c.match-lose.result nodes (λ bad. let both = sym b.result-is ∙ bad in cc)
-    ]
