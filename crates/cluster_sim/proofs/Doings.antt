@@ -1,5 +1,5 @@
 -- What a cluster makes of an act, by the kind of the act.
-use Rattle.std.proofs.Common.{slice_get, ◌≡◌, ℕ, Bool, true, false, List, [], length, nat_lt, refl, sym, ◌∙◌, ap, subst, Option, Some, None, option_map, Result, Ok, Err}
+use Rattle.std.proofs.Common.{slice_get, ◌≡◌, ℕ, Bool, true, false, List, [], length, nat_lt, refl, sym, ◌∙◌, ap, subst, Option, Some, None, Result, Ok, Err}
 use Rattle.std.specs.Prelude.{◌&&◌, IfSome, IfOk}
 use Rattle.wire_msg.specs.Envelope.{Envelope}
 use Rattle.sim_net.specs.declared.fault.NetFault.{NetFault}
@@ -8,29 +8,25 @@ use Rattle.node_core.specs.declared.event.Event.{Event}
 use Rattle.node_core.specs.declared.event.Event.TheVariants as on
 use Rattle.histories.specs.declared.what.What.{What}
 use Rattle.histories.specs.declared.what.What.TheVariants.{Did, Refused, Faulted, Rests, Crashed, Recovered, MountFailed, RaiseFailed, RaiseRefused}
-use Rattle.histories.specs.declared.what.Rest.TheVariants.{Nothing, Compacted, CompactDown, CompactWorn}
 use Rattle.histories.specs.What.{event_of, brought, AreAddressed}
 use Rattle.schedule.specs.declared.act.Act.{Act}
 use Rattle.schedule.specs.declared.act.Act.TheVariants as act
 use Rattle.cluster_sim.specs.declared.outcome.Outcome.{Outcome}
 use Rattle.cluster_sim.specs.declared.outcome.Outcome.TheVariants as outcome
-use Rattle.cluster_sim.specs.declared.outcome.Refusal.{Refusal}
 use Rattle.cluster_sim.specs.declared.outcome.Refusal.TheVariants as refusal
 use Rattle.runs.specs.World.{World}
 use Rattle.cluster_sim.specs.Told.{told}
-use Rattle.runs.specs.Step.{Denial, world_after, Step, Takes, Loses, Cuts, Mends, Denies, OfNet, Stranger}
+use Rattle.runs.specs.Step.{Denial, world_after, Step, Loses, Cuts, Mends, Denies, OfNet}
 use Rattle.runs.specs.Run.{IsBrought}
 use Rattle.runs.specs.Acts.{Done, DeniedAct, IsOf, IsRecovery, At, Brings, lost_step, if_known, IsStepOf, IsCompaction, is_compaction, if_compaction, outcome_of, act_outcome}
 use Rattle.runs.specs.Events.{event_at}
 use Rattle.durable_node.specs.Stepping.{CameOf}
-use Rattle.cluster_sim.specs.Machine.{Machine, StandsFor, Shows, Performed, Tells, Makes, bare}
+use Rattle.cluster_sim.specs.Machine.{FaultsAt, Machine, StandsFor, Shows, Performed, Tells, Makes, bare}
 use Rattle.cluster_sim.specs.Operated.{Operates, OperatedAs, OperatesDisk, operated_at, disk_at}
 use Rattle.runs.specs.Growth.{IsNext}
 use Rattle.runs.specs.Reporting.{node_named, node_or_first}
 use Rattle.cluster_sim.specs.declared.outcome.Deed.{Deed}
 use Rattle.histories.specs.NodeState.{NodeState}
-use Rattle.histories.specs.Fates.{attempt_of}
-use Rattle.durable_node.specs.Stepping.{answer_at, command_at}
 
 -- ---- what comes of an event
 
@@ -107,6 +103,12 @@ event_acted w a n event result new at makes =
     let is = taken_as a n event at in
     performed false (λ step. At (nat_lt n (length w.states)) n 0 (CameOf event) step) w a result new is.kind (is.is_step (length w.states) w)
     (makes 0 (subst (λ (ms : List Envelope). IsBrought w 0 ms) (sym is.quiet) tt) (subst (λ (ms : List Envelope). AreAddressed n ms) (sym is.quiet) tt))
+
+pub faults_named : {E : Type 0} (a : Act) (n : ℕ) (event : Event) (was now new : Machine) (result : Result Deed E) → was ≡ now → event_at a ≡ Some (n, event)
+    → IfOk result (λ (d : Deed). FaultsAt (node_or_first (length was.nodes) n) was new d.outcome) → IfOk result (λ (d : Deed). FaultsAt (node_named (length now.nodes) now.net.sent a) now new d.outcome)
+faults_named a n event was now new result view is faults =
+    subst (λ (m : Machine). IfOk result (λ (d : Deed). FaultsAt (node_named (length m.nodes) m.net.sent a) m new d.outcome)) view
+    (subst (λ (k : ℕ). IfOk result (λ (d : Deed). FaultsAt k was new d.outcome)) (sym ((taken_as a n event is).named (length was.nodes) was.net.sent)) faults)
 
 -- ---- the network's acts
 

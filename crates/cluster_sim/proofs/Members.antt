@@ -1,8 +1,8 @@
 -- A cluster of which one node took a step, or the network alone, or nothing.
-use Rattle.std.proofs.Common.{◌≡◌, ◌≢◌, ℕ, ◌<◌, ◌≤◌, Bool, true, false, List, length, slice_get, get_or, nat_lt, refl, sym, ◌∙◌, ap, subst, arith, Option, Some, None, Result, Ok, Err}
+use Rattle.std.proofs.Common.{◌≡◌, ◌≢◌, ℕ, ◌<◌, ◌≤◌, Bool, true, false, List, length, slice_get, nat_lt, refl, sym, ◌∙◌, ap, subst, arith, Option, Some, Result, Ok, Err}
 use Rattle.std.specs.Prelude.{◌==◌, slice_set, IfOk, OnErr}
 use Rattle.std.proofs.lemmas.List.{length-set}
-use Rattle.std.proofs.lemmas.Option.{slice_get_within, slice_get_read}
+use Rattle.std.proofs.lemmas.Option.{slice_get_within}
 use Rattle.sector_disk.specs.Memory.{Memory, state_of}
 use Rattle.sim_net.specs.Network.{Network, after_all_sent}
 use Rattle.durable_node.specs.Node.{Node, Stands}
@@ -11,20 +11,20 @@ use Rattle.histories.specs.declared.what.What.{What}
 use Rattle.histories.specs.What.{event_of, brought, AreAddressed}
 use Rattle.histories.specs.After.{after, found_at}
 use Rattle.durable_node.proofs.Nodes.{is_some}
-use Rattle.cluster_sim.specs.declared.outcome.Outcome.{Outcome}
 use Rattle.cluster_sim.specs.declared.outcome.Outcome.TheVariants as outcome
 use Rattle.cluster_sim.specs.declared.outcome.Refusal.TheVariants as refusal
 use Rattle.runs.specs.World.{World}
-use Rattle.runs.specs.Step.{Step, Takes, Denies, Stranger, state_after, sent_after}
+use Rattle.runs.specs.Step.{Takes, Denies, Stranger, state_after, sent_after}
 use Rattle.runs.specs.Run.{IsBrought}
 use Rattle.runs.specs.Acts.{ActOutcome, DeniedAct, At, IsOfSlotsAt, if_compaction, node_outcome}
 use Rattle.cluster_sim.specs.Told.{told}
-use Rattle.cluster_sim.specs.Machine.{Machine, IsMember, IsCluster, IsUntouched, IsUntouchedNode, StandsFor, IsSame, Comes, DeedOf, Makes, bare}
+use Rattle.cluster_sim.specs.Machine.{Machine, IsMember, IsCluster, IsUntouched, IsUntouchedNode, StandsFor, IsSame, Comes, DeedOf, Makes, bare, IsCounted, disk_of, FaultsAt}
 use Rattle.cluster_sim.specs.declared.outcome.Deed.{Deed}
 use Rattle.cluster_sim.proofs.Coming.{untouched_stands}
 use Rattle.runs.proofs.Runs.{at_place, get_set_same, get_set_other}
 use Rattle.histories.proofs.Tests.{eq_nat}
 use Rattle.std.proofs.lemmas.Bool.Decides.{nat_tests}
+use Rattle.runs.specs.Reporting.{node_or_first}
 
 -- ---- one place is written
 
@@ -165,3 +165,22 @@ denied_at w id number compacts P machine stands beyond = record {
     as_told : (b : Bool) → outcome.Refused refusal.Stranger ≡ told (if_compaction b (Denies Stranger) (DeniedAct Stranger))
     as_told true = refl
     as_told false = refl
+
+-- ---- the failures of its disk
+
+pub first_is : (n count : ℕ) → n < count → node_or_first count n ≡ n
+first_is n count within = rw (true_within n count within) refl
+
+-- one node did
+pub faults_if : {E : Type 0} (slots n : ℕ) (nodes : List (Node Memory)) (old new : Node Memory) (net net' : Network) (result : Result Deed E) (now : Machine) → record { slots = slots; nodes = nodes; net = net } ≡ now
+    → slice_get nodes n ≡ Some old → IfOk result (λ (d : Deed). IsCounted old.disk new.disk d.outcome)
+    → IfOk result (λ (d : Deed). FaultsAt (node_or_first (length now.nodes) n) now (record { slots = slots; nodes = slice_set nodes n new; net = net' }) d.outcome)
+faults_if slots n nodes old new net net' (Ok d) now view at counted =
+    subst (λ (m : Machine). FaultsAt (node_or_first (length m.nodes) n) m (record { slots = slots; nodes = slice_set nodes n new; net = net' }) d.outcome) view
+    (subst (λ (k : ℕ). FaultsAt k (record { slots = slots; nodes = nodes; net = net }) (record { slots = slots; nodes = slice_set nodes n new; net = net' }) d.outcome) (sym (first_is n (length nodes) (slice_get_within nodes n old at)))
+    (record {
+      here = subst (λ (x : Option (Node Memory)). IsCounted (disk_of x) (disk_of (slice_get (slice_set nodes n new) n)) d.outcome) (sym at)
+          (subst (λ (x : Option (Node Memory)). IsCounted old.disk (disk_of x) d.outcome) (sym (get_set_same nodes n old new at)) counted);
+      elsewhere = λ k other. get_set_other nodes k n new other;
+    }))
+faults_if slots n nodes old new net net' (Err e) now view at counted = tt

@@ -1,8 +1,6 @@
-use Rattle.std.proofs.Common.{ℕ, List, length, ap, subst}
-use Rattle.sector_disk.specs.Memory.{Memory}
-use Rattle.durable_node.specs.Node.{Node}
+use Rattle.std.proofs.Common.{ℕ, List, length, subst}
 use Rattle.cluster_sim.specs.Operated.{IsLeftWith}
-use Rattle.cluster_sim.proofs.Quiet.{crash_same, crash_counted}
+use Rattle.cluster_sim.proofs.Coming.{crash_same, crash_counted}
 use Rattle.cluster_sim.proofs.member.crash.Goals as goal
 
 pub returns-clause-same : goal.returns-clause-same

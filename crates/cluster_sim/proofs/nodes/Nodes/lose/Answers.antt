@@ -1,9 +1,7 @@
-use Rattle.std.proofs.Common.{◌∙◌, ap, sym, None}
+use Rattle.std.proofs.Common.{◌∙◌, ap}
 use Rattle.sim_net.specs.Network.{Roomy}
 use Rattle.cluster_sim.specs.Machine.{Machine}
 use Rattle.cluster_sim.proofs.Doings.{lost_by, not_lost_by, ok_not_err}
-use Rattle.cluster_sim.proofs.Faulting.{faults_still}
-use Rattle.cluster_sim.proofs.Quiet.{done_quiet}
 use Rattle.cluster_sim.proofs.nodes.Nodes.lose.Goals.{in-Ok, in-Err}
 use Rattle.cluster_sim.proofs.nodes.Nodes.lose.Goals as goal
 

@@ -1,4 +1,4 @@
-use Rattle.std.proofs.Common.{◌≡◌, ℕ, ◌≤◌, length, nat_lt, slice_get, refl, sym, ◌∙◌, ap, subst, arith, Some, Result, Ok}
+use Rattle.std.proofs.Common.{◌≡◌, ℕ, ◌≤◌, length, nat_lt, slice_get, refl, sym, ◌∙◌, ap, subst, arith, Ok}
 use Rattle.std.specs.Prelude.{slice_set, Option}
 use Rattle.sector_disk.specs.Memory.{Memory}
 use Rattle.std.proofs.lemmas.Option.{slice_get_read}
@@ -7,9 +7,8 @@ use Rattle.runs.specs.Reporting.{node_or_first}
 use Rattle.runs.proofs.Runs.{get_set_same}
 use Rattle.cluster_sim.specs.Machine.{Machine, Makes, StandsFor, FaultsAt, bare, disk_of}
 use Rattle.cluster_sim.specs.Operated.{OperatedAs, OperatesDisk, disk_at}
-use Rattle.cluster_sim.proofs.Members.{denied_at, still_cluster, takes}
+use Rattle.cluster_sim.proofs.Members.{denied_at, still_cluster, takes, faults_if}
 use Rattle.cluster_sim.proofs.Doings.{operates, quietly, performed}
-use Rattle.cluster_sim.proofs.Faulting.{faults_still, faults_if}
 use Rattle.cluster_sim.proofs.nodes.Nodes.operate.Goals as goal
 
 pub returns-then-place-len-clause-acted : goal.returns-then-place-len-clause-acted

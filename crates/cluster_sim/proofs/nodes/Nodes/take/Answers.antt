@@ -1,4 +1,4 @@
-use Rattle.std.proofs.Common.{◌≡◌, ℕ, ◌≤◌, length, nat_lt, sym, ◌∙◌, ap, subst, arith, Some, false}
+use Rattle.std.proofs.Common.{ℕ, ◌≤◌, length, nat_lt, sym, ◌∙◌, subst, arith, Some, false}
 use Rattle.std.specs.Prelude.{slice_set, IfOk, OnErr}
 use Rattle.std.proofs.lemmas.Option.{slice_get_read}
 use Rattle.histories.specs.What.{AreAddressed, brought}
@@ -7,9 +7,8 @@ use Rattle.runs.specs.Acts.{At}
 use Rattle.durable_node.specs.Stepping.{CameOf}
 use Rattle.cluster_sim.specs.Machine.{Machine, IsUntouched, StandsFor, Makes, FaultsAt}
 use Rattle.runs.specs.Reporting.{node_or_first}
-use Rattle.cluster_sim.proofs.Members.{denied_at, still_cluster, takes, rests_if, untouched_if}
+use Rattle.cluster_sim.proofs.Members.{denied_at, still_cluster, takes, rests_if, untouched_if, faults_if}
 use Rattle.cluster_sim.proofs.Doings.{brought_came}
-use Rattle.cluster_sim.proofs.Faulting.{faults_if}
 use Rattle.cluster_sim.proofs.nodes.Nodes.take.Goals as goal
 
 pub returns-then-place-len-clause-acted : goal.returns-then-place-len-clause-acted

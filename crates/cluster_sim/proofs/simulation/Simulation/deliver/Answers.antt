@@ -1,5 +1,5 @@
 use Rattle.std.proofs.Common.{refl, false, ℕ, length, nat_lt, sym, ◌∙◌, ap, subst, [], ◌∷◌, Some}
-use Rattle.std.specs.Prelude.{IfOk, slice_get}
+use Rattle.std.specs.Prelude.{IfOk}
 use Rattle.sim_net.specs.Network.{Network, delivery}
 use Rattle.node_core.specs.declared.event.Event.{Event}
 use Rattle.node_core.specs.declared.event.Event.TheVariants as on
@@ -9,13 +9,10 @@ use Rattle.runs.specs.Acts.{At}
 use Rattle.runs.specs.Step.{OfNet}
 use Rattle.schedule.specs.declared.act.Act.TheVariants as act
 use Rattle.runs.specs.Run.{IsBrought}
-use Rattle.runs.specs.Reporting.{receiver_or_first}
 use Rattle.durable_node.specs.Stepping.{CameOf}
-use Rattle.cluster_sim.specs.Machine.{Machine, Makes, StandsFor, FaultsAt}
+use Rattle.cluster_sim.specs.Machine.{Machine, Makes, StandsFor}
 use Rattle.cluster_sim.proofs.Doings.{delivered, denies}
-use Rattle.cluster_sim.proofs.Faulting.{faults_still, faults_received}
 use Rattle.cluster_sim.proofs.simulation.Simulation.deliver.Goals as goal
-use Rattle.runs.proofs.Runs.{comes_sent}
 
 pub returns-in-Err-clause-acted : goal.returns-in-Err-clause-acted
 returns-in-Err-clause-acted c = λ w stands.

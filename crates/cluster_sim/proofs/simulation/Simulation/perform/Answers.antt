@@ -1,6 +1,5 @@
-use Rattle.std.proofs.Common.{sym, subst, refl}
-use Rattle.cluster_sim.proofs.Doings.{event_acted}
-use Rattle.cluster_sim.proofs.Faulting.{faults_named}
+use Rattle.std.proofs.Common.{sym, subst}
+use Rattle.cluster_sim.proofs.Doings.{event_acted, faults_named}
 use Rattle.cluster_sim.specs.Machine.{Machine, StandsFor}
 use Rattle.cluster_sim.proofs.simulation.Simulation.perform.Goals as goal
 
