@@ -1,6 +1,7 @@
 -- What came of a call of a node, as the cluster tells it.
 use Rattle.std.proofs.Common.{false, ◌≡◌, ℕ, ◌+◌, ◌*◌, ◌≤◌, List, length, refl, sym, ◌∙◌, ap, subst, arith, Option, Some, None, Result, Ok, true, ◌≢◌, inl, inr, Err}
 use Rattle.std.specs.Prelude.{IsSome, IsOk, IsErrOf, IfErr, ◌≢◌}
+use Rattle.durable_node.proofs.Forgets.{steps_and_forgets, counts_and_forgets}
 use Rattle.sector_disk.specs.Memory.{Memory, state_of, all_synced}
 use Rattle.job_model.specs.Durable.{Durable}
 use Rattle.wire_msg.specs.Envelope.{Envelope}
@@ -23,7 +24,7 @@ use Rattle.cluster_sim.specs.declared.outcome.Outcome.{Outcome}
 use Rattle.cluster_sim.specs.declared.outcome.Outcome.TheVariants as outcome
 use Rattle.runs.specs.Acts.{what_outcome, IsCompaction, CompactRest, rest_outcome}
 use Rattle.cluster_sim.specs.Told.{told, came_told, IsCompactionTold}
-use Rattle.cluster_sim.specs.Machine.{IsOfSize, IsSame, IsCounted, IsUntouchedNode, Comes, is_mounting, bare}
+use Rattle.cluster_sim.specs.Machine.{IsSettled, IsOfSize, IsSame, IsCounted, IsUntouchedNode, Comes, is_mounting, bare}
 use Rattle.cluster_sim.specs.declared.outcome.Deed.{Deed}
 use Rattle.durable_node.specs.Compacting.{CompactTold, RestTold, IsMovedNode, IsFallenNode}
 use Rattle.histories.specs.declared.what.What.{What}
@@ -33,7 +34,6 @@ use Rattle.histories.specs.After.{after}
 use Rattle.durable_node.proofs.Serves.{is_device}
 use Rattle.histories.specs.declared.what.Rest.{Rest}
 use Rattle.runs.proofs.Sending.{none_sent}
-use Rattle.sector_disk.specs.Disk.{Counts}
 use Rattle.sector_disk.specs.Crash.{IsCrashed}
 use Rattle.node_core.specs.Start.{down}
 
@@ -60,6 +60,15 @@ same_by old new result id nodes counts = record {
   nodes = nodes;
   size = λ slots was_size now at. let was = some_of old.disk counts.was_there in (counts.counts was.0 now was.1 at).sectors ∙ was_size was.0 was.1;
 }
+
+-- an event was handled at the node, and then its disk may have forgotten the moments before
+pub settled : {A : Type 0} (old new last : Node Memory) (event : Event) (came : Came) (result : Result A NodeFault) → IsSettled new last → new.id ≡ old.id → new.nodes ≡ old.nodes
+    → CountsOf state_of old.disk new.disk result → Steps state_of old new event came → IsSame old last × Steps state_of old last event came × CountsOf state_of old.disk last.disk result
+settled old new last event came result (inl same) id nodes counts steps =
+    subst (λ (n : Node Memory). IsSame old n × Steps state_of old n event came × CountsOf state_of old.disk n.disk result) (sym same) (same_by old new result id nodes counts, steps, counts)
+settled old new last event came result (inr forgot) id nodes counts steps =
+    let later = counts_and_forgets old.disk new.disk last.disk result (ap (λ (n : Node Memory). n.disk) forgot) counts in
+    (same_by old last result (ap (λ (n : Node Memory). n.id) forgot ∙ id) (ap (λ (n : Node Memory). n.nodes) forgot ∙ nodes) later, steps_and_forgets old new last event came forgot steps, later)
 
 pub comes_by : (event : Event) (old new : Node Memory) (net net' : Network) (came : Came) (deed : Deed) → IsSome old.disk → Steps state_of old new event came
     → deed.tried ≡ came.tried → deed.acked ≡ came.answer → deed.mounted ≡ is_mounting (what_of event came.fate) → deed.outcome ≡ came_told (fault_of came.fate) (length net.sent) came → net' ≡ after_all_sent net came.sent.items
@@ -165,16 +174,9 @@ crash_same fill old new has is crashed = record {
 
 -- ---- what is counted of their disks
 
--- a memory with as many failures as before
-same_failures : (was now : Memory) (o : Outcome) → length now.contents ≡ length was.contents → now.failures ≡ was.failures → (o ≡ outcome.Faulted → ⊥)
-    → Counts (state_of was) (state_of now) (o ≡ outcome.Faulted) (o ≢ outcome.Faulted)
-same_failures was now o size same quiet = record { sectors = size; honest = refl; later = omega (arith, same); unchanged = λ _. same; cause = λ is. absurd (quiet is) }
-
-pub done_quiet : (o : Outcome) (answer : Option ℕ) (first many : ℕ) → o ≡ outcome.Done answer first many → o ≡ outcome.Faulted → ⊥
-done_quiet o answer first many is bad = let both = sym is ∙ bad in cc
-
 pub crash_counted : (fill : List ℕ) (old new : Node Memory) (o : Outcome) (first : ℕ)
     → ((was now : Memory) → old.disk ≡ Some was → new.disk ≡ Some now → IsCrashed was fill now.contents × (now ≡ all_synced now.contents was.failures)) → o ≡ outcome.Done None first 0 → IsCounted old.disk new.disk o
 crash_counted fill old new o first crashed told was now before after =
     let is = crashed was now before after in
-    same_failures was now o is.0.size (ap (λ (m : Memory). m.failures) is.1) (done_quiet o None first 0 told)
+    let same : now.failures ≡ was.failures = ap (λ (m : Memory). m.failures) is.1 in
+    record { sectors = is.0.size; honest = refl; later = omega (arith, same); unchanged = λ _. same; cause = λ faulted. absurd (not_faulted o _ told (λ bad. cc) faulted) }

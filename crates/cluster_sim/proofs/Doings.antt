@@ -188,9 +188,6 @@ pub mend_by : (w : World) (a b : ℕ) (machine now : Machine) (net' : Network) (
 mend_by w a b machine now net' o view stands known same is = wired w (act.Mend a b) (Mends a b) machine now net' o view stands (ap (λ (n : Network). n.sent) same) is
     (λ before. (record { of_act = known_step w a b now (Mends a b) true stands known; allowed = tt; of_slots = tt }, same ∙ ap (λ (n : Network). after_mend n a b) before.net)) refl refl (λ new. tt) (refl, refl)
 
-pub ok_not_err : {A E : Type 0} (r : Result A E) (a : A) (e : E) → r ≡ Ok a → r ≡ Err e → ⊥
-ok_not_err r a e ok err = let bad = sym ok ∙ err in cc
-
 -- ---- an act of the operator
 
 -- an act of the operator at node n is what comes there, brings no message, and is told of that node and its disk

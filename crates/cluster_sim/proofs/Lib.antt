@@ -1,5 +1,4 @@
 pub mod Coming
-pub mod Settled
 pub mod Members
 pub mod Doings
 pub mod Telling

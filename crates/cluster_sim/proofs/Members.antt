@@ -42,13 +42,6 @@ at_each {A} P xs n old new was here all k x at = by_place (k == n) refl
         let ne : k ≢ n = grind (arith, nat_tests) in
         all k x ne (sym (get_set_other xs k n new ne) ∙ at)
 
-same_member : (slots count id : ℕ) (old new : Node Memory) → IsMember slots count id old → IsSame old new → IsMember slots count id new
-same_member slots count id old new is same = record {
-  id_is = same.id ∙ is.id_is;
-  nodes_is = same.nodes ∙ is.nodes_is;
-  size = same.size slots is.size;
-}
-
 pub still_cluster : (slots n : ℕ) (nodes : List (Node Memory)) (old new : Node Memory) → IsCluster slots nodes → slice_get nodes n ≡ Some old → IsSame old new → IsCluster slots (slice_set nodes n new)
 still_cluster slots n nodes old new cluster at same = record {
   least_slots = cluster.least_slots;
@@ -56,7 +49,8 @@ still_cluster slots n nodes old new cluster at same = record {
   least = rw (length-set nodes n new) cluster.least;
   most = rw (length-set nodes n new) cluster.most;
   members = rw (length-set nodes n new)
-      (at_each (λ (k : ℕ) (x : Node Memory). IsMember slots (length nodes) k x) nodes n old new at (same_member slots (length nodes) n old new (cluster.members n old at) same) (λ k x _. cluster.members k x));
+      (at_each (λ (k : ℕ) (x : Node Memory). IsMember slots (length nodes) k x) nodes n old new at
+      (let is = cluster.members n old at in record { id_is = same.id ∙ is.id_is; nodes_is = same.nodes ∙ is.nodes_is; size = same.size slots is.size }) (λ k x _. cluster.members k x));
 }
 
 -- ---- what the cluster stands for

@@ -128,9 +128,4 @@ ok_here P (Err e) good holds = absurd (let bad = good in cc)
 pub all_promised : (c : Recorded) (nodes slots : ℕ) (acts : List Act) (report : ToldReport) (sent : List Envelope) → HasRun nodes acts c → c.machine.slots ≡ slots → report ≡ c.report → sent ≡ c.machine.net.sent → length report.moments + 1 < 2 ^ 64
     → IsPromised nodes slots acts report sent
 all_promised c nodes slots acts report sent h same_slots same_report same_sent short =
-    let short_too : length c.report.moments + 1 < 2 ^ 64 = subst (λ (x : ToldReport). length x.moments + 1 < 2 ^ 64) same_report short in
-    subst (λ (n : ℕ). IsPromised n slots acts report sent) h.as_many
-    (subst (λ (k : ℕ). IsPromised (length c.machine.nodes) k acts report sent) same_slots
-    (subst (λ (x : ToldReport). IsPromised (length c.machine.nodes) c.machine.slots acts x sent) (sym same_report)
-    (subst (λ (ms : List Envelope). IsPromised (length c.machine.nodes) c.machine.slots acts c.report ms) (sym same_sent)
-    (promised c h.world h.run acts h.tells h.of_acts short_too))))
+    rw (← h.as_many, ← same_slots, same_report, same_sent) (promised c h.world h.run acts h.tells h.of_acts (subst (λ (x : ToldReport). length x.moments + 1 < 2 ^ 64) same_report short))
