@@ -112,9 +112,6 @@ takes slots n number compacts P nodes old new net net' (Err e) w cluster at stan
 
 -- ---- a node that gave nothing, and a node outside the cluster
 
-pub is_stranger : (n count : ℕ) → count ≤ n → nat_lt n count ≡ false
-is_stranger n count beyond = grind (arith, nat_tests)
-
 pub rests_if : {E : Type 0} (slots n : ℕ) (nodes : List (Node Memory)) (old new : Node Memory) (net net' : Network) (result : Result Deed E) (w : World) → slice_get nodes n ≡ Some old
     → StandsFor (record { slots = slots; nodes = nodes; net = net }) w → OnErr result ((s : NodeState) → Stands state_of old s → IsUntouchedNode old new) → OnErr result (net' ≡ net)
     → OnErr result (StandsFor (record { slots = slots; nodes = slice_set nodes n new; net = net' }) w)
@@ -147,7 +144,7 @@ pub denied_at : (w : World) (id number : ℕ) (compacts : Bool) (P : What → Ty
     → Makes compacts (λ step. At (nat_lt id (length w.states)) id number P step) w (bare (outcome.Refused refusal.Stranger)) machine
 denied_at w id number compacts P machine stands beyond = record {
   step = Denies Stranger;
-  is = subst (λ (b : Bool). At b id number P (Denies Stranger)) (sym (is_stranger id (length w.states) (subst (λ (k : ℕ). k ≤ id) stands.count beyond))) refl;
+  is = (let many = stands.count in let stranger : nat_lt id (length w.states) ≡ false = grind (arith, nat_tests) in subst (λ (b : Bool). At b id number P (Denies Stranger)) (sym stranger) refl);
   allowed = tt;
   of_slots = tt;
   is_told = as_told compacts;
@@ -162,16 +159,13 @@ denied_at w id number compacts P machine stands beyond = record {
 
 -- ---- the failures of its disk
 
-pub first_is : (n count : ℕ) → n < count → node_or_first count n ≡ n
-first_is n count within = rw (true_within n count within) refl
-
--- one node did
 pub faults_if : {E : Type 0} (slots n : ℕ) (nodes : List (Node Memory)) (old new : Node Memory) (net net' : Network) (result : Result Deed E) (now : Machine) → record { slots = slots; nodes = nodes; net = net } ≡ now
     → slice_get nodes n ≡ Some old → IfOk result (λ (d : Deed). IsCounted old.disk new.disk d.outcome)
     → IfOk result (λ (d : Deed). FaultsAt (node_or_first (length now.nodes) n) now (record { slots = slots; nodes = slice_set nodes n new; net = net' }) d.outcome)
 faults_if slots n nodes old new net net' (Ok d) now view at counted =
+    let known : node_or_first (length nodes) n ≡ n = rw (true_within n (length nodes) (slice_get_within nodes n old at)) refl in
     subst (λ (m : Machine). FaultsAt (node_or_first (length m.nodes) n) m (record { slots = slots; nodes = slice_set nodes n new; net = net' }) d.outcome) view
-    (subst (λ (k : ℕ). FaultsAt k (record { slots = slots; nodes = nodes; net = net }) (record { slots = slots; nodes = slice_set nodes n new; net = net' }) d.outcome) (sym (first_is n (length nodes) (slice_get_within nodes n old at)))
+    (subst (λ (k : ℕ). FaultsAt k (record { slots = slots; nodes = nodes; net = net }) (record { slots = slots; nodes = slice_set nodes n new; net = net' }) d.outcome) (sym known)
     (record {
       here = subst (λ (x : Option (Node Memory)). IsCounted (disk_of x) (disk_of (slice_get (slice_set nodes n new) n)) d.outcome) (sym at)
           (subst (λ (x : Option (Node Memory)). IsCounted old.disk (disk_of x) d.outcome) (sym (get_set_same nodes n old new at)) counted);

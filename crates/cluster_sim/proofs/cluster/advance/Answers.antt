@@ -40,13 +40,8 @@ overflow_add-before c =
     let at = slice_get_read c.args.counts.now.items _ c.from-place.result c.index-before.result.now refl within c.index-before.ensures in
     let commands = (report_in c.args.report.now).commands in
     let count : c.index-before.result.now ≡ length (own_commands c.from-place.result commands) = inv.counted.each c.from-place.result c.index-before.result.now at in
-    let few = own_few c.from-place.result commands in
     let kept = c.args.report.now.commands in
-    let many : length commands ≡ length kept.items = length-map kept.items tried_of in
-    let len : kept.len ≡ length kept.items = kept.ok.0 in
-    let room : kept.len ≤ kept.cap = kept.ok.1 in
-    let small = kept.small in
-    omega (arith, count, few, many, len, room, small)
+    omega (arith, count, own_few c.from-place.result commands, length-map kept.items tried_of, kept.ok.0, kept.ok.1, kept.small)
 
 pub returns-clause-goes_on : goal.returns-clause-goes_on
 returns-clause-goes_on c w r tells =
