@@ -1,13 +1,8 @@
 pub mod Coming
-pub mod Settled
 pub mod Members
 pub mod Doings
-pub mod Quiet
-pub mod Opened
-pub mod Faulting
-pub mod Numbered
 pub mod Telling
 pub mod Advancing
+pub mod Numbered
 pub mod Opening
 pub mod Promised
-pub mod Compactions

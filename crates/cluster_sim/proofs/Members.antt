@@ -1,8 +1,8 @@
 -- A cluster of which one node took a step, or the network alone, or nothing.
-use Rattle.std.proofs.Common.{◌≡◌, ◌≢◌, ℕ, ◌<◌, ◌≤◌, Bool, true, false, List, length, slice_get, get_or, nat_lt, refl, sym, ◌∙◌, ap, subst, arith, Option, Some, None, Result, Ok, Err}
+use Rattle.std.proofs.Common.{◌≡◌, ◌≢◌, ℕ, ◌<◌, ◌≤◌, Bool, true, false, List, length, slice_get, nat_lt, refl, sym, ◌∙◌, ap, subst, arith, Option, Some, Result, Ok, Err}
 use Rattle.std.specs.Prelude.{◌==◌, slice_set, IfOk, OnErr}
 use Rattle.std.proofs.lemmas.List.{length-set}
-use Rattle.std.proofs.lemmas.Option.{slice_get_within, slice_get_read}
+use Rattle.std.proofs.lemmas.Option.{slice_get_within}
 use Rattle.sector_disk.specs.Memory.{Memory, state_of}
 use Rattle.sim_net.specs.Network.{Network, after_all_sent}
 use Rattle.durable_node.specs.Node.{Node, Stands}
@@ -11,20 +11,20 @@ use Rattle.histories.specs.declared.what.What.{What}
 use Rattle.histories.specs.What.{event_of, brought, AreAddressed}
 use Rattle.histories.specs.After.{after, found_at}
 use Rattle.durable_node.proofs.Nodes.{is_some}
-use Rattle.cluster_sim.specs.declared.outcome.Outcome.{Outcome}
 use Rattle.cluster_sim.specs.declared.outcome.Outcome.TheVariants as outcome
 use Rattle.cluster_sim.specs.declared.outcome.Refusal.TheVariants as refusal
 use Rattle.runs.specs.World.{World}
-use Rattle.runs.specs.Step.{Step, Takes, Denies, Stranger, state_after, sent_after}
+use Rattle.runs.specs.Step.{Takes, Denies, Stranger, state_after, sent_after}
 use Rattle.runs.specs.Run.{IsBrought}
-use Rattle.runs.specs.Acts.{At, IsOfSlotsAt, what_outcome, node_outcome}
+use Rattle.runs.specs.Acts.{ActOutcome, DeniedAct, At, IsOfSlotsAt, if_compaction, node_outcome}
 use Rattle.cluster_sim.specs.Told.{told}
-use Rattle.cluster_sim.specs.Machine.{Machine, IsMember, IsCluster, IsUntouched, IsUntouchedNode, StandsFor, IsSame, CameAt, Comes, DeedOf, Made, Makes}
+use Rattle.cluster_sim.specs.Machine.{Machine, IsMember, IsCluster, IsUntouched, IsUntouchedNode, StandsFor, IsSame, Comes, DeedOf, Makes, bare, IsCounted, disk_of, FaultsAt}
 use Rattle.cluster_sim.specs.declared.outcome.Deed.{Deed}
 use Rattle.cluster_sim.proofs.Coming.{untouched_stands}
 use Rattle.runs.proofs.Runs.{at_place, get_set_same, get_set_other}
 use Rattle.histories.proofs.Tests.{eq_nat}
 use Rattle.std.proofs.lemmas.Bool.Decides.{nat_tests}
+use Rattle.runs.specs.Reporting.{node_or_first}
 
 -- ---- one place is written
 
@@ -42,13 +42,6 @@ at_each {A} P xs n old new was here all k x at = by_place (k == n) refl
         let ne : k ≢ n = grind (arith, nat_tests) in
         all k x ne (sym (get_set_other xs k n new ne) ∙ at)
 
-same_member : (slots count id : ℕ) (old new : Node Memory) → IsMember slots count id old → IsSame old new → IsMember slots count id new
-same_member slots count id old new is same = record {
-  id_is = same.id ∙ is.id_is;
-  nodes_is = same.nodes ∙ is.nodes_is;
-  size = same.size slots is.size;
-}
-
 pub still_cluster : (slots n : ℕ) (nodes : List (Node Memory)) (old new : Node Memory) → IsCluster slots nodes → slice_get nodes n ≡ Some old → IsSame old new → IsCluster slots (slice_set nodes n new)
 still_cluster slots n nodes old new cluster at same = record {
   least_slots = cluster.least_slots;
@@ -56,7 +49,8 @@ still_cluster slots n nodes old new cluster at same = record {
   least = rw (length-set nodes n new) cluster.least;
   most = rw (length-set nodes n new) cluster.most;
   members = rw (length-set nodes n new)
-      (at_each (λ (k : ℕ) (x : Node Memory). IsMember slots (length nodes) k x) nodes n old new at (same_member slots (length nodes) n old new (cluster.members n old at) same) (λ k x _. cluster.members k x));
+      (at_each (λ (k : ℕ) (x : Node Memory). IsMember slots (length nodes) k x) nodes n old new at
+      (let is = cluster.members n old at in record { id_is = same.id ∙ is.id_is; nodes_is = same.nodes ∙ is.nodes_is; size = same.size slots is.size }) (λ k x _. cluster.members k x));
 }
 
 -- ---- what the cluster stands for
@@ -78,97 +72,64 @@ moves slots n nodes old new net net' net'' w s s' at stands was is same_net = re
 pub true_within : (n count : ℕ) → n < count → nat_lt n count ≡ true
 true_within n count within = grind (arith, nat_tests)
 
-takes_at : (slots n number : ℕ) (P : What → Type 0) (nodes : List (Node Memory)) (old new : Node Memory) (net net' : Network) (outcome : Outcome) (w : World) (was : NodeState) → slice_get nodes n ≡ Some old
-    → StandsFor (record { slots = slots; nodes = nodes; net = net }) w
+-- a compaction is told alike whatever was brought
+told_alike : (compacts : Bool) (n number k : ℕ) (what : What) (o : ActOutcome) → if_compaction compacts (Takes n k what) o ≡ if_compaction compacts (Takes n number what) o
+told_alike true n number k what o = refl
+told_alike false n number k what o = refl
+
+pub takes : {E : Type 0} (slots n number : ℕ) (compacts : Bool) (P : What → Type 0) (nodes : List (Node Memory)) (old new : Node Memory) (net net' : Network) (result : Result Deed E) (w : World) → IsCluster slots nodes
+    → slice_get nodes n ≡ Some old → StandsFor (record { slots = slots; nodes = nodes; net = net }) w
     → ((what : What) → P what → IsBrought w number (brought (event_of what)) × AreAddressed n (brought (event_of what)))
-    → slice_get w.states n ≡ Some was → Comes slots n (length w.states) P was outcome new net net'
-    → Makes (λ step. At (nat_lt n (length w.states)) n number P step) w outcome (record { slots = slots; nodes = slice_set nodes n new; net = net' })
-takes_at slots n number P nodes old new net net' outcome w was at stands brings was_at came =
+    → ((s : NodeState) → Stands state_of old s → IfOk result (λ (d : Deed). Comes slots old.id old.nodes compacts P s d new net net'))
+    → IfOk result (λ (d : Deed). Makes compacts (λ step. At (nat_lt n (length w.states)) n number P step) w d (record { slots = slots; nodes = slice_set nodes n new; net = net' }))
+takes slots n number compacts P nodes old new net net' (Ok deed) w cluster at stands brings comes =
     let within : n < length w.states = subst (λ (k : ℕ). n < k) stands.count (slice_get_within nodes n old at) in
     let count = length w.states in
+    let member = cluster.members n old at in
+    let here = at_place w.states n within in
+    let was = here.0 in
+    let was_at = here.1 in
+    let came : Comes slots n count compacts P was deed new net net' =
+    subst (λ (k : ℕ). Comes slots n k compacts P was deed new net net') (member.nodes_is ∙ stands.count)
+    (subst (λ (k : ℕ). Comes slots k old.nodes compacts P was deed new net net') member.id_is (comes was (stands.each n old was at was_at))) in
     record {
       step = Takes n number came.what;
       is = subst (λ (b : Bool). At b n number P (Takes n number came.what)) (sym (true_within n count within)) (came.what, refl, came.is);
       allowed = (was, was_at, came.possible, (brings came.what came.is).0, (brings came.what came.is).1);
       of_slots = subst (λ (o : Option NodeState). IsOfSlotsAt slots n count o came.what) (sym was_at) came.of_slots;
-      is_told = came.is_told ∙ ap (λ (first : Network). told (what_outcome n count (length first.sent) was came.what)) stands.net
-          ∙ ap (λ (o : Option NodeState). told (node_outcome n count (length w.net.sent) o came.what)) (sym was_at);
+      is_told = came.is_told ∙ ap told (told_alike compacts n number 0 came.what _)
+          ∙ (λ i. told (if_compaction compacts (Takes n number came.what) (node_outcome n count (length (stands.net i).sent) (sym was_at i) came.what)));
       shows = λ node s at_n was_n. ap (λ (x : Node Memory). x.found) (sym (is_some new node (sym (get_set_same nodes n old new at) ∙ at_n))) ∙ came.found
           ∙ ap (λ (x : NodeState). found_at x came.what) (is_some was s (sym was_at ∙ was_n));
+      tells = λ s at_s. subst (λ (x : NodeState). DeedOf n count x came.what deed) (is_some was s (sym was_at ∙ at_s)) came.tells;
       stands = subst (λ (o : Option NodeState). StandsFor (record { slots = slots; nodes = slice_set nodes n new; net = net' }) (record {
         states = state_after n count o came.what w.states;
         net = after_all_sent w.net (sent_after n count o came.what);
       })) (sym was_at) (moves slots n nodes old new net net' _ w was (after n count was came.what) at stands was_at came.stands
           (came.sent ∙ ap (λ (before : Network). after_all_sent before (sent_after n count (Some was) came.what)) stands.net));
     }
-
-pub takes : (slots n number : ℕ) (P : What → Type 0) (nodes : List (Node Memory)) (old new : Node Memory) (net net' : Network) (outcome : Outcome) (w : World) → IsCluster slots nodes → slice_get nodes n ≡ Some old
-    → StandsFor (record { slots = slots; nodes = nodes; net = net }) w
-    → ((what : What) → P what → IsBrought w number (brought (event_of what)) × AreAddressed n (brought (event_of what)))
-    → ((s : NodeState) → Stands state_of old s → Comes slots old.id old.nodes P s outcome new net net')
-    → Makes (λ step. At (nat_lt n (length w.states)) n number P step) w outcome (record { slots = slots; nodes = slice_set nodes n new; net = net' })
-takes slots n number P nodes old new net net' outcome w cluster at stands brings comes =
-    let member = cluster.members n old at in
-    let was = at_place w.states n (subst (λ (k : ℕ). n < k) stands.count (slice_get_within nodes n old at)) in
-    takes_at slots n number P nodes old new net net' outcome w was.0 at stands brings was.1
-    (subst (λ (k : ℕ). Comes slots n k P was.0 outcome new net net') (member.nodes_is ∙ stands.count)
-    (subst (λ (k : ℕ). Comes slots k old.nodes P was.0 outcome new net net') member.id_is (comes was.0 (stands.each n old was.0 at was.1))))
-
-makes_deed : (slots n number : ℕ) (P : What → Type 0) (nodes : List (Node Memory)) (old new : Node Memory) (net net' : Network) (deed : Deed) (w : World) → IsCluster slots nodes → slice_get nodes n ≡ Some old
-    → StandsFor (record { slots = slots; nodes = nodes; net = net }) w
-    → ((what : What) → P what → IsBrought w number (brought (event_of what)) × AreAddressed n (brought (event_of what)))
-    → ((s : NodeState) → Stands state_of old s → CameAt slots old.id old.nodes P s deed new net net')
-    → Made (λ step. At (nat_lt n (length w.states)) n number P step) w deed (record { slots = slots; nodes = slice_set nodes n new; net = net' })
-unfolding takes_at
-makes_deed slots n number P nodes old new net net' deed w cluster at stands brings comes =
-    let member = cluster.members n old at in
-    let was = at_place w.states n (subst (λ (k : ℕ). n < k) stands.count (slice_get_within nodes n old at)) in
-    let came : CameAt slots n (length w.states) P was.0 deed new net net' =
-    subst (λ (k : ℕ). CameAt slots n k P was.0 deed new net net') (member.nodes_is ∙ stands.count)
-    (subst (λ (k : ℕ). CameAt slots k old.nodes P was.0 deed new net net') member.id_is (comes was.0 (stands.each n old was.0 at was.1))) in
-    record {
-      makes = takes_at slots n number P nodes old new net net' deed.outcome w was.0 at stands brings was.1 came.comes;
-      tells = λ s at_s. subst (λ (x : NodeState). DeedOf n (length w.states) x came.comes.what deed) (is_some was.0 s (sym was.1 ∙ at_s)) came.tells;
-    }
-
-pub takes_if : {E : Type 0} (slots n number : ℕ) (P : What → Type 0) (nodes : List (Node Memory)) (old new : Node Memory) (net net' : Network) (result : Result Deed E) (w : World) → IsCluster slots nodes
-    → slice_get nodes n ≡ Some old → StandsFor (record { slots = slots; nodes = nodes; net = net }) w
-    → ((what : What) → P what → IsBrought w number (brought (event_of what)) × AreAddressed n (brought (event_of what)))
-    → ((s : NodeState) → Stands state_of old s → IfOk result (λ (d : Deed). CameAt slots old.id old.nodes P s d new net net'))
-    → IfOk result (λ (d : Deed). Made (λ step. At (nat_lt n (length w.states)) n number P step) w d (record { slots = slots; nodes = slice_set nodes n new; net = net' }))
-takes_if slots n number P nodes old new net net' (Ok d) w cluster at stands brings comes = makes_deed slots n number P nodes old new net net' d w cluster at stands brings comes
-takes_if slots n number P nodes old new net net' (Err e) w cluster at stands brings comes = tt
+takes slots n number compacts P nodes old new net net' (Err e) w cluster at stands brings comes = tt
 
 -- ---- a node that gave nothing, and a node outside the cluster
-
-pub rests : (slots n : ℕ) (nodes : List (Node Memory)) (old new : Node Memory) (net net' : Network) (w : World) → slice_get nodes n ≡ Some old
-    → StandsFor (record { slots = slots; nodes = nodes; net = net }) w → ((s : NodeState) → Stands state_of old s → Stands state_of new s) → net' ≡ net
-    → StandsFor (record { slots = slots; nodes = slice_set nodes n new; net = net' }) w
-rests slots n nodes old new net net' w at stands keeps same_net = record {
-  count = length-set nodes n new ∙ stands.count;
-  net = same_net ∙ stands.net;
-  each = λ k node t at_k was_k. at_each (λ (j : ℕ) (x : Node Memory). (t : NodeState) → slice_get w.states j ≡ Some t → Stands state_of x t) nodes n old new at
-      (λ t' was_n. keeps t' (stands.each n old t' at was_n))
-      (λ j x ne at_j t' was_j. stands.each j x t' at_j was_j) k node at_k t was_k;
-}
-
-pub is_stranger : (n count : ℕ) → count ≤ n → nat_lt n count ≡ false
-is_stranger n count beyond = grind (arith, nat_tests)
-
-pub denies : (Q : Step → Type 0) (machine : Machine) (w : World) → StandsFor machine w → Q (Denies Stranger) → Makes Q w (outcome.Refused refusal.Stranger) machine
-denies Q machine w stands is = record { step = Denies Stranger; is = is; allowed = tt; of_slots = tt; is_told = refl; shows = tt; stands = stands }
 
 pub rests_if : {E : Type 0} (slots n : ℕ) (nodes : List (Node Memory)) (old new : Node Memory) (net net' : Network) (result : Result Deed E) (w : World) → slice_get nodes n ≡ Some old
     → StandsFor (record { slots = slots; nodes = nodes; net = net }) w → OnErr result ((s : NodeState) → Stands state_of old s → IsUntouchedNode old new) → OnErr result (net' ≡ net)
     → OnErr result (StandsFor (record { slots = slots; nodes = slice_set nodes n new; net = net' }) w)
 rests_if slots n nodes old new net net' (Ok o) w at stands keeps same = tt
-rests_if slots n nodes old new net net' (Err e) w at stands keeps same = rests slots n nodes old new net net' w at stands (λ s is. untouched_stands old new s (keeps s is) is) same
+rests_if slots n nodes old new net net' (Err e) w at stands keeps same_net = record {
+  count = length-set nodes n new ∙ stands.count;
+  net = same_net ∙ stands.net;
+  each = λ k node t at_k was_k. at_each (λ (j : ℕ) (x : Node Memory). (t : NodeState) → slice_get w.states j ≡ Some t → Stands state_of x t) nodes n old new at
+      (λ t' was_n. (let is = stands.each n old t' at was_n in untouched_stands old new t' (keeps t' is) is))
+      (λ j x ne at_j t' was_j. stands.each j x t' at_j was_j) k node at_k t was_k;
+}
 
 -- one node is as it was, and the others too
-untouched : (slots n : ℕ) (nodes : List (Node Memory)) (old new : Node Memory) (net net' : Network) (w : World) → slice_get nodes n ≡ Some old
-    → StandsFor (record { slots = slots; nodes = nodes; net = net }) w → ((s : NodeState) → Stands state_of old s → IsUntouchedNode old new) → net' ≡ net
-    → IsUntouched (record { slots = slots; nodes = nodes; net = net }) (record { slots = slots; nodes = slice_set nodes n new; net = net' })
-untouched slots n nodes old new net net' w at stands keeps same_net =
+pub untouched_if : {E : Type 0} (slots n : ℕ) (nodes : List (Node Memory)) (old new : Node Memory) (net net' : Network) (result : Result Deed E) (w : World) → slice_get nodes n ≡ Some old
+    → StandsFor (record { slots = slots; nodes = nodes; net = net }) w → OnErr result ((s : NodeState) → Stands state_of old s → IsUntouchedNode old new) → OnErr result (net' ≡ net)
+    → OnErr result (IsUntouched (record { slots = slots; nodes = nodes; net = net }) (record { slots = slots; nodes = slice_set nodes n new; net = net' }))
+untouched_if slots n nodes old new net net' (Ok o) w at stands keeps same = tt
+untouched_if slots n nodes old new net net' (Err e) w at stands keeps same_net =
     let s = at_place w.states n (subst (λ (k : ℕ). n < k) stands.count (slice_get_within nodes n old at)) in
     record {
       count = length-set nodes n new;
@@ -178,22 +139,36 @@ untouched slots n nodes old new net net' w at stands keeps same_net =
           (λ j x ne at_j y was_j. subst (λ (z : Node Memory). IsUntouchedNode y z) (is_some y x (sym was_j ∙ at_j)) refl) k now at_k was was_k;
     }
 
-pub untouched_if : {E : Type 0} (slots n : ℕ) (nodes : List (Node Memory)) (old new : Node Memory) (net net' : Network) (result : Result Deed E) (w : World) → slice_get nodes n ≡ Some old
-    → StandsFor (record { slots = slots; nodes = nodes; net = net }) w → OnErr result ((s : NodeState) → Stands state_of old s → IsUntouchedNode old new) → OnErr result (net' ≡ net)
-    → OnErr result (IsUntouched (record { slots = slots; nodes = nodes; net = net }) (record { slots = slots; nodes = slice_set nodes n new; net = net' }))
-untouched_if slots n nodes old new net net' (Ok o) w at stands keeps same = tt
-untouched_if slots n nodes old new net net' (Err e) w at stands keeps same = untouched slots n nodes old new net net' w at stands keeps same
+-- a node outside the cluster
+pub denied_at : (w : World) (id number : ℕ) (compacts : Bool) (P : What → Type 0) (machine : Machine) → StandsFor machine w → length machine.nodes ≤ id
+    → Makes compacts (λ step. At (nat_lt id (length w.states)) id number P step) w (bare (outcome.Refused refusal.Stranger)) machine
+denied_at w id number compacts P machine stands beyond = record {
+  step = Denies Stranger;
+  is = (let many = stands.count in let stranger : nat_lt id (length w.states) ≡ false = grind (arith, nat_tests) in subst (λ (b : Bool). At b id number P (Denies Stranger)) (sym stranger) refl);
+  allowed = tt;
+  of_slots = tt;
+  is_told = as_told compacts;
+  shows = tt;
+  tells = (refl, refl);
+  stands = stands;
+}
+  where
+    as_told : (b : Bool) → outcome.Refused refusal.Stranger ≡ told (if_compaction b (Denies Stranger) (DeniedAct Stranger))
+    as_told true = refl
+    as_told false = refl
 
--- what is read at a place
-pub place_at : {A : Type 0} (xs : List A) (count place id : ℕ) (x : A) → count ≡ length xs → place < count → place ≡ id → x ≡ get_or xs place x → slice_get xs id ≡ Some x
-place_at {A} xs count place id x len within is value = subst (λ (k : ℕ). slice_get xs k ≡ Some x) is (slice_get_read xs count place x len within value)
+-- ---- the failures of its disk
 
-pub denied_at : (w : World) (id number : ℕ) (P : What → Type 0) (machine : Machine) → StandsFor machine w → length machine.nodes ≤ id
-    → Makes (λ step. At (nat_lt id (length w.states)) id number P step) w (outcome.Refused refusal.Stranger) machine
-denied_at w id number P machine stands beyond = denies (λ step. At (nat_lt id (length w.states)) id number P step) machine w stands
-    (subst (λ (b : Bool). At b id number P (Denies Stranger)) (sym (is_stranger id (length w.states) (subst (λ (k : ℕ). k ≤ id) stands.count beyond))) refl)
-
-pub denied_deed : (w : World) (id number : ℕ) (P : What → Type 0) (machine : Machine) → StandsFor machine w → length machine.nodes ≤ id
-    → Made (λ step. At (nat_lt id (length w.states)) id number P step) w (record { outcome = outcome.Refused refusal.Stranger; tried = None; acked = None; mounted = false }) machine
-unfolding denies denied_at
-denied_deed w id number P machine stands beyond = record { makes = denied_at w id number P machine stands beyond; tells = (refl, refl) }
+pub faults_if : {E : Type 0} (slots n : ℕ) (nodes : List (Node Memory)) (old new : Node Memory) (net net' : Network) (result : Result Deed E) (now : Machine) → record { slots = slots; nodes = nodes; net = net } ≡ now
+    → slice_get nodes n ≡ Some old → IfOk result (λ (d : Deed). IsCounted old.disk new.disk d.outcome)
+    → IfOk result (λ (d : Deed). FaultsAt (node_or_first (length now.nodes) n) now (record { slots = slots; nodes = slice_set nodes n new; net = net' }) d.outcome)
+faults_if slots n nodes old new net net' (Ok d) now view at counted =
+    let known : node_or_first (length nodes) n ≡ n = rw (true_within n (length nodes) (slice_get_within nodes n old at)) refl in
+    subst (λ (m : Machine). FaultsAt (node_or_first (length m.nodes) n) m (record { slots = slots; nodes = slice_set nodes n new; net = net' }) d.outcome) view
+    (subst (λ (k : ℕ). FaultsAt k (record { slots = slots; nodes = nodes; net = net }) (record { slots = slots; nodes = slice_set nodes n new; net = net' }) d.outcome) (sym known)
+    (record {
+      here = subst (λ (x : Option (Node Memory)). IsCounted (disk_of x) (disk_of (slice_get (slice_set nodes n new) n)) d.outcome) (sym at)
+          (subst (λ (x : Option (Node Memory)). IsCounted old.disk (disk_of x) d.outcome) (sym (get_set_same nodes n old new at)) counted);
+      elsewhere = λ k other. get_set_other nodes k n new other;
+    }))
+faults_if slots n nodes old new net net' (Err e) now view at counted = tt

@@ -1,18 +1,18 @@
 -- The messages of a moment are those under its numbers, also when more were sent after it.
-use Rattle.std.proofs.Common.{◌≡◌, ℕ, zero, suc, Bool, true, false, List, [], ◌∷◌, ◌++◌, length, take, drop, slice_get, refl, sym, ◌∙◌, ap, subst, Option, Some, None, append_assoc}
+use Rattle.std.proofs.Common.{◌≡◌, ℕ, zero, suc, Bool, true, List, [], ◌∷◌, ◌++◌, length, take, drop, slice_get, refl, sym, ◌∙◌, ap, subst, Option, Some, None, append_assoc}
 use Rattle.std.proofs.lemmas.List.{append-nil}
 use Rattle.std.proofs.Math.Seq.{drop-append_seam, take-append_seam}
 use Rattle.wire_msg.specs.Envelope.{Envelope}
 use Rattle.histories.specs.NodeState.{NodeState}
 use Rattle.histories.specs.declared.what.What.{What}
-use Rattle.histories.specs.declared.what.What.TheVariants.{Did, Refused, Faulted, Rests, Crashed, Recovered, MountFailed, RaiseFailed, RaiseRefused}
-use Rattle.histories.specs.declared.what.Rest.TheVariants.{Nothing, Compacted, CompactDown, CompactWorn}
+use Rattle.histories.specs.declared.what.What.TheVariants.{Did, Rests, Crashed}
+use Rattle.histories.specs.declared.what.Rest.TheVariants.{Nothing}
 use Rattle.histories.specs.After.{sent_at}
 use Rattle.schedule.specs.declared.act.Act.{Act}
 use Rattle.runs.specs.World.{World, start}
-use Rattle.runs.specs.Step.{Step, Takes, Loses, Cuts, Mends, Denies, sent_after, world_after}
+use Rattle.runs.specs.Step.{Step, Takes, sent_after, world_after}
 use Rattle.runs.specs.Run.{world_at}
-use Rattle.runs.specs.Acts.{what_outcome, node_outcome, outcome_of, if_compaction, is_compaction, act_outcome}
+use Rattle.runs.specs.Acts.{node_outcome, outcome_of, if_compaction, is_compaction, act_outcome}
 use Rattle.runs.specs.Reporting.{Moment, Report, moment_of, moments_from, step_sent}
 use Rattle.runs.specs.Growth.{IsLeft, acts_in}
 use Rattle.cluster_sim.specs.Numbered.{sent_under}
@@ -21,65 +21,33 @@ use Rattle.cluster_sim.specs.Numbered.{sent_under}
 part_between : (first part rest : List Envelope) → take (length part) (drop (length first) ((first ++ part) ++ rest)) ≡ part
 part_between first part rest = rw (append_assoc first part rest, drop-append_seam first (part ++ rest)) (take-append_seam part rest)
 
-what_numbered : (n nodes : ℕ) (before rest : List Envelope) (s : NodeState) (what : What)
-    → sent_at n nodes s what ≡ sent_under ((before ++ sent_at n nodes s what) ++ rest) (what_outcome n nodes (length before) s what)
-what_numbered n nodes before rest s (Did event) = sym (part_between before (sent_at n nodes s (Did event)) rest)
-what_numbered n nodes before rest s (Refused event fault) = refl
-what_numbered n nodes before rest s (Faulted event) = refl
-what_numbered n nodes before rest s (Rests Nothing) = refl
-what_numbered n nodes before rest s (Rests Compacted) = refl
-what_numbered n nodes before rest s (Rests CompactDown) = refl
-what_numbered n nodes before rest s (Rests CompactWorn) = refl
-what_numbered n nodes before rest s Crashed = refl
-what_numbered n nodes before rest s (Recovered kept) = refl
-what_numbered n nodes before rest s MountFailed = refl
-what_numbered n nodes before rest s (RaiseFailed kept) = refl
-what_numbered n nodes before rest s (RaiseRefused kept) = refl
-
+-- what comes at a node, if there is such a node
 node_numbered : (n nodes : ℕ) (before rest : List Envelope) (o : Option NodeState) (what : What)
     → sent_after n nodes o what ≡ sent_under ((before ++ sent_after n nodes o what) ++ rest) (node_outcome n nodes (length before) o what)
-node_numbered n nodes before rest None what = refl
-node_numbered n nodes before rest (Some s) what = what_numbered n nodes before rest s what
-
--- a crash sends nothing
-no_messages : (n nodes : ℕ) (o : Option NodeState) → sent_after n nodes o Crashed ≡ []
-no_messages n nodes None = refl
-no_messages n nodes (Some s) = refl
+node_numbered n nodes before rest (Some s) (Did event) = sym (part_between before (sent_at n nodes s (Did event)) rest)
+node_numbered n nodes before rest (Some s) (Rests Nothing) = refl
+node_numbered n nodes before rest _ _ = refl
 
 step_numbered : (nodes : ℕ) (w : World) (step : Step) (rest : List Envelope)
     → step_sent nodes w step ≡ sent_under ((world_after nodes w step).net.sent ++ rest) (outcome_of nodes w step)
 step_numbered nodes w (Takes n number what) rest = node_numbered n nodes w.net.sent rest (slice_get w.states n) what
-step_numbered nodes w (Loses k) rest = refl
-step_numbered nodes w (Cuts a b) rest = refl
-step_numbered nodes w (Mends a b) rest = refl
-step_numbered nodes w (Denies why) rest = refl
+step_numbered nodes w _ rest = refl
 
 -- what comes of a compaction sends nothing where the node falls
 compaction_numbered : (nodes : ℕ) (w : World) (compacts : Bool) (step : Step) (rest : List Envelope)
     → step_sent nodes w step ≡ sent_under ((world_after nodes w step).net.sent ++ rest) (if_compaction compacts step (outcome_of nodes w step))
-compaction_numbered nodes w false step rest = step_numbered nodes w step rest
-compaction_numbered nodes w true (Takes n number (Did event)) rest = step_numbered nodes w (Takes n number (Did event)) rest
-compaction_numbered nodes w true (Takes n number (Refused event fault)) rest = step_numbered nodes w (Takes n number (Refused event fault)) rest
-compaction_numbered nodes w true (Takes n number (Faulted event)) rest = step_numbered nodes w (Takes n number (Faulted event)) rest
-compaction_numbered nodes w true (Takes n number (Rests why)) rest = step_numbered nodes w (Takes n number (Rests why)) rest
-compaction_numbered nodes w true (Takes n number Crashed) rest = no_messages n nodes (slice_get w.states n)
-compaction_numbered nodes w true (Takes n number (Recovered kept)) rest = step_numbered nodes w (Takes n number (Recovered kept)) rest
-compaction_numbered nodes w true (Takes n number MountFailed) rest = step_numbered nodes w (Takes n number MountFailed) rest
-compaction_numbered nodes w true (Takes n number (RaiseFailed kept)) rest = step_numbered nodes w (Takes n number (RaiseFailed kept)) rest
-compaction_numbered nodes w true (Takes n number (RaiseRefused kept)) rest = step_numbered nodes w (Takes n number (RaiseRefused kept)) rest
-compaction_numbered nodes w true (Loses k) rest = refl
-compaction_numbered nodes w true (Cuts a b) rest = refl
-compaction_numbered nodes w true (Mends a b) rest = refl
-compaction_numbered nodes w true (Denies why) rest = refl
+compaction_numbered nodes w true (Takes n number Crashed) rest = no_messages (slice_get w.states n)
+  where
+    no_messages : (o : Option NodeState) → sent_after n nodes o Crashed ≡ []
+    no_messages None = refl
+    no_messages (Some s) = refl
+compaction_numbered nodes w _ step rest = step_numbered nodes w step rest
 
 -- ---- messages are only added, at the end
 
 pub step_adds : (nodes : ℕ) (w : World) (step : Step) → (world_after nodes w step).net.sent ≡ w.net.sent ++ step_sent nodes w step
 step_adds nodes w (Takes n number what) = refl
-step_adds nodes w (Loses k) = sym (append-nil w.net.sent)
-step_adds nodes w (Cuts a b) = sym (append-nil w.net.sent)
-step_adds nodes w (Mends a b) = sym (append-nil w.net.sent)
-step_adds nodes w (Denies why) = sym (append-nil w.net.sent)
+step_adds nodes w _ = sym (append-nil w.net.sent)
 
 pub run_adds : (nodes : ℕ) (steps : List Step) (w : World) → (more : List Envelope) × ((world_at nodes w steps).net.sent ≡ w.net.sent ++ more)
 run_adds nodes [] w = ([], sym (append-nil w.net.sent))

@@ -1,7 +1,7 @@
 -- What is promised of a report.
 use Rattle.std.proofs.Common.{◌≡◌, ℕ, ◌+◌, ◌<◌, ◌^◌, List, [], ◌∷◌, ◌++◌, length, map, refl, sym, ◌∙◌, ap, subst, arith, false, Result, Ok, Err}
 use Rattle.std.specs.Prelude.{IfOk, is_err}
-use Rattle.std.proofs.lemmas.List.{length-map, map-append, append-nil}
+use Rattle.std.proofs.lemmas.List.{length-map, map-append}
 use Rattle.wire_msg.specs.Envelope.{Envelope}
 use Rattle.sim_net.specs.Network.{Network}
 use Rattle.schedule.specs.declared.act.Act.{Act}
@@ -11,10 +11,10 @@ use Rattle.runs.specs.Reporting.{Moment, Report, moment_of}
 use Rattle.runs.specs.Growth.{acts_in}
 use Rattle.runs.specs.Headline.{Headline}
 use Rattle.histories.specs.Counts.{IsShort}
+use Rattle.cluster_sim.proofs.Numbered.{left_numbered}
 use Rattle.cluster_sim.specs.Numbered.{sent_under}
 use Rattle.cluster_sim.specs.Recorded.{Recorded, ToldMoment, ToldReport, Tells, GoesOn, HasRun, IsPromised, told_moment}
 use Rattle.runs.proofs.Grown.{left_keeps, step_length}
-use Rattle.cluster_sim.proofs.Numbered.{left_numbered}
 
 acts_told : (ms : List Moment) → map (λ (m : ToldMoment). m.act) (map told_moment ms) ≡ map (λ (m : Moment). m.act) ms
 acts_told [] = refl
@@ -40,9 +40,6 @@ promised c w r acts tells is short =
 
 -- ---- one act after another
 
-pub none_done : (c : Recorded) (nodes : ℕ) (w : World) (r : Report) → length w.states ≡ nodes → Tells c w r → HasRun nodes (acts_in r ++ []) c
-none_done c nodes w r many tells = record { world = w; run = r; tells = tells; as_many = tells.stands.count ∙ many; of_acts = sym (append-nil (acts_in r)) }
-
 pub one_done : (old new : Recorded) (nodes : ℕ) (acts : List Act) (a : Act) (o : Outcome) (h : HasRun nodes acts old) → GoesOn h.world h.run a o new → HasRun nodes (acts ++ a ∷ []) new
 one_done old new nodes acts a o h on = record {
   world = _;
@@ -59,9 +56,4 @@ ok_here P (Err e) good holds = absurd (let bad = good in cc)
 pub all_promised : (c : Recorded) (nodes slots : ℕ) (acts : List Act) (report : ToldReport) (sent : List Envelope) → HasRun nodes acts c → c.machine.slots ≡ slots → report ≡ c.report → sent ≡ c.machine.net.sent → length report.moments + 1 < 2 ^ 64
     → IsPromised nodes slots acts report sent
 all_promised c nodes slots acts report sent h same_slots same_report same_sent short =
-    let short_too : length c.report.moments + 1 < 2 ^ 64 = subst (λ (x : ToldReport). length x.moments + 1 < 2 ^ 64) same_report short in
-    subst (λ (n : ℕ). IsPromised n slots acts report sent) h.as_many
-    (subst (λ (k : ℕ). IsPromised (length c.machine.nodes) k acts report sent) same_slots
-    (subst (λ (x : ToldReport). IsPromised (length c.machine.nodes) c.machine.slots acts x sent) (sym same_report)
-    (subst (λ (ms : List Envelope). IsPromised (length c.machine.nodes) c.machine.slots acts c.report ms) (sym same_sent)
-    (promised c h.world h.run acts h.tells h.of_acts short_too))))
+    rw (← h.as_many, ← same_slots, same_report, same_sent) (promised c h.world h.run acts h.tells h.of_acts (subst (λ (x : ToldReport). length x.moments + 1 < 2 ^ 64) same_report short))

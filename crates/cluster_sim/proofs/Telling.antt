@@ -1,14 +1,13 @@
 -- What an act tried, mounted and gave is what its node tells of it.
-use Rattle.std.proofs.Common.{◌≡◌, ℕ, ◌+◌, ◌≤◌, ◌&&◌, nat_lt, Bool, true, false, List, [], slice_get, refl, sym, ◌∙◌, ap, subst, arith, Option, Some, None, option_map, Result, Ok, Err}
+use Rattle.std.proofs.Common.{◌≡◌, ℕ, ◌+◌, ◌≤◌, ◌&&◌, nat_lt, Bool, false, List, [], slice_get, refl, ◌∙◌, ap, subst, arith, Option, Some, None, option_map, Result, Ok, Err}
 use Rattle.group_task.specs.Group.{Group}
-use Rattle.job_model.specs.Command.{Command, Raise, Put, Done as JobDone}
+use Rattle.job_model.specs.Command.{Command, Raise}
 use Rattle.job_model.specs.Durable.{Durable}
 use Rattle.histories.specs.NodeState.{NodeState, wants_at, settled, answer_if_wanted}
 use Rattle.histories.specs.declared.what.What.{What}
-use Rattle.histories.specs.declared.what.What.TheVariants.{Did, Refused, Faulted, Rests, Crashed, Recovered, MountFailed, RaiseFailed, RaiseRefused}
+use Rattle.histories.specs.declared.what.What.TheVariants.{Did, Faulted, Rests, Crashed, Recovered}
 use Rattle.histories.specs.Fates.{attempt_of, command_with, work_of}
 use Rattle.histories.specs.declared.attempt.Attempt.{Attempt}
-use Rattle.histories.specs.declared.attempt.Attempt.TheVariants as attempt
 use Rattle.histories.proofs.Attempts.{wanted_whole}
 use Rattle.histories.specs.After.{raised, given_at, found_at}
 use Rattle.histories.specs.Marks.{Mark, tried_marks, failed_marks, marks_at}
@@ -17,7 +16,7 @@ use Rattle.durable_node.proofs.Nodes.{is_some}
 use Rattle.cluster_sim.specs.declared.outcome.Deed.{Deed}
 use Rattle.runs.specs.World.{World}
 use Rattle.runs.specs.Step.{Step, Takes, Cuts, Mends}
-use Rattle.runs.specs.Acts.{At, Brings, IsCompaction, IsOf, IsRecovery, IsStepOf, if_known, lost_step}
+use Rattle.runs.specs.Acts.{Brings, IsCompaction, IsOf, IsRecovery, IsStepOf}
 use Rattle.schedule.specs.declared.act.Act.{Act}
 use Rattle.schedule.specs.declared.act.Act.TheVariants as act
 use Rattle.sim_net.specs.declared.fault.NetFault.{NetFault}
@@ -27,46 +26,35 @@ use Rattle.node_core.specs.declared.event.Event.{Event}
 use Rattle.node_core.specs.declared.event.Event.TheVariants as on
 use Rattle.job_model.specs.declared.work.Work.{Work}
 use Rattle.histories.specs.declared.what.Rest.TheVariants.{Nothing}
-use Rattle.runs.specs.Given.{numbered, given_by, groups_at}
-use Rattle.runs.specs.Tagged.{tagged, marks_for, step_marks}
+use Rattle.runs.proofs.Finishing.{taken_there, loses_none, link_none}
+use Rattle.runs.specs.Given.{numbered, groups_at}
+use Rattle.runs.specs.Tagged.{tagged, step_marks}
 use Rattle.runs.specs.Reporting.{commands_in, mountings_in}
 use Rattle.cluster_sim.specs.Machine.{DeedOf, is_mounting}
-use Rattle.cluster_sim.specs.Recorded.{command_in, work_in, tried_as, tried_by, tried_at, mounted_at, mounted_now, given_in, listed}
+use Rattle.cluster_sim.specs.Recorded.{command_in, work_in, tried_as, tried_at, mounted_at, mounted_now, given_in, listed}
 
 -- these marks and groups of a node are the ones that are told, and a new count is no smaller than 1
-record PartsTold (n count : ℕ) (marks : List Mark) (groups : List Group) (command : Option Command) (acked : Option ℕ) (mounted : Bool) (found : Option Durable) : Type 0 where
-  tried : commands_in (tagged n marks) ≡ listed (tried_at n (tried_as command acked))
-  mountings : mountings_in (tagged n marks) ≡ listed (mounted_at n count (mounted_now mounted found))
-  given : groups ≡ given_in (tried_at n (tried_as command acked))
-  raises : (k : ℕ) → command ≡ Some Raise → acked ≡ Some k → 1 ≤ k
+pub record PartsTold (n count : ℕ) (marks : List (ℕ × Mark)) (groups : List Group) (command : Option Command) (acked : Option ℕ) (mounted : Bool) (found : Option Durable) : Type 0 where
+  pub tried : commands_in marks ≡ listed (tried_at n (tried_as command acked))
+  pub mountings : mountings_in marks ≡ listed (mounted_at n count (mounted_now mounted found))
+  pub given : groups ≡ given_in (tried_at n (tried_as command acked))
+  pub raises : (k : ℕ) → command ≡ Some Raise → acked ≡ Some k → 1 ≤ k
 
-did_parts : (n count : ℕ) (d : Durable) (wants : Option Command) → PartsTold n count (tried_marks d wants) (numbered n (raised d wants)) wants (answer_if_wanted d wants) false None
-did_parts n count d None = record { tried = refl; mountings = refl; given = refl; raises = λ k raise is. absurd (let bad = raise in cc) }
+did_parts : (n count : ℕ) (d : Durable) (wants : Option Command) → PartsTold n count (tagged n (tried_marks d wants)) (numbered n (raised d wants)) wants (answer_if_wanted d wants) false None
 did_parts n count d (Some Raise) = record { tried = refl; mountings = refl; given = refl; raises = λ k raise is. (let same : d.counter + 1 ≡ k = is_some (d.counter + 1) k is in omega (arith, same)) }
-did_parts n count d (Some (Put work)) = record { tried = refl; mountings = refl; given = refl; raises = λ k raise is. absurd (let bad = raise in cc) }
-did_parts n count d (Some (JobDone id)) = record { tried = refl; mountings = refl; given = refl; raises = λ k raise is. absurd (let bad = raise in cc) }
+did_parts n count d _ = record { tried = refl; mountings = refl; given = refl; raises = λ k raise is. absurd (let bad = raise in cc) }
 
-failed_parts : (n count : ℕ) (wants : Option Command) → PartsTold n count (failed_marks wants) [] wants None false None
-failed_parts n count None = record { tried = refl; mountings = refl; given = refl; raises = λ k raise is. absurd (let bad = is in cc) }
+failed_parts : (n count : ℕ) (wants : Option Command) → PartsTold n count (tagged n (failed_marks wants)) [] wants None false None
 failed_parts n count (Some Raise) = record { tried = refl; mountings = refl; given = refl; raises = λ k raise is. absurd (let bad = is in cc) }
-failed_parts n count (Some (Put work)) = record { tried = refl; mountings = refl; given = refl; raises = λ k raise is. absurd (let bad = is in cc) }
-failed_parts n count (Some (JobDone id)) = record { tried = refl; mountings = refl; given = refl; raises = λ k raise is. absurd (let bad = is in cc) }
-
-no_parts : (n count : ℕ) → PartsTold n count [] [] None None false None
-no_parts n count = record { tried = refl; mountings = refl; given = refl; raises = λ k raise is. absurd (let bad = is in cc) }
+failed_parts n count _ = record { tried = refl; mountings = refl; given = refl; raises = λ k raise is. absurd (let bad = is in cc) }
 
 what_parts : (n nodes count : ℕ) (s : NodeState) (what : What)
-    → PartsTold n count (marks_at n nodes s count what) (numbered n (given_at n nodes s what)) (command_at n nodes s what) (answer_at n nodes s what) (is_mounting what) (found_at s what)
+    → PartsTold n count (tagged n (marks_at n nodes s count what)) (numbered n (given_at n nodes s what)) (command_at n nodes s what) (answer_at n nodes s what) (is_mounting what) (found_at s what)
 what_parts n nodes count s (Did e) = did_parts n count s.durable (wants_at n nodes s e)
-what_parts n nodes count s (Refused e why) = no_parts n count
 what_parts n nodes count s (Faulted e) = failed_parts n count (wants_at n nodes s e)
-what_parts n nodes count s (Rests rest) = no_parts n count
-what_parts n nodes count s Crashed = no_parts n count
 what_parts n nodes count s (Recovered kept) =
     record { tried = refl; mountings = refl; given = refl; raises = λ k raise same. (let it : (settled kept s).counter + 1 ≡ k = is_some ((settled kept s).counter + 1) k same in omega (arith, it)) }
-what_parts n nodes count s MountFailed = no_parts n count
-what_parts n nodes count s (RaiseFailed kept) = record { tried = refl; mountings = refl; given = refl; raises = λ k raise is. absurd (let bad = is in cc) }
-what_parts n nodes count s (RaiseRefused kept) = record { tried = refl; mountings = refl; given = refl; raises = λ k raise is. absurd (let bad = is in cc) }
+what_parts n nodes count s _ = record { tried = refl; mountings = refl; given = refl; raises = λ k raise is. absurd (let bad = is in cc) }
 
 -- ---- which command was tried is told, and the act has the rest
 
@@ -81,117 +69,54 @@ Whole n nodes s work what = command_with work (option_map attempt_of (command_at
 
 event_whole : (n nodes : ℕ) (s : NodeState) (event : Event) (what : What) → IsOf event what → Whole n nodes s (work_of event) what
 event_whole n nodes s event (Did e) of = subst (λ (v : Event). Whole n nodes s (work_of v) (Did e)) of (wanted_whole n s.durable.pending e s.state)
-event_whole n nodes s event (Refused e why) of = refl
 event_whole n nodes s event (Faulted e) of = subst (λ (v : Event). Whole n nodes s (work_of v) (Faulted e)) of (wanted_whole n s.durable.pending e s.state)
-event_whole n nodes s event (Rests rest) of = refl
-event_whole n nodes s event Crashed of = refl
-event_whole n nodes s event (Recovered kept) of = refl
-event_whole n nodes s event MountFailed of = refl
-event_whole n nodes s event (RaiseFailed kept) of = refl
-event_whole n nodes s event (RaiseRefused kept) of = refl
+event_whole n nodes s event _ of = refl
 
 recovery_whole : (n nodes : ℕ) (s : NodeState) (what : What) → IsRecovery what → Whole n nodes s None what
 recovery_whole n nodes s (Did e) of = event_whole n nodes s on.Recover (Did e) of
-recovery_whole n nodes s (Refused e why) of = refl
 recovery_whole n nodes s (Faulted e) of = event_whole n nodes s on.Recover (Faulted e) of
-recovery_whole n nodes s (Rests rest) of = refl
-recovery_whole n nodes s Crashed of = refl
-recovery_whole n nodes s (Recovered kept) of = refl
-recovery_whole n nodes s MountFailed of = refl
-recovery_whole n nodes s (RaiseFailed kept) of = refl
-recovery_whole n nodes s (RaiseRefused kept) of = refl
+recovery_whole n nodes s _ of = refl
 
 compaction_whole : (n nodes : ℕ) (s : NodeState) (what : What) → IsCompaction what → Whole n nodes s None what
 compaction_whole n nodes s (Did e) of = absurd of
-compaction_whole n nodes s (Refused e why) of = refl
 compaction_whole n nodes s (Faulted e) of = absurd of
-compaction_whole n nodes s (Rests rest) of = refl
-compaction_whole n nodes s Crashed of = refl
-compaction_whole n nodes s (Recovered kept) of = refl
-compaction_whole n nodes s MountFailed of = refl
-compaction_whole n nodes s (RaiseFailed kept) of = refl
-compaction_whole n nodes s (RaiseRefused kept) of = refl
-
-taken_what : (n m number k : ℕ) (what x : What) → Takes n number what ≡ Takes m k x → what ≡ x
-taken_what n m number k what x is = cc
-
--- what comes at a node is the one thing that its step says
-at_whole : (b : Bool) (n m nodes k number : ℕ) (s : NodeState) (P : What → Type 0) (work : Option Work) (what : What) → ((x : What) → P x → Whole n nodes s work x) → At b m k P (Takes n number what) → Whole n nodes s work what
-at_whole true n m nodes k number s P work what each at = subst (λ (x : What). Whole n nodes s work x) (sym (taken_what n m number k what at.0 at.1)) (each at.0 at.2)
-at_whole false n m nodes k number s P work what each at = absurd cc
+compaction_whole n nodes s _ of = refl
 
 brought_whole : (n nodes k number : ℕ) (s : NodeState) (r : Result Envelope NetFault) (what : What) → Brings nodes k r (Takes n number what) → Whole n nodes s None what
-brought_whole n nodes k number s (Ok m) what of = at_whole (nat_lt m.receiver nodes) n m.receiver nodes k number s (IsOf (on.Deliver m)) None what (event_whole n nodes s (on.Deliver m)) of
+brought_whole n nodes k number s (Ok m) what of = event_whole n nodes s (on.Deliver m) what (taken_there (nat_lt m.receiver nodes) m.receiver k (IsOf (on.Deliver m)) n number what of).1
 brought_whole n nodes k number s (Err why) what of = absurd cc
-
-no_take : (n number : ℕ) (what : What) (b : Bool) (step : Step) → Takes n number what ≡ if_known b step → (Takes n number what ≡ step → ⊥) → ⊥
-no_take n number what true step is never = never is
-no_take n number what false step is never = cc
-
-not_lost : (n number k : ℕ) (what : What) (r : Result Envelope NetFault) → Takes n number what ≡ lost_step k r → ⊥
-not_lost n number k what (Ok m) is = cc
-not_lost n number k what (Err why) is = cc
 
 -- the act has the work of the command that was tried in its step
 act_whole : (n nodes number : ℕ) (w : World) (a : Act) (what : What) (s : NodeState) → IsStepOf nodes w a (Takes n number what) → Whole n nodes s (work_in a) what
-act_whole n nodes number w (act.Check m) what s of = at_whole (nat_lt m nodes) n m nodes 0 number s (IsOf on.CheckTimer) None what (event_whole n nodes s on.CheckTimer) of
-act_whole n nodes number w (act.Merge m) what s of = at_whole (nat_lt m nodes) n m nodes 0 number s (IsOf on.MergeTimer) None what (event_whole n nodes s on.MergeTimer) of
-act_whole n nodes number w (act.Accept m) what s of = at_whole (nat_lt m nodes) n m nodes 0 number s (IsOf on.AcceptTimer) None what (event_whole n nodes s on.AcceptTimer) of
-act_whole n nodes number w (act.Ready m) what s of = at_whole (nat_lt m nodes) n m nodes 0 number s (IsOf on.ReadyTimer) None what (event_whole n nodes s on.ReadyTimer) of
-act_whole n nodes number w (act.Coord m) what s of = at_whole (nat_lt m nodes) n m nodes 0 number s (IsOf on.CoordTimer) None what (event_whole n nodes s on.CoordTimer) of
-act_whole n nodes number w (act.Dispatch m) what s of = at_whole (nat_lt m nodes) n m nodes 0 number s (IsOf on.DispatchTimer) None what (event_whole n nodes s on.DispatchTimer) of
 act_whole n nodes number w (act.Deliver k) what s of = brought_whole n nodes k number s (delivery w.net k) what of
-act_whole n nodes number w (act.Lose k) what s of = absurd (not_lost n number k what (found w.net k) of)
-act_whole n nodes number w (act.Cut x y) what s of = absurd (no_take n number what (nat_lt x nodes && nat_lt y nodes) (Cuts x y) of (λ is. cc))
-act_whole n nodes number w (act.Mend x y) what s of = absurd (no_take n number what (nat_lt x nodes && nat_lt y nodes) (Mends x y) of (λ is. cc))
-act_whole n nodes number w (act.Submit m work) what s of = at_whole (nat_lt m nodes) n m nodes 0 number s (IsOf (on.Submit work)) (Some work) what (event_whole n nodes s (on.Submit work)) of
-act_whole n nodes number w (act.Finish m origin id) what s of = at_whole (nat_lt m nodes) n m nodes 0 number s (IsOf (on.Finish origin id)) None what (event_whole n nodes s (on.Finish origin id)) of
-act_whole n nodes number w (act.Arm m calls) what s of = at_whole (nat_lt m nodes) n m nodes 0 number s (λ (x : What). x ≡ Rests Nothing) None what (λ x is. subst (λ (y : What). Whole n nodes s None y) (sym is) refl) of
-act_whole n nodes number w (act.Crash m fill) what s of = at_whole (nat_lt m nodes) n m nodes 0 number s (λ (x : What). x ≡ Crashed) None what (λ x is. subst (λ (y : What). Whole n nodes s None y) (sym is) refl) of
-act_whole n nodes number w (act.Recover m) what s of = at_whole (nat_lt m nodes) n m nodes 0 number s IsRecovery None what (recovery_whole n nodes s) of
-act_whole n nodes number w (act.Compact m) what s of = at_whole (nat_lt m nodes) n m nodes 0 number s IsCompaction None what (compaction_whole n nodes s) of
+act_whole n nodes number w (act.Lose k) what s of = absurd (loses_none k (found w.net k) n number what of)
+act_whole n nodes number w (act.Cut x y) what s of = absurd (link_none (nat_lt x nodes && nat_lt y nodes) (Cuts x y) n number what (λ is. cc) of)
+act_whole n nodes number w (act.Mend x y) what s of = absurd (link_none (nat_lt x nodes && nat_lt y nodes) (Mends x y) n number what (λ is. cc) of)
+act_whole n nodes number w (act.Arm m calls) what s of = rw (taken_there (nat_lt m nodes) m 0 (λ (x : What). x ≡ Rests Nothing) n number what of).1 refl
+act_whole n nodes number w (act.Crash m fill) what s of = rw (taken_there (nat_lt m nodes) m 0 (λ (x : What). x ≡ Crashed) n number what of).1 refl
+act_whole n nodes number w (act.Recover m) what s of = recovery_whole n nodes s what (taken_there (nat_lt m nodes) m 0 IsRecovery n number what of).1
+act_whole n nodes number w (act.Compact m) what s of = compaction_whole n nodes s what (taken_there (nat_lt m nodes) m 0 IsCompaction n number what of).1
+act_whole n nodes number w (act.Check m) what s of = event_whole n nodes s _ what (taken_there (nat_lt m nodes) _ 0 (IsOf _) n number what of).1
+act_whole n nodes number w _ what s of = event_whole n nodes s _ what (taken_there _ _ 0 (IsOf _) n number what of).1
 
 -- what a step adds to a report is what its node n tells
 pub record StepTold (nodes : ℕ) (w : World) (counts : ℕ → ℕ) (a : Act) (step : Step) (n : ℕ) (deed : Deed) (found : Option Durable) : Type 0 where
   pub whole : IsWhole a deed.tried
-  pub tried : commands_in (step_marks nodes w counts step) ≡ listed (tried_at n (tried_by a deed))
-  pub mountings : mountings_in (step_marks nodes w counts step) ≡ listed (mounted_at n (counts n) (mounted_now deed.mounted found))
-  pub given : groups_at nodes w step ≡ given_in (tried_at n (tried_by a deed))
-  pub raises : (k : ℕ) → deed.tried ≡ Some attempt.Raise → deed.acked ≡ Some k → 1 ≤ k
+  pub parts : PartsTold n (counts n) (step_marks nodes w counts step) (groups_at nodes w step) (command_in a deed.tried) deed.acked deed.mounted found
 
 pub takes_told : (n nodes number : ℕ) (w : World) (counts : ℕ → ℕ) (a : Act) (what : What) (s : NodeState) (deed : Deed) (found : Option Durable) → slice_get w.states n ≡ Some s
     → IsStepOf nodes w a (Takes n number what) → DeedOf n nodes s what deed → found ≡ found_at s what → StepTold nodes w counts a (Takes n number what) n deed found
 takes_told n nodes number w counts a what s deed found at of tells is =
     let command : command_in a deed.tried ≡ command_at n nodes s what = ap (λ (t : Option Attempt). command_in a t) tells.tried ∙ act_whole n nodes number w a what s of in
-    let parts : PartsTold n (counts n) (marks_at n nodes s (counts n) what) (numbered n (given_at n nodes s what)) (command_in a deed.tried) deed.acked deed.mounted found =
-    subst (λ (c : Option Command). PartsTold n (counts n) (marks_at n nodes s (counts n) what) (numbered n (given_at n nodes s what)) c deed.acked deed.mounted found) (sym command)
-    (subst (λ (a : Option ℕ). PartsTold n (counts n) (marks_at n nodes s (counts n) what) (numbered n (given_at n nodes s what)) (command_at n nodes s what) a deed.mounted found) (sym tells.acked)
-    (subst (λ (b : Bool). PartsTold n (counts n) (marks_at n nodes s (counts n) what) (numbered n (given_at n nodes s what)) (command_at n nodes s what) (answer_at n nodes s what) b found) (sym tells.mounted)
-    (subst (λ (f : Option Durable). PartsTold n (counts n) (marks_at n nodes s (counts n) what) (numbered n (given_at n nodes s what)) (command_at n nodes s what) (answer_at n nodes s what) (is_mounting what) f) (sym is)
-    (what_parts n nodes (counts n) s what)))) in
     record {
       whole = record { command = command_at n nodes s what; which = tells.tried; is = command };
-      tried = subst (λ (o : Option NodeState). commands_in (tagged n (marks_for n nodes o (counts n) what)) ≡ listed (tried_at n (tried_by a deed))) (sym at) parts.tried;
-      mountings = subst (λ (o : Option NodeState). mountings_in (tagged n (marks_for n nodes o (counts n) what)) ≡ listed (mounted_at n (counts n) (mounted_now deed.mounted found))) (sym at) parts.mountings;
-      given = subst (λ (o : Option NodeState). given_by n nodes o what ≡ given_in (tried_at n (tried_by a deed))) (sym at) parts.given;
-      raises = λ k raise acked. parts.raises k (ap (λ (t : Option Attempt). command_in a t) raise) acked;
+      parts = rw (at, command, tells.acked, tells.mounted, is) (what_parts n nodes (counts n) s what);
     }
 
 -- where no node takes the step nothing is told
-silent_told : (n count : ℕ) (a : Act) (deed : Deed) (found : Option Durable) → deed.tried ≡ None → deed.mounted ≡ false
-    → PartsTold n count [] [] (command_in a deed.tried) deed.acked deed.mounted found
-silent_told n count a deed found none unmounted =
-    subst (λ (t : Option Attempt). PartsTold n count [] [] (command_in a t) deed.acked deed.mounted found) (sym none)
-    (subst (λ (b : Bool). PartsTold n count [] [] None deed.acked b found) (sym unmounted) (record { tried = refl; mountings = refl; given = refl; raises = λ k raise is. absurd (let bad = raise in cc) }))
-
 pub quiet_told : (nodes : ℕ) (w : World) (counts : ℕ → ℕ) (a : Act) (step : Step) (n : ℕ) (deed : Deed) (found : Option Durable) → step_marks nodes w counts step ≡ [] → groups_at nodes w step ≡ [] → deed.tried ≡ None → deed.mounted ≡ false
     → StepTold nodes w counts a step n deed found
-quiet_told nodes w counts a step n deed found no_marks no_groups none unmounted =
-    let parts = silent_told n (counts n) a deed found none unmounted in
-    record {
-      whole = record { command = None; which = none; is = ap (λ (t : Option Attempt). command_in a t) none };
-      tried = ap commands_in no_marks ∙ parts.tried;
-      mountings = ap mountings_in no_marks ∙ parts.mountings;
-      given = no_groups ∙ parts.given;
-      raises = λ k raise is. absurd (let bad : None ≡ Some attempt.Raise = sym none ∙ raise in cc);
-    }
+quiet_told nodes w counts a step n deed found no_marks no_groups none unmounted = record {
+  whole = record { command = None; which = none; is = ap (λ (t : Option Attempt). command_in a t) none };
+  parts = rw (no_marks, no_groups, none, unmounted) (record { tried = refl; mountings = refl; given = refl; raises = λ k raise is. absurd (let bad = raise in cc) });
+}

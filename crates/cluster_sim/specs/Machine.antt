@@ -9,8 +9,6 @@ use Rattle.durable_node.specs.Node.{Node, Stands}
 use Rattle.histories.specs.NodeState.{NodeState, opening}
 use Rattle.histories.specs.declared.what.What.{What}
 use Rattle.histories.specs.declared.what.What.TheVariants.{Did, Refused, Faulted, Rests, Crashed, Recovered, MountFailed, RaiseFailed, RaiseRefused}
-use Rattle.histories.specs.declared.what.Rest.{Rest}
-use Rattle.histories.specs.declared.what.Rest.TheVariants.{Nothing, Compacted, CompactDown, CompactWorn}
 use Rattle.histories.specs.After.{after, sent_at, found_at}
 use Rattle.histories.specs.Possible.{IsPossible, IsOfSlots}
 use Rattle.schedule.specs.declared.act.Act.{Act}
@@ -22,7 +20,7 @@ use Rattle.cluster_sim.specs.declared.outcome.Outcome.TheVariants as outcome
 use Rattle.runs.specs.World.{World}
 use Rattle.runs.specs.Step.{Step, Takes, world_after}
 use Rattle.runs.specs.Run.{IsAllowed}
-use Rattle.runs.specs.Acts.{StepOfSlots, what_outcome, outcome_of, act_outcome}
+use Rattle.runs.specs.Acts.{StepOfSlots, what_outcome, outcome_of, if_compaction, act_outcome}
 use Rattle.runs.specs.Growth.{IsNext}
 use Rattle.cluster_sim.specs.Told.{told}
 
@@ -64,17 +62,6 @@ pub record AreOpened (slots count so_far : ℕ) (nodes : List (Node Memory)) : T
 
 -- ---- one node
 
--- one such thing came of a call at a node that was in this state, and so it is told, sent and kept
-pub record Comes (slots id nodes : ℕ) (P : What → Type 0) (s : NodeState) (outcome : Outcome) (new : Node Memory) (net net' : Network) : Type 0 where
-  pub what : What
-  pub is : P what
-  pub possible : IsPossible id nodes s what
-  pub of_slots : IsOfSlots slots id nodes s what
-  pub is_told : outcome ≡ told (what_outcome id nodes (length net.sent) s what)
-  pub sent : net' ≡ after_all_sent net (sent_at id nodes s what)
-  pub found : new.found ≡ found_at s what
-  pub stands : Stands state_of new (after id nodes s what)
-
 -- whether it mounted the disk
 abbrev pub is_mounting : What → Bool
 is_mounting (Did event) = false
@@ -87,36 +74,27 @@ is_mounting MountFailed = false
 is_mounting (RaiseFailed kept) = true
 is_mounting (RaiseRefused kept) = true
 
+-- an act in which no node called its disk for a command, nor mounted it
+abbrev pub bare : Outcome → Deed
+bare o = record { outcome = o; tried = None; acked = None; mounted = false }
+
 -- the node tells this of its disk
 pub record DeedOf (id nodes : ℕ) (s : NodeState) (what : What) (deed : Deed) : Type 0 where
   pub tried : deed.tried ≡ option_map attempt_of (command_at id nodes s what)
   pub acked : deed.acked ≡ answer_at id nodes s what
   pub mounted : deed.mounted ≡ is_mounting what
 
--- and such a thing came of a call
-pub record CameAt (slots id nodes : ℕ) (P : What → Type 0) (s : NodeState) (deed : Deed) (new : Node Memory) (net net' : Network) : Type 0 where
-  pub comes : Comes slots id nodes P s deed.outcome new net net'
-  pub tells : DeedOf id nodes s comes.what deed
-
--- ---- a compaction
-
--- what would be told of it if it were no compaction: a node that falls is told as one that crashed
-abbrev pub bare_outcome : ℕ → Outcome → Outcome
-bare_outcome first (outcome.Done answer n many) = outcome.Done answer n many
-bare_outcome first (outcome.Refused why) = outcome.Refused why
-bare_outcome first outcome.Faulted = outcome.Done None first 0
-
-abbrev pub CompactedRest : Outcome → Rest → Type 0
-CompactedRest o Nothing = ⊥
-CompactedRest o Compacted = o ≢ outcome.Faulted
-CompactedRest o CompactDown = o ≢ outcome.Faulted
-CompactedRest o CompactWorn = o ≢ outcome.Faulted
-
--- it came of a compaction of which this is told
-abbrev pub CompactedAs : Outcome → What → Type 0
-CompactedAs o (Rests rest) = CompactedRest o rest
-CompactedAs o Crashed = o ≡ outcome.Faulted
-CompactedAs o what = ⊥
+-- one such thing came of a call at a node that was in this state, and so it is told, sent and kept
+pub record Comes (slots id nodes : ℕ) (compacts : Bool) (P : What → Type 0) (s : NodeState) (deed : Deed) (new : Node Memory) (net net' : Network) : Type 0 where
+  pub what : What
+  pub is : P what
+  pub possible : IsPossible id nodes s what
+  pub of_slots : IsOfSlots slots id nodes s what
+  pub is_told : deed.outcome ≡ told (if_compaction compacts (Takes id 0 what) (what_outcome id nodes (length net.sent) s what))
+  pub tells : DeedOf id nodes s what deed
+  pub sent : net' ≡ after_all_sent net (sent_at id nodes s what)
+  pub found : new.found ≡ found_at s what
+  pub stands : Stands state_of new (after id nodes s what)
 
 -- an act that didn't fault left a disk's count of failures as it was; in one that faulted it rose, or stands at its greatest value
 abbrev pub IsCounted : Option Memory → Option Memory → Outcome → Type 0
@@ -149,16 +127,6 @@ abbrev pub Shows : World → Step → Machine → Type 0
 Shows w (Takes n number what) machine = (node : Node Memory) (s : NodeState) → slice_get machine.nodes n ≡ Some node → slice_get w.states n ≡ Some s → node.found ≡ found_at s what
 Shows w step machine = Unit {0}
 
--- a step of this kind led from what the cluster stood for to what it stands for now, and so it is told
-pub record Makes (Q : Step → Type 0) (w : World) (outcome : Outcome) (new : Machine) : Type 0 where
-  pub step : Step
-  pub is : Q step
-  pub allowed : IsAllowed (length w.states) w step
-  pub of_slots : StepOfSlots new.slots (length w.states) w step
-  pub is_told : outcome ≡ told (outcome_of (length w.states) w step)
-  pub shows : Shows w step new
-  pub stands : StandsFor new (world_after (length w.states) w step)
-
 -- the act had one of its steps
 pub record Acted (w : World) (act : Act) (outcome : Outcome) (new : Machine) : Type 0 where
   pub step : Step
@@ -172,10 +140,16 @@ abbrev pub Tells : World → Step → Deed → Type 0
 Tells w (Takes n number what) deed = (s : NodeState) → slice_get w.states n ≡ Some s → DeedOf n (length w.states) s what deed
 Tells w step deed = (deed.tried ≡ None) × (deed.mounted ≡ false)
 
--- a step of this kind, and what its node tells
-pub record Made (Q : Step → Type 0) (w : World) (deed : Deed) (new : Machine) : Type 0 where
-  pub makes : Makes Q w deed.outcome new
-  pub tells : Tells w makes.step deed
+-- a step of this kind led from what the cluster stood for to what it stands for now, and so it is told
+pub record Makes (compacts : Bool) (Q : Step → Type 0) (w : World) (deed : Deed) (new : Machine) : Type 0 where
+  pub step : Step
+  pub is : Q step
+  pub allowed : IsAllowed (length w.states) w step
+  pub of_slots : StepOfSlots new.slots (length w.states) w step
+  pub is_told : deed.outcome ≡ told (if_compaction compacts step (outcome_of (length w.states) w step))
+  pub shows : Shows w step new
+  pub tells : Tells w step deed
+  pub stands : StandsFor new (world_after (length w.states) w step)
 
 -- the act, and what its node tells
 pub record Performed (w : World) (act : Act) (deed : Deed) (new : Machine) : Type 0 where

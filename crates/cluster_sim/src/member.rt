@@ -1,5 +1,5 @@
 // One node of a cluster, and the network that carries its messages.
-ghost use Rattle.std.specs.Prelude.{◌≡◌, ◌≤◌, length, IfOk, OnErr, ℕ, None};
+ghost use Rattle.std.specs.Prelude.{◌≡◌, ◌≤◌, length, true, false, IfOk, IsSome, OnErr, ℕ, None};
 ghost use Rattle.sector_disk.specs.Memory.{state_of};
 ghost use Rattle.sim_net.specs.Network.{after_all_sent};
 ghost use Rattle.durable_node.specs.Arming.{armed_disk};
@@ -9,8 +9,9 @@ ghost use Rattle.durable_node.specs.Stepping.{CameOf};
 ghost use Rattle.histories.specs.Fates.{what_of};
 ghost use Rattle.histories.specs.declared.what.What.TheVariants.{Rests, Crashed};
 ghost use Rattle.histories.specs.declared.what.Rest.TheVariants.{Nothing};
-ghost use Rattle.cluster_sim.specs.Machine.{IsOfSize, IsSame, IsCounted, IsUntouchedNode, CameAt, Comes, CompactedAs, IsSettled, bare_outcome, is_mounting};
-ghost use Rattle.cluster_sim.specs.Operated.{IsLeftWith};
+ghost use Rattle.cluster_sim.specs.Machine.{IsOfSize, IsSame, IsCounted, IsUntouchedNode, Comes, IsSettled, bare, is_mounting};
+ghost use Rattle.cluster_sim.specs.Operated.{IsLeftWith, OperatedAs, OperatesDisk, operated_at};
+ghost use Rattle.runs.specs.Acts.{IsCompaction, is_compaction};
 ghost use Rattle.cluster_sim.specs.Told.{IsCompactionTold, came_told};
 ghost use Rattle.durable_node.specs.Faults.{fault_of};
 
@@ -18,7 +19,7 @@ use crate::outcome::{Deed, Outcome, Refusal};
 use durable_node::{Came, DurableNode, NodeFault};
 use histories::Fate;
 use node_core::Event;
-use schedule::Fill;
+use schedule::{Act, Fill};
 use sector_disk::MemDisk;
 use sim_net::Net;
 use std::alloc::AllocError;
@@ -35,7 +36,7 @@ pub(crate) fn handle(
 ) -> Result<Deed, AllocError>
     ensures same { IsSame node.old node.new }
     ensures came { (slots : ℕ) (s : NodeState) → slots ≤ 4096 → IsOfSize slots node.old.disk → Stands state_of node.old s
-        → IfOk result (λ deed. CameAt slots node.old.id node.old.nodes (CameOf event.now) s deed node.new net.old.network net.new.network) }
+        → IfOk result (λ deed. Comes slots node.old.id node.old.nodes false (CameOf event.now) s deed node.new net.old.network net.new.network) }
     ensures memory { OnErr result ((s : NodeState) → Stands state_of node.old s → IsUntouchedNode node.old node.new) }
     ensures unsent { OnErr result (net.new.network ≡ net.old.network) }
     ensures counted { IfOk result (λ deed. IsCounted node.old.disk node.new.disk deed.outcome) }
@@ -102,11 +103,29 @@ fn send_all(net: &mut Net, messages: &[Message])
     }
 }
 
-/// Arms a node's disk.
-pub(crate) fn arm(node: &mut DurableNode<MemDisk>, net: &Net, calls: u64) -> Outcome
+/// An act of the operator at a node: it arms the disk, crashes the node, or compacts its journal. Where the device fails in a
+/// compaction, the node is Down.
+pub(crate) fn operate(node: &mut DurableNode<MemDisk>, net: &Net, act: &Act) -> Outcome
+    requires { IsSome (operated_at act.now) }
     ensures same { IsSame node.old node.new }
     ensures came { (slots : ℕ) (s : NodeState) → Stands state_of node.old s
-        → Comes slots node.old.id node.old.nodes (λ what. what ≡ Rests Nothing) s result node.new net.now.network net.now.network }
+        → Comes slots node.old.id node.old.nodes (is_compaction act.now) (OperatedAs act.now) s (bare result) node.new net.now.network net.now.network }
+    ensures counted { IsCounted node.old.disk node.new.disk result }
+    ensures disk { OperatesDisk act.now node.old.disk node.new.disk }
+{
+    match act {
+        Act::Arm(_, calls) => arm(node, net, *calls),
+        Act::Crash(_, fill) => crash(node, net, fill),
+        Act::Compact(_) => compact(node, net),
+        _ => unreachable!(),
+    }
+}
+
+/// Arms a node's disk.
+fn arm(node: &mut DurableNode<MemDisk>, net: &Net, calls: u64) -> Outcome
+    ensures same { IsSame node.old node.new }
+    ensures came { (slots : ℕ) (s : NodeState) → Stands state_of node.old s
+        → Comes slots node.old.id node.old.nodes false (λ what. what ≡ Rests Nothing) s (bare result) node.new net.now.network net.now.network }
     ensures counted { IsCounted node.old.disk node.new.disk result }
     ensures armed { node.new.disk ≡ armed_disk calls node.old.disk }
 {
@@ -115,10 +134,10 @@ pub(crate) fn arm(node: &mut DurableNode<MemDisk>, net: &Net, calls: u64) -> Out
 }
 
 /// Crashes a node.
-pub(crate) fn crash(node: &mut DurableNode<MemDisk>, net: &Net, fill: &Fill) -> Outcome
+fn crash(node: &mut DurableNode<MemDisk>, net: &Net, fill: &Fill) -> Outcome
     ensures same { IsSame node.old node.new }
     ensures came { (slots : ℕ) (s : NodeState) → Stands state_of node.old s
-        → Comes slots node.old.id node.old.nodes (λ what. what ≡ Crashed) s result node.new net.now.network net.now.network }
+        → Comes slots node.old.id node.old.nodes false (λ what. what ≡ Crashed) s (bare result) node.new net.now.network net.now.network }
     ensures counted { IsCounted node.old.disk node.new.disk result }
     ensures left { IsLeftWith fill.now node.old.disk node.new.disk }
 {
@@ -126,11 +145,11 @@ pub(crate) fn crash(node: &mut DurableNode<MemDisk>, net: &Net, fill: &Fill) -> 
     nothing_sent(net)
 }
 
-/// Compacts a node's journal. Where the device fails in it, the node is Down.
-pub(crate) fn compact(node: &mut DurableNode<MemDisk>, net: &Net) -> Outcome
+/// Compacts a node's journal.
+fn compact(node: &mut DurableNode<MemDisk>, net: &Net) -> Outcome
     ensures same { IsSame node.old node.new }
     ensures came { (slots : ℕ) (s : NodeState) → Stands state_of node.old s
-        → Comes slots node.old.id node.old.nodes (CompactedAs result) s (bare_outcome (length net.now.network.sent) result) node.new net.now.network net.now.network }
+        → Comes slots node.old.id node.old.nodes true IsCompaction s (bare result) node.new net.now.network net.now.network }
     ensures counted { IsCounted node.old.disk node.new.disk result }
 {
     let answer = node.compact();

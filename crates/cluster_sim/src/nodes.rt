@@ -1,24 +1,23 @@
 // The nodes of a cluster, and the network between them.
-ghost use Rattle.std.specs.Prelude.{◌≡◌, ◌≢◌, ◌≤◌, ◌<◌, ◌&&◌, length, nat_lt, slice_get, Some, None, IfOk, OnErr, ℕ};
+ghost use Rattle.std.specs.Prelude.{◌≡◌, ◌≢◌, ◌≤◌, ◌<◌, ◌&&◌, length, nat_lt, slice_get, false, Some, None, IfOk, OnErr, ℕ};
 ghost use Rattle.group_task.specs.declared.node.TheConstants.{NODES};
-ghost use Rattle.durable_node.specs.Arming.{armed_disk};
 ghost use Rattle.durable_node.specs.Stepping.{CameOf};
 ghost use Rattle.histories.specs.What.{brought, AreAddressed};
 ghost use Rattle.schedule.specs.declared.act.Act.TheVariants as acts;
 ghost use Rattle.runs.specs.Acts.{At};
 ghost use Rattle.runs.specs.Events.{event_at};
-ghost use Rattle.cluster_sim.specs.Machine.{AreOpened, IsUntouched, StandsFor, Made, Acted, FaultsAt};
-ghost use Rattle.cluster_sim.specs.Operated.{Operates, IsLeftWith, disk_at};
+ghost use Rattle.cluster_sim.specs.Machine.{AreOpened, IsUntouched, StandsFor, Makes, Performed, FaultsAt, bare};
+ghost use Rattle.cluster_sim.specs.Operated.{Operates, operated_at};
 ghost use Rattle.runs.specs.Reporting.{node_named, node_or_first};
 ghost use Rattle.runs.specs.Run.{IsBrought};
 ghost use Rattle.runs.specs.World.{World, start};
 
-use crate::member::{self, handle, nothing_sent};
+use crate::member::{handle, nothing_sent, operate};
 use crate::outcome::{Deed, Outcome, Refusal};
 use durable_node::{DurableNode, formatted_disk};
 use group_task::NodeId;
 use node_core::Event;
-use schedule::{Act, Fill};
+use schedule::Act;
 use sector_disk::MemDisk;
 use sim_net::Net;
 use std::alloc::{AllocError, Global};
@@ -106,7 +105,7 @@ impl Nodes {
     pub(crate) fn take(&mut self, id: NodeId, event: &Event) -> Result<Deed, AllocError>
         ensures slots { self.new.slots ≡ self.old.slots }
         ensures acted { (w : World) (number : ℕ) → StandsFor self.old w → IsBrought w number (brought (Some event.now)) → AreAddressed id (brought (Some event.now))
-            → IfOk result (λ deed. Made (λ step. At (nat_lt id (length w.states)) id number (CameOf event.now) step) w deed self.new) }
+            → IfOk result (λ deed. Makes false (λ step. At (nat_lt id (length w.states)) id number (CameOf event.now) step) w deed self.new) }
         ensures memory { (w : World) → StandsFor self.old w → OnErr result (StandsFor self.new w) }
         ensures untouched { (w : World) → StandsFor self.old w → OnErr result (IsUntouched self.old self.new) }
         ensures faults { IfOk result (λ deed. FaultsAt (node_or_first (length self.old.nodes) id) self.old self.new deed.outcome) }
@@ -126,7 +125,7 @@ impl Nodes {
     /// Loses the message of this number.
     fn lose(&mut self, number: u64) -> Outcome
         ensures slots { self.new.slots ≡ self.old.slots }
-        ensures acted { (w : World) → StandsFor self.old w → Acted w (acts.Lose number) result self.new }
+        ensures acted { (w : World) → StandsFor self.old w → Performed w (acts.Lose number) (bare result) self.new }
         ensures faults { FaultsAt 0 self.old self.new result }
     {
         match self.net.lose(number) {
@@ -138,7 +137,7 @@ impl Nodes {
     /// Cuts two nodes from one another.
     fn cut(&mut self, a: NodeId, b: NodeId) -> Outcome
         ensures slots { self.new.slots ≡ self.old.slots }
-        ensures acted { (w : World) → StandsFor self.old w → Acted w (acts.Cut a b) result self.new }
+        ensures acted { (w : World) → StandsFor self.old w → Performed w (acts.Cut a b) (bare result) self.new }
         ensures faults { FaultsAt 0 self.old self.new result }
     {
         if !self.has_both(a, b) {
@@ -151,7 +150,7 @@ impl Nodes {
     /// Joins two nodes again.
     fn mend(&mut self, a: NodeId, b: NodeId) -> Outcome
         ensures slots { self.new.slots ≡ self.old.slots }
-        ensures acted { (w : World) → StandsFor self.old w → Acted w (acts.Mend a b) result self.new }
+        ensures acted { (w : World) → StandsFor self.old w → Performed w (acts.Mend a b) (bare result) self.new }
         ensures faults { FaultsAt 0 self.old self.new result }
     {
         if !self.has_both(a, b) {
@@ -169,45 +168,19 @@ impl Nodes {
         usize::from(a.number()) < count && usize::from(b.number()) < count
     }
 
-    /// Arms the disk of a node.
-    fn arm(&mut self, id: NodeId, calls: u64) -> Outcome
+    /// An act of the operator at this node.
+    fn operate(&mut self, id: NodeId, act: &Act) -> Outcome
+        requires { operated_at act.now ≡ Some id }
         ensures slots { self.new.slots ≡ self.old.slots }
-        ensures acted { (w : World) → StandsFor self.old w → Acted w (acts.Arm id calls) result self.new }
-        ensures faults { FaultsAt (node_or_first (length self.old.nodes) id) self.old self.new result }
-        ensures disk { disk_at self.new id ≡ armed_disk calls (disk_at self.old id) }
+        ensures acted { (w : World) → StandsFor self.old w → Performed w act.now (bare result) self.new }
+        ensures faults { FaultsAt (node_named (length self.old.nodes) self.old.net.sent act.now) self.old self.new result }
+        ensures disk { Operates act.now self.old self.new }
     {
         let place = usize::from(id.number());
         if place >= self.nodes.len() {
             return Outcome::Refused(Refusal::Stranger);
         }
-        member::arm(&mut self.nodes[place], &self.net, calls)
-    }
-
-    /// Crashes a node.
-    fn crash(&mut self, id: NodeId, fill: &Fill) -> Outcome
-        ensures slots { self.new.slots ≡ self.old.slots }
-        ensures acted { (w : World) → StandsFor self.old w → Acted w (acts.Crash id fill.now) result self.new }
-        ensures faults { FaultsAt (node_or_first (length self.old.nodes) id) self.old self.new result }
-        ensures disk { IsLeftWith fill.now (disk_at self.old id) (disk_at self.new id) }
-    {
-        let place = usize::from(id.number());
-        if place >= self.nodes.len() {
-            return Outcome::Refused(Refusal::Stranger);
-        }
-        member::crash(&mut self.nodes[place], &self.net, fill)
-    }
-
-    /// Compacts the journal of a node.
-    fn compact(&mut self, id: NodeId) -> Outcome
-        ensures slots { self.new.slots ≡ self.old.slots }
-        ensures acted { (w : World) → StandsFor self.old w → Acted w (acts.Compact id) result self.new }
-        ensures faults { FaultsAt (node_or_first (length self.old.nodes) id) self.old self.new result }
-    {
-        let place = usize::from(id.number());
-        if place >= self.nodes.len() {
-            return Outcome::Refused(Refusal::Stranger);
-        }
-        member::compact(&mut self.nodes[place], &self.net)
+        operate(&mut self.nodes[place], &self.net, act)
     }
 
     /// An act that is no event, nor brings one.
@@ -215,7 +188,7 @@ impl Nodes {
         requires event { event_at act.now ≡ None }
         requires deliver { (k : ℕ) → act.now ≢ acts.Deliver k }
         ensures slots { self.new.slots ≡ self.old.slots }
-        ensures acted { (w : World) → StandsFor self.old w → Acted w act.now result self.new }
+        ensures acted { (w : World) → StandsFor self.old w → Performed w act.now (bare result) self.new }
         ensures faults { FaultsAt (node_named (length self.old.nodes) self.old.net.sent act.now) self.old self.new result }
         ensures disk { Operates act.now self.old self.new }
     {
@@ -223,9 +196,7 @@ impl Nodes {
             Act::Lose(number) => self.lose(*number),
             Act::Cut(a, b) => self.cut(*a, *b),
             Act::Mend(a, b) => self.mend(*a, *b),
-            Act::Arm(id, calls) => self.arm(*id, *calls),
-            Act::Crash(id, fill) => self.crash(*id, fill),
-            Act::Compact(id) => self.compact(*id),
+            Act::Arm(id, _) | Act::Crash(id, _) | Act::Compact(id) => self.operate(*id, act),
             _ => unreachable!(),
         }
     }

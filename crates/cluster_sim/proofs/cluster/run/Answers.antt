@@ -1,4 +1,4 @@
-use Rattle.std.proofs.Common.{◌≡◌, ◌+◌, ◌<◌, ◌≤◌, ◌^◌, [], length, ◌∙◌, ap, arith}
+use Rattle.std.proofs.Common.{◌+◌, ◌<◌, ◌^◌, [], length, ◌∙◌, ap, arith}
 use Rattle.std.proofs.lemmas.List.{length-map}
 use Rattle.sim_net.specs.Network.{Network}
 use Rattle.runs.specs.World.{start}
@@ -14,10 +14,6 @@ returns c =
     let nodes = c.args.nodes in
     let h = c.in_ok-step_all.ensures.run nodes (report_of nodes [] []) (start nodes) (length_openings 0 nodes) opens.opens in
     let ms = c.into_parts.result.0.moments in
-    let many : length (report_in c.into_parts.result.0).moments ≡ length ms.items = length-map ms.items moment_in in
-    let len : ms.len ≡ length ms.items = ms.ok.0 in
-    let room : ms.len ≤ ms.cap = ms.ok.1 in
-    let small = ms.small in
-    let short : length (report_in c.into_parts.result.0).moments + 1 < 2 ^ 64 = omega (arith, many, len, room, small) in
+    let short : length (report_in c.into_parts.result.0).moments + 1 < 2 ^ 64 = omega (arith, length-map ms.items moment_in, ms.ok.0, ms.ok.1, ms.small) in
     all_promised c.step_all.new.self nodes c.args.slots c.args.acts.items (report_in c.into_parts.result.0) c.into_parts.result.1.network.sent h (c.step_all.ensures.slots ∙ opens.slots) c.into_parts.ensures.report
     (ap (λ (n : Network). n.sent) c.into_parts.ensures.net) short

@@ -1,5 +1,4 @@
-use Rattle.cluster_sim.proofs.Coming.{some_of, same_by}
-use Rattle.cluster_sim.proofs.Compactions.{compacted_comes, nothing_found, compact_counted}
+use Rattle.cluster_sim.proofs.Coming.{some_of, same_by, compacted_comes, nothing_found, compact_counted}
 use Rattle.std.proofs.Common.{length}
 use Rattle.cluster_sim.proofs.member.compact.Goals as goal
 

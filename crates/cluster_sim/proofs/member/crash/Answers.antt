@@ -1,16 +1,10 @@
-use Rattle.std.proofs.Common.{ℕ, List, length, ap, subst}
-use Rattle.sector_disk.specs.Memory.{Memory}
-use Rattle.durable_node.specs.Node.{Node}
+use Rattle.std.proofs.Common.{ℕ, List, length, subst}
 use Rattle.cluster_sim.specs.Operated.{IsLeftWith}
-use Rattle.cluster_sim.proofs.Quiet.{crash_same, crashed_comes, crash_counted}
+use Rattle.cluster_sim.proofs.Coming.{crash_same, crash_counted}
 use Rattle.cluster_sim.proofs.member.crash.Goals as goal
 
 pub returns-clause-same : goal.returns-clause-same
 returns-clause-same c = crash_same c.as_slice.result.now c.args.node.now c.crash.new.self c.crash.ensures.there c.crash.ensures.down c.crash.ensures.disk
-
-pub returns-clause-came : goal.returns-clause-came
-returns-clause-came c = λ slots s stands.
-    crashed_comes slots c.args.node.now.id c.args.node.now.nodes s c.nothing_sent.result c.crash.new.self c.args.net.now.network c.nothing_sent.ensures (ap (λ (n : Node Memory). n.found) c.crash.ensures.down) (c.crash.ensures.stands s stands)
 
 pub returns-clause-counted : goal.returns-clause-counted
 returns-clause-counted c = crash_counted c.as_slice.result.now c.args.node.now c.crash.new.self c.nothing_sent.result (length c.args.net.now.network.sent) c.crash.ensures.disk c.nothing_sent.ensures

@@ -3,37 +3,31 @@ use Rattle.wire_msg.specs.Envelope.{Envelope}
 use Rattle.sector_disk.specs.Memory.{state_of}
 use Rattle.sim_net.specs.Network.{Network, after_all_sent}
 use Rattle.durable_node.specs.Faults.{fault_of, told}
-use Rattle.durable_node.specs.Stepping.{CountsOf}
+use Rattle.durable_node.specs.Stepping.{Steps, CountsOf}
 use Rattle.cluster_sim.specs.Told.{came_told}
-use Rattle.cluster_sim.proofs.Settled.{settled_id, settled_nodes, steps_and_settles, counts_and_settles}
-use Rattle.cluster_sim.proofs.Coming.{same_by, comes_by, came_counted, stuck_untouched}
+use Rattle.cluster_sim.specs.Machine.{IsSame}
+use Rattle.cluster_sim.proofs.Coming.{same_by, settled, comes_by, came_counted}
 use Rattle.cluster_sim.proofs.member.handle.Goals as goal
 
-counts : (c : goal.After-drop-came) → CountsOf state_of c.args.node.now.disk c.forget_written.new.node.disk (told (Ok c.in-Ok.came))
-counts c = counts_and_settles c.args.node.now.disk c.step.new.self c.forget_written.new.node (told (Ok c.in-Ok.came)) c.forget_written.ensures c.in-Ok.ensures.counts
+settles : (c : goal.After-drop-came) → IsSame c.args.node.now c.forget_written.new.node × Steps state_of c.args.node.now c.forget_written.new.node c.args.event.now c.in-Ok.came
+    × CountsOf state_of c.args.node.now.disk c.forget_written.new.node.disk (told (Ok c.in-Ok.came))
+settles c = settled c.args.node.now c.step.new.self c.forget_written.new.node c.args.event.now c.in-Ok.came (told (Ok c.in-Ok.came)) c.forget_written.ensures c.step.ensures.id c.step.ensures.nodes c.in-Ok.ensures.counts c.in-Ok.ensures.step
 
 pub returns-clause-same : goal.returns-clause-same
-returns-clause-same c =
-    same_by c.args.node.now c.forget_written.new.node (told (Ok c.in-Ok.came))
-    (settled_id c.step.new.self c.forget_written.new.node c.forget_written.ensures ∙ c.step.ensures.id)
-    (settled_nodes c.step.new.self c.forget_written.new.node c.forget_written.ensures ∙ c.step.ensures.nodes) (counts c)
+returns-clause-same c = (settles c).0
 
 pub returns-in-Err-clause-same : goal.returns-in-Err-clause-same
 returns-in-Err-clause-same c = same_by c.args.node.now c.step.new.self (told c.step.result) c.step.ensures.id c.step.ensures.nodes c.step.ensures.counts
-
-pub returns-in-Err-clause-memory : goal.returns-in-Err-clause-memory
-returns-in-Err-clause-memory c = λ s stands. stuck_untouched c.args.node.now c.step.new.self c.args.event.now _ s c.step.ensures.counts.was_there c.in-Err.ensures.stuck stands
 
 pub returns-clause-came : goal.returns-clause-came
 returns-clause-came c =
     let net = c.args.net.now.network in
     let came = c.in-Ok.came in
-    let steps = steps_and_settles c.args.node.now c.step.new.self c.forget_written.new.node c.args.event.now came c.forget_written.ensures c.in-Ok.ensures.step in
     let first : c.len-first.result ≡ length net.sent = c.len-first.ensures ∙ ap (λ (ms : List Envelope). length ms) c.sent.ensures ∙ ap (λ (n : Network). length n.sent) c.reserve.ensures.network in
-    comes_by c.args.event.now c.args.node.now c.forget_written.new.node net c.send_all.new.net.network came _ c.step.ensures.counts.was_there steps refl refl (c.is_mounting.ensures c.args.event.now)
+    comes_by c.args.event.now c.args.node.now c.forget_written.new.node net c.send_all.new.net.network came _ c.step.ensures.counts.was_there (settles c).1 refl refl (c.is_mounting.ensures c.args.event.now)
     (c.outcome_of.ensures ∙ ap (λ (n : ℕ). came_told (fault_of came.fate) n came) first)
     (c.send_all.ensures ∙ (λ i. after_all_sent (c.reserve.ensures.network i) (c.deref.ensures.value i)))
 
 pub returns-clause-counted : goal.returns-clause-counted
 returns-clause-counted c =
-    came_counted c.args.node.now.disk c.forget_written.new.node.disk c.in-Ok.came c.len-first.result c.outcome_of.result c.outcome_of.ensures (counts c)
+    came_counted c.args.node.now.disk c.forget_written.new.node.disk c.in-Ok.came c.len-first.result c.outcome_of.result c.outcome_of.ensures (settles c).2

@@ -1,4 +1,4 @@
-use Rattle.std.proofs.Common.{◌≡◌, ◌+◌, ◌<◌, ◌≤◌, ◌^◌, length, map, refl, subst, arith}
+use Rattle.std.proofs.Common.{◌+◌, ◌<◌, ◌^◌, length, map, refl, subst, arith}
 use Rattle.std.proofs.lemmas.List.{length-map}
 use Rattle.cluster_sim.specs.Recorded.{Recorded, ToldMoment, HasRun, IsPromised, moment_in, report_in}
 use Rattle.cluster_sim.proofs.Promised.{acts_shown, promised}
@@ -18,10 +18,6 @@ returns-clause-keeps c =
     let was = c.self.inside in
     let whole : Recorded = record { machine = was.simulation; report = report_in was.report } in
     let ms = was.report.moments in
-    let many : length whole.report.moments ≡ length ms.items = length-map ms.items moment_in in
-    let len : ms.len ≡ length ms.items = ms.ok.0 in
-    let room : ms.len ≤ ms.cap = ms.ok.1 in
-    let small = ms.small in
-    let short : length whole.report.moments + 1 < 2 ^ 64 = omega (arith, many, len, room, small) in
+    let short : length whole.report.moments + 1 < 2 ^ 64 = omega (arith, length-map ms.items moment_in, ms.ok.0, ms.ok.1, ms.small) in
     subst (λ (x : Recorded). IsPromised (length x.machine.nodes) x.machine.slots (map (λ (m : ToldMoment). m.act) x.report.moments) (report_in was.report) x.machine.net.sent) c.self.view_is
     (promised whole inv.world inv.run (map (λ (m : ToldMoment). m.act) whole.report.moments) inv.tells (acts_shown whole inv.world inv.run inv.tells) short)

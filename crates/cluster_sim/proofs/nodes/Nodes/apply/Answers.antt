@@ -1,7 +1,10 @@
-use Rattle.std.proofs.Common.{sym, subst}
-use Rattle.schedule.specs.declared.act.Act.{Act}
-use Rattle.cluster_sim.specs.Operated.{Operates}
 use Rattle.cluster_sim.proofs.nodes.Nodes.apply.Goals as goal
 
-pub returns-in-Crash-clause-disk : goal.returns-in-Crash-clause-disk
-returns-in-Crash-clause-disk c = subst (λ (a : Act). Operates a c.args.self.now c.crash.new.self) (sym c.in-Crash.is) c.crash.ensures.disk
+pub returns-in-Lose-clause-acted : goal.returns-in-Lose-clause-acted
+returns-in-Lose-clause-acted c = rw c.in-Lose.is c.lose.ensures.acted
+
+pub returns-in-Cut-clause-acted : goal.returns-in-Cut-clause-acted
+returns-in-Cut-clause-acted c = rw c.in-Cut.is c.cut.ensures.acted
+
+pub returns-in-Mend-clause-acted : goal.returns-in-Mend-clause-acted
+returns-in-Mend-clause-acted c = rw c.in-Mend.is c.mend.ensures.acted

@@ -1,9 +1,7 @@
-use Rattle.std.proofs.Common.{◌∙◌, ap, sym, None}
+use Rattle.std.proofs.Common.{◌∙◌, ap}
 use Rattle.sim_net.specs.Network.{Roomy}
 use Rattle.cluster_sim.specs.Machine.{Machine}
-use Rattle.cluster_sim.proofs.Doings.{lost_by, not_lost_by, ok_not_err}
-use Rattle.cluster_sim.proofs.Faulting.{faults_still}
-use Rattle.cluster_sim.proofs.Quiet.{done_quiet}
+use Rattle.cluster_sim.proofs.Doings.{lost_by, not_lost_by}
 use Rattle.cluster_sim.proofs.nodes.Nodes.lose.Goals.{in-Ok, in-Err}
 use Rattle.cluster_sim.proofs.nodes.Nodes.lose.Goals as goal
 
@@ -14,15 +12,7 @@ returns-clause-acted c = λ w stands.
     let network = λ (n : Roomy). n.network in
     elim c.match-lose.branch [
       | in-Ok b ↦ lost_by w c.args.number machine c.args.self.now c.lose.new.self.network c.match-lose.result c.self.view_is stands
-          (λ fault at. ok_not_err c.lose.result _ fault b.in-Ok.is ((c.lose.ensures.refused fault).1 at)) (ap network b.in-Ok.ensures.lost) (b.result-is ∙ b.nothing_sent.ensures)
+          (λ fault at. cc (b.in-Ok.is, (c.lose.ensures.refused fault).1 at)) (ap network b.in-Ok.ensures.lost) (b.result-is ∙ b.nothing_sent.ensures)
       | in-Err b ↦ not_lost_by w c.args.number b.in-Err.fault machine c.args.self.now c.lose.new.self.network c.match-lose.result c.self.view_is stands
           ((c.lose.ensures.refused b.in-Err.fault).0 b.in-Err.is) (ap network b.in-Err.ensures.unchanged) b.result-is
-    ]
-
-pub returns-clause-faults : goal.returns-clause-faults
-returns-clause-faults c =
-    let nodes = ap (λ (m : Machine). m.nodes) c.self.view_is in
-    elim c.match-lose.branch [
-      | in-Ok b ↦ faults_still 0 c.args.self.now _ c.match-lose.result nodes (done_quiet c.match-lose.result None _ 0 (b.result-is ∙ b.nothing_sent.ensures))
-      | in-Err b ↦ faults_still 0 c.args.self.now _ c.match-lose.result nodes (λ bad. let both = sym b.result-is ∙ bad in cc)
     ]

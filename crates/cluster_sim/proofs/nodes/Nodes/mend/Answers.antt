@@ -1,20 +1,15 @@
-use Rattle.std.proofs.Common.{refl, sym, ◌∙◌, ap, None}
+use Rattle.std.proofs.Common.{false, refl, sym, ◌∙◌, ap}
 use Rattle.sim_net.specs.Network.{Roomy}
-use Rattle.cluster_sim.specs.Machine.{Machine}
-use Rattle.cluster_sim.proofs.Doings.{mend_by}
-use Rattle.cluster_sim.proofs.Faulting.{faults_still}
-use Rattle.cluster_sim.proofs.Quiet.{done_quiet}
+use Rattle.schedule.specs.declared.act.Act.TheVariants as act
+use Rattle.runs.specs.Step.{Mends, Stranger}
+use Rattle.cluster_sim.proofs.Doings.{mend_by, denies, known_step}
 use Rattle.cluster_sim.proofs.nodes.Nodes.mend.Goals as goal
 
 pub returns-clause-acted : goal.returns-clause-acted
 returns-clause-acted c = λ w stands.
-    let was = c.self.inside in
-    let machine : Machine = record { slots = was.slots; nodes = was.nodes.items; net = was.net.network } in
-    mend_by w c.args.a c.args.b machine c.args.self.now c.mend.new.self.network c.nothing_sent.result c.self.view_is stands (sym c.has_both.ensures ∙ c.if-not-has_both.false)
+    mend_by w c.args.a c.args.b _ c.args.self.now c.mend.new.self.network c.nothing_sent.result c.self.view_is stands (sym c.has_both.ensures ∙ c.if-not-has_both.false)
     (ap (λ (n : Roomy). n.network) c.mend.ensures) c.nothing_sent.ensures
 
-pub returns-clause-faults : goal.returns-clause-faults
-returns-clause-faults c = faults_still 0 c.args.self.now _ c.nothing_sent.result (ap (λ (m : Machine). m.nodes) c.self.view_is) (done_quiet c.nothing_sent.result None _ 0 c.nothing_sent.ensures)
-
-pub returns-then-not-has_both-clause-faults : goal.returns-then-not-has_both-clause-faults
-returns-then-not-has_both-clause-faults c = faults_still 0 c.args.self.now c.args.self.now _ refl (λ bad. cc)
+pub returns-then-not-has_both-clause-acted : goal.returns-then-not-has_both-clause-acted
+returns-then-not-has_both-clause-acted c = λ w stands.
+    denies w (act.Mend c.args.a c.args.b) Stranger c.args.self.now stands refl (known_step w c.args.a c.args.b c.args.self.now (Mends c.args.a c.args.b) false stands (sym c.has_both.ensures ∙ c.if-not-has_both.true))

@@ -1,6 +1,6 @@
 use Rattle.std.proofs.Common.{ap}
 use Rattle.sim_net.specs.Network.{Roomy}
-use Rattle.cluster_sim.proofs.Opened.{starts}
+use Rattle.cluster_sim.proofs.Opening.{starts}
 use Rattle.cluster_sim.proofs.nodes.Nodes.open.Goals as goal
 
 pub returns-clause-starts : goal.returns-clause-starts

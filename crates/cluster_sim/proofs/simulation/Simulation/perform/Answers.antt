@@ -1,6 +1,5 @@
-use Rattle.std.proofs.Common.{sym, subst, refl}
-use Rattle.cluster_sim.proofs.Doings.{bare_tells, event_acted}
-use Rattle.cluster_sim.proofs.Faulting.{faults_named}
+use Rattle.std.proofs.Common.{sym, subst}
+use Rattle.cluster_sim.proofs.Doings.{event_acted, faults_named}
 use Rattle.cluster_sim.specs.Machine.{Machine, StandsFor}
 use Rattle.cluster_sim.proofs.simulation.Simulation.perform.Goals as goal
 
@@ -22,5 +21,4 @@ returns-in-Some-job_event_at-clause-faults c = faults_named c.args.act.now _ _ c
 
 pub returns-clause-acted : goal.returns-clause-acted
 returns-clause-acted c = λ w stands.
-    let acted = c.apply.ensures.acted w (subst (λ (m : Machine). StandsFor m w) (sym c.self.view_is) stands) in
-    record { acted = acted; tells = bare_tells w c.args.act.now acted.step _ (c.in_default-job_event_at.ensures.none refl (c.in_default-event_at.ensures.none refl)) c.in_default.not-Deliver acted.next.of_act (refl, refl, refl) }
+    c.apply.ensures.acted w (subst (λ (m : Machine). StandsFor m w) (sym c.self.view_is) stands)

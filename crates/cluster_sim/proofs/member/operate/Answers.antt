@@ -1,0 +1,13 @@
+use Rattle.cluster_sim.proofs.member.operate.Goals as goal
+
+pub returns-in-Arm-clause-came : goal.returns-in-Arm-clause-came
+returns-in-Arm-clause-came c = rw c.in-Arm.is c.arm.ensures.came
+
+pub returns-in-Crash-clause-came : goal.returns-in-Crash-clause-came
+returns-in-Crash-clause-came c = rw c.in-Crash.is c.crash.ensures.came
+
+pub returns-in-Crash-clause-disk : goal.returns-in-Crash-clause-disk
+returns-in-Crash-clause-disk c = rw c.in-Crash.is c.crash.ensures.left
+
+pub returns-in-Compact-clause-came : goal.returns-in-Compact-clause-came
+returns-in-Compact-clause-came c = rw c.in-Compact.is c.compact.ensures.came
