@@ -1,3 +1,5 @@
+pub mod Names
+pub mod Parts
 pub mod Mounts
 pub mod Turned
 pub mod Serves
