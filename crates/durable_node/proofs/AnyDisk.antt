@@ -1,8 +1,20 @@
 -- How a recovery that mounts its disk ends over any disk, honest or not.
 use Rattle.std.proofs.Common.{inl, inr, ℕ, Bool, Option, Some, None, Err, ap, refl}
-use Rattle.durable_node.proofs.Names.{Durable, Wanted, Core, StoreFault, StoreState, durable_of, IsMountFault, Fate, Came, fault_for, fault_of, told_as, NodeDisk, Bare, Mounted, node_with, HasRisen, IsUnmounted, Remounted, IsReadFault}
-use Rattle.durable_node.proofs.Names.by_store
-use Rattle.durable_node.proofs.Names.fate
+use Rattle.job_model.specs.Durable.{Durable}
+use Rattle.node_core.specs.declared.durable.Durable.{Durable as Wanted}
+use Rattle.node_core.specs.Core.{Core}
+use Rattle.node_store.specs.declared.fault.StoreFault.{StoreFault}
+use Rattle.node_store.specs.Store.{StoreState, durable_of}
+use Rattle.node_store.specs.Told.{IsMountFault, IsReadFault}
+use Rattle.node_store.specs.declared.fault.StoreFault.TheVariants as by_store
+use Rattle.histories.specs.declared.fate.Fate.{Fate}
+use Rattle.histories.specs.declared.fate.Fate.TheVariants as fate
+use Rattle.durable_node.specs.declared.came.Came.{Came}
+use Rattle.durable_node.specs.Faults.{fault_for, fault_of, told_as}
+use Rattle.durable_node.specs.declared.node_disk.NodeDisk.{NodeDisk}
+use Rattle.durable_node.specs.declared.node_disk.NodeDisk.TheVariants.{Bare, Mounted}
+use Rattle.durable_node.specs.Node.{node_with}
+use Rattle.durable_node.specs.Remounting.{HasRisen, IsUnmounted, Remounted}
 
 read_told : (fault : StoreFault) → IsReadFault fault → IsUnmounted (fault_for fault)
 read_told by_store.Device is = tt

@@ -1,8 +1,26 @@
 -- What a compaction leaves of a node that is up.
 use Rattle.std.proofs.Common.{◌≡◌, ◌⊎◌, inl, inr, ⊎_elim, ℕ, true, false, Bool, Option, Some, None, Result, Ok, Err, sym, ◌∙◌, ap, refl, IsTrue, IsOk, if◌then◌else◌}
-use Rattle.durable_node.proofs.Names.{DiskState, Each, Durable, Wanted, Down, Core, Worn, is_down, StoreState, durable_of, slots_for, StaysAs, KeepsSound, NodeFault, NodeState, Rests, Crashed, after, NodeDisk, Mounted, IsLeft, Stands, area_of, node_with, AnswersTo, compaction_refusal, is_last, Compacts, IsRewrittenCore}
-use Rattle.durable_node.proofs.Names.node
+use Rattle.sector_disk.specs.Disk.{DiskState}
+use Rattle.sector_disk.specs.Run.{Each}
+use Rattle.job_model.specs.Durable.{Durable}
+use Rattle.node_core.specs.declared.durable.Durable.{Durable as Wanted}
+use Rattle.node_core.specs.declared.fault.CoreFault.TheVariants.{Down}
+use Rattle.node_core.specs.Core.{Core}
+use Rattle.node_core.specs.NodeStep.{Worn}
+use Rattle.node_core.specs.State.{is_down}
+use Rattle.node_store.specs.Store.{StoreState, durable_of, slots_for, StaysAs}
+use Rattle.histories.specs.NodeState.{NodeState}
+use Rattle.histories.specs.declared.what.What.TheVariants.{Rests, Crashed}
+use Rattle.histories.specs.After.{after}
 use Rattle.histories.specs.declared.what.Rest.TheVariants.{Compacted, CompactDown, CompactWorn}
+use Rattle.durable_node.specs.Carrying.{KeepsSound}
+use Rattle.durable_node.specs.declared.fault.NodeFault.{NodeFault}
+use Rattle.durable_node.specs.declared.node_disk.NodeDisk.{NodeDisk}
+use Rattle.durable_node.specs.declared.node_disk.NodeDisk.TheVariants.{Mounted}
+use Rattle.durable_node.specs.Node.{IsLeft, Stands, area_of, node_with}
+use Rattle.durable_node.specs.Refusing.{AnswersTo, compaction_refusal, is_last}
+use Rattle.durable_node.specs.Compacting.{Compacts, IsRewrittenCore}
+use Rattle.durable_node.specs.declared.fault.NodeFault.TheVariants as node
 use Rattle.durable_node.proofs.Mounts.{left_done}
 use Rattle.durable_node.proofs.Parts.{is_some, stands_at, stands_down}
 

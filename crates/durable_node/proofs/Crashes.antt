@@ -1,8 +1,24 @@
 -- What a crash, an arming and a forgetting leave of a node over a disk in memory.
 use Rattle.std.proofs.Common.{[], ◌≡◌, ℕ, true, false, Bool, Option, Some, None, ◌∙◌, ap, subst, refl, arith, length}
-use Rattle.durable_node.proofs.Names.{Image, IsImage, Memory, all_synced, state_of, Durable, IsSound, Wanted, Core, down, is_down, slots_for, after, armed_disk, armed_in, forgotten_disk, forgotten_in, NodeDisk, Bare, Mounted, IsLeft, Stands, Node, StoreState, disk_in, kept_in, area_in, found_in, node_with, NodeState, settled, Crashed}
-use Rattle.durable_node.proofs.Parts.{at_some, stands_down}
+use Rattle.sector_disk.specs.Disk.{Image, IsImage}
+use Rattle.sector_disk.specs.Memory.{Memory, all_synced, state_of}
 use Rattle.sector_disk.proofs.Crashed.{only_image}
+use Rattle.job_model.specs.Durable.{Durable}
+use Rattle.job_journal.specs.Journal.{IsSound}
+use Rattle.node_core.specs.declared.durable.Durable.{Durable as Wanted}
+use Rattle.node_core.specs.Core.{Core}
+use Rattle.node_core.specs.Start.{down}
+use Rattle.node_core.specs.State.{is_down}
+use Rattle.node_store.specs.Store.{slots_for, StoreState}
+use Rattle.histories.specs.After.{after}
+use Rattle.histories.specs.NodeState.{NodeState, settled}
+use Rattle.histories.specs.declared.what.What.TheVariants.{Crashed}
+use Rattle.durable_node.specs.Arming.{armed_disk, armed_in}
+use Rattle.durable_node.specs.Forgetting.{forgotten_disk, forgotten_in}
+use Rattle.durable_node.specs.declared.node_disk.NodeDisk.{NodeDisk}
+use Rattle.durable_node.specs.declared.node_disk.NodeDisk.TheVariants.{Bare, Mounted}
+use Rattle.durable_node.specs.Node.{IsLeft, Stands, Node, disk_in, kept_in, area_in, found_in, node_with}
+use Rattle.durable_node.proofs.Parts.{at_some, stands_down}
 
 -- what a crash leaves has one image
 the_image : (now : Memory) (failures : ℕ) (image : Image) → now ≡ all_synced now.contents failures → IsImage (state_of now) image → image ≡ now.contents

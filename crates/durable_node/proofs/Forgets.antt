@@ -1,7 +1,17 @@
 -- A node over a disk in memory that has forgotten its earlier moments.
 use Rattle.std.proofs.Common.{◌≡◌, Option, Some, None, [], ap, refl, Result, IsErrOf}
-use Rattle.durable_node.proofs.Names.{Counts, Memory, state_of, Event, NodeState, Came, NodeFault, forgotten_disk, IsLeft, Stands, Node, after, what_of, Steps, CountsOf}
-use Rattle.durable_node.proofs.Names.node
+use Rattle.sector_disk.specs.Disk.{Counts}
+use Rattle.sector_disk.specs.Memory.{Memory, state_of}
+use Rattle.node_core.specs.declared.event.Event.{Event}
+use Rattle.histories.specs.NodeState.{NodeState}
+use Rattle.histories.specs.After.{after}
+use Rattle.histories.specs.Fates.{what_of}
+use Rattle.durable_node.specs.declared.came.Came.{Came}
+use Rattle.durable_node.specs.declared.fault.NodeFault.{NodeFault}
+use Rattle.durable_node.specs.Forgetting.{forgotten_disk}
+use Rattle.durable_node.specs.Node.{IsLeft, Stands, Node}
+use Rattle.durable_node.specs.Stepping.{Steps, CountsOf}
+use Rattle.durable_node.specs.declared.fault.NodeFault.TheVariants as node
 use Rattle.durable_node.proofs.Parts.{at_some}
 
 left_forgotten : (disk : Option Memory) (s : NodeState) → ((d : Memory) → disk ≡ Some d → IsLeft (state_of d) s) → (d : Memory) → forgotten_disk disk ≡ Some d → IsLeft (state_of d) s

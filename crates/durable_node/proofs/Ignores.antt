@@ -1,10 +1,35 @@
 -- What a node that is down does with an event that doesn't make it mount its disk.
 use Rattle.std.proofs.Common.{◌≡◌, ◌≢◌, ◌≤◌, ℕ, arith, length, [], Option, None, Result, Ok, Err, sym, ◌∙◌, ap, subst, refl, IfOk, IfErr, IsErrOf}
-use Rattle.durable_node.proofs.Names.{DiskState, Command, after_wanted, Wanted, Event, Recover, CoreFault, NoMemory, Core, refusal_of, down, State, slots_for, NodeFault, Came, NodeState, Did, Fate, what_of, after, IsForNode, NodeDisk, node_with, Stands, Does, IsIgnored, Steps, Stuck, fault_of, told, told_as, tried_none}
-use Rattle.durable_node.proofs.Names.node
-use Rattle.durable_node.proofs.Names.fate
+use Rattle.sector_disk.specs.Disk.{DiskState}
+use Rattle.job_model.specs.Command.{Command}
+use Rattle.job_model.specs.Fold.{after_wanted}
+use Rattle.node_core.specs.declared.durable.Durable.{Durable as Wanted}
+use Rattle.node_core.specs.declared.event.Event.{Event}
+use Rattle.node_core.specs.declared.event.Event.TheVariants.{Recover}
+use Rattle.node_core.specs.declared.fault.CoreFault.{CoreFault}
+use Rattle.node_core.specs.declared.fault.CoreFault.TheVariants.{NoMemory}
+use Rattle.node_core.specs.Core.{Core}
+use Rattle.node_core.specs.Refusals.{refusal_of}
+use Rattle.node_core.specs.Start.{down}
+use Rattle.node_core.specs.State.{State}
+use Rattle.node_store.specs.Store.{slots_for}
+use Rattle.histories.specs.NodeState.{NodeState}
+use Rattle.histories.specs.declared.what.What.TheVariants.{Did}
+use Rattle.histories.specs.declared.fate.Fate.{Fate}
+use Rattle.histories.specs.Fates.{what_of}
+use Rattle.histories.specs.After.{after}
+use Rattle.histories.specs.Possible.{IsForNode}
+use Rattle.histories.proofs.Attempts.{tried_none}
+use Rattle.histories.specs.declared.fate.Fate.TheVariants as fate
 use Rattle.histories.specs.declared.what.Refusal.TheVariants as refusal
 use Rattle.histories.proofs.Downs.{StaysDown, at_down}
+use Rattle.durable_node.specs.declared.fault.NodeFault.{NodeFault}
+use Rattle.durable_node.specs.declared.came.Came.{Came}
+use Rattle.durable_node.specs.declared.node_disk.NodeDisk.{NodeDisk}
+use Rattle.durable_node.specs.Node.{node_with, Stands}
+use Rattle.durable_node.specs.Stepping.{Does, IsIgnored, Steps, Stuck}
+use Rattle.durable_node.specs.Faults.{fault_of, told, told_as}
+use Rattle.durable_node.specs.declared.fault.NodeFault.TheVariants as node
 use Rattle.durable_node.proofs.Parts.{does, not_up}
 
 -- each event but Recover is one for the node

@@ -1,4 +1,3 @@
-pub mod Names
 pub mod Parts
 pub mod Mounts
 pub mod Turned

@@ -1,8 +1,18 @@
 -- What calls of a store leave of what its disk stands for.
 use Rattle.std.proofs.Common.{◌≡◌, ◌+◌, ◌*◌, ◌≤◌, inl, ⊎_elim, ℕ, true, false, Bool, Option, Some, None, sym, ◌∙◌, ap, subst, refl, arith, IsTrue, IsFalse}
-use Rattle.durable_node.proofs.Names.{Image, DiskState, IsImage, Laws, SameBut, nothing, Run, Each, Command, Durable, jobs_by, jobs_in, IsSound, SameFrom, cell_same_from, found_same_from, ImagesSince, StoreState, durable_by, durable_of, stands_for, slots_for, AllStandFor, Lasts, StoreBeforeOrAfter, NodeState, settled, IsWanted, IsSettling, BeforeOrAfter, KeepsSound, Writes, IsLeft}
+use Rattle.sector_disk.specs.Disk.{Image, DiskState, IsImage, Laws, SameBut, nothing}
+use Rattle.sector_disk.specs.Run.{Run, Each}
 use Rattle.safe_cell.specs.Cell.{cell_at}
+use Rattle.job_model.specs.Command.{Command}
+use Rattle.job_model.specs.Durable.{Durable}
+use Rattle.job_journal.specs.Journal.{jobs_by, jobs_in, IsSound, ImagesSince}
+use Rattle.job_journal.proofs.Frames.{SameFrom, cell_same_from, found_same_from}
+use Rattle.node_store.specs.Store.{StoreState, durable_by, durable_of, stands_for, slots_for, AllStandFor, Lasts, BeforeOrAfter as StoreBeforeOrAfter}
 use Rattle.node_store.proofs.Mountings.{sound_kept}
+use Rattle.histories.specs.NodeState.{NodeState, settled}
+use Rattle.histories.specs.Possible.{IsWanted, IsSettling}
+use Rattle.durable_node.specs.Carrying.{BeforeOrAfter, KeepsSound, Writes}
+use Rattle.durable_node.specs.Node.{IsLeft}
 use Rattle.durable_node.proofs.Parts.{is_some}
 
 pub quiet_same : (at many : ℕ) (d c : Image) → SameBut nothing d c → SameFrom at many d c

@@ -1,8 +1,25 @@
 -- What is true of every node stays true.
 use Rattle.std.proofs.Common.{◌≡◌, ◌⊎◌, arith, inl, inr, ⊎_elim, ℕ, false, Bool, Option, Some, None, Result, Ok, Err, ◌∙◌, ap, refl, IsFalse, IfOk, IfErr, IsErrOf, IsSome}
-use Rattle.durable_node.proofs.Names.{DiskState, Counts, IsSound, Wanted, Event, NoMemory, Core, down, State, is_down, StoreState, durable_of, slots_for, NodeFault, Came, NodeDisk, Bare, Mounted, Fate, KeepsSound, IsCoreOf, IsNode, IsOver, node_with, HasRisen, CountsOf, IsAsBefore, IsServed, Stuck}
-use Rattle.durable_node.proofs.Names.node
-use Rattle.durable_node.proofs.Names.fate
+use Rattle.sector_disk.specs.Disk.{DiskState, Counts}
+use Rattle.job_journal.specs.Journal.{IsSound}
+use Rattle.node_core.specs.declared.durable.Durable.{Durable as Wanted}
+use Rattle.node_core.specs.declared.event.Event.{Event}
+use Rattle.node_core.specs.declared.fault.CoreFault.TheVariants.{NoMemory}
+use Rattle.node_core.specs.Core.{Core}
+use Rattle.node_core.specs.Start.{down}
+use Rattle.node_core.specs.State.{State, is_down}
+use Rattle.node_store.specs.Store.{StoreState, durable_of, slots_for}
+use Rattle.histories.specs.declared.fate.Fate.{Fate}
+use Rattle.histories.specs.declared.fate.Fate.TheVariants as fate
+use Rattle.durable_node.specs.declared.fault.NodeFault.{NodeFault}
+use Rattle.durable_node.specs.declared.came.Came.{Came}
+use Rattle.durable_node.specs.declared.node_disk.NodeDisk.{NodeDisk}
+use Rattle.durable_node.specs.declared.node_disk.NodeDisk.TheVariants.{Bare, Mounted}
+use Rattle.durable_node.specs.Carrying.{KeepsSound}
+use Rattle.durable_node.specs.Node.{IsCoreOf, IsNode, IsOver, node_with}
+use Rattle.durable_node.specs.Remounting.{HasRisen}
+use Rattle.durable_node.specs.Stepping.{CountsOf, IsAsBefore, IsServed, Stuck}
+use Rattle.durable_node.specs.declared.fault.NodeFault.TheVariants as node
 use Rattle.durable_node.proofs.Mounts.{slots_kept}
 use Rattle.durable_node.proofs.Serves.{done_up}
 use Rattle.durable_node.proofs.Parts.{at_both, at_some, clash, not_up}

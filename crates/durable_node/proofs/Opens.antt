@@ -1,8 +1,21 @@
 -- A node that comes up on a disk that was just formatted.
 use Rattle.std.proofs.Common.{◌≡◌, ℕ, true, false, Some, None, Bool, refl}
-use Rattle.durable_node.proofs.Names.{Memory, IsImage, all_synced, state_of, formatted, Recover, down, slots_for, IsFresh, Came, NodeState, opening, after, Node, Stands, Does, Steps, Fate, what_of}
-use Rattle.durable_node.proofs.Names.fate
+use Rattle.sector_disk.specs.Memory.{Memory, all_synced, state_of}
+use Rattle.sector_disk.specs.Disk.{IsImage}
 use Rattle.sector_disk.proofs.Crashed.{only_image}
+use Rattle.job_model.specs.Durable.{formatted}
+use Rattle.node_core.specs.declared.event.Event.TheVariants.{Recover}
+use Rattle.node_core.specs.Start.{down}
+use Rattle.node_store.specs.Store.{slots_for}
+use Rattle.histories.specs.NodeState.{NodeState, opening}
+use Rattle.histories.specs.After.{after}
+use Rattle.histories.specs.declared.fate.Fate.{Fate}
+use Rattle.histories.specs.Fates.{what_of}
+use Rattle.histories.specs.declared.fate.Fate.TheVariants as fate
+use Rattle.durable_node.specs.Fresh.{IsFresh}
+use Rattle.durable_node.specs.declared.came.Came.{Came}
+use Rattle.durable_node.specs.Node.{Node, Stands}
+use Rattle.durable_node.specs.Stepping.{Does, Steps}
 use Rattle.durable_node.proofs.Mounts.{left_by}
 use Rattle.durable_node.proofs.Parts.{stands_at}
 

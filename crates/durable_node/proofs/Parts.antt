@@ -1,6 +1,18 @@
 -- What a node shows of its parts, and when it stands for a state.
 use Rattle.std.proofs.Common.{◌≡◌, ℕ, true, false, Bool, Option, Some, None, sym, ◌∙◌, ap, subst, true≢false}
-use Rattle.durable_node.proofs.Names.{DiskState, Durable, State, is_down, down, NodeState, Event, What, Came, IsLeft, Node, Stands, Does, CameOf, IsPossible, IsOfSlots, IsTriedAt, command_at, answer_at, sent_at, found_at, told_doubt}
+use Rattle.sector_disk.specs.Disk.{DiskState}
+use Rattle.job_model.specs.Durable.{Durable}
+use Rattle.node_core.specs.State.{State, is_down}
+use Rattle.node_core.specs.Start.{down}
+use Rattle.node_core.specs.declared.event.Event.{Event}
+use Rattle.histories.specs.NodeState.{NodeState}
+use Rattle.histories.specs.declared.what.What.{What}
+use Rattle.histories.specs.Possible.{IsPossible, IsOfSlots}
+use Rattle.histories.specs.Fates.{IsTriedAt}
+use Rattle.histories.specs.After.{sent_at, found_at}
+use Rattle.durable_node.specs.declared.came.Came.{Came}
+use Rattle.durable_node.specs.Node.{IsLeft, Node, Stands, told_doubt}
+use Rattle.durable_node.specs.Stepping.{Does, CameOf, command_at, answer_at}
 
 pub is_some : {T : Type 0} (x y : T) → Some x ≡ Some y → x ≡ y
 is_some x y e = cc

@@ -1,8 +1,19 @@
 -- What a recovery that mounts its disk reads there, and why it can't.
 use Rattle.std.proofs.Common.{◌≡◌, ◌<◌, ◌≤◌, ◌⊎◌, ◌↔◌, inl, inr, ⊎_elim, ℕ, Some, None, Result, Ok, Err, ◌∙◌, ap, refl, arith, IsTrue, IfErr}
-use Rattle.durable_node.proofs.Names.{DiskState, Image, nothing, Run, Durable, StoreFault, slots_for, stands_for, IsRefusedFor, NodeFault, Came, fault_for, Node, IsRead, IsUnread, Remounted}
-use Rattle.durable_node.proofs.Names.node
-use Rattle.durable_node.proofs.Names.by_store
+use Rattle.sector_disk.specs.Disk.{DiskState, Image, nothing}
+use Rattle.sector_disk.specs.Run.{Run}
+use Rattle.job_model.specs.Durable.{Durable}
+use Rattle.node_store.specs.declared.fault.StoreFault.{StoreFault}
+use Rattle.node_store.specs.Store.{slots_for, stands_for}
+use Rattle.node_store.specs.Told.{IsRefusedFor}
+use Rattle.node_store.specs.declared.fault.StoreFault.TheVariants as by_store
+use Rattle.durable_node.specs.declared.fault.NodeFault.{NodeFault}
+use Rattle.durable_node.specs.declared.came.Came.{Came}
+use Rattle.durable_node.specs.Faults.{fault_for}
+use Rattle.durable_node.specs.Node.{Node}
+use Rattle.durable_node.specs.Reading.{IsRead, IsUnread}
+use Rattle.durable_node.specs.Remounting.{Remounted}
+use Rattle.durable_node.specs.declared.fault.NodeFault.TheVariants as node
 
 small_alone : (fault : StoreFault) → fault_for fault ≡ node.TooSmall → fault ≡ by_store.TooSmall
 small_alone by_store.TooSmall e = refl

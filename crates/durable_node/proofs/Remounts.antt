@@ -1,9 +1,37 @@
 -- How a recovery that mounts its disk ends.
 use Rattle.std.proofs.Common.{◌≡◌, ◌≢◌, ◌+◌, ◌≤◌, ◌⊎◌, inl, inr, ⊎_elim, ℕ, Bool, [], Option, Some, None, option_map, Result, Ok, Err, sym, ◌∙◌, ap, subst, refl, IsTrue, IsOk, IfOk, IfErr}
-use Rattle.durable_node.proofs.Names.{Image, DiskState, Counts, IsImage, nothing, Run, Each, Raise, Durable, after_command, Wanted, Recover, Core, down, StoreFault, IsMountFault, IsReadFault, StoreState, durable_of, slots_for, stands_for, AllStandFor, NodeFault, Came, NodeState, settled, What, Recovered, RaiseFailed, Fate, attempt_of, what_of, tried_none, tried_raise, after, IsSettling, fault_for, fault_of, told, told_as, BeforeOrAfter, KeepsSound, Writes, NodeDisk, Bare, Mounted, Node, told_doubt, disk_in, found_in, node_with, IsLeft, Stands, Does, IsSilent, IsUnmountable, Steps, Stuck, HasRisen, IsFoundBy, IsKeptIn, raise_by}
-use Rattle.durable_node.proofs.Names.node
-use Rattle.durable_node.proofs.Names.fate
-use Rattle.durable_node.proofs.Names.by_store
+use Rattle.sector_disk.specs.Disk.{Image, DiskState, Counts, IsImage, nothing}
+use Rattle.sector_disk.specs.Run.{Run, Each}
+use Rattle.job_model.specs.Command.{Raise}
+use Rattle.job_model.specs.Durable.{Durable}
+use Rattle.job_model.specs.Fold.{after_command}
+use Rattle.node_core.specs.declared.durable.Durable.{Durable as Wanted}
+use Rattle.node_core.specs.declared.event.Event.TheVariants.{Recover}
+use Rattle.node_core.specs.Core.{Core}
+use Rattle.node_core.specs.Start.{down}
+use Rattle.node_store.specs.declared.fault.StoreFault.{StoreFault}
+use Rattle.node_store.specs.Told.{IsMountFault, IsReadFault}
+use Rattle.node_store.specs.Store.{StoreState, durable_of, slots_for, stands_for, AllStandFor}
+use Rattle.node_store.specs.declared.fault.StoreFault.TheVariants as by_store
+use Rattle.histories.specs.NodeState.{NodeState, settled}
+use Rattle.histories.specs.declared.what.What.{What}
+use Rattle.histories.specs.declared.what.What.TheVariants.{Recovered, RaiseFailed}
+use Rattle.histories.specs.declared.fate.Fate.{Fate}
+use Rattle.histories.specs.Fates.{attempt_of, what_of}
+use Rattle.histories.proofs.Attempts.{tried_none, tried_raise}
+use Rattle.histories.specs.After.{after}
+use Rattle.histories.specs.Possible.{IsSettling}
+use Rattle.histories.specs.declared.fate.Fate.TheVariants as fate
+use Rattle.durable_node.specs.declared.fault.NodeFault.{NodeFault}
+use Rattle.durable_node.specs.declared.came.Came.{Came}
+use Rattle.durable_node.specs.Faults.{fault_for, fault_of, told, told_as}
+use Rattle.durable_node.specs.Carrying.{BeforeOrAfter, KeepsSound, Writes}
+use Rattle.durable_node.specs.declared.node_disk.NodeDisk.{NodeDisk}
+use Rattle.durable_node.specs.declared.node_disk.NodeDisk.TheVariants.{Bare, Mounted}
+use Rattle.durable_node.specs.Node.{Node, told_doubt, disk_in, found_in, node_with, IsLeft, Stands}
+use Rattle.durable_node.specs.Stepping.{Does, IsSilent, IsUnmountable, Steps, Stuck}
+use Rattle.durable_node.specs.Remounting.{HasRisen, IsFoundBy, IsKeptIn, raise_by}
+use Rattle.durable_node.specs.declared.fault.NodeFault.TheVariants as node
 use Rattle.durable_node.proofs.Mounts.{left_quiet, settles, left_cut, left_done}
 use Rattle.durable_node.proofs.Settling.{settled_so}
 use Rattle.durable_node.proofs.Parts.{does, down_phase, is_some, stands_at, stands_down}

@@ -1,10 +1,33 @@
 -- What a node that is up does with an event.
 use Rattle.std.proofs.Common.{◌≡◌, ◌≢◌, ◌⊎◌, inl, inr, ℕ, false, Option, Some, None, option_map, Result, Ok, Err, sym, ◌∙◌, ap, subst, refl, IsTrue, IsOk, IfOk}
-use Rattle.durable_node.proofs.Names.{DiskState, Command, Durable, Wanted, Event, Recover, Core, State, is_down, wants_of, StoreState, durable_of, slots_for, AllStandFor, NodeFault, Came, NodeState, Did, Faulted, Fate, attempt_of, what_of, tried_none, tried_wanted, after, IsForNode, KeepsSound, Writes, Mounted, node_with, IsLeft, Stands, IsDone, IsServed, Does, Steps, command_by, fault_of, told, told_as}
-use Rattle.durable_node.proofs.Names.fate
-use Rattle.durable_node.proofs.Names.node
+use Rattle.sector_disk.specs.Disk.{DiskState}
+use Rattle.job_model.specs.Command.{Command}
+use Rattle.job_model.specs.Durable.{Durable}
+use Rattle.node_core.specs.declared.durable.Durable.{Durable as Wanted}
+use Rattle.node_core.specs.declared.event.Event.{Event}
+use Rattle.node_core.specs.declared.event.Event.TheVariants.{Recover}
+use Rattle.node_core.specs.Core.{Core}
+use Rattle.node_core.specs.State.{State, is_down}
+use Rattle.node_core.specs.Wants.{wants_of}
 use Rattle.node_core.specs.Effect.{Effect}
+use Rattle.node_store.specs.Store.{StoreState, durable_of, slots_for, AllStandFor}
+use Rattle.histories.specs.NodeState.{NodeState}
+use Rattle.histories.specs.declared.what.What.TheVariants.{Did, Faulted}
+use Rattle.histories.specs.declared.fate.Fate.{Fate}
+use Rattle.histories.specs.Fates.{attempt_of, what_of}
+use Rattle.histories.proofs.Attempts.{tried_none, tried_wanted}
+use Rattle.histories.specs.After.{after}
+use Rattle.histories.specs.Possible.{IsForNode}
+use Rattle.histories.specs.declared.fate.Fate.TheVariants as fate
 use Rattle.histories.proofs.Ups.{stays_up}
+use Rattle.durable_node.specs.declared.fault.NodeFault.{NodeFault}
+use Rattle.durable_node.specs.declared.came.Came.{Came}
+use Rattle.durable_node.specs.Carrying.{KeepsSound, Writes}
+use Rattle.durable_node.specs.declared.node_disk.NodeDisk.TheVariants.{Mounted}
+use Rattle.durable_node.specs.Node.{node_with, IsLeft, Stands}
+use Rattle.durable_node.specs.Stepping.{IsDone, IsServed, Does, Steps, command_by}
+use Rattle.durable_node.specs.Faults.{fault_of, told, told_as}
+use Rattle.durable_node.specs.declared.fault.NodeFault.TheVariants as node
 use Rattle.durable_node.proofs.Parts.{does, is_some, stands_at, stands_down}
 use Rattle.durable_node.proofs.Mounts.{left_cut, left_done, stands_all}
 

@@ -1,8 +1,15 @@
 -- Whether the command in doubt is in what a mounting found.
 use Rattle.std.proofs.Common.{◌≡◌, ◌+◌, ◌||◌, ℕ, Bool, true, false, not, cond, eqb, List, [], ◌∷◌, Option, Some, None, refl, sym, ap, subst, ◌∙◌, arith, ◌==◌}
-use Rattle.durable_node.proofs.Names.{Command, Raise, Put, Done, Durable, is_pending, without_job, State, NodeState, settled, IsSettling, told_doubt, IsKeptIn}
 use Rattle.std.proofs.lemmas.Bool.Decides.{nat_tests}
+use Rattle.job_model.specs.Command.{Command, Raise, Put, Done}
+use Rattle.job_model.specs.Durable.{Durable}
+use Rattle.job_model.specs.Fold.{is_pending, without_job}
 use Rattle.job_model.specs.declared.job.Job.{Job}
+use Rattle.node_core.specs.State.{State}
+use Rattle.histories.specs.NodeState.{NodeState, settled}
+use Rattle.histories.specs.Possible.{IsSettling}
+use Rattle.durable_node.specs.Node.{told_doubt}
+use Rattle.durable_node.specs.Remounting.{IsKeptIn}
 
 -- where no job has this id, none goes
 none_by : (b rest : Bool) (job : Job) (jobs left : List Job) → (b || rest) ≡ false → (rest ≡ false → left ≡ jobs) → cond (not b) (job ∷ left) left ≡ job ∷ jobs

@@ -1,8 +1,20 @@
 -- How a refusal is told.
 use Rattle.std.proofs.Common.{◌≡◌, ℕ, inl, inr, ap, ◌∙◌, Option, Some, None, Err}
-use Rattle.durable_node.proofs.Names.{Command, Durable, Event, Core, State, StepFault, OfCore, CantTake, IsRefused, refusal_of, wants_of, NodeFault, CantCarry, AnswersTo, shown, IsTurnedAway}
-use Rattle.durable_node.proofs.Names.node
+use Rattle.job_model.specs.Command.{Command}
+use Rattle.job_model.specs.Durable.{Durable}
 use Rattle.job_model.specs.Table.{Table}
+use Rattle.node_core.specs.declared.event.Event.{Event}
+use Rattle.node_core.specs.Core.{Core}
+use Rattle.node_core.specs.State.{State}
+use Rattle.node_core.specs.NodeStep.{StepFault, OfCore, CantTake, IsRefused}
+use Rattle.node_core.specs.Refusals.{refusal_of}
+use Rattle.node_core.specs.Wants.{wants_of}
+use Rattle.durable_node.specs.declared.fault.NodeFault.{NodeFault}
+use Rattle.durable_node.specs.Carrying.{CantCarry}
+use Rattle.durable_node.specs.Refusing.{AnswersTo}
+use Rattle.durable_node.specs.Faults.{shown}
+use Rattle.durable_node.specs.Stepping.{IsTurnedAway}
+use Rattle.durable_node.specs.declared.fault.NodeFault.TheVariants as node
 
 cant_refuse : (nodes self : ℕ) (s : State) (d : Durable) (event : Event) (why : StepFault) → refusal_of nodes self event s ≡ None → CantTake d (wants_of self d.pending event s) why → IsRefused nodes self s d event why
 cant_refuse nodes self s d event (OfCore fault) none cant = absurd cant

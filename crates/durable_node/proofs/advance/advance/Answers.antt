@@ -1,5 +1,7 @@
 use Rattle.std.proofs.Common.{sym, ◌∙◌, refl}
-use Rattle.durable_node.proofs.Names.{disk_in, told, Mounted}
+use Rattle.durable_node.specs.Node.{disk_in}
+use Rattle.durable_node.specs.Faults.{told}
+use Rattle.durable_node.specs.declared.node_disk.NodeDisk.TheVariants.{Mounted}
 use Rattle.durable_node.proofs.Nodes.{counts_still, node_over, over, served}
 use Rattle.durable_node.proofs.Serves.{serves}
 use Rattle.durable_node.proofs.Ignores.{few_ignored, ignored_stuck, ignores, no_device}

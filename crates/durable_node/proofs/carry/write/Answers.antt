@@ -1,5 +1,8 @@
 use Rattle.std.proofs.Common.{◌≡◌, Option, Result, Ok, Err, IsOk, IfErr, ℕ, refl}
-use Rattle.durable_node.proofs.Names.{Put, StoreFault, NodeFault, fault_for}
+use Rattle.job_model.specs.Command.{Put}
+use Rattle.node_store.specs.declared.fault.StoreFault.{StoreFault}
+use Rattle.durable_node.specs.declared.fault.NodeFault.{NodeFault}
+use Rattle.durable_node.specs.Faults.{fault_for}
 use Rattle.durable_node.proofs.Mounts.{written}
 use Rattle.durable_node.proofs.carry.write.Goals as goal
 

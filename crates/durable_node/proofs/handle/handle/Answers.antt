@@ -1,5 +1,6 @@
 use Rattle.std.proofs.Common.{ap, refl, inr}
-use Rattle.durable_node.proofs.Names.{Core, durable_of}
+use Rattle.node_core.specs.Core.{Core}
+use Rattle.node_store.specs.Store.{durable_of}
 use Rattle.histories.specs.What.{reason_of}
 use Rattle.durable_node.proofs.Mounts.{unwritten}
 use Rattle.durable_node.proofs.Parts.{clash}

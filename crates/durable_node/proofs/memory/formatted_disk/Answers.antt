@@ -1,6 +1,6 @@
 use Rattle.std.proofs.Common.{◌≡◌, ◌+◌, ◌*◌, ◌∙◌, ap, not, length, refl, arith, IsOk, IsErrOf, Result, Ok, Err}
 use Rattle.std.proofs.lemmas.List.{length-replicate}
-use Rattle.durable_node.proofs.Names.{Memory}
+use Rattle.sector_disk.specs.Memory.{Memory}
 use Rattle.durable_node.proofs.memory.formatted_disk.Goals as goal
 
 ok_not : {T E : Type 0} (r : Result T E) (e : E) → IsOk r → IsErrOf r e → ⊥

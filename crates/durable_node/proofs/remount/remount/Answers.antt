@@ -1,5 +1,9 @@
 use Rattle.std.proofs.Common.{Some, Ok, ℕ, ◌+◌, ◌<◌, ◌≤◌, arith, lt_of_not-le, sym, ◌∙◌, ap, rules}
-use Rattle.durable_node.proofs.Names.{slots_for, durable_of, Mounted, IsRead, node_with, told}
+use Rattle.node_store.specs.Store.{slots_for, durable_of}
+use Rattle.durable_node.specs.declared.node_disk.NodeDisk.TheVariants.{Mounted}
+use Rattle.durable_node.specs.Reading.{IsRead}
+use Rattle.durable_node.specs.Node.{node_with}
+use Rattle.durable_node.specs.Faults.{told}
 use Rattle.durable_node.proofs.AnyDisk.{unmounted_at, remounted_at}
 use Rattle.durable_node.proofs.Nodes.{node_bare, node_over, risen}
 use Rattle.durable_node.proofs.Parts.{at_both}

@@ -1,4 +1,4 @@
-use Rattle.durable_node.proofs.Names.{state_of}
+use Rattle.sector_disk.specs.Memory.{state_of}
 use Rattle.durable_node.proofs.Crashes.{crashes, sound_left}
 use Rattle.durable_node.proofs.Nodes.{node_bare}
 use Rattle.durable_node.proofs.memory.DurableNode+MemDisk.crash.Goals as goal

@@ -1,5 +1,9 @@
 use Rattle.std.proofs.Common.{ap, sym, ◌∙◌, subst, None}
-use Rattle.durable_node.proofs.Names.{Memory, Node, Steps, Stands, state_of, Recover, opening}
+use Rattle.sector_disk.specs.Memory.{Memory, state_of}
+use Rattle.node_core.specs.declared.event.Event.TheVariants.{Recover}
+use Rattle.histories.specs.NodeState.{opening}
+use Rattle.durable_node.specs.Node.{Node, Stands}
+use Rattle.durable_node.specs.Stepping.{Steps}
 use Rattle.durable_node.proofs.Opens.{opens}
 use Rattle.durable_node.proofs.memory.DurableNode+MemDisk.open_on.Goals as goal
 
@@ -15,4 +19,4 @@ returns-clause-sectors c = λ disk at.
 pub returns-clause-failures : goal.returns-clause-failures
 returns-clause-failures c = λ disk at.
     (c.in-Ok.ensures.counts.counts c.args.disk disk (ap (λ (n : Node Memory). n.disk) c.down-node.ensures) (ap (λ (n : Node Memory). n.disk) (sym c.node.view_is) ∙ at)).unchanged
-        (λ e. (let bad = rw c.in-Recovered.is at e in cc)) ∙ c.requires.fresh.unfailed
+    (λ e. (let bad = rw c.in-Recovered.is at e in cc)) ∙ c.requires.fresh.unfailed
