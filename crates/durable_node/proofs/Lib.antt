@@ -1,3 +1,4 @@
+pub mod Parts
 pub mod Mounts
 pub mod Turned
 pub mod Serves

@@ -42,18 +42,19 @@ pub(crate) fn advance<D: SectorDisk + Drop>(
     ensures reads { is_down core.old.state.phase ≡ true → event.now ≡ Event.Recover → ReadsDisk D.state (disk_in disk.old) (disk_in disk.new) (told result) (found_in found.new (store_in disk.new)) }
     ensures few { IfOk result (λ came. length came.sent.items ≤ most_by nodes (kept_in (is_down core.old.state.phase) (store_in disk.old))) }
 {
-    match disk {
-        NodeDisk::Mounted(store) if !is_down(core) => {
-            *found = None;
-            handle(alloc, id, nodes, core, store, doubt, event)
-        }
-        _ => match event {
+    if is_down(core) {
+        return match event {
             Event::Recover => remount(alloc, id, nodes, core, disk, doubt, found),
             _ => {
                 *found = None;
                 ignore(alloc, core, disk, event)
             }
-        },
+        };
+    }
+    *found = None;
+    match disk {
+        NodeDisk::Mounted(store) => handle(alloc, id, nodes, core, store, doubt, event),
+        NodeDisk::Bare(_) | NodeDisk::Taken => unreachable!(),
     }
 }
 

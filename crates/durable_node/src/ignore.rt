@@ -19,9 +19,7 @@ pub(crate) fn ignore<D: SectorDisk>(
     disk: &NodeDisk<D>,
     event: &Event,
 ) -> Result<Came, NodeFault>
-    ensures kept { core.new.state ≡ core.old.state }
-    ensures id { core.new.id ≡ core.old.id }
-    ensures nodes { core.new.nodes ≡ core.old.nodes }
+    ensures kept { core.new ≡ record core.old { room = core.new.room } }
     ensures what { IfOk result (λ came. IsIgnored (refusal_of core.old.nodes core.old.id event.now core.old.state) came came.fate) }
     ensures tried { IfOk result (λ came. came.tried ≡ None) }
     ensures stuck { IfErr result (λ fault. fault ≡ NodeFault.Core NoMemory) }
@@ -46,9 +44,7 @@ fn plan_over<D: SectorDisk>(
     disk: &NodeDisk<D>,
     event: &Event,
 ) -> Result<(), CoreFault>
-    ensures kept { core.new.state ≡ core.old.state }
-    ensures id { core.new.id ≡ core.old.id }
-    ensures nodes { core.new.nodes ≡ core.old.nodes }
+    ensures kept { core.new ≡ record core.old { room = core.new.room } }
     ensures done { IfOk result (λ _. refusal_of core.old.nodes core.old.id event.now core.old.state ≡ None) }
     ensures refused { IfErr result (λ fault. fault ≢ NoMemory → refusal_of core.old.nodes core.old.id event.now core.old.state ≡ Some fault) }
 {

@@ -15,6 +15,7 @@ ghost use Rattle.histories.specs.declared.what.What.TheVariants.{Crashed};
 use crate::node::DurableNode;
 use crate::node_disk::NodeDisk;
 use group_task::NodeId;
+use histories::Fate;
 use node_core::NodeCore;
 use node_store::format;
 use sector_disk::MemDisk;
@@ -84,10 +85,12 @@ impl DurableNode<MemDisk> {
         ensures found { IfOk result (λ node. node.found ≡ None) }
     {
         let mut node = DurableNode::down(alloc, id, nodes, disk);
-        match node.recover() {
-            Ok(came) if came.fault().is_none() => {}
-            _ => return Err(AllocError),
-        }
+        let Ok(came) = node.recover() else {
+            return Err(AllocError);
+        };
+        let Fate::Recovered(_) = came.fate else {
+            return Err(AllocError);
+        };
         node.found = None;
         Ok(node)
     }

@@ -1,19 +1,13 @@
-use Rattle.std.proofs.Common.{ℕ, ◌+◌, ◌<◌, ◌≤◌, arith, lt_of_not-le, Option, Some, None, Ok, Err, Result, refl, sym, ◌∙◌, ap, subst}
-use Rattle.job_model.specs.Durable.{Durable}
-use Rattle.job_journal.specs.Journal.{IsSound}
-use Rattle.node_core.specs.declared.event.Event.TheVariants.{Recover}
-use Rattle.node_store.specs.Store.{durable_of, slots_for}
-use Rattle.durable_node.specs.declared.came.Came.{Came}
-use Rattle.durable_node.specs.declared.fault.NodeFault.{NodeFault}
-use Rattle.durable_node.specs.declared.node_disk.NodeDisk.TheVariants.{Bare, Mounted}
+use Rattle.std.proofs.Common.{Some, Ok, ℕ, ◌+◌, ◌<◌, ◌≤◌, arith, lt_of_not-le, sym, ◌∙◌, ap, rules}
+use Rattle.node_store.specs.Store.{slots_for, durable_of}
+use Rattle.durable_node.specs.declared.node_disk.NodeDisk.TheVariants.{Mounted}
+use Rattle.durable_node.specs.Reading.{IsRead}
+use Rattle.durable_node.specs.Node.{node_with}
 use Rattle.durable_node.specs.Faults.{told}
-use Rattle.durable_node.specs.Node.{disk_in, found_in, node_with}
-use Rattle.durable_node.specs.Reading.{IsRead, ReadsDisk}
-use Rattle.durable_node.specs.Remounting.{IsFoundBy, Remounted}
-use Rattle.durable_node.specs.Stepping.{Steps}
 use Rattle.durable_node.proofs.AnyDisk.{unmounted_at, remounted_at}
-use Rattle.durable_node.proofs.Nodes.{node_over, node_unmounted, risen}
-use Rattle.durable_node.proofs.Readings.{on_disk, read_at, unread_at}
+use Rattle.durable_node.proofs.Nodes.{node_bare, node_over, risen}
+use Rattle.durable_node.proofs.Parts.{at_both}
+use Rattle.durable_node.proofs.Readings.{read_at, unread_at}
 use Rattle.durable_node.proofs.Remounts.{mount_fails, rises, shows, stuck}
 use Rattle.durable_node.proofs.remount.remount.Goals as goal
 
@@ -22,9 +16,10 @@ not_below a b none = omega (arith, lt_of_not-le {n = b + 1} {m = a} (λ h. none 
 
 pub returns-in-Err-clause-node : goal.returns-in-Err-clause-node
 returns-in-Err-clause-node g c =
-    node_unmounted g.D.SectorDisk.state c.args.id c.args.nodes c.args.core.now c.args.core.now c.args.disk.now c.take.result c.in-Err.refused.disk
-    c.requires.node c.requires.down c.in-Err.ensures.counts.sectors
-    (c.in-Err.ensures.sound (c.requires.node.sound c.take.result c.take.ensures.disk))
+    let node = c.requires.node in
+    let e = c.in-Err.ensures in
+    node_bare g.D.SectorDisk.state c.args.id c.args.nodes c.args.core.now c.args.core.now c.args.disk.now node (record { id = node.core_id; nodes = node.core_nodes }) c.in-Err.refused.disk
+    (node.fallen c.requires.down) (rw e.counts.sectors (e.sound (node.sound c.take.result c.take.ensures.disk)))
 
 pub returns-in-Err-clause-step : goal.returns-in-Err-clause-step
 returns-in-Err-clause-step g c =
@@ -34,94 +29,60 @@ returns-in-Err-clause-step g c =
 
 pub returns-in-Err-clause-stuck : goal.returns-in-Err-clause-stuck
 returns-in-Err-clause-stuck g c =
+    let e = c.in-Err.ensures in
     stuck g.D.SectorDisk.state c.args.id c.args.nodes c.args.core.now c.args.disk.now c.take.result c.in-Err.refused.disk c.args.doubt.now c.args.found.now c.take.ensures.disk
-    c.requires.down c.in-Err.refused.fault c.in-Err.ensures.no_other c.in-Err.ensures.mounts c.in-Err.ensures.untouched
-    c.node_fault.result c.node_fault.ensures c.unmounted.result c.unmounted.ensures.stuck
+    (c.requires.node.fallen c.requires.down) c.in-Err.refused.fault e.no_other e.mounts e.untouched c.node_fault.result c.node_fault.ensures c.unmounted.result c.unmounted.ensures.stuck
 
 pub returns-in-Err-clause-mounting : goal.returns-in-Err-clause-mounting
-returns-in-Err-clause-mounting g c =
-    let old = node_with c.args.id c.args.nodes c.args.core.now c.args.disk.now c.args.doubt.now c.args.found.now in
-    subst (λ (r : Result Came NodeFault). Remounted old (node_with c.args.id c.args.nodes c.args.core.now (Bare c.in-Err.refused.disk) c.args.doubt.now None) r None) (sym c.unmounted.ensures.told)
-    (unmounted_at c.args.id c.args.nodes c.args.core.now c.args.disk.now c.in-Err.refused.disk c.args.doubt.now c.args.found.now c.in-Err.refused.fault c.node_fault.result
-    c.node_fault.ensures c.in-Err.ensures.no_other)
+returns-in-Err-clause-mounting g c = rw (c.unmounted.ensures.told, c.node_fault.ensures)
+    (unmounted_at c.args.id c.args.nodes c.args.core.now c.args.disk.now c.in-Err.refused.disk c.args.doubt.now c.args.found.now c.in-Err.refused.fault c.in-Err.ensures.no_other)
 
 pub returns-in-Err-clause-reads : goal.returns-in-Err-clause-reads
 returns-in-Err-clause-reads g c =
-    let state = g.D.SectorDisk.state in
     let e = c.in-Err.ensures in
-    let back = c.in-Err.refused.disk in
-    on_disk state (disk_in c.args.disk.now) (Some back) c.take.result back (told c.unmounted.result) None c.take.ensures.disk refl
-    (unread_at state c.take.result back c.in-Err.refused.fault (told c.unmounted.result) None (c.unmounted.ensures.told ∙ ap (λ (f : NodeFault). Err f) c.node_fault.ensures)
-    refl e.too_small e.untouched e.tells e.run)
+    rw (c.take.ensures.disk, c.unmounted.ensures.told, c.node_fault.ensures) (at_both (λ was now. IsRead g.D.SectorDisk.state was now _ _) c.take.result c.in-Err.refused.disk
+    (unread_at g.D.SectorDisk.state c.take.result c.in-Err.refused.disk c.in-Err.refused.fault e.too_small e.untouched e.tells e.run))
 
 pub rise-came-requires : goal.rise-came-requires
 rise-came-requires g c =
     let node = c.requires.node in
+    let mount = c.in-Ok.ensures in
     record {
       over = record {
         of = record { id = node.core_id; nodes = node.core_nodes };
         within = node.within;
         most = node.most;
-        ready = record { whole = c.in-Ok.ensures.whole.0; sound = subst (λ (n : ℕ). IsSound n (g.D.SectorDisk.state c.in-Ok.mounted.disk)) (sym c.in-Ok.ensures.whole.1) (c.in-Ok.ensures.sound (node.sound c.take.result c.take.ensures.disk)) };
+        ready = record { whole = mount.whole.0; sound = rw mount.whole.1 (mount.sound (node.sound c.take.result c.take.ensures.disk)) };
       };
     }
 
-pub returns-clause-node : goal.returns-clause-node
-returns-clause-node g c =
-    let e = c.rise-came.ensures in
-    let mid = c.in-Ok.mounted in
-    let end = c.rise-came.new.store in
-    node_over g.D.SectorDisk.state c.args.id c.args.nodes c.args.core.now c.rise-came.new.core c.args.disk.now mid end _ c.requires.node e.core
-    (c.in-Ok.ensures.whole.1 ∙ ap (λ (n : ℕ). slots_for n) (sym c.in-Ok.ensures.counts.sectors)) e.store
-    (risen c.args.id c.args.nodes c.args.core.now c.rise-came.new.core mid end c.args.doubt.now c.rise-came.new.doubt c.is_in-kept.result c.rise-came.result c.rise-came.result.fate
-    (c.requires.node.fallen c.requires.down) e.what)
-
-pub returns-clause-step : goal.returns-clause-step
-returns-clause-step g c =
+pub returns : goal.returns
+returns g c =
     let state = g.D.SectorDisk.state in
-    let e = c.rise-came.ensures in
+    let a = c.args in
     let mount = c.in-Ok.ensures in
-    let old = node_with c.args.id c.args.nodes c.args.core.now c.args.disk.now c.args.doubt.now c.args.found.now in
-    subst (λ (f : ℕ). Steps state old (node_with c.args.id c.args.nodes c.rise-came.new.core (Mounted c.rise-came.new.store) c.rise-came.new.doubt (Some f)) Recover c.rise-came.result) (sym c.counter.ensures)
-    (rises state c.args.id c.args.nodes c.args.core.now c.rise-came.new.core c.in-Ok.mounted c.rise-came.new.store c.args.doubt.now c.rise-came.new.doubt (c.requires.node.fallen c.requires.down)
-    _ e.store c.rise-came.result c.args.disk.now c.take.result c.args.found.now c.take.ensures.disk mount.whole.1 _ _ mount.counts mount.run (λ honest. (mount.remains honest).stands)
-    c.is_in-kept.result c.is_in-kept.ensures.kept e.what e.tried e.disk)
-
-pub returns-clause-mounting : goal.returns-clause-mounting
-returns-clause-mounting g c =
     let mid = c.in-Ok.mounted in
     let end = c.rise-came.new.store in
+    let core = c.rise-came.new.core in
+    let doubt = c.rise-came.new.doubt in
     let came = c.rise-came.result in
-    let shown = shows c.args.id c.is_in-kept.result c.args.core.now c.rise-came.new.core mid end c.args.doubt.now c.rise-came.new.doubt came came.fate c.rise-came.ensures.what in
-    let old = node_with c.args.id c.args.nodes c.args.core.now c.args.disk.now c.args.doubt.now c.args.found.now in
-    subst (λ (f : ℕ). Remounted old (node_with c.args.id c.args.nodes c.rise-came.new.core (Mounted end) c.rise-came.new.doubt (Some f)) (told (Ok came)) (found_in (Some f) (Some end))) (sym c.counter.ensures)
-    (subst (λ (f : Option Durable). Remounted old (node_with c.args.id c.args.nodes c.rise-came.new.core (Mounted end) c.rise-came.new.doubt (Some (durable_of mid).counter)) (told (Ok came)) f) (sym shown.0)
-    (remounted_at c.args.id c.args.nodes c.args.core.now c.rise-came.new.core c.args.disk.now mid end c.args.doubt.now c.rise-came.new.doubt c.args.found.now c.is_in-kept.result came came.fate c.rise-came.ensures.what))
-
-pub returns-clause-kept : goal.returns-clause-kept
-returns-clause-kept g c =
-    let mid = c.in-Ok.mounted in
-    let end = c.rise-came.new.store in
-    let came = c.rise-came.result in
-    let shown = shows c.args.id c.is_in-kept.result c.args.core.now c.rise-came.new.core mid end c.args.doubt.now c.rise-came.new.doubt came came.fate c.rise-came.ensures.what in
-    subst (λ (f : ℕ). IsFoundBy c.args.doubt.now came.fate (found_in (Some f) (Some end))) (sym c.counter.ensures)
-    (subst (λ (f : Option Durable). IsFoundBy c.args.doubt.now came.fate f) (sym shown.0) (shown.2 c.is_in-kept.ensures.kept))
-
-pub returns-clause-quiet : goal.returns-clause-quiet
-returns-clause-quiet g c =
-    (shows c.args.id c.is_in-kept.result c.args.core.now c.rise-came.new.core c.in-Ok.mounted c.rise-came.new.store c.args.doubt.now c.rise-came.new.doubt c.rise-came.result c.rise-came.result.fate c.rise-came.ensures.what).1
-
-pub returns-clause-reads : goal.returns-clause-reads
-returns-clause-reads g c =
-    let state = g.D.SectorDisk.state in
-    let mid = c.in-Ok.mounted in
-    let end = c.rise-came.new.store in
-    let came = c.rise-came.result in
-    let shown = shows c.args.id c.is_in-kept.result c.args.core.now c.rise-came.new.core mid end c.args.doubt.now c.rise-came.new.doubt came came.fate c.rise-came.ensures.what in
-    let old = node_with c.args.id c.args.nodes c.args.core.now c.args.disk.now c.args.doubt.now c.args.found.now in
-    let new = node_with c.args.id c.args.nodes c.rise-came.new.core (Mounted end) c.rise-came.new.doubt (Some (durable_of mid).counter) in
-    let remounted = remounted_at c.args.id c.args.nodes c.args.core.now c.rise-came.new.core c.args.disk.now mid end c.args.doubt.now c.rise-came.new.doubt c.args.found.now c.is_in-kept.result came came.fate c.rise-came.ensures.what in
-    let read = subst (λ (f : Option Durable). IsRead state c.take.result end.disk (told (Ok came)) f) (sym shown.0)
-    (read_at state c.take.result end.disk old new (durable_of mid) (told (Ok came)) remounted (not_below 24 (state c.take.result).sectors c.in-Ok.ensures.too_small.1) c.in-Ok.ensures.tells) in
-    subst (λ (f : ℕ). ReadsDisk state (disk_in c.args.disk.now) (Some end.disk) (told (Ok came)) (found_in (Some f) (Some end))) (sym c.counter.ensures)
-    (on_disk state (disk_in c.args.disk.now) (Some end.disk) c.take.result end.disk (told (Ok came)) (found_in (Some (durable_of mid).counter) (Some end)) c.take.ensures.disk refl read)
+    let e = c.rise-came.ensures in
+    let fallen = c.requires.node.fallen c.requires.down in
+    let kept = c.is_in-kept.result in
+    let shown = shows a.id kept a.core.now core mid end a.doubt.now doubt came came.fate e.what in
+    let remounted = remounted_at a.id a.nodes a.core.now core a.disk.now mid end a.doubt.now doubt a.found.now kept came came.fate e.what in
+    let was = node_with a.id a.nodes a.core.now a.disk.now a.doubt.now a.found.now in
+    let now = node_with a.id a.nodes core (Mounted end) doubt (Some (durable_of mid).counter) in
+    rw c.counter.ensures (record {
+      node = node_over state a.id a.nodes a.core.now core a.disk.now c.requires.node e.core mid end _ (mount.whole.1 ∙ ap (λ (n : ℕ). slots_for n) (sym mount.counts.sectors)) e.store
+          (risen a.id a.nodes a.core.now core mid end a.doubt.now doubt kept came came.fate fallen e.what);
+      step = rises state a.id a.nodes a.core.now core mid end a.doubt.now doubt fallen _ e.store came a.disk.now c.take.result a.found.now c.take.ensures.disk mount.whole.1 _ _ mount.counts mount.run
+          (λ honest. (mount.remains honest).stands) kept c.is_in-kept.ensures.kept e.what e.tried e.disk;
+      stuck = search rules;
+      counts = search rules;
+      mounting = rw shown.0 remounted;
+      kept = rw shown.0 (shown.2 c.is_in-kept.ensures.kept);
+      reads = rw (c.take.ensures.disk, shown.0) (at_both (λ was now. IsRead state was now _ _) c.take.result end.disk
+          (read_at state c.take.result end.disk was now (durable_of mid) (told (Ok came)) remounted (not_below 24 (state c.take.result).sectors mount.too_small.1) mount.tells));
+      quiet = shown.1;
+    })

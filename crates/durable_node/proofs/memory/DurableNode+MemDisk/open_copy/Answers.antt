@@ -1,7 +1,5 @@
-use Rattle.std.proofs.Common.{subst, sym}
-use Rattle.durable_node.specs.Fresh.{IsFresh}
 use Rattle.durable_node.proofs.Opens.{copy_fresh}
 use Rattle.durable_node.proofs.memory.DurableNode+MemDisk.open_copy.Goals as goal
 
 pub open_on-requires-clause-fresh : goal.open_on-requires-clause-fresh
-open_on-requires-clause-fresh c = subst IsFresh (sym c.in_ok-copy.ensures) (copy_fresh c.args.disk.now c.requires.fresh)
+open_on-requires-clause-fresh c = rw c.in_ok-copy.ensures (copy_fresh c.args.disk.now c.requires.fresh)
