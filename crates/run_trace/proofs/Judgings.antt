@@ -27,7 +27,7 @@ use Rattle.trace_check.specs.Orders.{claims_of, history, taken, state_of, IsSent
 use Rattle.trace_check.specs.Verdicts.{IsRun, Turned}
 use Rattle.trace_check.proofs.Turning.{turns}
 use Rattle.trace_check.proofs.Turns.{none_past}
-use Rattle.run_trace.proofs.Comings.{entry_here, entry_elsewhere}
+use Rattle.run_trace.proofs.Tracings.{entry_here, entry_elsewhere}
 
 tells_so : (n nodes : ℕ) (s : NodeState) (what : What) → IsPossible n nodes s what
     → let c = claim (deed_of what) (sent_at n nodes s what) in MayCome n nodes s c × (after_claim n nodes s c ≡ after n nodes s what)
@@ -40,15 +40,11 @@ brings what = grind arith
 brings_so : (P : List Envelope → Type 0) (what : What) → P [] → P (brought (event_of what)) → P (brought_by (deed_of what))
 brings_so P what none is = elim (brings what) [ inl e ↦ subst P (sym e) none | inr e ↦ subst P (sym e) is ]
 
--- ---- lists
-
 next_of : {A : Type 0} (xs : List A) (i : ℕ) (x : A) (ys : List A) → drop i xs ≡ x ∷ ys → (slice_get xs i ≡ Some x) × (drop (suc i) xs ≡ ys)
 next_of [] zero x ys is = absurd cc
 next_of [] (suc i) x ys is = absurd cc
 next_of (z ∷ xs) zero x ys is = (cc, cc)
 next_of (z ∷ xs) (suc i) x ys is = next_of xs i x ys is
-
--- ---- on the way
 
 -- The entries so far are taken, and the nodes are in the states after them.
 record IsAt (nodes : ℕ) (hs : List (List Claim)) (now : List NodeState) (posted : List Envelope) (past : List ℕ) : Type 0 where

@@ -1,3 +1,2 @@
-pub mod Comings
 pub mod Tracings
 pub mod Judgings

@@ -52,6 +52,7 @@ impl SafeCell {
     ) -> Result<SafeCell, CellFault>
         requires { at + 3 < 2 ^ 64 }
         ensures none { IfErr result (λ fault. (fault ≡ CellFault.NotFormatted) × (first ≡ None) × (second ≡ None)) }
+        ensures unsealed { first ≡ None → second ≡ None → IsErrOf result CellFault.NotFormatted }
         ensures place { IfOk result (λ cell. IsCellAt at cell × IsFalse cell.broken) }
         ensures stands { (c : Image)
             → IsRead (slot_at c at) first → IsRead (slot_at c (at + 2)) second
