@@ -12,6 +12,7 @@ use slot_gate::unseal_all;
 /// Makes an empty journal with areas of so many slots: unseals the gates of both areas by one write each and one sync
 /// for all, and then gives the area cell the value 1, in `2 * slots + 9` device calls. `Device` is the only fault; what
 /// was there before may then be lost.
+#[tactic(auto, using(crate::proofs::Areas::areas_within))]
 pub fn format<D: SectorDisk>(disk: &mut D, slots: u64) -> Result<(), JournalFault>
     requires on_disk { 8 + 4 * slots ≤ (D.state disk.old).sectors }
     requires most { slots ≤ 4096 }

@@ -4,7 +4,7 @@ use Rattle.slot_gate.specs.Slot.{InSlots}
 use Rattle.slot_gate.proofs.Calls.{run_on}
 use Rattle.job_journal.specs.Jobs.{jobs_of}
 use Rattle.job_journal.specs.Compacting.{records_for}
-use Rattle.job_journal.proofs.Compactions.{writing_start, writing_more, written_fill}
+use Rattle.job_journal.proofs.Changes.{writing_start, writing_more, written_fill}
 use Rattle.job_journal.proofs.area.fill_area.Goals as goal
 
 pub loop-filled-init : goal.loop-filled-init

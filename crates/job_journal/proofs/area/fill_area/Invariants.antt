@@ -1,6 +1,6 @@
 use Rattle.job_journal.specs.Jobs.{jobs_of}
 use Rattle.job_journal.specs.Compacting.{IsWritten, records_for}
-use Rattle.job_journal.proofs.Compactions.{Writing}
+use Rattle.job_journal.proofs.Changes.{Writing}
 use Rattle.job_journal.proofs.area.fill_area.Given as goal
 
 abbrev pub invariant-loop-filled : goal.invariant-loop-filled

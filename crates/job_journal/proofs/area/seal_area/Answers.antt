@@ -1,7 +1,7 @@
 use Rattle.std.proofs.Common.{◌+◌, length, refl, arith}
 use Rattle.slot_gate.specs.Slot.{InSlots}
 use Rattle.slot_gate.proofs.Calls.{run_on}
-use Rattle.job_journal.proofs.Compactions.{writing_start, writing_more, written_seal}
+use Rattle.job_journal.proofs.Changes.{writing_start, writing_more, written_seal}
 use Rattle.job_journal.proofs.area.seal_area.Goals as goal
 
 pub loop-sealed-init : goal.loop-sealed-init

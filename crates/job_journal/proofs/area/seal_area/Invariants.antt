@@ -1,7 +1,7 @@
 use Rattle.std.proofs.Common.{◌+◌, length}
 use Rattle.job_journal.specs.Jobs.{jobs_of}
 use Rattle.job_journal.specs.Compacting.{IsWritten, records_for}
-use Rattle.job_journal.proofs.Compactions.{Writing}
+use Rattle.job_journal.proofs.Changes.{Writing}
 use Rattle.job_journal.proofs.area.seal_area.Given as goal
 
 abbrev pub invariant-loop-sealed : goal.invariant-loop-sealed

@@ -1,6 +1,6 @@
 use Rattle.std.proofs.Common.{sym, subst, refl, arith, IsTrue}
 use Rattle.std.proofs.lemmas.Bool.Decides.{nat_tests}
-use Rattle.job_journal.proofs.Compactions.{still_since, area_run, area_since, compact_run, compact_since, compact_after}
+use Rattle.job_journal.proofs.Changes.{still_since, area_run, area_since, compact_run, compact_since, compact_after}
 use Rattle.job_journal.proofs.journal.JobJournal.compact.Goals as goal
 
 pub returns-in-Some-clause-images : goal.returns-in-Some-clause-images
@@ -22,11 +22,9 @@ returns-in_default-raise-clause-run g c =
 
 pub returns-in_default-raise-clause-images : goal.returns-in_default-raise-clause-images
 returns-in_default-raise-clause-images g c = λ honest.
-    let still = subst (λ b. IsTrue b) (sym c.write_area.ensures.counts.honest) honest in
-    let done = c.in-Ok.ensures in
-    compact_since c.self.view_is honest c.self.invariant c.record_count-records.ensures.in_order
-    (record { at = c.other_sector-other.ensures; run = c.write_area.ensures.run honest; written = done.written honest refl; settled = done.settled honest refl })
-    (c.raise.ensures.run still) (c.raise.ensures.images 4 still c.self.invariant.cell)
+    compact_since c.self.view_is honest c.self.invariant c.record_count-records.ensures.in_order c.write_area.ensures.counts.honest
+    (record { at = c.other_sector-other.ensures; run = c.write_area.ensures.run honest; written = c.in-Ok.ensures.written honest refl; settled = c.in-Ok.ensures.settled honest refl })
+    c.raise.ensures.run (λ still. c.raise.ensures.images 4 still c.self.invariant.cell)
 
 pub returns-clause-run : goal.returns-clause-run
 returns-clause-run g c =
@@ -34,20 +32,17 @@ returns-clause-run g c =
 
 pub returns-clause-images : goal.returns-clause-images
 returns-clause-images g c = λ honest.
-    let still = subst (λ b. IsTrue b) (sym c.write_area.ensures.counts.honest) honest in
-    let done = c.in-Ok.ensures in
-    compact_since c.self.view_is honest c.self.invariant c.record_count-records.ensures.in_order
-    (record { at = c.other_sector-other.ensures; run = c.write_area.ensures.run honest; written = done.written honest refl; settled = done.settled honest refl })
-    (c.raise.ensures.run still) (c.raise.ensures.images 4 still c.self.invariant.cell)
+    compact_since c.self.view_is honest c.self.invariant c.record_count-records.ensures.in_order c.write_area.ensures.counts.honest
+    (record { at = c.other_sector-other.ensures; run = c.write_area.ensures.run honest; written = c.in-Ok.ensures.written honest refl; settled = c.in-Ok.ensures.settled honest refl })
+    c.raise.ensures.run (λ still. c.raise.ensures.images 4 still c.self.invariant.cell)
 
 pub returns-clause-after : goal.returns-clause-after
 returns-clause-after g c = λ honest ok.
     let still = subst (λ b. IsTrue b) (sym c.write_area.ensures.counts.honest) honest in
-    let done = c.in-Ok.ensures in
     record {
       settled = c.in-Ok-raise.ensures.settled still refl;
       holds = compact_after c.self.view_is honest c.self.invariant c.record_count-records.ensures.in_order
-          (record { at = c.other_sector-other.ensures; run = c.write_area.ensures.run honest; written = done.written honest refl; settled = done.settled honest refl })
+          (record { at = c.other_sector-other.ensures; run = c.write_area.ensures.run honest; written = c.in-Ok.ensures.written honest refl; settled = c.in-Ok.ensures.settled honest refl })
           (c.raise.ensures.run still) c.in-Ok-raise.ensures.ok.1 c.record_count-records.ensures.count
           (λ stand. (c.in-Ok-raise.ensures.after 4 still c.self.invariant.cell stand refl).1);
     }

@@ -1,4 +1,4 @@
-use Rattle.job_journal.proofs.Compactions.{still_since}
+use Rattle.job_journal.proofs.Changes.{still_since}
 use Rattle.job_journal.proofs.journal.JobJournal.make_room.Goals as goal
 
 pub returns-then-self-clause-after : goal.returns-then-self-clause-after

@@ -1,6 +1,6 @@
 use Rattle.std.proofs.Common.{refl}
 use Rattle.job_journal.specs.Mounted.{AllHold, IsJournal}
-use Rattle.job_journal.proofs.Appends.{append_since, append_after, append_run, appended_is, as_appended}
+use Rattle.job_journal.proofs.Changes.{append_since, append_after, append_run, appended_is, as_appended}
 use Rattle.job_journal.proofs.journal.JobJournal.write.Goals as goal
 
 pub returns-in_default-clause-run : goal.returns-in_default-clause-run
