@@ -2,7 +2,7 @@ mod Furthest
 mod Bundles
 pub mod Turning
 pub mod Twins
-pub mod Posting
+pub mod Keyed
 pub mod Desks
 pub mod Turns
 pub mod KeptEntries

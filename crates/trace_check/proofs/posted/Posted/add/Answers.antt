@@ -2,7 +2,7 @@ use Rattle.std.proofs.Common.{◌≡◌, List, sym, ◌∙◌, subst}
 use Rattle.std.proofs.lemmas.Option.{same_Some}
 use Rattle.wire_msg.specs.Envelope.{Envelope}
 use Rattle.trace_check.specs.Posts.{Posts}
-use Rattle.trace_check.proofs.Posting.{posts_put}
+use Rattle.trace_check.proofs.Keyed.{posts_put}
 use Rattle.trace_check.proofs.posted.Posted.add.Goals as goal
 
 pub returns : goal.returns

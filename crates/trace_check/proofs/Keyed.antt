@@ -1,5 +1,6 @@
 -- The messages that were sent, once one more is put in.
-use Rattle.std.proofs.Common.{◌≡◌, Bool, true, false, not, ◌||◌, ◌⊎◌, List, ◌∷◌, inl, inr, refl, sym, ap, ◌∙◌, subst, MatchBool}
+use Rattle.std.proofs.Common.{◌≡◌, Bool, true, false, not, ◌||◌, ◌⊎◌, List, ◌∷◌, inl, inr, refl, sym, ap, ◌∙◌, subst, MatchBool, Result, Ok, Err}
+use Rattle.std.specs.Prelude.{OnOk}
 use Rattle.std.specs.List.{list_any}
 use Rattle.std.specs.List.Sorted.{IsPermutation}
 use Rattle.std.specs.Cmp.Lexicographic.{bytes_decides}
@@ -43,3 +44,7 @@ posts_put old new m false put is n =
         | inr before ↦ before
       ]),
     )
+
+pub on_ok : {A E : Type 0} (P Q : Type 0) (r : Result A E) → (P → Q) → OnOk r P → OnOk r Q
+on_ok P Q (Ok a) more h = more h
+on_ok P Q (Err e) more h = h
