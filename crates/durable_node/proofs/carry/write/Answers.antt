@@ -1,8 +1,10 @@
-use Rattle.std.proofs.Common.{◌≡◌, Option, Result, Ok, Err, IsOk, IfErr, ℕ, refl}
-use Rattle.job_model.specs.Command.{Put}
+use Rattle.std.proofs.Common.{◌≡◌, Option, Result, Ok, Err, IsOk, IfErr, ℕ, refl, sym, ap, subst}
+use Rattle.job_model.specs.Command.{Command, Put}
+use Rattle.node_core.specs.Planned.{lent_by}
 use Rattle.node_store.specs.declared.fault.StoreFault.{StoreFault}
 use Rattle.durable_node.specs.declared.fault.NodeFault.{NodeFault}
 use Rattle.durable_node.specs.Faults.{fault_for}
+use Rattle.durable_node.specs.Carrying.{Writes}
 use Rattle.durable_node.proofs.Mounts.{written}
 use Rattle.durable_node.proofs.carry.write.Goals as goal
 
@@ -14,5 +16,6 @@ done_of (Err fault) t err ok = (let failed = rw err at ok in absurd cc)
 pub returns-in-Put-clause-disk : goal.returns-in-Put-clause-disk
 returns-in-Put-clause-disk g c =
     let e = c.put.ensures in
-    rw c.in-Put.is (written g.D.SectorDisk.state c.args.store.now c.put.new.self (Put c.in-Put.work.now) (IsOk c.told-in-Put.result) c.requires.ready.whole e.areas.slots e.images
+    subst (λ (w : Option Command). Writes g.D.SectorDisk.state c.args.store.now c.put.new.self w (IsOk c.told-in-Put.result)) (sym (ap lent_by c.in-Put.is))
+    (written g.D.SectorDisk.state c.args.store.now c.put.new.self (Put c.in-Put.work.now) (IsOk c.told-in-Put.result) c.requires.ready.whole e.areas.slots e.images
     (λ honest ok. e.after honest (done_of c.put.result c.told-in-Put.result c.told-in-Put.ensures.err ok)))

@@ -1,4 +1,19 @@
 use Rattle.durable_node.proofs.node.DurableNode.step.Goals as goal
 
-pub returns : goal.returns
-returns g c = rw (← c.self.view_is) (assumption c.advance.ensures)
+pub returns-clause-step : goal.returns-clause-step
+returns-clause-step g c = rw (← c.self.view_is) c.advance.ensures.step
+
+pub returns-clause-stuck : goal.returns-clause-stuck
+returns-clause-stuck g c = rw (← c.self.view_is) c.advance.ensures.stuck
+
+pub returns-clause-answers : goal.returns-clause-answers
+returns-clause-answers g c = rw (← c.self.view_is) c.advance.ensures.answers
+
+pub returns-clause-mounting : goal.returns-clause-mounting
+returns-clause-mounting g c = rw (← c.self.view_is) c.advance.ensures.mounting
+
+pub returns-clause-kept : goal.returns-clause-kept
+returns-clause-kept g c = rw (← c.self.view_is) c.advance.ensures.kept
+
+pub returns-clause-reads : goal.returns-clause-reads
+returns-clause-reads g c = rw (← c.self.view_is) c.advance.ensures.reads
