@@ -1,11 +1,12 @@
 -- The front of a reader's tokens, a turn at a time.
-use Rattle.std.proofs.Common.{◌≡◌, ℕ, Bool, ◌-◌, ◌<◌, ◌≤◌, List, [], ◌∷◌, ◌++◌, length, Option, Some, None, option_map, option_and_then, refl, sym, ap, ◌∙◌, append_assoc, append-nil}
+use Rattle.std.proofs.Common.{◌≡◌, ℕ, Bool, decimal, ◌^◌, ◌-◌, ◌<◌, ◌≤◌, List, [], ◌∷◌, ◌++◌, length, Option, Some, None, option_map, option_and_then, refl, sym, ap, ◌∙◌, append_assoc, append-nil}
 use Rattle.json.specs.Token.{Token}
 use Rattle.json.specs.Json as json
 use Rattle.json.specs.Json.{parse_map, after_end_array, read_key, items, members, value}
 use Rattle.json.proofs.Grammar.{value_is, value-begin_array, value-begin_object, members_end, members_more}
 use Rattle.serde_json.specs.Data.{Data, Items, item, Members, no_members, put, array, object, boolean, number, unsigned, string, Num}
 use Rattle.serde_json.specs.Read.{of_json, of_items, of_members, converted, number_of}
+use Rattle.serde_json.proofs.Numbers.{number_of-decimal}
 use Rattle.trace_text.specs.Entries.{with_first}
 use Rattle.trace_text.proofs.Converted.{pick, converted_some, mapped_some, converted_array, converted_object, item_read, items_over}
 use Rattle.trace_text.specs.Streams.{data_at, each_in, list_in, items_at, folded, members_at}
@@ -15,12 +16,25 @@ use Rattle.trace_text.specs.Streams.{data_at, each_in, list_in, items_at, folded
 pub text_there : (depth : ℕ) (text : List ℕ) (ts : List Token) → data_at depth (Token.string text ∷ ts) ≡ Some (string text, ts)
 text_there depth text ts = ap (converted of_json) (value_is depth (Token.string text ∷ ts))
 
-pub flag_there : (depth : ℕ) (b : Bool) (ts : List Token) → data_at depth (Token.boolean b ∷ ts) ≡ Some (boolean b, ts)
+flag_there : (depth : ℕ) (b : Bool) (ts : List Token) → data_at depth (Token.boolean b ∷ ts) ≡ Some (boolean b, ts)
 flag_there depth b ts = ap (converted of_json) (value_is depth (Token.boolean b ∷ ts))
 
-pub number_there : (depth n : ℕ) (text : List ℕ) (ts : List Token) → number_of text ≡ Some (unsigned n) → data_at depth (Token.number text ∷ ts) ≡ Some (number (unsigned n), ts)
+number_there : (depth n : ℕ) (text : List ℕ) (ts : List Token) → number_of text ≡ Some (unsigned n) → data_at depth (Token.number text ∷ ts) ≡ Some (number (unsigned n), ts)
 number_there depth n text ts e =
     ap (converted of_json) (value_is depth (Token.number text ∷ ts)) ∙ ap (λ (o : Option Num). option_map (λ (d : Data). (d, ts)) (option_map number o)) e
+
+decimal_there : (depth n : ℕ) (ts : List Token) → n < 2 ^ 64 → data_at depth (Token.number (decimal n) ∷ ts) ≡ Some (number (unsigned n), ts)
+decimal_there depth n ts small = number_there depth n (decimal n) ts (number_of-decimal n small)
+
+-- what stands at the front of the tokens
+pub text_front : (depth : ℕ) (text : List ℕ) (old new : List Token) → old ≡ Token.string text ∷ new → data_at depth old ≡ Some (string text, new)
+text_front depth text old new is = ap (data_at depth) is ∙ text_there depth text new
+
+pub flag_front : (depth : ℕ) (b : Bool) (old new : List Token) → old ≡ Token.boolean b ∷ new → data_at depth old ≡ Some (boolean b, new)
+flag_front depth b old new is = ap (data_at depth) is ∙ flag_there depth b new
+
+pub decimal_front : (depth n : ℕ) (old new : List Token) → old ≡ Token.number (decimal n) ∷ new → n < 2 ^ 64 → data_at depth old ≡ Some (number (unsigned n), new)
+decimal_front depth n old new is small = ap (data_at depth) is ∙ decimal_there depth n new small
 
 -- ---- lists
 

@@ -9,10 +9,11 @@ ghost use Rattle.trace_text.specs.Places.{with_device};
 ghost use Rattle.trace_text.specs.Streams.{messages_of, claim_with};
 
 use crate::digits::Digits;
-use crate::fields::{Fields, is_word};
+use crate::fields::Fields;
 use crate::reading::{node_of, number_of, priority_of, queue_of, read_device, read_other, text_of};
 use crate::stream::Halt;
 use job_model::PAYLOAD_CAPACITY;
+use line_words::is_word;
 use std::alloc::Global;
 use trace_check::{Deed, HistoryBuilder};
 use wire_msg::{Message, decode_into};
@@ -45,7 +46,7 @@ impl Desk {
 pub(crate) fn add_entry(
     desk: &mut Desk,
     fields: &Fields<'_>,
-    texts: &[&str],
+    texts: &[&[u8]],
     history: &mut HistoryBuilder,
 ) -> Result<(), Halt>
     requires { history.old.pending ≡ [] }
@@ -69,7 +70,7 @@ pub(crate) fn add_entry(
 fn add_delivery(
     desk: &mut Desk,
     fields: &Fields<'_>,
-    texts: &[&str],
+    texts: &[&[u8]],
     history: &mut HistoryBuilder,
 ) -> Result<(), Halt>
     requires pending { history.old.pending ≡ [] }
@@ -101,7 +102,7 @@ fn add_delivery(
 fn add_submit(
     desk: &mut Desk,
     fields: &Fields<'_>,
-    texts: &[&str],
+    texts: &[&[u8]],
     history: &mut HistoryBuilder,
 ) -> Result<(), Halt>
     requires pending { history.old.pending ≡ [] }
@@ -134,7 +135,7 @@ fn add_submit(
 fn add_finish(
     desk: &mut Desk,
     fields: &Fields<'_>,
-    texts: &[&str],
+    texts: &[&[u8]],
     history: &mut HistoryBuilder,
 ) -> Result<(), Halt>
     requires pending { history.old.pending ≡ [] }
@@ -160,8 +161,8 @@ fn add_finish(
 fn add_other(
     desk: &mut Desk,
     fields: &Fields<'_>,
-    name: &str,
-    texts: &[&str],
+    name: &[u8],
+    texts: &[&[u8]],
     history: &mut HistoryBuilder,
 ) -> Result<(), Halt>
     requires other { bytes_eq name.now (codes "deliver") ≡ false }
@@ -189,7 +190,7 @@ fn add_messages(
     digits: &Digits,
     room: &mut Vec<u8>,
     message: &mut Message,
-    texts: &[&str],
+    texts: &[&[u8]],
     history: &mut HistoryBuilder,
 ) -> Result<(), Halt>
     requires { length texts.now ≤ history.old.room }
@@ -207,7 +208,7 @@ fn add_message(
     digits: &Digits,
     room: &mut Vec<u8>,
     message: &mut Message,
-    text: &str,
+    text: &[u8],
     history: &mut HistoryBuilder,
 ) -> Result<(), Halt>
     requires { 0 < history.old.room }

@@ -38,10 +38,10 @@ impl Digits {
     }
 
     /// The bytes of hex digits go to the room, if it is some.
-    pub(crate) fn read_bytes(&self, room: &mut Vec<u8>, text: &str) -> Result<bool, AllocError>
+    pub(crate) fn read_bytes(&self, room: &mut Vec<u8>, text: &[u8]) -> Result<bool, AllocError>
         ensures { IfOk result (λ some. MatchBool some (good (decode_of text.now) ≡ Some room.new.items) (good (decode_of text.now) ≡ None)) }
     {
-        let digits = text.as_bytes();
+        let digits = text;
         if digits.len() % 2 != 0 {
             return Ok(false);
         }

@@ -5,24 +5,25 @@ ghost use Rattle.serde_json.specs.View.{view};
 ghost use Rattle.trace_text.specs.Fields.{data_of, found_by, found_in, found_put, nothing_found};
 ghost use Rattle.trace_text.specs.Entries.{number_in};
 
+use line_words::is_word;
 use serde_json::Value;
 
 /// The value of a field: as a reader of tokens found it, or in a tree.
 #[derive(Clone, Copy, Drop)]
 pub enum Field<'a> {
-    Text(&'a str),
+    Text(&'a [u8]),
     Number(u64),
     Flag(bool),
     Tree(&'a Value),
 }
 
 impl<'a> Field<'a> {
-    pub(crate) fn text(self) -> Option<&'a str>
+    pub(crate) fn text(self) -> Option<&'a [u8]>
         ensures { option_map (λ s. s.now) result ≡ as_str (data_of self.entry) }
     {
         match self {
             Field::Text(text) => Some(text),
-            Field::Tree(value) => value.as_str(),
+            Field::Tree(value) => Some(value.as_str()?.as_bytes()),
             Field::Number(_) | Field::Flag(_) => None,
         }
     }
@@ -112,7 +113,7 @@ impl<'a> Fields<'a> {
     }
 
     /// Takes one more member of an object: of equal keys the last counts, and a key that nobody asks for is passed over.
-    pub(crate) fn put(&mut self, key: &str, field: Field<'a>)
+    pub(crate) fn put(&mut self, key: &[u8], field: Field<'a>)
         ensures { found_by self.new ≡ found_put (found_by self.old) key.now (data_of field.entry) }
     {
         if is_word(key, "do") {
@@ -135,14 +136,6 @@ impl<'a> Fields<'a> {
             self.id = Some(field);
         }
     }
-}
-
-/// Whether a text is this word. Most are of another length, which is asked first.
-#[inline]
-pub(crate) fn is_word(text: &str, word: &str) -> bool
-    ensures { result ≡ bytes_eq text.now word.now }
-{
-    text.len() == word.len() && text == word
 }
 
 fn member<'a>(value: &'a Value, key: &str) -> Option<Field<'a>>

@@ -11,6 +11,8 @@ mod fault;
 mod fields;
 mod parts;
 mod reading;
+mod run;
+mod scanner;
 mod stream;
 mod whole;
 mod writing;

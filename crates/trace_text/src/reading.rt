@@ -10,9 +10,10 @@ ghost use Rattle.trace_text.specs.Fields.{data_of, found_by};
 ghost use Rattle.trace_text.specs.Entries.{claim_of, good, below, bytes_in, spelled_in, messages_in, number_in, priority_in, deliver_in, submit_in, finish_in, event_in, device_in, recover_in, deed_named, deed_in, claim_in};
 ghost use Rattle.trace_text.specs.Places.{IsRead, recovery_said, with_device};
 
-use crate::fields::{Field, Fields, is_word};
+use crate::fields::{Field, Fields};
 use group_task::{NODES, NodeId};
 use job_model::{Payload, QUEUES, Queue, Work};
+use line_words::is_word;
 use node_core::Event;
 use serde_json::Value;
 use std::alloc::{AllocError, Global};
@@ -49,7 +50,7 @@ pub fn read_entry(alloc: Global, value: &Value) -> Result<Option<Entry>, AllocEr
 }
 
 /// The text of a field.
-pub(crate) fn text_of<'a>(field: Option<Field<'a>>) -> Option<&'a str>
+pub(crate) fn text_of<'a>(field: Option<Field<'a>>) -> Option<&'a [u8]>
     ensures { option_map (λ s. s.now) result ≡ option_and_then as_str (option_map data_of field.entry) }
 {
     field?.text()
@@ -73,7 +74,7 @@ fn bytes_of(room: &mut Vec<u8>, field: Option<Field<'_>>) -> Result<bool, AllocE
 }
 
 /// The bytes of hex digits go to the room, if it is some.
-pub(crate) fn read_bytes(room: &mut Vec<u8>, text: &str) -> Result<bool, AllocError>
+pub(crate) fn read_bytes(room: &mut Vec<u8>, text: &[u8]) -> Result<bool, AllocError>
     ensures { IfOk result (λ some. MatchBool some (good (decode_of text.now) ≡ Some room.new.items) (good (decode_of text.now) ≡ None)) }
 {
     room.resize(text.len() / 2, 0)?;
@@ -81,7 +82,7 @@ pub(crate) fn read_bytes(room: &mut Vec<u8>, text: &str) -> Result<bool, AllocEr
 }
 
 /// The message of a text of hex digits.
-fn read_message(room: &mut Vec<u8>, text: &str) -> Result<Option<Message>, AllocError>
+fn read_message(room: &mut Vec<u8>, text: &[u8]) -> Result<Option<Message>, AllocError>
     ensures { IfOk result (λ message. message ≡ spelled_in text.now) }
 {
     if read_bytes(room, text)? {
@@ -111,7 +112,7 @@ fn read_messages(alloc: Global, values: &[Value]) -> Result<Option<Vec<Message>>
         let Some(text) = value.as_str() else {
             return Ok(None);
         };
-        let Some(message) = read_message(&mut room, text)? else {
+        let Some(message) = read_message(&mut room, text.as_bytes())? else {
             return Ok(None);
         };
         messages.push(message)?;
@@ -134,7 +135,7 @@ fn read_deed(room: &mut Vec<u8>, fields: &Fields<'_>, deed: &mut Deed) -> Result
 fn read_named(
     room: &mut Vec<u8>,
     fields: &Fields<'_>,
-    name: &str,
+    name: &[u8],
     deed: &mut Deed,
 ) -> Result<bool, AllocError>
     ensures { IfOk result (λ some. IsRead some deed.new (deed_named (found_by fields.now) name.now)) }
@@ -149,7 +150,7 @@ fn read_named(
 pub(crate) fn read_other(
     room: &mut Vec<u8>,
     fields: &Fields<'_>,
-    name: &str,
+    name: &[u8],
     deed: &mut Deed,
 ) -> Result<bool, AllocError>
     requires { bytes_eq name.now (codes "deliver") ≡ false }
@@ -175,7 +176,7 @@ pub(crate) fn read_other(
 fn read_done(
     room: &mut Vec<u8>,
     fields: &Fields<'_>,
-    name: &str,
+    name: &[u8],
     deed: &mut Deed,
 ) -> Result<bool, AllocError>
     requires { bytes_eq name.now (codes "deliver") ≡ false }
@@ -200,7 +201,7 @@ pub(crate) fn read_device(fault: Option<Field<'_>>) -> Option<bool>
     let Some(fault) = fault else {
         return Some(false);
     };
-    if fault.text()? == "device" {
+    if is_word(fault.text()?, "device") {
         Some(true)
     } else {
         None
@@ -243,7 +244,7 @@ fn recovery_of(fields: &Fields<'_>) -> Option<(bool, Option<RecoverFault>)>
 fn read_event(
     room: &mut Vec<u8>,
     fields: &Fields<'_>,
-    name: &str,
+    name: &[u8],
     event: &mut Event,
 ) -> Result<bool, AllocError>
     requires { bytes_eq name.now (codes "deliver") ≡ false }

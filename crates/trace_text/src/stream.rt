@@ -4,11 +4,12 @@
 //! rare it stops, and says nothing of the text: `read_tree` then tells what is in it.
 
 ghost use Rattle.std.specs.Prelude.{◌≡◌, ◌<◌, ◌≤◌, ◌∷◌, [], ◌++◌, ℕ, length, map, true, IfOk, OnOk, IfSome, option_map, Ok, Some, None};
+ghost use Rattle.std.specs.List.{list_all};
+ghost use Rattle.std.specs.Char.{is_ascii};
 ghost use Rattle.json.specs.Json.{parse_map};
-ghost use Rattle.json.specs.Token.{begin_array, begin_object};
 ghost use Rattle.serde_json.specs.Data.{number, unsigned};
 ghost use Rattle.serde_json.specs.Find.{as_str};
-ghost use Rattle.serde_json.specs.Read.{converted, number_of};
+ghost use Rattle.serde_json.specs.Read.{converted};
 ghost use Rattle.trace_check.specs.Claims.{Claim};
 ghost use Rattle.group_task.specs.declared.node.TheConstants.{NODES};
 ghost use Rattle.trace_text.specs.Fields.{data_of};
@@ -18,12 +19,11 @@ ghost use Rattle.trace_text.specs.Streams.{data_at, items_at, members_at, histor
 ghost use Rattle.trace_text.specs.Wholes.{trace_of, in_shape, shape_in};
 
 use crate::adding::{Desk, add_entry};
-use crate::fields::{Field, Fields, is_word};
-use fast_float::Numeral;
+use crate::fields::{Field, Fields};
+use crate::scanner::Scanner;
 use group_task::NODES;
-use json::{Invalid, Reader, Scratch, Token};
+use line_words::is_word;
 use std::alloc::{AllocError, Global};
-use std::str;
 use trace_check::{History, HistoryBuilder, Trace};
 
 /// Why the reader stopped.
@@ -40,12 +40,6 @@ impl From<AllocError> for Halt {
     }
 }
 
-impl From<Invalid> for Halt {
-    fn from(_e: Invalid) -> Halt {
-        Halt::Odd
-    }
-}
-
 /// An entry whose text was read.
 #[derive(Drop)]
 pub struct Draft<'a> {
@@ -53,7 +47,7 @@ pub struct Draft<'a> {
     /// Whether it has a field `sent`.
     pub has_sent: bool,
     /// The messages of `sent`.
-    pub texts: Vec<&'a str>,
+    pub texts: Vec<&'a [u8]>,
 }
 
 /// The whole, as far as it was read.
@@ -67,24 +61,34 @@ pub struct Parts {
 pub(crate) fn read_stream(alloc: Global, text: &[u8]) -> Result<Trace, Halt>
     ensures { IfOk result (λ trace. trace_of text.now ≡ Ok trace) }
 {
-    let Ok(text) = str::from_utf8(text) else {
+    if !is_ascii(text) {
         return Err(Halt::Odd);
-    };
-    let mut scratch = Scratch::new(alloc);
-    let mut reader = Reader::new(text, &mut scratch)?;
+    }
+    let mut reader = Scanner::new(text);
     let histories = read_whole(alloc, &mut reader)?;
-    if reader.next().is_some() {
+    if !reader.is_done() {
         return Err(Halt::Odd);
     }
     Ok(Trace::new(histories))
 }
 
+/// Every byte is looked at, also behind one that is no ASCII, so that many can be at once.
+fn is_ascii(text: &[u8]) -> bool
+    ensures { result ≡ list_all is_ascii text.now }
+{
+    let mut all = true;
+    for byte in text {
+        all &= byte.is_ascii();
+    }
+    all
+}
+
 /// The histories of a trace.
-fn read_whole(alloc: Global, reader: &mut Reader<'_>) -> Result<Vec<History>, Halt>
+fn read_whole(alloc: Global, reader: &mut Scanner<'_>) -> Result<Vec<History>, Halt>
     ensures whole { IfOk result (λ hs. converted (λ d. good (in_shape (shape_in d))) (data_at 127 reader.old) ≡ Some (hs.items, reader.new)) }
     ensures few { IfOk result (λ hs. length hs.items ≤ NODES) }
 {
-    open_object(reader)?;
+    reader.open_object()?;
     let mut parts = Parts {
         nodes: None,
         histories: None,
@@ -109,7 +113,7 @@ fn shaped(parts: Parts) -> Result<Vec<History>, Halt>
 }
 
 /// The members of the whole, from behind its brace on.
-fn read_parts(alloc: Global, reader: &mut Reader<'_>, parts: &mut Parts) -> Result<(), Halt>
+fn read_parts(alloc: Global, reader: &mut Scanner<'_>, parts: &mut Parts) -> Result<(), Halt>
     ensures { OnOk result (members_at parted_put 126 (length reader.old) (parted_by parts.old) reader.old ≡ Some (parted_by parts.new, reader.new)) }
 {
     'parts: while let Some(key) = reader.next_key()? {
@@ -121,8 +125,8 @@ fn read_parts(alloc: Global, reader: &mut Reader<'_>, parts: &mut Parts) -> Resu
 #[tactic(auto, using(crate::proofs::Made::nodes_put, crate::proofs::Made::histories_put, crate::proofs::Made::other_put))]
 fn read_part(
     alloc: Global,
-    reader: &mut Reader<'_>,
-    key: &str,
+    reader: &mut Scanner<'_>,
+    key: &[u8],
     parts: &mut Parts,
 ) -> Result<(), Halt>
     ensures part { OnOk result (parse_map (parted_put (parted_by parts.old) key.now) (data_at 126 reader.old) ≡ Some (parted_by parts.new, reader.new)) }
@@ -140,27 +144,25 @@ fn read_part(
     Ok(())
 }
 
-fn read_number(reader: &mut Reader<'_>) -> Result<u64, Halt>
+fn read_number(reader: &mut Scanner<'_>) -> Result<u64, Halt>
     ensures value { IfOk result (λ n. (depth : ℕ) → data_at depth reader.old ≡ Some (number (unsigned n), reader.new)) }
     ensures shorter { OnOk result (length reader.new < length reader.old) }
 {
-    match read_scalar(reader)? {
-        Field::Number(number) => Ok(number),
-        _ => Err(Halt::Odd),
-    }
+    let number = reader.number()?;
+    Ok(number)
 }
 
 /// A list of histories.
-fn read_histories(alloc: Global, reader: &mut Reader<'_>) -> Result<Vec<History>, Halt>
+fn read_histories(alloc: Global, reader: &mut Scanner<'_>) -> Result<Vec<History>, Halt>
     ensures histories { IfOk result (λ hs. converted histories_of (data_at 126 reader.old) ≡ Some (hs.items, reader.new)) }
     ensures shorter { OnOk result (length reader.new < length reader.old) }
 {
-    open_list(reader)?;
+    reader.open_list()?;
     read_each_history(alloc, reader)
 }
 
 /// The histories from behind a bracket on.
-fn read_each_history(alloc: Global, reader: &mut Reader<'_>) -> Result<Vec<History>, Halt>
+fn read_each_history(alloc: Global, reader: &mut Scanner<'_>) -> Result<Vec<History>, Halt>
     ensures histories { IfOk result (λ hs. items_at history_of 125 (length reader.old) reader.old ≡ Some (hs.items, reader.new)) }
     ensures shorter { OnOk result (length reader.new ≤ length reader.old) }
 {
@@ -171,7 +173,7 @@ fn read_each_history(alloc: Global, reader: &mut Reader<'_>) -> Result<Vec<Histo
         texts: Vec::new(alloc),
     };
     let mut desk = Desk::new(alloc);
-    'histories: while !reader.take_end_array() {
+    'histories: while !reader.take_end_list()? {
         let history = read_history(alloc, reader, &mut draft, &mut desk)?;
         histories.reserve(1)?;
         histories.push_reserved(history);
@@ -182,21 +184,21 @@ fn read_each_history(alloc: Global, reader: &mut Reader<'_>) -> Result<Vec<Histo
 /// A list of entries.
 fn read_history<'a>(
     alloc: Global,
-    reader: &mut Reader<'a>,
+    reader: &mut Scanner<'a>,
     draft: &mut Draft<'a>,
     desk: &mut Desk,
 ) -> Result<History, Halt>
     ensures history { IfOk result (λ h. converted history_of (data_at 125 reader.old) ≡ Some (h, reader.new)) }
     ensures shorter { OnOk result (length reader.new < length reader.old) }
 {
-    open_list(reader)?;
+    reader.open_list()?;
     read_entries(alloc, reader, draft, desk)
 }
 
 /// The entries from behind a bracket on.
 fn read_entries<'a>(
     alloc: Global,
-    reader: &mut Reader<'a>,
+    reader: &mut Scanner<'a>,
     draft: &mut Draft<'a>,
     desk: &mut Desk,
 ) -> Result<History, Halt>
@@ -204,7 +206,7 @@ fn read_entries<'a>(
     ensures shorter { OnOk result (length reader.new ≤ length reader.old) }
 {
     let mut history = HistoryBuilder::new(alloc);
-    'entries: while !reader.take_end_array() {
+    'entries: while !reader.take_end_list()? {
         read_entry(reader, draft, desk, &mut history)?;
     }
     Ok(history.build())
@@ -212,7 +214,7 @@ fn read_entries<'a>(
 
 /// Adds the entry at the front to a history.
 fn read_entry<'a>(
-    reader: &mut Reader<'a>,
+    reader: &mut Scanner<'a>,
     draft: &mut Draft<'a>,
     desk: &mut Desk,
     history: &mut HistoryBuilder,
@@ -222,7 +224,7 @@ fn read_entry<'a>(
     ensures finished { OnOk result (history.new.pending ≡ []) }
     ensures shorter { OnOk result (length reader.new < length reader.old) }
 {
-    open_object(reader)?;
+    reader.open_object()?;
     draft.fields.clear();
     draft.has_sent = false;
     read_members(reader, draft)?;
@@ -233,7 +235,7 @@ fn read_entry<'a>(
 }
 
 /// The members of an entry, from behind its brace on.
-fn read_members<'a>(reader: &mut Reader<'a>, draft: &mut Draft<'a>) -> Result<(), Halt>
+fn read_members<'a>(reader: &mut Scanner<'a>, draft: &mut Draft<'a>) -> Result<(), Halt>
     ensures members { OnOk result (members_at drafted_put 123 (length reader.old) (drafted_by draft.old) reader.old ≡ Some (drafted_by draft.new, reader.new)) }
     ensures shorter { OnOk result (length reader.new ≤ length reader.old) }
 {
@@ -243,12 +245,12 @@ fn read_members<'a>(reader: &mut Reader<'a>, draft: &mut Draft<'a>) -> Result<()
     Ok(())
 }
 
-fn read_member<'a>(reader: &mut Reader<'a>, key: &str, draft: &mut Draft<'a>) -> Result<(), Halt>
+fn read_member<'a>(reader: &mut Scanner<'a>, key: &[u8], draft: &mut Draft<'a>) -> Result<(), Halt>
     ensures member { OnOk result (parse_map (drafted_put (drafted_by draft.old) key.now) (data_at 123 reader.old) ≡ Some (drafted_by draft.new, reader.new)) }
     ensures shorter { OnOk result (length reader.new < length reader.old) }
 {
     if is_word(key, "sent") {
-        open_list(reader)?;
+        reader.open_list()?;
         read_texts(reader, &mut draft.texts)?;
         draft.has_sent = true;
     } else {
@@ -259,15 +261,13 @@ fn read_member<'a>(reader: &mut Reader<'a>, key: &str, draft: &mut Draft<'a>) ->
 }
 
 /// The texts of a list, from behind its bracket on.
-fn read_texts<'a>(reader: &mut Reader<'a>, texts: &mut Vec<&'a str>) -> Result<(), Halt>
+fn read_texts<'a>(reader: &mut Scanner<'a>, texts: &mut Vec<&'a [u8]>) -> Result<(), Halt>
     ensures texts { OnOk result (items_at as_str 122 (length reader.old) reader.old ≡ Some (map (λ s. s.now) texts.new.items, reader.new)) }
     ensures shorter { OnOk result (length reader.new ≤ length reader.old) }
 {
     texts.clear();
-    'texts: while !reader.take_end_array() {
-        let Field::Text(text) = read_scalar(reader)? else {
-            return Err(Halt::Odd);
-        };
+    'texts: while !reader.take_end_list()? {
+        let text = reader.text()?;
         texts.reserve(1)?;
         texts.push_reserved(text);
     }
@@ -275,47 +275,15 @@ fn read_texts<'a>(reader: &mut Reader<'a>, texts: &mut Vec<&'a str>) -> Result<(
 }
 
 /// A text, a number without sign, point or exponent, true or false.
-#[tactic(auto, using(crate::proofs::Streams::text_there, crate::proofs::Streams::flag_there, crate::proofs::Streams::number_there))]
-fn read_scalar<'a>(reader: &mut Reader<'a>) -> Result<Field<'a>, Halt>
+#[tactic(auto, using(crate::proofs::Streams::text_front, crate::proofs::Streams::flag_front))]
+fn read_scalar<'a>(reader: &mut Scanner<'a>) -> Result<Field<'a>, Halt>
     ensures value { IfOk result (λ field. (depth : ℕ) → data_at depth reader.old ≡ Some (data_of field, reader.new)) }
     ensures shorter { OnOk result (length reader.new < length reader.old) }
 {
-    match reader.next() {
-        Some(Token::String(text)) => Ok(Field::Text(text)),
-        Some(Token::Number(text)) => Ok(Field::Number(whole_number(text).ok_or(Halt::Odd)?)),
-        Some(Token::Bool(flag)) => Ok(Field::Flag(flag)),
-        _ => Err(Halt::Odd),
-    }
-}
-
-/// The number of these digits. It stands apart, so that what reads a text is short.
-#[inline(never)]
-fn whole_number(text: &str) -> Option<u64>
-    ensures { IfSome result (λ n. number_of text.now ≡ Some (unsigned n)) }
-{
-    let bytes = text.as_bytes();
-    if bytes.is_empty() || bytes[0] == b'-' {
-        return None;
-    }
-    Numeral::scan(bytes).to_u64()
-}
-
-/// Passes the bracket that begins a list.
-fn open_list(reader: &mut Reader<'_>) -> Result<(), Halt>
-    ensures { OnOk result (reader.old ≡ begin_array ∷ reader.new) }
-{
-    match reader.next() {
-        Some(Token::BeginArray) => Ok(()),
-        _ => Err(Halt::Odd),
-    }
-}
-
-/// Passes the brace that begins an object.
-fn open_object(reader: &mut Reader<'_>) -> Result<(), Halt>
-    ensures { OnOk result (reader.old ≡ begin_object ∷ reader.new) }
-{
-    match reader.next() {
-        Some(Token::BeginObject) => Ok(()),
+    match reader.front() {
+        b'"' => Ok(Field::Text(reader.text()?)),
+        b'0'..=b'9' => Ok(Field::Number(read_number(reader)?)),
+        b't' | b'f' => Ok(Field::Flag(reader.flag()?)),
         _ => Err(Halt::Odd),
     }
 }

@@ -14,7 +14,7 @@ histories-preserved c =
     let l = c.histories in
     let n = l.invariant.0 in
     let r = c.read_history.new.reader in
-    let going : (after_end_array l.reader ≡ None) × (c.take_end_array.new.self ≡ l.reader) = grind arith in
+    let going : (after_end_array l.reader ≡ None) × (c.take_end_list.new.self ≡ l.reader) = grind arith in
     let h = c.in_ok-history.history in
     let less : length r < length l.reader = rw (← going.1) c.in_ok-history.ensures.shorter in
     let pushed : c.push_reserved.new.self.items ≡ l.histories.items ++ h ∷ [] = search rules in (
@@ -28,4 +28,4 @@ histories-preserved c =
 pub returns-clause-histories : goal.returns-clause-histories
 returns-clause-histories c =
     let l = c.histories in
-    l.invariant.2 ∙ items_done history_of 125 l.invariant.0 l.reader c.take_end_array.new.self l.histories.items l.invariant.1 (grind arith)
+    l.invariant.2 ∙ items_done history_of 125 l.invariant.0 l.reader c.take_end_list.new.self l.histories.items l.invariant.1 (grind arith)

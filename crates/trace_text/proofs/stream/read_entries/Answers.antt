@@ -19,7 +19,7 @@ entries-preserved c =
     let l = c.entries in
     let n = l.invariant.0 in
     let r = c.read_entry.new.reader in
-    let going : (after_end_array l.reader ≡ None) × (c.take_end_array.new.self ≡ l.reader) = grind arith in
+    let going : (after_end_array l.reader ≡ None) × (c.take_end_list.new.self ≡ l.reader) = grind arith in
     let add = λ (x : Claim). l.history.claims ++ x ∷ [] in
     let read : parse_map add (converted claim_in (data_at 124 l.reader)) ≡ Some (c.read_entry.new.history.claims, r) = rw (← going.1) c.in_ok-read_entry.ensures.entry in
     let added = mapped_some add (converted claim_in (data_at 124 l.reader)) c.read_entry.new.history.claims r read in
@@ -35,5 +35,5 @@ entries-preserved c =
 pub returns-clause-entries : goal.returns-clause-entries
 returns-clause-entries c =
     let l = c.entries in
-    l.invariant.2 ∙ items_done claim_in 124 l.invariant.0 l.reader c.take_end_array.new.self l.history.claims l.invariant.1 (grind arith)
-    ∙ ap (λ (h : List Claim). Some (h, c.take_end_array.new.self)) (sym c.build.ensures)
+    l.invariant.2 ∙ items_done claim_in 124 l.invariant.0 l.reader c.take_end_list.new.self l.history.claims l.invariant.1 (grind arith)
+    ∙ ap (λ (h : List Claim). Some (h, c.take_end_list.new.self)) (sym c.build.ensures)

@@ -18,7 +18,7 @@ on_ok P Q (Err e) more h = h
 
 pub returns-clause-entry : goal.returns-clause-entry
 returns-clause-entry c =
-    let ts = c.open_object.new.reader in
+    let ts = c.open_object.new.self in
     let r = c.read_members.new.reader in
     let draft = c.read_members.new.draft in
     let old = c.args.history.now.claims in

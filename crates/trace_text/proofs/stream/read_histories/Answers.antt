@@ -9,4 +9,4 @@ use Rattle.trace_text.proofs.stream.read_histories.Goals as goal
 pub returns-clause-histories : goal.returns-clause-histories
 returns-clause-histories c =
     IfOk-weaker c.read_each_history.result _ _ (λ h read. ap (λ (ts : List Token). converted histories_of (data_at 126 ts)) c.in_ok-open_list.ensures
-    ∙ list_there history_of 126 c.open_list.new.reader c.read_each_history.new.reader h.items (omega arith) read) c.read_each_history.ensures.histories
+    ∙ list_there history_of 126 c.open_list.new.self c.read_each_history.new.reader h.items (omega arith) read) c.read_each_history.ensures.histories

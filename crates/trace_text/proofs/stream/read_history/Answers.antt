@@ -10,4 +10,4 @@ use Rattle.trace_text.proofs.stream.read_history.Goals as goal
 pub returns-clause-history : goal.returns-clause-history
 returns-clause-history c =
     IfOk-weaker c.read_entries.result _ _ (λ h read. ap (λ (ts : List Token). converted history_of (data_at 125 ts)) c.in_ok-open_list.ensures
-    ∙ list_there claim_in 125 c.open_list.new.reader c.read_entries.new.reader h (omega arith) read) c.read_entries.ensures.entries
+    ∙ list_there claim_in 125 c.open_list.new.self c.read_entries.new.reader h (omega arith) read) c.read_entries.ensures.entries

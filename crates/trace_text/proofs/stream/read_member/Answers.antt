@@ -14,7 +14,7 @@ returns-in_ok-read_texts-clause-member c =
     let r = c.read_texts.new.reader in
     let texts = map (λ s. s.now) c.read_texts.new.texts.items in
     let named : bytes_eq c.args.key.now (codes "sent") ≡ true = search rules in
-    let there = ap (λ (ts : List Token). converted texts_of (data_at 123 ts)) c.in_ok-open_list.ensures ∙ list_there as_str 123 c.open_list.new.reader r texts (omega arith) c.in_ok-read_texts.ensures.texts in
+    let there = ap (λ (ts : List Token). converted texts_of (data_at 123 ts)) c.in_ok-open_list.ensures ∙ list_there as_str 123 c.open_list.new.self r texts (omega arith) c.in_ok-read_texts.ensures.texts in
     sent_put (drafted_by c.args.draft.now) c.args.key.now c.args.reader.now r texts named there
 
 pub returns-in_ok-field-clause-member : goal.returns-in_ok-field-clause-member

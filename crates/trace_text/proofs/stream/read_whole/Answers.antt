@@ -10,4 +10,4 @@ returns-clause-whole c =
     let r = c.read_parts.new.reader in
     let made = c.in_ok-histories.ensures in
     ap (λ (ts : List Token). converted trace_in (data_at 127 ts)) c.in_ok-open_object.ensures
-    ∙ whole_there c.open_object.new.reader r c.in_ok-histories.histories.items made.some made.few (c.in_ok-read_parts.ensures ∙ ap (λ (s : Parted). Some (s, r)) made.nodes)
+    ∙ whole_there c.open_object.new.self r c.in_ok-histories.histories.items made.some made.few (c.in_ok-read_parts.ensures ∙ ap (λ (s : Parted). Some (s, r)) made.nodes)

@@ -1,0 +1,5 @@
+use Rattle.trace_text.proofs.Runs.{stops_told}
+use Rattle.trace_text.proofs.run.stops.Goals as goal
+
+pub returns : goal.returns
+returns c = stops_told c.args.bytes c.fits-bytes.0
