@@ -1,5 +1,5 @@
 -- What went over a link, from what is known of its two nodes, and what is true of the run.
-use Rattle.std.proofs.Common.{◌≡◌, ℕ, ◌==◌, ◌⊎◌, Bool, true, false, cond, Some, List, [], ◌∷◌, ◌++◌, slice_get, slice_index, refl, ap, sym, ◌∙◌, subst, subst₂, inl, inr, arith, ◌≢◌, ◌+◌, ◌*◌, ◌-◌, ◌<◌, ◌≤◌, length, option_map}
+use Rattle.std.proofs.Common.{◌≡◌, ℕ, ◌==◌, ◌⊎◌, Bool, true, false, cond, Some, List, [], ◌∷◌, ◌++◌, slice_get, slice_index, refl, ap, sym, ◌∙◌, subst, subst₂, inl, inr, arith, ◌≢◌, ◌+◌, ◌*◌, ◌-◌, length, option_map}
 use Rattle.std.proofs.lemmas.Bool.{eqb-true, cases_lt}
 use Rattle.std.proofs.lemmas.Bool.Decides.{nat_tests}
 use Rattle.std.proofs.lemmas.List.Elements.{filter-append}

@@ -1,4 +1,4 @@
-use Rattle.std.proofs.Common.{◌≡◌, ◌+◌, List, [], ◌∷◌, ◌++◌, Some, length, slice_get, sym, ◌∙◌, ap, subst, refl}
+use Rattle.std.proofs.Common.{◌≡◌, List, [], ◌∷◌, ◌++◌, Some, length, slice_get, ◌∙◌, ap, subst, refl}
 use Rattle.std.proofs.lemmas.Option.{slice_get_read}
 use Rattle.node_lock.specs.declared.run.Run.{Run}
 use Rattle.node_lock.specs.Kept.{Log}
