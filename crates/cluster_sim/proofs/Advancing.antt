@@ -14,16 +14,16 @@ use Rattle.histories.specs.declared.what.What.{What}
 use Rattle.histories.specs.declared.what.What.TheVariants.{Recovered, RaiseFailed, RaiseRefused}
 use Rattle.histories.specs.After.{after, found_at}
 use Rattle.histories.specs.Kept.{Tried}
-use Rattle.durable_node.proofs.Nodes.{is_some}
-use Rattle.histories.proofs.Tests.{eq_nat}
+use Rattle.durable_node.proofs.PublicLaws.{is_some}
+use Rattle.histories.proofs.PublicLaws.{eq_nat}
 use Rattle.schedule.specs.declared.act.Act.{Act}
-use Rattle.runs.specs.World.{World}
+use Rattle.runs.specs.World.{World, node_in}
 use Rattle.runs.specs.Step.{Step, Takes, world_after}
 use Rattle.runs.specs.Acts.{IsStepOf}
-use Rattle.runs.specs.Given.{groups_at}
-use Rattle.runs.specs.Tagged.{step_marks}
-use Rattle.runs.specs.Reporting.{TriedAt, Report, own_commands, node_named, moment_of, state_at, state_or_down}
-use Rattle.runs.specs.Growth.{grown, tried_so_far, IsLeft}
+use Rattle.runs.specs.Reporting.{TriedAt, Report, own_commands, node_of, moment_of, grown}
+use Rattle.cluster_sim.specs.Names.{node_named}
+use Rattle.cluster_sim.proofs.Names.{step_named}
+use Rattle.runs.specs.Growth.{IsLeft}
 use Rattle.cluster_sim.specs.Machine.{Machine, DeedOf, Performed, StandsFor, Shows, Tells, is_mounting}
 use Rattle.cluster_sim.specs.Recorded.{AreCounted, IsRecorded, ToldReport, Tells as Told, GoesOn, pending_room, tried_as, tried_at, mounted_at, mounted_now, listed, told_moment, told_report, with_deed}
 use Rattle.cluster_sim.specs.declared.outcome.Deed.{Deed}
@@ -32,13 +32,8 @@ use Rattle.histories.specs.declared.attempt.Attempt.{Attempt}
 use Rattle.histories.specs.Fates.{attempt_of}
 use Rattle.histories.specs.Possible.{IsPossible}
 use Rattle.runs.specs.Run.{IsAllowed}
-use Rattle.runs.proofs.Shown.{taker_named}
-use Rattle.runs.proofs.Grown.{runs_grow, step_length}
-use Rattle.runs.proofs.Hands.{step_gains}
-use Rattle.runs.proofs.Keeping.{AllStates, states_keep}
-use Rattle.runs.proofs.Rooms.{left_few}
-use Rattle.runs.proofs.Runs.{at_place, get_set_same, get_set_other}
-use Rattle.cluster_sim.proofs.Telling.{StepTold, quiet_told, takes_told}
+use Rattle.runs.proofs.PublicLaws.{runs_grow, step_length, own_append, step_gains, AllStates, states_keep, left_few, at_place, get_set_same, get_set_other, node_there}
+use Rattle.cluster_sim.proofs.Telling.{AddsNothing, StepTold, quiet_told, takes_told}
 
 -- ---- the hand after a step
 
@@ -48,14 +43,12 @@ AtMost w n x = (s : NodeState) → slice_get w.states n ≡ Some s → length x.
 unmoved : (w : World) → AllStates (AtMost w) w
 unmoved w n x at s was = (let same : x ≡ s = is_some x s (sym at ∙ was) in let hand : length x.state.hand ≡ length s.state.hand = ap (λ (y : NodeState). length y.state.hand) same in omega (arith, hand))
 
-hands_grow : (nodes : ℕ) (w : World) (step : Step) → AllStates (AtMost w) (world_after nodes w step)
-hands_grow nodes w (Takes m number what) = by_state (slice_get w.states m) refl
-  where
-    by_state : (o : Option NodeState) → slice_get w.states m ≡ o → AllStates (AtMost w) (world_after nodes w (Takes m number what))
-    by_state None at = λ n x at_n. unmoved w n x (rw at at at_n)
-    by_state (Some s) at = states_keep (AtMost w) nodes w m number what s at
-        (λ t was. (let same : s ≡ t = is_some s t (sym at ∙ was) in subst (λ (y : NodeState). length (after m nodes s what).state.hand ≤ length y.state.hand + length y.durable.pending + 1) same (step_gains m nodes s what))) (unmoved w)
-hands_grow nodes w _ = unmoved w
+hands_grow : (nodes : ℕ) (w : World) (step : Step) → IsAllowed nodes w step → AllStates (AtMost w) (world_after nodes w step)
+hands_grow nodes w (Takes m number what) allowed = states_keep (AtMost w) nodes w m number what allowed.0 allowed.1
+    (λ t was.
+    (let same : allowed.0 ≡ t = is_some allowed.0 t (sym allowed.1 ∙ was) in
+    subst (λ (y : NodeState). length (after m nodes allowed.0 what).state.hand ≤ length y.state.hand + length y.durable.pending + 1) same (step_gains m nodes allowed.0 what))) (unmoved w)
+hands_grow nodes w _ allowed = unmoved w
 
 -- the room for pending jobs is enough
 enough : (slots : ℕ) (node : Node Memory) (s : NodeState) → Stands state_of node s → length s.durable.pending ≤ slots → length s.durable.pending ≤ pending_room slots (is_down node.state.phase) node.kept
@@ -66,14 +59,6 @@ enough slots node s stands few = by_down (is_down node.state.phase) refl
     by_down false at = subst (λ (k : Option Durable). length s.durable.pending ≤ pending_room slots false k) (sym (stands.up at).0) (omega arith)
 
 -- ---- how many commands each node tried
-
-own_first : (b : Bool) (t : Tried) (xs ys zs : List Tried) → xs ≡ ys ++ zs → (if b then t ∷ xs else xs) ≡ (if b then t ∷ ys else ys) ++ zs
-own_first true t xs ys zs is = ap (λ (ts : List Tried). t ∷ ts) is
-own_first false t xs ys zs is = is
-
-own_append : (n : ℕ) (xs ys : List TriedAt) → own_commands n (xs ++ ys) ≡ own_commands n xs ++ own_commands n ys
-own_append n [] ys = refl
-own_append n (t ∷ xs) ys = own_first (t.node == n) t.tried (own_commands n (xs ++ ys)) (own_commands n xs) (own_commands n ys) (own_append n xs ys)
 
 few_first : (b : Bool) (t : Tried) (xs : List Tried) (k : ℕ) → length xs ≤ k → length (if b then t ∷ xs else xs) ≤ suc k
 few_first true t xs k few = omega (arith, few)
@@ -155,8 +140,7 @@ record Taken (w : World) (step : Step) (n : ℕ) (deed : Deed) (node : Node Memo
 record Quiet (w : World) (step : Step) (deed : Deed) : Type 0 where
   tried : deed.tried ≡ None
   mounted : deed.mounted ≡ false
-  marks : (nodes : ℕ) (counts : ℕ → ℕ) → step_marks nodes w counts step ≡ []
-  groups : (nodes : ℕ) → groups_at nodes w step ≡ []
+  adds : (nodes : ℕ) → AddsNothing nodes w step
 
 -- the node that code names
 pub named_in : (old : Machine) (w : World) (a : Act) (n count : ℕ) (net : Network) → StandsFor old w → count ≡ length old.nodes → net ≡ old.net → n ≡ node_named count net.sent a → n ≡ node_named (length w.states) w.net.sent a
@@ -178,7 +162,7 @@ module _ (old new : Machine) (w : World) (a : Act) (deed : Deed) (n : ℕ) (was 
     where
       by_step : (step : Step) → IsStepOf (length w.states) w a step → IsAllowed (length w.states) w step → Shows w step new → Tells w step deed → Taken w step n deed node moved.s ⊎ Quiet w step deed
       by_step (Takes m number what) of may shows tells =
-          let same : m ≡ n = sym (named ∙ taker_named (length w.states) w a m number what of) in
+          let same : m ≡ n = step_named (length w.states) w a (Takes m number what) of ∙ sym named in
           let at_s : slice_get w.states m ≡ Some moved.s = subst (λ (k : ℕ). slice_get w.states k ≡ Some moved.s) (sym same) moved.at_s in
           inl (subst (λ (k : ℕ). Taken w (Takes m number what) k deed node moved.s) same (record {
             number = number;
@@ -188,13 +172,13 @@ module _ (old new : Machine) (w : World) (a : Act) (deed : Deed) (n : ℕ) (was 
             tells = tells moved.s at_s;
             found = shows node moved.s (subst (λ (k : ℕ). slice_get new.nodes k ≡ Some node) (sym same) at) at_s;
           }))
-      by_step _ of may shows tells = inr (record { tried = tells.0; mounted = tells.1; marks = λ nodes counts. refl; groups = λ nodes. refl })
+      by_step _ of may shows tells = inr (record { tried = tells.0; mounted = tells.1; adds = λ nodes. record { commands = refl; mountings = λ before. refl } })
 
   pub hand_fits : (report : ToldReport) (r : Report) (limit : ℕ) → Told (record { machine = old; report = report }) w r → length was.state.hand + pending_room old.slots (is_down was.state.phase) was.kept + 1 ≤ limit → length node.state.hand ≤ limit
   hand_fits report r limit tells fits =
       let few : length moved.s.durable.pending ≤ old.slots = left_few (length old.nodes) old.slots w r tells.left n moved.s moved.at_s false in
       let room = enough old.slots was moved.s moved.stood few in
-      let grows = hands_grow (length w.states) w p.acted.step n moved.s' moved.now moved.s moved.at_s in
+      let grows = hands_grow (length w.states) w p.acted.step p.acted.next.allowed n moved.s' moved.now moved.s moved.at_s in
       let before : length was.state.hand ≡ length moved.s.state.hand = ap (λ (x : State). length x.hand) moved.stood.state in
       let after : length node.state.hand ≡ length moved.s'.state.hand = ap (λ (x : State). length x.hand) moved.stands.state in
       omega (arith, room, grows, before, after, fits)
@@ -210,22 +194,23 @@ module _ (old new : Machine) (w : World) (a : Act) (deed : Deed) (n : ℕ) (was 
       (λ none. absurd (let bad : true ≡ false = sym mounting ∙ none.mounted in cc)) taken
 
   -- what the act adds is what is told of it
-  pub step_is_told : (counts : ℕ → ℕ) → StepTold (length w.states) w counts a p.acted.step n deed node.found
-  step_is_told counts = ⊎_elim
-      (λ t. subst (λ (x : Step). StepTold (length w.states) w counts a x n deed node.found) (sym t.is)
-      (takes_told n (length w.states) t.number w counts a t.what moved.s deed node.found moved.at_s (subst (λ (x : Step). IsStepOf (length w.states) w a x) t.is p.acted.next.of_act) t.tells t.found))
-      (λ none. quiet_told (length w.states) w counts a p.acted.step n deed node.found (none.marks (length w.states) counts) (none.groups (length w.states)) none.tried none.mounted) taken
+  pub step_is_told : (r : Report) → StepTold (length w.states) w r a p.acted.step n deed node.found
+  step_is_told r = ⊎_elim
+      (λ t. subst (λ (x : Step). StepTold (length w.states) w r a x n deed node.found) (sym t.is)
+      (takes_told n (length w.states) t.number w r a t.what moved.s deed node.found moved.at_s (subst (λ (x : Step). IsStepOf (length w.states) w a x) t.is p.acted.next.of_act) t.tells t.found))
+      (λ none. quiet_told (length w.states) w r a p.acted.step n deed node.found (none.adds (length w.states)) none.tried none.mounted) taken
 
   -- the report with the act is what is told of the grown one
   report_is : (report : ToldReport) (r : Report) (before : ℕ) → report ≡ told_report r → before ≡ length (own_commands n report.commands) → with_deed n before a deed node report ≡ told_report (grown (length w.states) w a p.acted.step r)
   report_is report r before is_told counted =
       let nodes = length w.states in
       let step = p.acted.step in
-      let t = (step_is_told (tried_so_far r)).parts in
-      let shown : node.state ≡ state_at (world_after nodes w step).states n = moved.stands.state ∙ ap state_or_down (sym moved.now) in
+      let t = (step_is_told r).parts in
+      let at_node : n ≡ node_of step = named ∙ sym (step_named nodes w a step p.acted.next.of_act) in
+      let shown : node.state ≡ (node_in (world_after nodes w step).states n).state = moved.stands.state ∙ ap (λ (x : NodeState). x.state) (sym (node_there (world_after nodes w step).states n moved.s' moved.now)) in
       let moment : record { act = a; node = n; outcome = deed.outcome; state = node.state } ≡ told_moment (moment_of nodes w a step) =
-      (λ i. record { act = a; node = named i; outcome = p.acted.is_told i; state = (shown ∙ ap (λ (k : ℕ). state_at (world_after nodes w step).states k) named) i }) in
-      let so_many : before ≡ tried_so_far r n = counted ∙ ap (λ (x : ToldReport). length (own_commands n x.commands)) is_told in
+      (λ i. record { act = a; node = at_node i; outcome = p.acted.is_told i; state = (shown ∙ ap (λ (k : ℕ). (node_in (world_after nodes w step).states k).state) at_node) i }) in
+      let so_many : before ≡ length (own_commands n r.commands) = counted ∙ ap (λ (x : ToldReport). length (own_commands n x.commands)) is_told in
       λ i. record {
         opening = (is_told i).opening;
         moments = ((λ j. (is_told j).moments ++ moment j ∷ []) ∙ sym (map-append told_moment r.moments (moment_of nodes w a step ∷ []))) i;
@@ -259,7 +244,7 @@ module _ (old new : Machine) (w : World) (a : Act) (deed : Deed) (n : ℕ) (was 
       → slice_get counts n ≡ Some before → report' ≡ with_deed n before a deed node report
       → ((is_some_option deed.tried ≡ true) × (counts' ≡ slice_set counts n (before + 1))) ⊎ ((is_some_option deed.tried ≡ false) × (counts' ≡ counts)) → IsRecorded new report' counts'
   recorded report report' r before counts counts' tells same_slots counted at_count is either =
-      let whole = (step_is_told (tried_so_far r)).whole in
+      let whole = (step_is_told r).whole in
       record {
         world = _;
         run = _;

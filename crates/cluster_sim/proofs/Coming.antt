@@ -1,13 +1,13 @@
 -- What came of a call of a node, as the cluster tells it.
-use Rattle.std.proofs.Common.{false, ◌≡◌, ℕ, ◌+◌, ◌*◌, ◌≤◌, List, length, refl, sym, ◌∙◌, ap, subst, arith, Option, Some, None, Result, Ok, true, ◌≢◌, inl, inr, Err}
+use Rattle.std.proofs.Common.{◌≡◌, ℕ, ◌+◌, ◌*◌, ◌≤◌, List, length, refl, sym, ◌∙◌, ap, subst, arith, Option, Some, None, Result, Ok, ◌≢◌, inl, inr, Err}
 use Rattle.std.specs.Prelude.{IsSome, IsOk, IsErrOf, IfErr, ◌≢◌}
-use Rattle.durable_node.proofs.Forgets.{steps_and_forgets, counts_and_forgets}
+use Rattle.durable_node.proofs.PublicLaws.{steps_and_forgets, counts_and_forgets, is_device}
 use Rattle.sector_disk.specs.Memory.{Memory, state_of, all_synced}
 use Rattle.job_model.specs.Durable.{Durable}
 use Rattle.wire_msg.specs.Envelope.{Envelope}
 use Rattle.sim_net.specs.Network.{Network, after_all_sent}
 use Rattle.node_core.specs.declared.event.Event.{Event}
-use Rattle.histories.specs.declared.what.Refusal.TheVariants as reason
+use Rattle.node_core.specs.declared.fault.Refusal.TheVariants as reason
 use Rattle.histories.specs.Fates.{what_of}
 use Rattle.node_store.specs.Store.{slots_for}
 use Rattle.durable_node.specs.declared.fault.NodeFault.{NodeFault}
@@ -22,7 +22,9 @@ use Rattle.histories.specs.Possible.{IsOfSlots, IsPossible}
 use Rattle.durable_node.specs.Stepping.{Does, Steps, CountsOf, CameOf}
 use Rattle.cluster_sim.specs.declared.outcome.Outcome.{Outcome}
 use Rattle.cluster_sim.specs.declared.outcome.Outcome.TheVariants as outcome
-use Rattle.runs.specs.Acts.{what_outcome, IsCompaction, CompactRest, rest_outcome}
+use Rattle.runs.specs.Acts.{what_outcome, IsCompaction}
+use Rattle.schedule.specs.declared.act.Act.{Act}
+use Rattle.schedule.specs.declared.act.Act.TheVariants as act
 use Rattle.cluster_sim.specs.Told.{told, came_told, IsCompactionTold}
 use Rattle.cluster_sim.specs.Machine.{IsSettled, IsOfSize, IsSame, IsCounted, IsUntouchedNode, Comes, is_mounting, bare}
 use Rattle.cluster_sim.specs.declared.outcome.Deed.{Deed}
@@ -31,19 +33,18 @@ use Rattle.histories.specs.declared.what.What.{What}
 use Rattle.histories.specs.declared.what.What.TheVariants.{Rests, Crashed}
 use Rattle.histories.specs.declared.what.Rest.TheVariants.{Nothing, Compacted}
 use Rattle.histories.specs.After.{after}
-use Rattle.durable_node.proofs.Serves.{is_device}
 use Rattle.histories.specs.declared.what.Rest.{Rest}
-use Rattle.runs.proofs.Sending.{none_sent}
+use Rattle.runs.proofs.PublicLaws.{none_sent}
 use Rattle.sector_disk.specs.Crash.{IsCrashed}
 use Rattle.node_core.specs.Start.{down}
 
 -- what came of an event is told as what comes of it
-pub what_told : (slots self nodes first : ℕ) (s : NodeState) (event : Event) (came : Came) (found : Option Durable) (fate : Fate) → Does slots self nodes s event came found (what_of event fate)
-    → came_told (fault_of fate) first came ≡ told (what_outcome self nodes first s (what_of event fate))
-what_told slots self nodes first s event came found Done does = λ i. outcome.Done (does.answer i) first (length (does.sent i))
-what_told slots self nodes first s event came found (Refused (reason.Core fault)) does = refl
-what_told slots self nodes first s event came found (Recovered kept) does = λ i. outcome.Done (does.answer i) first (length (does.sent i))
-what_told slots self nodes first s event came found _ does = refl
+pub what_told : (slots self nodes first : ℕ) (s : NodeState) (a : Act) (event : Event) (came : Came) (found : Option Durable) (fate : Fate) → Does slots self nodes s event came found (what_of event fate)
+    → came_told (fault_of fate) first came ≡ told (what_outcome self nodes first s (what_of event fate) a)
+what_told slots self nodes first s a event came found Done does = λ i. outcome.Done (does.answer i) first (length (does.sent i))
+what_told slots self nodes first s a event came found (Refused (reason.Core fault)) does = refl
+what_told slots self nodes first s a event came found (Recovered kept) does = λ i. outcome.Done (does.answer i) first (length (does.sent i))
+what_told slots self nodes first s a event came found _ does = refl
 
 -- ---- a node and its disk
 
@@ -72,8 +73,8 @@ settled old new last event came result (inr forgot) id nodes counts steps =
 
 pub comes_by : (event : Event) (old new : Node Memory) (net net' : Network) (came : Came) (deed : Deed) → IsSome old.disk → Steps state_of old new event came
     → deed.tried ≡ came.tried → deed.acked ≡ came.answer → deed.mounted ≡ is_mounting (what_of event came.fate) → deed.outcome ≡ came_told (fault_of came.fate) (length net.sent) came → net' ≡ after_all_sent net came.sent.items
-    → (slots : ℕ) (s : NodeState) → slots ≤ 4096 → IsOfSize slots old.disk → Stands state_of old s → Comes slots old.id old.nodes false (CameOf event) s deed new net net'
-comes_by event old new net net' came deed has steps tried acked mounted is_told sent slots s most size stands =
+    → (slots : ℕ) (s : NodeState) (a : Act) → slots ≤ 4096 → IsOfSize slots old.disk → Stands state_of old s → Comes slots old.id old.nodes a (CameOf event) s deed new net net'
+comes_by event old new net net' came deed has steps tried acked mounted is_told sent slots s a most size stands =
     let was = some_of old.disk has in
     let step = steps was.0 s was.1 stands (λ _. refl) in
     let does = step.0 in
@@ -82,7 +83,7 @@ comes_by event old new net net' came deed has steps tried acked mounted is_told 
       is = does.of;
       possible = does.possible;
       of_slots = subst (λ (n : ℕ). IsOfSlots n old.id old.nodes s (what_of event came.fate)) (ap slots_for (size was.0 was.1) ∙ slots_of_size slots most) does.of_slots;
-      is_told = is_told ∙ what_told (slots_for (state_of was.0).sectors) old.id old.nodes (length net.sent) s event came new.found came.fate does;
+      is_told = is_told ∙ what_told (slots_for (state_of was.0).sectors) old.id old.nodes (length net.sent) s a event came new.found came.fate does;
       tells = record { tried = tried ∙ does.tried.which; acked = acked ∙ does.answer; mounted = mounted };
       sent = sent ∙ ap (λ (ms : List Envelope). after_all_sent net ms) does.sent;
       found = does.mounted;
@@ -111,12 +112,13 @@ not_faulted : (o shown : Outcome) → o ≡ shown → (shown ≡ outcome.Faulted
 not_faulted o shown is other bad = other (sym is ∙ bad)
 
 -- one that rests is told as it is
-rest_told : {A : Type 0} (first : ℕ) (o : Outcome) (rest : Rest) (result : Result A NodeFault) → RestTold rest result → IsCompactionTold first result o → CompactRest rest × (o ≡ told (rest_outcome first rest))
-rest_told first o Nothing result is shown = absurd is
-rest_told first o Compacted (Ok a) is shown = (tt, shown)
-rest_told first o Compacted (Err fault) is shown = absurd cc
-rest_told first o _ (Ok a) is shown = absurd (let bad = is in cc)
-rest_told first o _ (Err fault) is shown = elim shown [
+rest_told : {A : Type 0} (self nodes first : ℕ) (s : NodeState) (x : Act) (o : Outcome) (rest : Rest) (result : Result A NodeFault) → RestTold rest result → IsCompactionTold first result o
+    → IsCompaction (Rests rest) × (o ≡ told (what_outcome self nodes first s (Rests rest) x))
+rest_told self nodes first s x o Nothing result is shown = absurd is
+rest_told self nodes first s x o Compacted (Ok a) is shown = (tt, shown)
+rest_told self nodes first s x o Compacted (Err fault) is shown = absurd cc
+rest_told self nodes first s x o _ (Ok a) is shown = absurd (let bad = is in cc)
+rest_told self nodes first s x o _ (Err fault) is shown = elim shown [
   | inl device ↦ absurd (cc (is, device.0))
   | inr other ↦ (tt, other.1 ∙ (let same = is in cc))
 ]
@@ -125,12 +127,12 @@ fall_told : {A : Type 0} (first : ℕ) (o : Outcome) (result : Result A NodeFaul
 fall_told first o (Ok a) is shown = absurd (let bad = is in cc)
 fall_told first o (Err fault) is shown = elim shown [ inl device ↦ device.1 | inr other ↦ absurd (other.0 (let same = is in cc)) ]
 
-pub compacted_comes : {A : Type 0} (slots id nodes : ℕ) (s : NodeState) (o : Outcome) (new : Node Memory) (net : Network) (what : What) (result : Result A NodeFault) → CompactTold what result → IsPossible id nodes s what
-    → IsCompactionTold (length net.sent) result o → new.found ≡ None → Stands state_of new (after id nodes s what) → Comes slots id nodes true IsCompaction s (bare o) new net net
-compacted_comes slots id nodes s o new net (Rests rest) result is may shown none stands =
-    let by = rest_told (length net.sent) o rest result is shown in
+pub compacted_comes : {A : Type 0} (slots n id nodes : ℕ) (s : NodeState) (o : Outcome) (new : Node Memory) (net : Network) (what : What) (result : Result A NodeFault) → CompactTold what result → IsPossible id nodes s what
+    → IsCompactionTold (length net.sent) result o → new.found ≡ None → Stands state_of new (after id nodes s what) → Comes slots id nodes (act.Compact n) IsCompaction s (bare o) new net net
+compacted_comes slots n id nodes s o new net (Rests rest) result is may shown none stands =
+    let by = rest_told id nodes (length net.sent) s (act.Compact n) o rest result is shown in
     record { what = Rests rest; is = by.0; possible = may; of_slots = tt; is_told = by.1; tells = record { tried = refl; acked = refl; mounted = refl }; sent = sym (none_sent net); found = none; stands = stands }
-compacted_comes slots id nodes s o new net Crashed result is may shown none stands = record {
+compacted_comes slots n id nodes s o new net Crashed result is may shown none stands = record {
   what = Crashed;
   is = tt;
   possible = tt;
@@ -141,7 +143,7 @@ compacted_comes slots id nodes s o new net Crashed result is may shown none stan
   found = none;
   stands = stands;
 }
-compacted_comes slots id nodes s o new net _ result is may shown none stands = absurd is
+compacted_comes slots n id nodes s o new net _ result is may shown none stands = absurd is
 
 -- a compaction mounts nothing
 pub nothing_found : {A : Type 0} (old new : Node Memory) (result : Result A NodeFault) → (IsOk result → IsMovedNode old new) → (IsErrOf result node.Device → IsFallenNode old new)

@@ -1,8 +1,10 @@
-pub mod Coming
-pub mod Members
-pub mod Doings
-pub mod Telling
-pub mod Advancing
-pub mod Numbered
-pub mod Opening
-pub mod Promised
+mod Names
+mod Coming
+mod Members
+mod Doings
+mod Telling
+mod Advancing
+mod Numbered
+mod Opening
+mod Promised
+pub mod PublicLaws

@@ -9,22 +9,23 @@ use Rattle.durable_node.specs.Node.{Node, Stands}
 use Rattle.histories.specs.NodeState.{NodeState}
 use Rattle.histories.specs.declared.what.What.{What}
 use Rattle.histories.specs.What.{event_of, brought, AreAddressed}
-use Rattle.histories.specs.After.{after, found_at}
-use Rattle.durable_node.proofs.Nodes.{is_some}
+use Rattle.histories.specs.After.{after, sent_at, found_at}
+use Rattle.durable_node.proofs.PublicLaws.{is_some}
 use Rattle.cluster_sim.specs.declared.outcome.Outcome.TheVariants as outcome
 use Rattle.cluster_sim.specs.declared.outcome.Refusal.TheVariants as refusal
-use Rattle.runs.specs.World.{World}
-use Rattle.runs.specs.Step.{Takes, Denies, Stranger, state_after, sent_after}
+use Rattle.runs.specs.World.{World, node_in}
+use Rattle.runs.specs.Step.{Takes, Denies, Stranger}
 use Rattle.runs.specs.Run.{IsBrought}
-use Rattle.runs.specs.Acts.{ActOutcome, DeniedAct, At, IsOfSlotsAt, if_compaction, node_outcome}
+use Rattle.runs.specs.Acts.{At, what_outcome}
+use Rattle.schedule.specs.declared.act.Act.{Act}
 use Rattle.cluster_sim.specs.Told.{told}
 use Rattle.cluster_sim.specs.Machine.{Machine, IsMember, IsCluster, IsUntouched, IsUntouchedNode, StandsFor, IsSame, Comes, DeedOf, Makes, bare, IsCounted, disk_of, FaultsAt}
 use Rattle.cluster_sim.specs.declared.outcome.Deed.{Deed}
 use Rattle.cluster_sim.proofs.Coming.{untouched_stands}
-use Rattle.runs.proofs.Runs.{at_place, get_set_same, get_set_other}
-use Rattle.histories.proofs.Tests.{eq_nat}
+use Rattle.runs.proofs.PublicLaws.{at_place, get_set_same, get_set_other, node_there}
+use Rattle.histories.proofs.PublicLaws.{eq_nat}
 use Rattle.std.proofs.lemmas.Bool.Decides.{nat_tests}
-use Rattle.runs.specs.Reporting.{node_or_first}
+use Rattle.cluster_sim.specs.Names.{node_or_first}
 
 -- ---- one place is written
 
@@ -72,43 +73,38 @@ moves slots n nodes old new net net' net'' w s s' at stands was is same_net = re
 pub true_within : (n count : ℕ) → n < count → nat_lt n count ≡ true
 true_within n count within = grind (arith, nat_tests)
 
--- a compaction is told alike whatever was brought
-told_alike : (compacts : Bool) (n number k : ℕ) (what : What) (o : ActOutcome) → if_compaction compacts (Takes n k what) o ≡ if_compaction compacts (Takes n number what) o
-told_alike true n number k what o = refl
-told_alike false n number k what o = refl
-
-pub takes : {E : Type 0} (slots n number : ℕ) (compacts : Bool) (P : What → Type 0) (nodes : List (Node Memory)) (old new : Node Memory) (net net' : Network) (result : Result Deed E) (w : World) → IsCluster slots nodes
+pub takes : {E : Type 0} (slots n number : ℕ) (a : Act) (P : What → Type 0) (nodes : List (Node Memory)) (old new : Node Memory) (net net' : Network) (result : Result Deed E) (w : World) → IsCluster slots nodes
     → slice_get nodes n ≡ Some old → StandsFor (record { slots = slots; nodes = nodes; net = net }) w
     → ((what : What) → P what → IsBrought w number (brought (event_of what)) × AreAddressed n (brought (event_of what)))
-    → ((s : NodeState) → Stands state_of old s → IfOk result (λ (d : Deed). Comes slots old.id old.nodes compacts P s d new net net'))
-    → IfOk result (λ (d : Deed). Makes compacts (λ step. At (nat_lt n (length w.states)) n number P step) w d (record { slots = slots; nodes = slice_set nodes n new; net = net' }))
-takes slots n number compacts P nodes old new net net' (Ok deed) w cluster at stands brings comes =
+    → ((s : NodeState) → Stands state_of old s → IfOk result (λ (d : Deed). Comes slots old.id old.nodes a P s d new net net'))
+    → IfOk result (λ (d : Deed). Makes a (λ step. At (nat_lt n (length w.states)) n number P step) w d (record { slots = slots; nodes = slice_set nodes n new; net = net' }))
+takes slots n number a P nodes old new net net' (Ok deed) w cluster at stands brings comes =
     let within : n < length w.states = subst (λ (k : ℕ). n < k) stands.count (slice_get_within nodes n old at) in
     let count = length w.states in
     let member = cluster.members n old at in
     let here = at_place w.states n within in
     let was = here.0 in
     let was_at = here.1 in
-    let came : Comes slots n count compacts P was deed new net net' =
-    subst (λ (k : ℕ). Comes slots n k compacts P was deed new net net') (member.nodes_is ∙ stands.count)
-    (subst (λ (k : ℕ). Comes slots k old.nodes compacts P was deed new net net') member.id_is (comes was (stands.each n old was at was_at))) in
+    let it : node_in w.states n ≡ was = node_there w.states n was was_at in
+    let came : Comes slots n count a P was deed new net net' =
+    subst (λ (k : ℕ). Comes slots n k a P was deed new net net') (member.nodes_is ∙ stands.count)
+    (subst (λ (k : ℕ). Comes slots k old.nodes a P was deed new net net') member.id_is (comes was (stands.each n old was at was_at))) in
     record {
       step = Takes n number came.what;
       is = subst (λ (b : Bool). At b n number P (Takes n number came.what)) (sym (true_within n count within)) (came.what, refl, came.is);
       allowed = (was, was_at, came.possible, (brings came.what came.is).0, (brings came.what came.is).1);
-      of_slots = subst (λ (o : Option NodeState). IsOfSlotsAt slots n count o came.what) (sym was_at) came.of_slots;
-      is_told = came.is_told ∙ ap told (told_alike compacts n number 0 came.what _)
-          ∙ (λ i. told (if_compaction compacts (Takes n number came.what) (node_outcome n count (length (stands.net i).sent) (sym was_at i) came.what)));
+      of_slots = rw it came.of_slots;
+      is_told = came.is_told ∙ (λ i. told (what_outcome n count (length (stands.net i).sent) (sym it i) came.what a));
       shows = λ node s at_n was_n. ap (λ (x : Node Memory). x.found) (sym (is_some new node (sym (get_set_same nodes n old new at) ∙ at_n))) ∙ came.found
           ∙ ap (λ (x : NodeState). found_at x came.what) (is_some was s (sym was_at ∙ was_n));
       tells = λ s at_s. subst (λ (x : NodeState). DeedOf n count x came.what deed) (is_some was s (sym was_at ∙ at_s)) came.tells;
-      stands = subst (λ (o : Option NodeState). StandsFor (record { slots = slots; nodes = slice_set nodes n new; net = net' }) (record {
-        states = state_after n count o came.what w.states;
-        net = after_all_sent w.net (sent_after n count o came.what);
-      })) (sym was_at) (moves slots n nodes old new net net' _ w was (after n count was came.what) at stands was_at came.stands
-          (came.sent ∙ ap (λ (before : Network). after_all_sent before (sent_after n count (Some was) came.what)) stands.net));
+      stands = subst (λ (x : NodeState). StandsFor (record { slots = slots; nodes = slice_set nodes n new; net = net' }) (record {
+        states = slice_set w.states n (after n count x came.what);
+        net = after_all_sent w.net (sent_at n count x came.what);
+      })) (sym it) (moves slots n nodes old new net net' _ w was (after n count was came.what) at stands was_at came.stands
+          (came.sent ∙ ap (λ (before : Network). after_all_sent before (sent_at n count was came.what)) stands.net));
     }
-takes slots n number compacts P nodes old new net net' (Err e) w cluster at stands brings comes = tt
+takes slots n number a P nodes old new net net' (Err e) w cluster at stands brings comes = tt
 
 -- ---- a node that gave nothing, and a node outside the cluster
 
@@ -140,22 +136,18 @@ untouched_if slots n nodes old new net net' (Err e) w at stands keeps same_net =
     }
 
 -- a node outside the cluster
-pub denied_at : (w : World) (id number : ℕ) (compacts : Bool) (P : What → Type 0) (machine : Machine) → StandsFor machine w → length machine.nodes ≤ id
-    → Makes compacts (λ step. At (nat_lt id (length w.states)) id number P step) w (bare (outcome.Refused refusal.Stranger)) machine
-denied_at w id number compacts P machine stands beyond = record {
-  step = Denies Stranger;
-  is = (let many = stands.count in let stranger : nat_lt id (length w.states) ≡ false = grind (arith, nat_tests) in subst (λ (b : Bool). At b id number P (Denies Stranger)) (sym stranger) refl);
+pub denied_at : (w : World) (id number : ℕ) (a : Act) (P : What → Type 0) (machine : Machine) → StandsFor machine w → length machine.nodes ≤ id
+    → Makes a (λ step. At (nat_lt id (length w.states)) id number P step) w (bare (outcome.Refused refusal.Stranger)) machine
+denied_at w id number a P machine stands beyond = record {
+  step = Denies 0 Stranger;
+  is = (let many = stands.count in let stranger : nat_lt id (length w.states) ≡ false = grind (arith, nat_tests) in subst (λ (b : Bool). At b id number P (Denies 0 Stranger)) (sym stranger) refl);
   allowed = tt;
   of_slots = tt;
-  is_told = as_told compacts;
+  is_told = refl;
   shows = tt;
   tells = (refl, refl);
   stands = stands;
 }
-  where
-    as_told : (b : Bool) → outcome.Refused refusal.Stranger ≡ told (if_compaction b (Denies Stranger) (DeniedAct Stranger))
-    as_told true = refl
-    as_told false = refl
 
 -- ---- the failures of its disk
 

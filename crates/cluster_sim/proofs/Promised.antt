@@ -14,7 +14,7 @@ use Rattle.histories.specs.Counts.{IsShort}
 use Rattle.cluster_sim.proofs.Numbered.{left_numbered}
 use Rattle.cluster_sim.specs.Numbered.{sent_under}
 use Rattle.cluster_sim.specs.Recorded.{Recorded, ToldMoment, ToldReport, Tells, GoesOn, HasRun, IsPromised, told_moment}
-use Rattle.runs.proofs.Grown.{left_keeps, step_length}
+use Rattle.runs.proofs.PublicLaws.{left_keeps, step_length}
 
 acts_told : (ms : List Moment) → map (λ (m : ToldMoment). m.act) (map told_moment ms) ≡ map (λ (m : Moment). m.act) ms
 acts_told [] = refl

@@ -8,48 +8,51 @@ use Rattle.histories.specs.declared.what.What.{What}
 use Rattle.histories.specs.declared.what.What.TheVariants.{Did, Faulted, Rests, Crashed, Recovered}
 use Rattle.histories.specs.Fates.{attempt_of, command_with, work_of}
 use Rattle.histories.specs.declared.attempt.Attempt.{Attempt}
-use Rattle.histories.proofs.Attempts.{wanted_whole}
-use Rattle.histories.specs.After.{raised, given_at, found_at}
-use Rattle.histories.specs.Marks.{Mark, tried_marks, failed_marks, marks_at}
+use Rattle.histories.proofs.PublicLaws.{wanted_whole}
+use Rattle.histories.specs.After.{found_at}
+use Rattle.job_model.specs.Answer.{answer_of}
 use Rattle.durable_node.specs.Stepping.{answer_at, command_at}
-use Rattle.durable_node.proofs.Nodes.{is_some}
+use Rattle.durable_node.proofs.PublicLaws.{is_some}
 use Rattle.cluster_sim.specs.declared.outcome.Deed.{Deed}
 use Rattle.runs.specs.World.{World}
-use Rattle.runs.specs.Step.{Step, Takes, Cuts, Mends}
-use Rattle.runs.specs.Acts.{Brings, IsCompaction, IsOf, IsRecovery, IsStepOf}
+use Rattle.runs.specs.Step.{Step, Takes}
+use Rattle.runs.specs.Acts.{Brings, IsCompaction, IsOf, IsStepOf}
 use Rattle.schedule.specs.declared.act.Act.{Act}
 use Rattle.schedule.specs.declared.act.Act.TheVariants as act
 use Rattle.sim_net.specs.declared.fault.NetFault.{NetFault}
-use Rattle.sim_net.specs.Network.{delivery, found}
+use Rattle.sim_net.specs.Network.{Network, delivery, found, after_lost, after_cut, after_mend}
 use Rattle.wire_msg.specs.Envelope.{Envelope}
 use Rattle.node_core.specs.declared.event.Event.{Event}
 use Rattle.node_core.specs.declared.event.Event.TheVariants as on
 use Rattle.job_model.specs.declared.work.Work.{Work}
 use Rattle.histories.specs.declared.what.Rest.TheVariants.{Nothing}
-use Rattle.runs.proofs.Finishing.{taken_there, loses_none, link_none}
-use Rattle.runs.specs.Given.{numbered, groups_at}
-use Rattle.runs.specs.Tagged.{tagged, step_marks}
-use Rattle.runs.specs.Reporting.{commands_in, mountings_in}
+use Rattle.runs.proofs.PublicLaws.{groups_by, with_node, taken_there, loses_none, link_none}
+use Rattle.std.specs.Prelude.{map, length, option_to_list}
+use Rattle.runs.specs.Reporting.{TriedAt, MountedAt, Report, own_commands, tries, commands_at, mountings_at}
 use Rattle.cluster_sim.specs.Machine.{DeedOf, is_mounting}
 use Rattle.cluster_sim.specs.Recorded.{command_in, work_in, tried_as, tried_at, mounted_at, mounted_now, given_in, listed}
 
--- these marks and groups of a node are the ones that are told, and a new count is no smaller than 1
-pub record PartsTold (n count : ℕ) (marks : List (ℕ × Mark)) (groups : List Group) (command : Option Command) (acked : Option ℕ) (mounted : Bool) (found : Option Durable) : Type 0 where
-  pub tried : commands_in marks ≡ listed (tried_at n (tried_as command acked))
-  pub mountings : mountings_in marks ≡ listed (mounted_at n count (mounted_now mounted found))
+-- these commands, mountings and groups of a node are the ones that are told, and a new count is no smaller than 1
+pub record PartsTold (n count : ℕ) (commands : List TriedAt) (mounts : List MountedAt) (groups : List Group) (command : Option Command) (acked : Option ℕ) (mounted : Bool) (found : Option Durable) : Type 0 where
+  pub tried : commands ≡ listed (tried_at n (tried_as command acked))
+  pub mountings : mounts ≡ listed (mounted_at n count (mounted_now mounted found))
   pub given : groups ≡ given_in (tried_at n (tried_as command acked))
   pub raises : (k : ℕ) → command ≡ Some Raise → acked ≡ Some k → 1 ≤ k
 
-did_parts : (n count : ℕ) (d : Durable) (wants : Option Command) → PartsTold n count (tagged n (tried_marks d wants)) (numbered n (raised d wants)) wants (answer_if_wanted d wants) false None
+did_parts : (n count : ℕ) (d : Durable) (wants : Option Command)
+    → PartsTold n count (with_node n (map (λ (c : Command). record { command = c; acked = Some (answer_of d c) }) (option_to_list wants))) []
+    (groups_by (with_node n (map (λ (c : Command). record { command = c; acked = Some (answer_of d c) }) (option_to_list wants)))) wants (answer_if_wanted d wants) false None
 did_parts n count d (Some Raise) = record { tried = refl; mountings = refl; given = refl; raises = λ k raise is. (let same : d.counter + 1 ≡ k = is_some (d.counter + 1) k is in omega (arith, same)) }
 did_parts n count d _ = record { tried = refl; mountings = refl; given = refl; raises = λ k raise is. absurd (let bad = raise in cc) }
 
-failed_parts : (n count : ℕ) (wants : Option Command) → PartsTold n count (tagged n (failed_marks wants)) [] wants None false None
+failed_parts : (n count : ℕ) (wants : Option Command) → PartsTold n count (with_node n (map (λ (c : Command). record { command = c; acked = None }) (option_to_list wants))) []
+    (groups_by (with_node n (map (λ (c : Command). record { command = c; acked = None }) (option_to_list wants)))) wants None false None
 failed_parts n count (Some Raise) = record { tried = refl; mountings = refl; given = refl; raises = λ k raise is. absurd (let bad = is in cc) }
 failed_parts n count _ = record { tried = refl; mountings = refl; given = refl; raises = λ k raise is. absurd (let bad = is in cc) }
 
 what_parts : (n nodes count : ℕ) (s : NodeState) (what : What)
-    → PartsTold n count (tagged n (marks_at n nodes s count what)) (numbered n (given_at n nodes s what)) (command_at n nodes s what) (answer_at n nodes s what) (is_mounting what) (found_at s what)
+    → PartsTold n count (with_node n (tries n nodes s what)) (map (λ (d : Durable). record { node = n; mounting = record { before = count; state = d } }) (option_to_list (found_at s what)))
+    (groups_by (with_node n (tries n nodes s what))) (command_at n nodes s what) (answer_at n nodes s what) (is_mounting what) (found_at s what)
 what_parts n nodes count s (Did e) = did_parts n count s.durable (wants_at n nodes s e)
 what_parts n nodes count s (Faulted e) = failed_parts n count (wants_at n nodes s e)
 what_parts n nodes count s (Recovered kept) =
@@ -72,51 +75,49 @@ event_whole n nodes s event (Did e) of = subst (λ (v : Event). Whole n nodes s 
 event_whole n nodes s event (Faulted e) of = subst (λ (v : Event). Whole n nodes s (work_of v) (Faulted e)) of (wanted_whole n s.durable.pending e s.state)
 event_whole n nodes s event _ of = refl
 
-recovery_whole : (n nodes : ℕ) (s : NodeState) (what : What) → IsRecovery what → Whole n nodes s None what
-recovery_whole n nodes s (Did e) of = event_whole n nodes s on.Recover (Did e) of
-recovery_whole n nodes s (Faulted e) of = event_whole n nodes s on.Recover (Faulted e) of
-recovery_whole n nodes s _ of = refl
-
 compaction_whole : (n nodes : ℕ) (s : NodeState) (what : What) → IsCompaction what → Whole n nodes s None what
 compaction_whole n nodes s (Did e) of = absurd of
 compaction_whole n nodes s (Faulted e) of = absurd of
 compaction_whole n nodes s _ of = refl
 
-brought_whole : (n nodes k number : ℕ) (s : NodeState) (r : Result Envelope NetFault) (what : What) → Brings nodes k r (Takes n number what) → Whole n nodes s None what
-brought_whole n nodes k number s (Ok m) what of = event_whole n nodes s (on.Deliver m) what (taken_there (nat_lt m.receiver nodes) m.receiver k (IsOf (on.Deliver m)) n number what of).1
-brought_whole n nodes k number s (Err why) what of = absurd cc
+brought_whole : (n nodes : ℕ) (net : Network) (k number : ℕ) (s : NodeState) (r : Result Envelope NetFault) (what : What) → Brings nodes net k r (Takes n number what) → Whole n nodes s None what
+brought_whole n nodes net k number s (Ok m) what of = event_whole n nodes s (on.Deliver m) what (taken_there (nat_lt m.receiver nodes) m.receiver k (IsOf (on.Deliver m)) n number what of).1
+brought_whole n nodes net k number s (Err why) what of = absurd cc
 
 -- the act has the work of the command that was tried in its step
 act_whole : (n nodes number : ℕ) (w : World) (a : Act) (what : What) (s : NodeState) → IsStepOf nodes w a (Takes n number what) → Whole n nodes s (work_in a) what
-act_whole n nodes number w (act.Deliver k) what s of = brought_whole n nodes k number s (delivery w.net k) what of
-act_whole n nodes number w (act.Lose k) what s of = absurd (loses_none k (found w.net k) n number what of)
-act_whole n nodes number w (act.Cut x y) what s of = absurd (link_none (nat_lt x nodes && nat_lt y nodes) (Cuts x y) n number what (λ is. cc) of)
-act_whole n nodes number w (act.Mend x y) what s of = absurd (link_none (nat_lt x nodes && nat_lt y nodes) (Mends x y) n number what (λ is. cc) of)
+act_whole n nodes number w (act.Deliver k) what s of = brought_whole n nodes w.net k number s (delivery w.net k) what of
+act_whole n nodes number w (act.Lose k) what s of = absurd (loses_none (after_lost w.net k) (found w.net k) n number what of)
+act_whole n nodes number w (act.Cut x y) what s of = absurd (link_none (nat_lt x nodes && nat_lt y nodes) (after_cut w.net x y) n number what of)
+act_whole n nodes number w (act.Mend x y) what s of = absurd (link_none (nat_lt x nodes && nat_lt y nodes) (after_mend w.net x y) n number what of)
 act_whole n nodes number w (act.Arm m calls) what s of = rw (taken_there (nat_lt m nodes) m 0 (λ (x : What). x ≡ Rests Nothing) n number what of).1 refl
 act_whole n nodes number w (act.Crash m fill) what s of = rw (taken_there (nat_lt m nodes) m 0 (λ (x : What). x ≡ Crashed) n number what of).1 refl
-act_whole n nodes number w (act.Recover m) what s of = recovery_whole n nodes s what (taken_there (nat_lt m nodes) m 0 IsRecovery n number what of).1
 act_whole n nodes number w (act.Compact m) what s of = compaction_whole n nodes s what (taken_there (nat_lt m nodes) m 0 IsCompaction n number what of).1
 act_whole n nodes number w (act.Check m) what s of = event_whole n nodes s _ what (taken_there (nat_lt m nodes) _ 0 (IsOf _) n number what of).1
 act_whole n nodes number w _ what s of = event_whole n nodes s _ what (taken_there _ _ 0 (IsOf _) n number what of).1
 
 -- what a step adds to a report is what its node n tells
-pub record StepTold (nodes : ℕ) (w : World) (counts : ℕ → ℕ) (a : Act) (step : Step) (n : ℕ) (deed : Deed) (found : Option Durable) : Type 0 where
+pub record StepTold (nodes : ℕ) (w : World) (r : Report) (a : Act) (step : Step) (n : ℕ) (deed : Deed) (found : Option Durable) : Type 0 where
   pub whole : IsWhole a deed.tried
-  pub parts : PartsTold n (counts n) (step_marks nodes w counts step) (groups_at nodes w step) (command_in a deed.tried) deed.acked deed.mounted found
+  pub parts : PartsTold n (length (own_commands n r.commands)) (commands_at nodes w step) (mountings_at w r.commands step) (groups_by (commands_at nodes w step)) (command_in a deed.tried) deed.acked deed.mounted found
 
-pub takes_told : (n nodes number : ℕ) (w : World) (counts : ℕ → ℕ) (a : Act) (what : What) (s : NodeState) (deed : Deed) (found : Option Durable) → slice_get w.states n ≡ Some s
-    → IsStepOf nodes w a (Takes n number what) → DeedOf n nodes s what deed → found ≡ found_at s what → StepTold nodes w counts a (Takes n number what) n deed found
-takes_told n nodes number w counts a what s deed found at of tells is =
+pub takes_told : (n nodes number : ℕ) (w : World) (r : Report) (a : Act) (what : What) (s : NodeState) (deed : Deed) (found : Option Durable) → slice_get w.states n ≡ Some s
+    → IsStepOf nodes w a (Takes n number what) → DeedOf n nodes s what deed → found ≡ found_at s what → StepTold nodes w r a (Takes n number what) n deed found
+takes_told n nodes number w r a what s deed found at of tells is =
     let command : command_in a deed.tried ≡ command_at n nodes s what = ap (λ (t : Option Attempt). command_in a t) tells.tried ∙ act_whole n nodes number w a what s of in
     record {
       whole = record { command = command_at n nodes s what; which = tells.tried; is = command };
-      parts = rw (at, command, tells.acked, tells.mounted, is) (what_parts n nodes (counts n) s what);
+      parts = rw (at, command, tells.acked, tells.mounted, is) (what_parts n nodes (length (own_commands n r.commands)) s what);
     }
 
 -- where no node takes the step nothing is told
-pub quiet_told : (nodes : ℕ) (w : World) (counts : ℕ → ℕ) (a : Act) (step : Step) (n : ℕ) (deed : Deed) (found : Option Durable) → step_marks nodes w counts step ≡ [] → groups_at nodes w step ≡ [] → deed.tried ≡ None → deed.mounted ≡ false
-    → StepTold nodes w counts a step n deed found
-quiet_told nodes w counts a step n deed found no_marks no_groups none unmounted = record {
+pub record AddsNothing (nodes : ℕ) (w : World) (step : Step) : Type 0 where
+  pub commands : commands_at nodes w step ≡ []
+  pub mountings : (before : List TriedAt) → mountings_at w before step ≡ []
+
+pub quiet_told : (nodes : ℕ) (w : World) (r : Report) (a : Act) (step : Step) (n : ℕ) (deed : Deed) (found : Option Durable) → AddsNothing nodes w step → deed.tried ≡ None → deed.mounted ≡ false
+    → StepTold nodes w r a step n deed found
+quiet_told nodes w r a step n deed found adds none unmounted = record {
   whole = record { command = None; which = none; is = ap (λ (t : Option Attempt). command_in a t) none };
-  parts = rw (no_marks, no_groups, none, unmounted) (record { tried = refl; mountings = refl; given = refl; raises = λ k raise is. absurd (let bad = raise in cc) });
+  parts = rw (adds.commands, adds.mountings, none, unmounted) (record { tried = refl; mountings = refl; given = refl; raises = λ k raise is. absurd (let bad = raise in cc) });
 }

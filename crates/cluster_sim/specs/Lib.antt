@@ -1,4 +1,5 @@
 pub mod Told
+pub mod Names
 pub mod Machine
 pub mod Operated
 pub mod Recorded

@@ -20,7 +20,7 @@ use Rattle.cluster_sim.specs.declared.outcome.Outcome.TheVariants as outcome
 use Rattle.runs.specs.World.{World}
 use Rattle.runs.specs.Step.{Step, Takes, world_after}
 use Rattle.runs.specs.Run.{IsAllowed}
-use Rattle.runs.specs.Acts.{StepOfSlots, what_outcome, outcome_of, if_compaction, act_outcome}
+use Rattle.runs.specs.Acts.{StepOfSlots, what_outcome, act_outcome}
 use Rattle.runs.specs.Growth.{IsNext}
 use Rattle.cluster_sim.specs.Told.{told}
 
@@ -84,13 +84,13 @@ pub record DeedOf (id nodes : ℕ) (s : NodeState) (what : What) (deed : Deed) :
   pub acked : deed.acked ≡ answer_at id nodes s what
   pub mounted : deed.mounted ≡ is_mounting what
 
--- one such thing came of a call at a node that was in this state, and so it is told, sent and kept
-pub record Comes (slots id nodes : ℕ) (compacts : Bool) (P : What → Type 0) (s : NodeState) (deed : Deed) (new : Node Memory) (net net' : Network) : Type 0 where
+-- one such thing came of a call at a node that was in this state, and so it is told of this act, sent and kept
+pub record Comes (slots id nodes : ℕ) (a : Act) (P : What → Type 0) (s : NodeState) (deed : Deed) (new : Node Memory) (net net' : Network) : Type 0 where
   pub what : What
   pub is : P what
   pub possible : IsPossible id nodes s what
   pub of_slots : IsOfSlots slots id nodes s what
-  pub is_told : deed.outcome ≡ told (if_compaction compacts (Takes id 0 what) (what_outcome id nodes (length net.sent) s what))
+  pub is_told : deed.outcome ≡ told (what_outcome id nodes (length net.sent) s what a)
   pub tells : DeedOf id nodes s what deed
   pub sent : net' ≡ after_all_sent net (sent_at id nodes s what)
   pub found : new.found ≡ found_at s what
@@ -140,13 +140,13 @@ abbrev pub Tells : World → Step → Deed → Type 0
 Tells w (Takes n number what) deed = (s : NodeState) → slice_get w.states n ≡ Some s → DeedOf n (length w.states) s what deed
 Tells w step deed = (deed.tried ≡ None) × (deed.mounted ≡ false)
 
--- a step of this kind led from what the cluster stood for to what it stands for now, and so it is told
-pub record Makes (compacts : Bool) (Q : Step → Type 0) (w : World) (deed : Deed) (new : Machine) : Type 0 where
+-- a step of this kind led from what the cluster stood for to what it stands for now, and so it is told of this act
+pub record Makes (a : Act) (Q : Step → Type 0) (w : World) (deed : Deed) (new : Machine) : Type 0 where
   pub step : Step
   pub is : Q step
   pub allowed : IsAllowed (length w.states) w step
   pub of_slots : StepOfSlots new.slots (length w.states) w step
-  pub is_told : deed.outcome ≡ told (if_compaction compacts step (outcome_of (length w.states) w step))
+  pub is_told : deed.outcome ≡ told (act_outcome (length w.states) w a step)
   pub shows : Shows w step new
   pub tells : Tells w step deed
   pub stands : StandsFor new (world_after (length w.states) w step)

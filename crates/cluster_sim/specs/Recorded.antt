@@ -1,7 +1,7 @@
 -- A cluster with its report, as code keeps it.
 use Rattle.std.specs.Prelude.{ℕ, ◌≡◌, ◌<◌, Bool, true, false, List, [], ◌∷◌, ◌++◌, map, length, slice_get, Option, Some, None, vec_len, vec_capacity}
 use Rattle.group_task.specs.Group.{Group}
-use Rattle.job_model.specs.Command.{Command, Raise, Put, Done as JobDone}
+use Rattle.job_model.specs.Command.{Command, Raise}
 use Rattle.job_model.specs.Durable.{Durable, formatted}
 use Rattle.wire_msg.specs.Envelope.{Envelope}
 use Rattle.node_core.specs.State.{State, state_of}
@@ -24,8 +24,8 @@ use Rattle.cluster_sim.specs.declared.report.Report.{Report as KeptReport}
 use Rattle.runs.specs.World.{World}
 use Rattle.runs.specs.Step.{Step, world_after}
 use Rattle.runs.specs.Acts.{act_outcome}
-use Rattle.runs.specs.Reporting.{Moment, TriedAt, MountedAt, Report, own_commands}
-use Rattle.runs.specs.Growth.{acts_in, grown, IsLeft, IsNext}
+use Rattle.runs.specs.Reporting.{Moment, TriedAt, MountedAt, Report, own_commands, group_of, grown}
+use Rattle.runs.specs.Growth.{acts_in, IsLeft, IsNext}
 use Rattle.runs.specs.Headline.{Headline}
 use Rattle.cluster_sim.specs.Told.{told}
 use Rattle.cluster_sim.specs.Numbered.{sent_under}
@@ -115,15 +115,9 @@ mounted_at n before None = None
 mounted_at n before (Some d) = Some (record { node = n; mounting = record { before = before; state = d } })
 
 -- the group of a new count
-abbrev pub given_for : ℕ → Command → Option ℕ → List Group
-given_for n Raise None = []
-given_for n Raise (Some count) = own_group n count ∷ []
-given_for n (Put work) acked = []
-given_for n (JobDone id) acked = []
-
 abbrev pub given_in : Option TriedAt → List Group
 given_in None = []
-given_in (Some t) = given_for t.node t.tried.command t.tried.acked
+given_in (Some t) = group_of t.node t.tried.command t.tried.acked
 
 abbrev pub listed : {A : Type 0} → Option A → List A
 listed None = []

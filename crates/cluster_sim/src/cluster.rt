@@ -5,7 +5,8 @@ ghost use Rattle.cluster_sim.specs.Machine.{FaultsAt, IsUntouched};
 ghost use Rattle.cluster_sim.specs.Operated.{Operates};
 ghost use Rattle.cluster_sim.specs.Recorded.{report_in, Tells, GoesOn, HasRun, IsPromised, IsRecorded, ToldMoment};
 ghost use Rattle.runs.specs.Growth.{acts_in};
-ghost use Rattle.runs.specs.Reporting.{Report as RunReport, node_named, report_of};
+ghost use Rattle.cluster_sim.specs.Names.{node_named};
+ghost use Rattle.runs.specs.Reporting.{Report as RunReport, report_of};
 ghost use Rattle.runs.specs.World.{World, start};
 
 use crate::naming::node_named;

@@ -1,5 +1,5 @@
 // One node of a cluster, and the network that carries its messages.
-ghost use Rattle.std.specs.Prelude.{◌≡◌, ◌≤◌, length, true, false, IfOk, IsSome, OnErr, ℕ, None};
+ghost use Rattle.std.specs.Prelude.{◌≡◌, ◌≤◌, length, IfOk, IsSome, OnErr, ℕ, None};
 ghost use Rattle.sector_disk.specs.Memory.{state_of};
 ghost use Rattle.sim_net.specs.Network.{after_all_sent};
 ghost use Rattle.durable_node.specs.Arming.{armed_disk};
@@ -11,7 +11,9 @@ ghost use Rattle.histories.specs.declared.what.What.TheVariants.{Rests, Crashed}
 ghost use Rattle.histories.specs.declared.what.Rest.TheVariants.{Nothing};
 ghost use Rattle.cluster_sim.specs.Machine.{IsOfSize, IsSame, IsCounted, IsUntouchedNode, Comes, IsSettled, bare, is_mounting};
 ghost use Rattle.cluster_sim.specs.Operated.{IsLeftWith, OperatedAs, OperatesDisk, operated_at};
-ghost use Rattle.runs.specs.Acts.{IsCompaction, is_compaction};
+ghost use Rattle.schedule.specs.declared.act.Act.{Act as AnyAct};
+ghost use Rattle.schedule.specs.declared.act.Act.TheVariants as acts;
+ghost use Rattle.runs.specs.Acts.{IsCompaction};
 ghost use Rattle.cluster_sim.specs.Told.{IsCompactionTold, came_told};
 ghost use Rattle.durable_node.specs.Faults.{fault_of};
 
@@ -35,8 +37,8 @@ pub(crate) fn handle(
     event: &Event,
 ) -> Result<Deed, AllocError>
     ensures same { IsSame node.old node.new }
-    ensures came { (slots : ℕ) (s : NodeState) → slots ≤ 4096 → IsOfSize slots node.old.disk → Stands state_of node.old s
-        → IfOk result (λ deed. Comes slots node.old.id node.old.nodes false (CameOf event.now) s deed node.new net.old.network net.new.network) }
+    ensures came { (slots : ℕ) (s : NodeState) (a : AnyAct) → slots ≤ 4096 → IsOfSize slots node.old.disk → Stands state_of node.old s
+        → IfOk result (λ deed. Comes slots node.old.id node.old.nodes a (CameOf event.now) s deed node.new net.old.network net.new.network) }
     ensures memory { OnErr result ((s : NodeState) → Stands state_of node.old s → IsUntouchedNode node.old node.new) }
     ensures unsent { OnErr result (net.new.network ≡ net.old.network) }
     ensures counted { IfOk result (λ deed. IsCounted node.old.disk node.new.disk deed.outcome) }
@@ -109,7 +111,7 @@ pub(crate) fn operate(node: &mut DurableNode<MemDisk>, net: &Net, act: &Act) -> 
     requires { IsSome (operated_at act.now) }
     ensures same { IsSame node.old node.new }
     ensures came { (slots : ℕ) (s : NodeState) → Stands state_of node.old s
-        → Comes slots node.old.id node.old.nodes (is_compaction act.now) (OperatedAs act.now) s (bare result) node.new net.now.network net.now.network }
+        → Comes slots node.old.id node.old.nodes act.now (OperatedAs act.now) s (bare result) node.new net.now.network net.now.network }
     ensures counted { IsCounted node.old.disk node.new.disk result }
     ensures disk { OperatesDisk act.now node.old.disk node.new.disk }
 {
@@ -124,8 +126,8 @@ pub(crate) fn operate(node: &mut DurableNode<MemDisk>, net: &Net, act: &Act) -> 
 /// Arms a node's disk.
 fn arm(node: &mut DurableNode<MemDisk>, net: &Net, calls: u64) -> Outcome
     ensures same { IsSame node.old node.new }
-    ensures came { (slots : ℕ) (s : NodeState) → Stands state_of node.old s
-        → Comes slots node.old.id node.old.nodes false (λ what. what ≡ Rests Nothing) s (bare result) node.new net.now.network net.now.network }
+    ensures came { (slots n : ℕ) (s : NodeState) → Stands state_of node.old s
+        → Comes slots node.old.id node.old.nodes (acts.Arm n calls) (λ what. what ≡ Rests Nothing) s (bare result) node.new net.now.network net.now.network }
     ensures counted { IsCounted node.old.disk node.new.disk result }
     ensures armed { node.new.disk ≡ armed_disk calls node.old.disk }
 {
@@ -136,8 +138,8 @@ fn arm(node: &mut DurableNode<MemDisk>, net: &Net, calls: u64) -> Outcome
 /// Crashes a node.
 fn crash(node: &mut DurableNode<MemDisk>, net: &Net, fill: &Fill) -> Outcome
     ensures same { IsSame node.old node.new }
-    ensures came { (slots : ℕ) (s : NodeState) → Stands state_of node.old s
-        → Comes slots node.old.id node.old.nodes false (λ what. what ≡ Crashed) s (bare result) node.new net.now.network net.now.network }
+    ensures came { (slots n : ℕ) (s : NodeState) → Stands state_of node.old s
+        → Comes slots node.old.id node.old.nodes (acts.Crash n fill.now) (λ what. what ≡ Crashed) s (bare result) node.new net.now.network net.now.network }
     ensures counted { IsCounted node.old.disk node.new.disk result }
     ensures left { IsLeftWith fill.now node.old.disk node.new.disk }
 {
@@ -148,8 +150,8 @@ fn crash(node: &mut DurableNode<MemDisk>, net: &Net, fill: &Fill) -> Outcome
 /// Compacts a node's journal.
 fn compact(node: &mut DurableNode<MemDisk>, net: &Net) -> Outcome
     ensures same { IsSame node.old node.new }
-    ensures came { (slots : ℕ) (s : NodeState) → Stands state_of node.old s
-        → Comes slots node.old.id node.old.nodes true IsCompaction s (bare result) node.new net.now.network net.now.network }
+    ensures came { (slots n : ℕ) (s : NodeState) → Stands state_of node.old s
+        → Comes slots node.old.id node.old.nodes (acts.Compact n) IsCompaction s (bare result) node.new net.now.network net.now.network }
     ensures counted { IsCounted node.old.disk node.new.disk result }
 {
     let answer = node.compact();

@@ -1,7 +1,7 @@
 // The node that an act is told of, and how much it may take in hand.
 ghost use Rattle.std.specs.Prelude.{◌≡◌, ◌<◌, ◌≤◌, ◌+◌, IfOk, length};
 ghost use Rattle.node_core.specs.State.{is_down};
-ghost use Rattle.runs.specs.Reporting.{node_named, node_or_first};
+ghost use Rattle.cluster_sim.specs.Names.{node_named, node_or_first};
 ghost use Rattle.cluster_sim.specs.Recorded.{pending_room};
 
 use durable_node::DurableNode;
@@ -18,7 +18,7 @@ pub(crate) fn hand_room(node: &DurableNode<MemDisk>, slots: u64) -> Result<usize
 {
     let vector = node.vector();
     let pending = match node.durable() {
-        Some((_, table)) if !matches!(vector.phase, Phase::Down) => table.pending().len(),
+        Some((_, table)) if !matches!(vector.standing.phase, Phase::Down) => table.pending().len(),
         _ => slots as usize,
     };
     let room = vector

@@ -3,12 +3,13 @@ ghost use Rattle.std.specs.Prelude.{◌≡◌, ◌≢◌, ◌≤◌, ◌<◌, �
 ghost use Rattle.group_task.specs.declared.node.TheConstants.{NODES};
 ghost use Rattle.durable_node.specs.Stepping.{CameOf};
 ghost use Rattle.histories.specs.What.{brought, AreAddressed};
+ghost use Rattle.schedule.specs.declared.act.Act.{Act as AnyAct};
 ghost use Rattle.schedule.specs.declared.act.Act.TheVariants as acts;
 ghost use Rattle.runs.specs.Acts.{At};
 ghost use Rattle.runs.specs.Events.{event_at};
 ghost use Rattle.cluster_sim.specs.Machine.{AreOpened, IsUntouched, StandsFor, Makes, Performed, FaultsAt, bare};
 ghost use Rattle.cluster_sim.specs.Operated.{Operates, operated_at};
-ghost use Rattle.runs.specs.Reporting.{node_named, node_or_first};
+ghost use Rattle.cluster_sim.specs.Names.{node_named, node_or_first};
 ghost use Rattle.runs.specs.Run.{IsBrought};
 ghost use Rattle.runs.specs.World.{World, start};
 
@@ -104,8 +105,8 @@ impl Nodes {
     /// An event at a node, and what is sent of it.
     pub(crate) fn take(&mut self, id: NodeId, event: &Event) -> Result<Deed, AllocError>
         ensures slots { self.new.slots ≡ self.old.slots }
-        ensures acted { (w : World) (number : ℕ) → StandsFor self.old w → IsBrought w number (brought (Some event.now)) → AreAddressed id (brought (Some event.now))
-            → IfOk result (λ deed. Makes false (λ step. At (nat_lt id (length w.states)) id number (CameOf event.now) step) w deed self.new) }
+        ensures acted { (w : World) (number : ℕ) (a : AnyAct) → StandsFor self.old w → IsBrought w number (brought (Some event.now)) → AreAddressed id (brought (Some event.now))
+            → IfOk result (λ deed. Makes a (λ step. At (nat_lt id (length w.states)) id number (CameOf event.now) step) w deed self.new) }
         ensures memory { (w : World) → StandsFor self.old w → OnErr result (StandsFor self.new w) }
         ensures untouched { (w : World) → StandsFor self.old w → OnErr result (IsUntouched self.old self.new) }
         ensures faults { IfOk result (λ deed. FaultsAt (node_or_first (length self.old.nodes) id) self.old self.new deed.outcome) }

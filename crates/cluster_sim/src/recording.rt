@@ -61,9 +61,9 @@ impl Report {
         self.commands.reserve(1)?;
         self.mounted.reserve(1)?;
         let known = node.vector();
-        let mut vector = Vector::down(alloc, known.coordinator);
+        let mut vector = Vector::down(alloc, known.standing.coordinator);
         vector.room(hand_room(node, slots)?)?;
-        let jobs = if matches!(known.phase, Phase::Down) {
+        let jobs = if matches!(known.standing.phase, Phase::Down) {
             slots as usize
         } else {
             0
@@ -198,7 +198,7 @@ fn push_some<T>(list: &mut Vec<T>, item: Option<T>)
 fn copied(alloc: Global, vector: &Vector) -> Result<Vector, AllocError>
     ensures { IfOk result (λ copy. state_of copy ≡ state_of vector.now) }
 {
-    let mut copy = Vector::down(alloc, vector.coordinator);
+    let mut copy = Vector::down(alloc, vector.standing.coordinator);
     copy.room(vector.hand.jobs().len())?;
     copy.set(vector);
     Ok(copy)

@@ -4,7 +4,8 @@ ghost use Rattle.group_task.specs.declared.node.TheConstants.{NODES};
 ghost use Rattle.schedule.specs.declared.act.Act.TheVariants as acts;
 ghost use Rattle.cluster_sim.specs.Machine.{IsUntouched, StandsFor, Acted, Performed, FaultsAt};
 ghost use Rattle.cluster_sim.specs.Operated.{Operates};
-ghost use Rattle.runs.specs.Reporting.{node_named, receiver_or_first};
+ghost use Rattle.cluster_sim.specs.Names.{node_named};
+ghost use Rattle.runs.specs.Acts.{receiver_or_first};
 ghost use Rattle.runs.specs.World.{World, start};
 
 use crate::acts::{Signals, job_event_at, read_delivery, some_delivery};

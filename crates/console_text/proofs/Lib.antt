@@ -1,4 +1,5 @@
 mod Consumed
 mod Decimals
 mod Digits
-pub mod Handing
+mod Handing
+pub mod PublicLaws

@@ -6,7 +6,7 @@ use Rattle.job_model.specs.Durable.{Durable}
 use Rattle.node_core.specs.declared.durable.Durable.{Durable as Wanted}
 use Rattle.node_core.specs.declared.fault.CoreFault.TheVariants.{Down}
 use Rattle.node_core.specs.Core.{Core}
-use Rattle.node_core.specs.NodeStep.{Worn}
+use Rattle.node_core.specs.declared.fault.Refusal.TheVariants.{Worn}
 use Rattle.node_core.specs.State.{is_down}
 use Rattle.node_store.specs.Store.{StoreState, durable_of, slots_for, StaysAs}
 use Rattle.histories.specs.NodeState.{NodeState}

@@ -2,7 +2,7 @@
 use Rattle.std.proofs.Common.{[], ◌≡◌, ℕ, true, false, Bool, Option, Some, None, ◌∙◌, ap, subst, refl, arith, length}
 use Rattle.sector_disk.specs.Disk.{Image, IsImage}
 use Rattle.sector_disk.specs.Memory.{Memory, all_synced, state_of}
-use Rattle.sector_disk.proofs.Crashed.{only_image}
+use Rattle.sector_disk.proofs.PublicLaws.{only_image}
 use Rattle.job_model.specs.Durable.{Durable}
 use Rattle.job_journal.specs.Journal.{IsSound}
 use Rattle.node_core.specs.declared.durable.Durable.{Durable as Wanted}

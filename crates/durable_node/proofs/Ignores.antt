@@ -19,10 +19,9 @@ use Rattle.histories.specs.declared.fate.Fate.{Fate}
 use Rattle.histories.specs.Fates.{what_of}
 use Rattle.histories.specs.After.{after}
 use Rattle.histories.specs.Possible.{IsForNode}
-use Rattle.histories.proofs.Attempts.{tried_none}
+use Rattle.histories.proofs.PublicLaws.{tried_none, StaysDown, at_down}
 use Rattle.histories.specs.declared.fate.Fate.TheVariants as fate
-use Rattle.histories.specs.declared.what.Refusal.TheVariants as refusal
-use Rattle.histories.proofs.Downs.{StaysDown, at_down}
+use Rattle.node_core.specs.declared.fault.Refusal.TheVariants as refusal
 use Rattle.durable_node.specs.declared.fault.NodeFault.{NodeFault}
 use Rattle.durable_node.specs.declared.came.Came.{Came}
 use Rattle.durable_node.specs.declared.node_disk.NodeDisk.{NodeDisk}

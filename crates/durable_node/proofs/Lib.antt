@@ -1,14 +1,15 @@
-pub mod Parts
-pub mod Mounts
-pub mod Turned
-pub mod Serves
-pub mod Ignores
-pub mod Settling
-pub mod Remounts
-pub mod Nodes
-pub mod Crashes
-pub mod Forgets
-pub mod Opens
-pub mod AnyDisk
-pub mod Readings
-pub mod Compactions
+mod Parts
+mod Mounts
+mod Turned
+mod Serves
+mod Ignores
+mod Settling
+mod Remounts
+mod Nodes
+mod Crashes
+mod Forgets
+mod Opens
+mod AnyDisk
+mod Readings
+mod Compactions
+pub mod PublicLaws

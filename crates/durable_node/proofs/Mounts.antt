@@ -6,9 +6,9 @@ use Rattle.safe_cell.specs.Cell.{cell_at}
 use Rattle.job_model.specs.Command.{Command}
 use Rattle.job_model.specs.Durable.{Durable}
 use Rattle.job_journal.specs.Journal.{jobs_by, jobs_in, IsSound, ImagesSince}
-use Rattle.job_journal.proofs.Frames.{SameFrom, cell_same_from, found_same_from}
+use Rattle.job_journal.proofs.PublicLaws.{SameFrom, cell_same_from, found_same_from}
 use Rattle.node_store.specs.Store.{StoreState, durable_by, durable_of, stands_for, slots_for, AllStandFor, Lasts, BeforeOrAfter as StoreBeforeOrAfter}
-use Rattle.node_store.proofs.Mountings.{sound_kept}
+use Rattle.node_store.proofs.PublicLaws.{sound_kept}
 use Rattle.histories.specs.NodeState.{NodeState, settled}
 use Rattle.histories.specs.Possible.{IsWanted, IsSettling}
 use Rattle.durable_node.specs.Carrying.{BeforeOrAfter, KeepsSound, Writes}

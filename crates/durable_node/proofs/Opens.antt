@@ -2,7 +2,7 @@
 use Rattle.std.proofs.Common.{◌≡◌, ℕ, true, false, Some, None, Bool, refl}
 use Rattle.sector_disk.specs.Memory.{Memory, all_synced, state_of}
 use Rattle.sector_disk.specs.Disk.{IsImage}
-use Rattle.sector_disk.proofs.Crashed.{only_image}
+use Rattle.sector_disk.proofs.PublicLaws.{only_image}
 use Rattle.job_model.specs.Durable.{formatted}
 use Rattle.node_core.specs.declared.event.Event.TheVariants.{Recover}
 use Rattle.node_core.specs.Start.{down}

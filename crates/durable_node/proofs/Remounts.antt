@@ -18,7 +18,7 @@ use Rattle.histories.specs.declared.what.What.{What}
 use Rattle.histories.specs.declared.what.What.TheVariants.{Recovered, RaiseFailed}
 use Rattle.histories.specs.declared.fate.Fate.{Fate}
 use Rattle.histories.specs.Fates.{attempt_of, what_of}
-use Rattle.histories.proofs.Attempts.{tried_none, tried_raise}
+use Rattle.histories.proofs.PublicLaws.{tried_none, tried_raise}
 use Rattle.histories.specs.After.{after}
 use Rattle.histories.specs.Possible.{IsSettling}
 use Rattle.histories.specs.declared.fate.Fate.TheVariants as fate

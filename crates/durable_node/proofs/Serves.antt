@@ -15,11 +15,10 @@ use Rattle.histories.specs.NodeState.{NodeState}
 use Rattle.histories.specs.declared.what.What.TheVariants.{Did, Faulted}
 use Rattle.histories.specs.declared.fate.Fate.{Fate}
 use Rattle.histories.specs.Fates.{attempt_of, what_of}
-use Rattle.histories.proofs.Attempts.{tried_none, tried_wanted}
+use Rattle.histories.proofs.PublicLaws.{tried_none, tried_wanted, stays_up}
 use Rattle.histories.specs.After.{after}
 use Rattle.histories.specs.Possible.{IsForNode}
 use Rattle.histories.specs.declared.fate.Fate.TheVariants as fate
-use Rattle.histories.proofs.Ups.{stays_up}
 use Rattle.durable_node.specs.declared.fault.NodeFault.{NodeFault}
 use Rattle.durable_node.specs.declared.came.Came.{Came}
 use Rattle.durable_node.specs.Carrying.{KeepsSound, Writes}

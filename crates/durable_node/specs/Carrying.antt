@@ -6,7 +6,8 @@ use Rattle.job_model.specs.Command.{Command}
 use Rattle.job_model.specs.Durable.{Durable}
 use Rattle.job_model.specs.Fold.{after_wanted}
 use Rattle.job_journal.specs.Journal.{IsSound}
-use Rattle.node_core.specs.NodeStep.{StepFault, CantTake, IsSpent, FitsSlots, Handled, Refused}
+use Rattle.node_core.specs.declared.fault.Refusal.{Refusal}
+use Rattle.node_core.specs.NodeStep.{CantTake, IsSpent, FitsSlots, Handled, Refused}
 use Rattle.node_store.specs.Store.{StoreState, durable_of, stands_for, AllStandFor, InStore}
 use Rattle.histories.specs.NodeState.{answer_if_wanted}
 use Rattle.histories.specs.Possible.{IsWanted}
@@ -58,7 +59,7 @@ pub record IsCut {Disk : Type 0} (old new : StoreState Disk) (wants : Option Com
 
 -- the store can't take the command, and this is how it is told
 pub record CantCarry (slots : ℕ) (d : Durable) (wants : Option Command) (fault : NodeFault) : Type 0 where
-  pub why : StepFault
+  pub why : Refusal
   pub is_shown : fault ≡ shown why
   pub cant : CantTake d wants why
   pub of_slots : FitsSlots slots d wants (Refused why)

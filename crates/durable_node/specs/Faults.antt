@@ -1,7 +1,8 @@
 -- How the faults of the layers below are told.
 use Rattle.std.specs.Prelude.{Option, Some, None, Result, Ok, Err}
 use Rattle.node_core.specs.declared.fault.CoreFault.TheVariants as core
-use Rattle.node_core.specs.NodeStep.{StepFault, OfCore, Full, Exhausted, Worn}
+use Rattle.node_core.specs.declared.fault.Refusal.{Refusal}
+use Rattle.node_core.specs.declared.fault.Refusal.TheVariants.{Core, Full, Exhausted, Worn}
 use Rattle.node_store.specs.declared.fault.StoreFault.{StoreFault}
 use Rattle.node_store.specs.declared.fault.StoreFault.TheVariants as store
 use Rattle.durable_node.specs.declared.fault.NodeFault.{NodeFault}
@@ -9,11 +10,10 @@ use Rattle.durable_node.specs.declared.fault.NodeFault.TheVariants as node
 use Rattle.durable_node.specs.declared.came.Came.{Came}
 use Rattle.histories.specs.declared.fate.Fate.{Fate}
 use Rattle.histories.specs.declared.fate.Fate.TheVariants.{Done, Refused, Faulted, Recovered, MountFailed, RaiseFailed, RaiseRefused}
-use Rattle.histories.specs.What.{reason_of}
 
 -- why an event is refused, as it is told: a caller sees no areas
-abbrev pub shown : StepFault → NodeFault
-shown (OfCore fault) = node.Core fault
+abbrev pub shown : Refusal → NodeFault
+shown (Core fault) = node.Core fault
 shown Full = node.Full
 shown Exhausted = node.Exhausted
 shown Worn = node.Exhausted
@@ -33,7 +33,7 @@ fault_for store.TooSmall = node.TooSmall
 -- why an event wasn't done, by what came of it: it was refused, or the device failed
 abbrev pub fault_of : Fate → Option NodeFault
 fault_of Done = None
-fault_of (Refused why) = Some (shown (reason_of why))
+fault_of (Refused why) = Some (shown why)
 fault_of Faulted = Some node.Device
 fault_of (Recovered kept) = None
 fault_of MountFailed = Some node.Device

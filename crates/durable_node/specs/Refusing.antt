@@ -5,7 +5,8 @@ use Rattle.job_model.specs.Durable.{Durable}
 use Rattle.node_core.specs.declared.event.Event.{Event}
 use Rattle.node_core.specs.declared.fault.CoreFault.{CoreFault}
 use Rattle.node_core.specs.declared.fault.CoreFault.TheVariants.{Down, NoMemory}
-use Rattle.node_core.specs.NodeStep.{StepFault, OfCore, Full, Exhausted, Worn}
+use Rattle.node_core.specs.declared.fault.Refusal.{Refusal}
+use Rattle.node_core.specs.declared.fault.Refusal.TheVariants.{Core, Full, Exhausted, Worn}
 use Rattle.node_core.specs.Refusals.{refusal_of}
 use Rattle.node_core.specs.Wants.{wants_of}
 use Rattle.durable_node.specs.declared.fault.NodeFault.{NodeFault}
@@ -21,11 +22,11 @@ abbrev pub is_last : Area → Bool
 is_last area = area.number == 2 ^ 64 - 1
 
 -- no slot is free, and no compaction can free one
-abbrev pub area_refusal : Area → Option StepFault
+abbrev pub area_refusal : Area → Option Refusal
 area_refusal area = if area.used == area.slots && is_last area then Some Worn else None
 
 -- why the disk can't take a command
-abbrev pub disk_refusal : Durable → Area → Option Command → Option StepFault
+abbrev pub disk_refusal : Durable → Area → Option Command → Option Refusal
 disk_refusal d area None = None
 disk_refusal d area (Some Raise) = if d.counter == 2 ^ 64 - 1 then Some Exhausted else None
 disk_refusal d area (Some (Put work)) =
@@ -34,7 +35,7 @@ disk_refusal d area (Some (Put work)) =
 disk_refusal d area (Some (Done id)) = area_refusal area
 
 -- a call that was given a command answers why it was refused, or else does it or meets a device that fails
-abbrev pub AnswersTo : {A : Type 0} → Option StepFault → Result A NodeFault → Type 0
+abbrev pub AnswersTo : {A : Type 0} → Option Refusal → Result A NodeFault → Type 0
 AnswersTo (Some why) result = result ≡ Err (shown why)
 AnswersTo None result = IsOk result ⊎ IsErrOf result node.Device
 
@@ -45,7 +46,7 @@ abbrev pub OrNoMemory : {A : Type 0} → Result A NodeFault → Type 0 → Type 
 OrNoMemory result P = IsErrOf result (node.Core NoMemory) ⊎ P
 
 -- want of memory comes after the core's reasons, and before the disk's
-abbrev pub AnswersEvent : {A : Type 0} → Option CoreFault → Option StepFault → Result A NodeFault → Type 0
+abbrev pub AnswersEvent : {A : Type 0} → Option CoreFault → Option Refusal → Result A NodeFault → Type 0
 AnswersEvent (Some fault) why result = result ≡ Err (node.Core fault)
 AnswersEvent None why result = OrNoMemory result (AnswersTo why result)
 
@@ -57,6 +58,6 @@ Answers node event result = (d : Durable) (area : Area) → node.kept ≡ Some d
 -- ---- a compaction
 
 -- why a compaction is refused, by the area of a node that is up
-abbrev pub compaction_refusal : Option Area → Option StepFault
-compaction_refusal None = Some (OfCore Down)
+abbrev pub compaction_refusal : Option Area → Option Refusal
+compaction_refusal None = Some (Core Down)
 compaction_refusal (Some area) = if is_last area then Some Worn else None

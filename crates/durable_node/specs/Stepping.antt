@@ -8,7 +8,7 @@ use Rattle.node_core.specs.declared.event.Event.TheVariants as on
 use Rattle.node_core.specs.Core.{Core}
 use Rattle.node_core.specs.Start.{down}
 use Rattle.node_core.specs.State.{State, is_down}
-use Rattle.node_core.specs.NodeStep.{IsTaken, IsHandled, IsRefused, StepFault, FitsSlots, Handled, Refused as Refusal}
+use Rattle.node_core.specs.NodeStep.{IsTaken, IsHandled, IsRefused, FitsSlots, Handled, Refused as Denied}
 use Rattle.node_core.specs.Wants.{wants_of}
 use Rattle.node_core.specs.Most.{most_of}
 use Rattle.node_store.specs.Store.{StoreState, durable_of, slots_for}
@@ -20,11 +20,11 @@ use Rattle.histories.specs.declared.what.What.{What}
 use Rattle.histories.specs.declared.what.What.TheVariants.{Did, Refused, Faulted, Rests, Crashed, Recovered, MountFailed, RaiseFailed, RaiseRefused}
 use Rattle.histories.specs.After.{after, sent_at, found_at}
 use Rattle.histories.specs.Possible.{IsPossible, IsOfSlots, IsWanted}
-use Rattle.histories.specs.What.{reason_of}
 use Rattle.histories.specs.Fates.{IsTriedAt, what_of}
 use Rattle.histories.specs.declared.fate.Fate.{Fate}
 use Rattle.histories.specs.declared.fate.Fate.TheVariants as fate
-use Rattle.histories.specs.declared.what.Refusal.TheVariants as refusal
+use Rattle.node_core.specs.declared.fault.Refusal.{Refusal}
+use Rattle.node_core.specs.declared.fault.Refusal.TheVariants as refusal
 use Rattle.job_model.specs.Command.{Command, Raise}
 use Rattle.node_core.specs.declared.fault.CoreFault.{CoreFault}
 use Rattle.node_core.specs.declared.fault.CoreFault.TheVariants.{NoMemory}
@@ -50,9 +50,9 @@ pub record IsFailed (slots nodes self : ℕ) (s : State) (d : Durable) (event : 
   pub wanted : IsWanted (wants_of self d.pending event s)
 
 -- the event was refused, for this reason
-pub record IsTurnedAway (slots nodes self : ℕ) (s : State) (d : Durable) (event : Event) (why : StepFault) : Type 0 where
+pub record IsTurnedAway (slots nodes self : ℕ) (s : State) (d : Durable) (event : Event) (why : Refusal) : Type 0 where
   pub refused : IsRefused nodes self s d event why
-  pub of_slots : FitsSlots slots d (wants_of self d.pending event s) (Refusal why)
+  pub of_slots : FitsSlots slots d (wants_of self d.pending event s) (Denied why)
 
 -- nothing is sent or answered
 abbrev pub IsSilent : Came → Type 0
@@ -69,7 +69,7 @@ abbrev pub IsServed : {Disk : Type 0} → ℕ → ℕ → Core → Core → Stor
 IsServed nodes self core core' store store' doubt doubt' event came fate.Done =
     IsDone store.journal.slots nodes self core.state (durable_of store) event core'.state (durable_of store') came × IsFalse store'.broken × (doubt' ≡ doubt)
 IsServed nodes self core core' store store' doubt doubt' event came (fate.Refused why) =
-    IsTurnedAway store.journal.slots nodes self core.state (durable_of store) event (reason_of why) × IsSilent came × IsAsBefore core core' store store' doubt doubt'
+    IsTurnedAway store.journal.slots nodes self core.state (durable_of store) event why × IsSilent came × IsAsBefore core core' store store' doubt doubt'
 IsServed nodes self core core' store store' doubt doubt' event came fate.Faulted =
     IsFailed store.journal.slots nodes self core.state (durable_of store) event × IsSilent came × (core'.state ≡ down self)
     × (doubt' ≡ told_doubt (durable_of store) (wants_of self (durable_of store).pending event core.state))

@@ -42,19 +42,45 @@ pub(crate) fn advance<D: SectorDisk + Drop>(
     ensures reads { is_down core.old.state.phase ≡ true → event.now ≡ Event.Recover → ReadsDisk D.state (disk_in disk.old) (disk_in disk.new) (told result) (found_in found.new (store_in disk.new)) }
     ensures few { IfOk result (λ came. length came.sent.items ≤ most_by nodes (kept_in (is_down core.old.state.phase) (store_in disk.old))) }
 {
-    if is_down(core) {
-        return match event {
-            Event::Recover => remount(alloc, id, nodes, core, disk, doubt, found),
-            _ => {
-                *found = None;
-                ignore(alloc, core, disk, event)
-            }
-        };
-    }
-    *found = None;
     match disk {
-        NodeDisk::Mounted(store) => handle(alloc, id, nodes, core, store, doubt, event),
-        NodeDisk::Bare(_) | NodeDisk::Taken => unreachable!(),
+        NodeDisk::Mounted(store) if !is_down(core) => {
+            *found = None;
+            handle(alloc, id, nodes, core, store, doubt, event)
+        }
+        _ => while_down(alloc, id, nodes, core, disk, doubt, found, event),
+    }
+}
+
+/// One event, over the parts of a node that is down.
+fn while_down<D: SectorDisk + Drop>(
+    alloc: Global,
+    id: NodeId,
+    nodes: u8,
+    core: &mut NodeCore,
+    disk: &mut NodeDisk<D>,
+    doubt: &mut Option<(Durable, u64)>,
+    found: &mut Option<u64>,
+    event: &Event,
+) -> Result<Came, NodeFault>
+    requires node { IsNode D.state id nodes core.old disk.old }
+    requires down { is_down core.old.state.phase ≡ true }
+    ensures node { IsNode D.state id nodes core.new disk.new }
+    ensures step { IfOk result (Steps D.state (node_with id nodes core.old disk.old doubt.old found.old) (node_with id nodes core.new disk.new doubt.new found.new) event.now) }
+    ensures stuck { IfErr result (Stuck D.state (node_with id nodes core.old disk.old doubt.old found.old) (node_with id nodes core.new disk.new doubt.new found.new) event.now) }
+    ensures answers { Answers (node_with id nodes core.old disk.old doubt.old found.old) event.now (told result) }
+    ensures counts { CountsOf D.state (disk_in disk.old) (disk_in disk.new) (told result) }
+    ensures mounting { event.now ≡ Event.Recover
+        → Remounted (node_with id nodes core.old disk.old doubt.old found.old) (node_with id nodes core.new disk.new doubt.new found.new) (told result) (found_in found.new (store_in disk.new)) }
+    ensures kept { event.now ≡ Event.Recover → IfOk result (λ came. IsFoundBy doubt.old came.fate (found_in found.new (store_in disk.new))) }
+    ensures reads { event.now ≡ Event.Recover → ReadsDisk D.state (disk_in disk.old) (disk_in disk.new) (told result) (found_in found.new (store_in disk.new)) }
+    ensures few { IfOk result (λ came. length came.sent.items ≤ most_by nodes (kept_in (is_down core.old.state.phase) (store_in disk.old))) }
+{
+    match event {
+        Event::Recover => remount(alloc, id, nodes, core, disk, doubt, found),
+        _ => {
+            *found = None;
+            ignore(alloc, core, disk, event)
+        }
     }
 }
 
@@ -62,5 +88,5 @@ pub(crate) fn advance<D: SectorDisk + Drop>(
 pub(crate) fn is_down(core: &NodeCore) -> bool
     ensures { result ≡ is_down core.now.state.phase }
 {
-    matches!(core.vector().phase, Phase::Down)
+    matches!(core.vector().standing.phase, Phase::Down)
 }

@@ -1,7 +1,6 @@
 // What a call of a node tells.
 ghost use Rattle.std.specs.Prelude.{◌≡◌, option_map};
 ghost use Rattle.histories.specs.Fates.{attempt_of};
-ghost use Rattle.histories.specs.What.{reason_of};
 ghost use Rattle.node_core.specs.Planned.{lent_by};
 ghost use Rattle.durable_node.specs.Faults.{fault_of, shown};
 ghost use Rattle.durable_node.specs.Stepping.{IsSilent};
@@ -56,7 +55,7 @@ impl Came {
 
 /// Why an event is refused, as a caller is told.
 pub(crate) fn shown(why: Refusal) -> NodeFault
-    ensures { result ≡ shown (reason_of why) }
+    ensures { result ≡ shown why }
 {
     match why {
         Refusal::Core(fault) => NodeFault::Core(fault),

@@ -40,12 +40,9 @@ pub(crate) fn compact<D: SectorDisk>(
     ensures counts { CountsOf D.state (disk_in disk.old) (disk_in disk.new) result }
 {
     *found = None;
-    if is_down(core) {
-        return Err(NodeFault::Core(CoreFault::Down));
-    }
     match disk {
-        NodeDisk::Mounted(store) => rewrite(alloc, id, nodes, core, store),
-        NodeDisk::Bare(_) | NodeDisk::Taken => unreachable!(),
+        NodeDisk::Mounted(store) if !is_down(core) => rewrite(alloc, id, nodes, core, store),
+        _ => Err(NodeFault::Core(CoreFault::Down)),
     }
 }
 

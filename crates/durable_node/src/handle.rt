@@ -8,7 +8,6 @@ ghost use Rattle.node_core.specs.Refusals.{refusal_of};
 ghost use Rattle.node_core.specs.Wants.{wants_of};
 ghost use Rattle.node_store.specs.Store.{durable_of};
 ghost use Rattle.histories.specs.Fates.{attempt_of};
-ghost use Rattle.histories.specs.What.{reason_of};
 ghost use Rattle.durable_node.specs.Carrying.{CantCarry, KeepsSound, Writes};
 ghost use Rattle.durable_node.specs.Faults.{told};
 ghost use Rattle.durable_node.specs.Node.{IsCoreOf, IsOver, area_of, told_doubt};
@@ -28,7 +27,7 @@ use std::alloc::Global;
 
 /// Handles an event at a node that is up: growths first, then the device, and the change last. After `Device` the core is
 /// down.
-#[tactic(auto, using(histories::proofs::Wanted::wanted_pending))]
+#[tactic(auto, using(histories::proofs::PublicLaws::wanted_pending))]
 pub(crate) fn handle<D: SectorDisk>(
     alloc: Global,
     id: NodeId,
@@ -105,7 +104,7 @@ fn planned(
 
 /// Why the disk can't take a command, by how it is told.
 fn refusal<D: SectorDisk>(store: &NodeStore<D>, wants: &Wanted<'_>, fault: NodeFault) -> Refusal
-    ensures { (slots : ℕ) (cant : CantCarry slots (durable_of store.now) (lent_by wants.now) fault) → reason_of result ≡ cant.why }
+    ensures { (slots : ℕ) (cant : CantCarry slots (durable_of store.now) (lent_by wants.now) fault) → result ≡ cant.why }
 {
     match fault {
         NodeFault::Full => Refusal::Full,

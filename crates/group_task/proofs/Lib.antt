@@ -1,3 +1,4 @@
-pub mod Words
-pub mod IdLaws
-pub mod ShareLaws
+mod Words
+mod IdLaws
+mod ShareLaws
+pub mod PublicLaws

@@ -4,7 +4,7 @@ use Rattle.std.specs.Prelude.{if◌then◌else◌}
 use Rattle.std.specs.List.{filter}
 use Rattle.job_model.specs.declared.job.Job.{Job}
 use Rattle.node_core.specs.Priorities.{by_priority}
-use Rattle.node_core.proofs.Priorities.{by_priority_keeps}
+use Rattle.node_core.proofs.PublicLaws.{by_priority_keeps}
 use Rattle.wire_msg.specs.Envelope.{Envelope}
 use Rattle.histories.specs.Lists.{IsAmong, Each}
 use Rattle.histories.specs.What.{Entry}

@@ -1,5 +1,5 @@
 -- Claims that hold of anything.
-use Rattle.std.proofs.Common.{ℕ, List, [], ◌∷◌, Option, Some, None}
+use Rattle.std.proofs.Common.{ℕ, List, [], ◌∷◌, Option, Some, None, IfSome}
 use Rattle.group_task.specs.Group.{Group}
 use Rattle.group_task.specs.Assignment.{Assignment}
 use Rattle.job_model.specs.declared.job.Job.{Job}
@@ -8,10 +8,11 @@ use Rattle.job_model.specs.Durable.{Durable}
 use Rattle.job_model.specs.Fold.{after_wanted}
 use Rattle.wire_msg.specs.Envelope.{Envelope}
 use Rattle.wire_msg.specs.declared.body.Body.{Body}
-use Rattle.wire_msg.specs.declared.body.Body.TheVariants.{AreYouCoordinator, Coordinator, AreYouThere, Here, Invitation, Accept, Ready, ReadyAck, Work as WorkMessage, Done as DoneMessage}
+use Rattle.wire_msg.specs.declared.body.Body.TheVariants.{Work as WorkMessage}
 use Rattle.node_core.specs.declared.phase.Phase.{Phase}
-use Rattle.node_core.specs.declared.phase.Phase.TheVariants.{Down, Election, Reorganization, Normal}
+use Rattle.node_core.specs.declared.phase.Phase.TheVariants.{Down}
 use Rattle.node_core.specs.State.{State}
+use Rattle.node_core.specs.Messages.{group_in}
 use Rattle.histories.specs.Named.{BodyHolds, AllHold, TaskHolds, PlaceHolds}
 use Rattle.histories.proofs.Moves.{WorkIn, AllWork, JobsHold, GivenHold, Knows, KnowsJobs}
 
@@ -27,33 +28,18 @@ any_task (Some t) = tt
 
 any_place : (p : Phase) (g : Group) (t : Option Assignment) → PlaceHolds AnyGroup p g t
 any_place Down g t = tt
-any_place Election g t = (tt, any_task t)
-any_place Reorganization g t = (tt, any_task t)
-any_place Normal g t = (tt, any_task t)
+any_place p g t = (tt, any_task t)
+
+any_named : (named : Option Group) → IfSome named AnyGroup
+any_named None = tt
+any_named (Some group) = tt
 
 any_body : (b : Body) → BodyHolds AnyGroup b
-any_body AreYouCoordinator = tt
-any_body (Coordinator agreed) = tt
-any_body (AreYouThere group) = tt
-any_body (Here group agreed) = tt
-any_body (Invitation group) = tt
-any_body (Accept group) = tt
-any_body (Ready task) = tt
-any_body (ReadyAck group) = tt
-any_body (WorkMessage group id work) = tt
-any_body (DoneMessage id) = tt
+any_body b = any_named (group_in b)
 
 any_work : (sender : ℕ) (b : Body) → WorkIn AnyWork sender b
-any_work sender AreYouCoordinator = tt
-any_work sender (Coordinator agreed) = tt
-any_work sender (AreYouThere group) = tt
-any_work sender (Here group agreed) = tt
-any_work sender (Invitation group) = tt
-any_work sender (Accept group) = tt
-any_work sender (Ready task) = tt
-any_work sender (ReadyAck group) = tt
 any_work sender (WorkMessage group id work) = tt
-any_work sender (DoneMessage id) = tt
+any_work sender b = tt
 
 any_came : (ms : List Envelope) → AllHold AnyGroup ms
 any_came [] = tt

@@ -4,7 +4,7 @@ use Rattle.group_task.specs.Assignment.{Assignment}
 use Rattle.job_model.specs.declared.job.Job.{Job}
 use Rattle.wire_msg.specs.Envelope.{Envelope}
 use Rattle.wire_msg.specs.declared.body.Body.{Body}
-use Rattle.wire_msg.specs.declared.body.Body.TheVariants.{AreYouCoordinator, Coordinator, AreYouThere, Here, Invitation, Accept, Ready, ReadyAck, Work as WorkMessage, Done as DoneMessage}
+use Rattle.wire_msg.specs.declared.body.Body.TheVariants.{Work as WorkMessage}
 use Rattle.node_core.specs.declared.event.Event.{Event}
 use Rattle.node_core.specs.State.{State}
 use Rattle.histories.specs.Lists.{IsAmong}
@@ -22,16 +22,8 @@ use Rattle.histories.proofs.Entries.{entry_does}
 
 -- what is said of work
 says_work : (J : ℕ → ℕ → ℕ → Type 0) (self sender receiver : ℕ) (made : List Assignment) (event : Option Event) (body : Body) → SaysIn AnyGroup J self made event sender receiver body → WorkIn J sender body
-says_work J self sender receiver made event AreYouCoordinator h = tt
-says_work J self sender receiver made event (Coordinator agreed) h = tt
-says_work J self sender receiver made event (AreYouThere group) h = tt
-says_work J self sender receiver made event (Here group agreed) h = tt
-says_work J self sender receiver made event (Invitation group) h = tt
-says_work J self sender receiver made event (Accept group) h = tt
-says_work J self sender receiver made event (Ready task) h = tt
-says_work J self sender receiver made event (ReadyAck group) h = tt
 says_work J self sender receiver made event (WorkMessage group id work) h = h.1
-says_work J self sender receiver made event (DoneMessage id) h = tt
+says_work J self sender receiver made event body h = tt
 
 first_state : (self nodes : ℕ) (s : NodeState) (es : List Entry) → IsAmong s (states self nodes s es)
 first_state self nodes s [] = inl refl

@@ -1,21 +1,23 @@
-pub mod Tests
-pub mod Among
-pub mod Anything
-pub mod Moves
-pub mod Rows
-pub mod Entries
-pub mod Counts
-pub mod Lives
-pub mod OneBooks
-pub mod Growing
-pub mod Downs
-pub mod Kepts
-pub mod Owners
-pub mod Jobs
-pub mod Pending
-pub mod Ups
-pub mod Wanted
-pub mod Attempts
-pub mod OwnMessages
-pub mod Inside
-pub mod Others
+mod Tests
+mod Among
+mod Anything
+mod Moves
+mod Rows
+mod Entries
+mod Counts
+mod Lives
+mod OneBooks
+mod Growing
+mod Downs
+mod Kepts
+mod Owners
+mod Jobs
+mod Pending
+mod Reaches
+mod Ups
+mod Wanted
+mod Attempts
+mod OwnMessages
+mod Inside
+mod Others
+pub mod PublicLaws

@@ -11,7 +11,7 @@ use Rattle.node_core.specs.declared.phase.Phase.TheVariants.{Down, Election, Reo
 use Rattle.node_core.specs.declared.event.Event.{Event}
 use Rattle.node_core.specs.State.{State}
 use Rattle.node_core.specs.Words.{own_group, task_of}
-use Rattle.group_task.proofs.IdLaws.{with_has_same}
+use Rattle.group_task.proofs.PublicLaws.{with_has_same}
 use Rattle.histories.specs.Lists.{IsAmong, Each}
 use Rattle.histories.specs.NodeState.{NodeState}
 use Rattle.histories.specs.What.{Entry, brought, event_of}

@@ -9,7 +9,7 @@ use Rattle.job_model.specs.Durable.{Durable}
 use Rattle.job_model.specs.Fold.{after_wanted}
 use Rattle.wire_msg.specs.Envelope.{Envelope}
 use Rattle.wire_msg.specs.declared.body.Body.{Body}
-use Rattle.wire_msg.specs.declared.body.Body.TheVariants.{AreYouCoordinator, Coordinator, AreYouThere, Here, Invitation, Accept, Ready, ReadyAck, Work as WorkMessage, Done as DoneMessage}
+use Rattle.wire_msg.specs.declared.body.Body.TheVariants.{Ready, Work as WorkMessage, Done as DoneMessage}
 use Rattle.node_core.specs.declared.event.Event.{Event}
 use Rattle.node_core.specs.declared.event.Event.TheVariants.{Finish}
 use Rattle.node_core.specs.declared.in_hand.InHand.{InHand}
@@ -24,7 +24,7 @@ use Rattle.histories.specs.NodeState.{NodeState}
 use Rattle.histories.specs.declared.what.What.{What}
 use Rattle.histories.specs.What.{event_of, brought}
 use Rattle.histories.specs.After.{raised, after, sent_at, given_at}
-use Rattle.histories.specs.Named.{AllHold, StateHolds}
+use Rattle.histories.specs.Named.{BodyHolds, AllHold, StateHolds}
 
 -- what happens to a node's place in a group: `given` are the counts that it gives, `made` the tasks that it makes
 pub data GroupMove (self : ℕ) (old : State) (came : List Envelope) (given : List ℕ) (made : List Assignment) (new : State) : Type 0 where
@@ -39,32 +39,18 @@ pub data GroupMove (self : ℕ) (old : State) (came : List Envelope) (given : Li
 
 -- what is said: P holds of each group that is named and J of each job that is sent out; a Ready names its true sender and a task that was made; a Done is of a Finish
 abbrev pub SaysIn : (Group → Type 0) → (ℕ → ℕ → ℕ → Type 0) → ℕ → List Assignment → Option Event → ℕ → ℕ → Body → Type 0
-SaysIn P J self made event sender receiver AreYouCoordinator = Unit {0}
-SaysIn P J self made event sender receiver (Coordinator agreed) = Unit {0}
-SaysIn P J self made event sender receiver (AreYouThere group) = P group
-SaysIn P J self made event sender receiver (Here group agreed) = P group
-SaysIn P J self made event sender receiver (Invitation group) = P group
-SaysIn P J self made event sender receiver (Accept group) = P group
 SaysIn P J self made event sender receiver (Ready task) = (sender ≡ self) × IsAmong task made × P task.group
-SaysIn P J self made event sender receiver (ReadyAck group) = P group
 SaysIn P J self made event sender receiver (WorkMessage group id work) = P group × J sender id work.queue
 SaysIn P J self made event sender receiver (DoneMessage id) = event ≡ Some (Finish receiver id)
+SaysIn P J self made event sender receiver body = BodyHolds P body
 
 abbrev pub Says : (Group → Type 0) → (ℕ → ℕ → ℕ → Type 0) → ℕ → List Assignment → Option Event → Envelope → Type 0
 Says P J self made event m = SaysIn P J self made event m.sender m.receiver m.body
 
 -- Q holds of each job that a message brings
 abbrev pub WorkIn : (ℕ → ℕ → ℕ → Type 0) → ℕ → Body → Type 0
-WorkIn Q sender AreYouCoordinator = Unit {0}
-WorkIn Q sender (Coordinator agreed) = Unit {0}
-WorkIn Q sender (AreYouThere group) = Unit {0}
-WorkIn Q sender (Here group agreed) = Unit {0}
-WorkIn Q sender (Invitation group) = Unit {0}
-WorkIn Q sender (Accept group) = Unit {0}
-WorkIn Q sender (Ready task) = Unit {0}
-WorkIn Q sender (ReadyAck group) = Unit {0}
 WorkIn Q sender (WorkMessage group id work) = Q sender id work.queue
-WorkIn Q sender (DoneMessage id) = Unit {0}
+WorkIn Q sender body = Unit {0}
 
 abbrev pub AllWork : (ℕ → ℕ → ℕ → Type 0) → List Envelope → Type 0
 AllWork Q ms = Each (λ (m : Envelope). WorkIn Q m.sender m.body) ms

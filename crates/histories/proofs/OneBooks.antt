@@ -3,7 +3,7 @@ use Rattle.std.proofs.Common.{◌≡◌, ◌≢◌, ℕ, zero, suc, ◌+◌, ◌
 use Rattle.std.proofs.lemmas.Bool.Decides.{nat_tests}
 use Rattle.group_task.specs.Group.{Group, same_group}
 use Rattle.group_task.specs.Assignment.{Assignment}
-use Rattle.group_task.proofs.IdLaws.{with_has_same}
+use Rattle.group_task.proofs.PublicLaws.{with_has_same}
 use Rattle.wire_msg.specs.Envelope.{Envelope}
 use Rattle.wire_msg.specs.declared.body.Body.TheVariants.{Ready}
 use Rattle.node_core.specs.declared.phase.Phase.{Phase}

@@ -29,7 +29,8 @@ use Rattle.histories.proofs.Tests.{eq_nat, and_left, and_right}
 use Rattle.histories.proofs.Among.{among_left, among_right, among_either, sent_by_one, each_at}
 use Rattle.histories.proofs.Anything.{AnyGroup, AnyWork, knows_any, any_pending, all_any_work}
 use Rattle.histories.proofs.Moves.{Held, HandHolds, SaysIn, Says}
-use Rattle.histories.proofs.Entries.{entry_does, Cause, causes, held_finish, addressed}
+use Rattle.histories.proofs.Entries.{entry_does, held_finish, addressed}
+use Rattle.histories.proofs.Wanted.{Cause, causes}
 use Rattle.histories.proofs.OneBooks.{one_task}
 use Rattle.histories.proofs.Counts.{each_bundle_rises}
 

@@ -5,7 +5,7 @@ use Rattle.std.specs.Prelude.{if◌then◌else◌, ◌==◌}
 use Rattle.group_task.specs.Group.{Group, same_group}
 use Rattle.group_task.specs.Assignment.{Assignment}
 use Rattle.group_task.specs.Ids.{has, with_id, without_id, either_of, ids_below}
-use Rattle.group_task.proofs.IdLaws.{with_has_same}
+use Rattle.group_task.proofs.PublicLaws.{with_has_same}
 use Rattle.job_model.specs.Command.{Raise, Put}
 use Rattle.job_model.specs.Durable.{Durable}
 use Rattle.job_model.specs.Fold.{is_pending}
@@ -48,9 +48,7 @@ either_phase false = inl refl
 -- a node that isn't down is in a group
 in_group : (P : Group → Type 0) (p : Phase) (g : Group) (t : Option Assignment) → is_down p ≡ false → PlaceHolds P p g t → P g × TaskHolds P t
 in_group P Down g t up h = absurd cc
-in_group P Election g t up h = h
-in_group P Reorganization g t up h = h
-in_group P Normal g t up h = h
+in_group P p g t up h = h
 
 settles : (P : Group → Type 0) (b : Bool) (g : Group) (t : Option Assignment) → P g × TaskHolds P t → PlaceHolds P (if b then Normal else Reorganization) g t
 settles P true g t h = h

@@ -1,34 +1,31 @@
 -- What an entry makes of a node with its disk, what it sends, the count that it gives, and what it mounts.
 use Rattle.std.specs.Prelude.{ℕ, ◌+◌, List, [], ◌∷◌, Option, Some, None}
-use Rattle.job_model.specs.Command.{Command, Raise, Put, Done}
+use Rattle.job_model.specs.Command.{Command, Raise}
 use Rattle.job_model.specs.Durable.{Durable}
 use Rattle.job_model.specs.Fold.{after_command, after_wanted}
 use Rattle.wire_msg.specs.Envelope.{Envelope}
 use Rattle.node_core.specs.Start.{alone, down}
 use Rattle.histories.specs.NodeState.{NodeState, wants_at, effect_at, settled}
 use Rattle.histories.specs.declared.what.What.{What}
-use Rattle.histories.specs.declared.what.What.TheVariants.{Did, Refused, Faulted, Rests, Crashed, Recovered, MountFailed, RaiseFailed, RaiseRefused}
+use Rattle.histories.specs.declared.what.What.TheVariants.{Did, Faulted, Crashed, Recovered, RaiseFailed, RaiseRefused}
 
 -- the state after an entry: a failed device puts the wanted command in doubt, a mounting settles the doubt, but one
--- whose raise is refused leaves all as it was
+-- whose raise is refused leaves all as it was, and so does what is refused or rests
 abbrev pub after : ℕ → ℕ → NodeState → What → NodeState
 after self nodes s (Did event) = record {
   state = (effect_at self nodes s event).state;
   durable = after_wanted s.durable (wants_at self nodes s event);
   doubt = s.doubt;
 }
-after self nodes s (Refused event fault) = s
 after self nodes s (Faulted event) = record { state = down self; durable = s.durable; doubt = wants_at self nodes s event }
-after self nodes s (Rests rest) = s
 after self nodes s Crashed = record { state = down self; durable = s.durable; doubt = s.doubt }
 after self nodes s (Recovered kept) = record {
   state = alone self ((settled kept s).counter + 1);
   durable = after_command (settled kept s) Raise;
   doubt = None;
 }
-after self nodes s MountFailed = s
 after self nodes s (RaiseFailed kept) = record { state = down self; durable = settled kept s; doubt = Some Raise }
-after self nodes s (RaiseRefused kept) = s
+after self nodes s what = s
 
 -- the messages that an entry sends: only an event that is handled sends any
 abbrev pub sent_at : ℕ → ℕ → NodeState → What → List Envelope
@@ -37,10 +34,8 @@ sent_at self nodes s what = []
 
 -- the count that a command gives to a new group
 abbrev pub raised : Durable → Option Command → List ℕ
-raised d None = []
 raised d (Some Raise) = (d.counter + 1) ∷ []
-raised d (Some (Put work)) = []
-raised d (Some (Done id)) = []
+raised d wants = []
 
 -- the count that an entry gives to a new group
 abbrev pub given_at : ℕ → ℕ → NodeState → What → List ℕ

@@ -5,7 +5,7 @@ use Rattle.group_task.specs.Group.{Group, same_group}
 use Rattle.group_task.specs.Assignment.{Assignment}
 use Rattle.group_task.specs.Ids.{has}
 use Rattle.node_core.specs.declared.phase.Phase.{Phase}
-use Rattle.node_core.specs.declared.phase.Phase.TheVariants.{Down, Election, Reorganization, Normal}
+use Rattle.node_core.specs.declared.phase.Phase.TheVariants.{Reorganization, Normal}
 use Rattle.node_core.specs.State.{State}
 use Rattle.histories.specs.What.{Entry}
 use Rattle.histories.specs.Bundle.{Bundle}
@@ -25,10 +25,9 @@ IsTaskOf book node group (Some t) = (t.group ≡ group) × (members_in book grou
 -- the book agrees with the state of a node in this phase: in a group, its creator is the coordinator, and a node that
 -- works has the task that the book has
 abbrev pub AgreesIn : Phase → List Assignment → ℕ → State → Type 0
-AgreesIn Down book node v = Unit {0}
-AgreesIn Election book node v = Unit {0}
 AgreesIn Reorganization book node v = v.coordinator ≡ v.group.creator
 AgreesIn Normal book node v = (v.coordinator ≡ v.group.creator) × IsTaskOf book node v.group v.task
+AgreesIn phase book node v = Unit {0}
 
 -- and so for its state
 abbrev pub AgreesAt : List Assignment → ℕ → State → Type 0
@@ -44,10 +43,9 @@ OneBook = (histories : List (List Entry)) → Bundle histories → EachRises his
 
 -- in a group, on its way into it or working in it
 abbrev pub IsInGroup : Phase → Type 0
-IsInGroup Down = ⊥
-IsInGroup Election = ⊥
 IsInGroup Reorganization = Unit {0}
 IsInGroup Normal = Unit {0}
+IsInGroup phase = ⊥
 
 -- any two moments in one group have one coordinator
 abbrev pub OneCoordinator : Type 0

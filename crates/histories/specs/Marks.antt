@@ -6,7 +6,7 @@ use Rattle.job_model.specs.Fold.{after_command}
 use Rattle.job_model.specs.Answer.{answer_of}
 use Rattle.histories.specs.NodeState.{NodeState, opening, wants_at, settled}
 use Rattle.histories.specs.declared.what.What.{What}
-use Rattle.histories.specs.declared.what.What.TheVariants.{Did, Refused, Faulted, Rests, Crashed, Recovered, MountFailed, RaiseFailed, RaiseRefused}
+use Rattle.histories.specs.declared.what.What.TheVariants.{Did, Faulted, Recovered, RaiseFailed, RaiseRefused}
 use Rattle.histories.specs.What.{Entry}
 use Rattle.histories.specs.After.{after}
 use Rattle.histories.specs.History.{Follows}
@@ -29,9 +29,8 @@ commands_of (Mounted w ∷ ms) = commands_of ms
 -- the mountings alone
 abbrev pub mountings_of : List Mark → List Mounting
 mountings_of [] = []
-mountings_of (Acknowledged c a ∷ ms) = mountings_of ms
-mountings_of (Unanswered c ∷ ms) = mountings_of ms
 mountings_of (Mounted w ∷ ms) = w ∷ mountings_of ms
+mountings_of (m ∷ ms) = mountings_of ms
 
 -- the state that a mounting may find: what is settled, with or without the command in doubt
 abbrev pub MayFind : Durable → Option Command → Durable → Type 0
@@ -64,14 +63,11 @@ failed_marks (Some c) = Unanswered c ∷ []
 -- the marks of an entry, after n commands
 abbrev pub marks_at : ℕ → ℕ → NodeState → ℕ → What → List Mark
 marks_at self nodes s n (Did event) = tried_marks s.durable (wants_at self nodes s event)
-marks_at self nodes s n (Refused event fault) = []
-marks_at self nodes s n (Rests rest) = []
 marks_at self nodes s n (Faulted event) = failed_marks (wants_at self nodes s event)
-marks_at self nodes s n Crashed = []
 marks_at self nodes s n (Recovered kept) = Mounted (record { before = n; state = settled kept s }) ∷ Acknowledged Raise ((settled kept s).counter + 1) ∷ []
-marks_at self nodes s n MountFailed = []
 marks_at self nodes s n (RaiseFailed kept) = Mounted (record { before = n; state = settled kept s }) ∷ Unanswered Raise ∷ []
 marks_at self nodes s n (RaiseRefused kept) = Mounted (record { before = n; state = settled kept s }) ∷ []
+marks_at self nodes s n what = []
 
 -- those of a history from s on, after n commands
 abbrev pub marks_from : ℕ → ℕ → NodeState → ℕ → List Entry → List Mark

@@ -4,21 +4,11 @@ use Rattle.wire_msg.specs.Envelope.{Envelope}
 use Rattle.node_core.specs.declared.event.Event.{Event}
 use Rattle.node_core.specs.declared.event.Event.TheVariants.{Deliver}
 use Rattle.job_model.specs.Command.{Command, Raise, Put, Done}
-use Rattle.node_core.specs.NodeStep.{StepFault, OfCore, Full, Exhausted, Worn}
 use Rattle.histories.specs.declared.what.Command.{Command as KeptCommand}
 use Rattle.histories.specs.declared.what.Command.TheVariants as kept
-use Rattle.histories.specs.declared.what.Refusal.{Refusal}
-use Rattle.histories.specs.declared.what.Refusal.TheVariants as refusal
 use Rattle.histories.specs.declared.what.What.{What}
 use Rattle.histories.specs.declared.what.What.TheVariants.{Did, Refused, Faulted}
 use Rattle.histories.specs.Lists.{Each}
-
--- why an event is refused, as the state machine has it
-abbrev pub reason_of : Refusal → StepFault
-reason_of (refusal.Core fault) = OfCore fault
-reason_of refusal.Full = Full
-reason_of refusal.Exhausted = Exhausted
-reason_of refusal.Worn = Worn
 
 -- the command that a value of the code names
 abbrev pub command_of : KeptCommand → Command

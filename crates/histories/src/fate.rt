@@ -2,8 +2,8 @@
 ghost use Rattle.std.specs.Prelude.{◌≡◌};
 ghost use Rattle.histories.specs.Fates.{what_of};
 
-use crate::what::{Refusal, What};
-use node_core::Event;
+use crate::what::What;
+use node_core::{Event, Refusal};
 
 /// What came of an event at a node with its disk, for who has the event: a [`What`] holds it, and so the message of a
 /// delivery.

@@ -17,4 +17,5 @@ pub use laws::{
     counts_rise, few_counts, goes_on, kept, one_book, one_coordinator_and_task, owner_finishes,
     senders,
 };
-pub use what::{Command, Refusal, Rest, What};
+pub use node_core::Refusal;
+pub use what::{Command, Rest, What};

@@ -1,6 +1,6 @@
 // What comes of the events of a node with its disk.
 use job_model::Work;
-use node_core::{CoreFault, Event};
+use node_core::{Event, Refusal};
 
 /// What came of an event, of a crash or of a recovery.
 #[derive(Clone, Copy, Debug, PartialEq, Eq)]
@@ -37,19 +37,6 @@ pub enum Rest {
     CompactDown,
     /// A compaction was refused, since the journal has changed its area as often as it can.
     CompactWorn,
-}
-
-/// Why an event was refused.
-#[derive(Clone, Copy, Debug, PartialEq, Eq)]
-pub enum Refusal {
-    /// The state machine refuses it.
-    Core(CoreFault),
-    /// The job doesn't fit into the journal: the pending jobs and three more are more than its slots.
-    Full,
-    /// The counter is the greatest there is, or no id is left.
-    Exhausted,
-    /// No slot of the journal is free, and it has changed its area as often as it can.
-    Worn,
 }
 
 /// What a node asks of its disk.

@@ -4,7 +4,7 @@ use Rattle.std.specs.Prelude.{is_none}
 use Rattle.wire_msg.specs.Envelope.{Envelope}
 use Rattle.wire_msg.specs.Framing.{Begins, Breaks, IsPartial}
 use Rattle.wire_msg.specs.Contents.{messages_in, unfinished_in, is_malformed}
-use Rattle.wire_msg.proofs.Contents.{read_behind, partial_alone, broken_at_once}
+use Rattle.wire_msg.proofs.PublicLaws.{read_behind, partial_alone, broken_at_once}
 use Rattle.node_core.specs.Start.{alone}
 use Rattle.console_text.specs.Ends.{Outcome, line}
 use Rattle.invite_console.specs.Answer.{answers_to, end_of_answers, first_count}

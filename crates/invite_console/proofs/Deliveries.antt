@@ -9,7 +9,7 @@ use Rattle.node_core.specs.Effect.{Effect}
 use Rattle.node_core.specs.Effects.{effect_of}
 use Rattle.node_core.specs.Core.{Core, IsPlanFor}
 use Rattle.node_core.specs.Quiet.{IsQuiet}
-use Rattle.node_core.proofs.Quiets.{stays_quiet}
+use Rattle.node_core.proofs.PublicLaws.{stays_quiet}
 use Rattle.invite_console.specs.Answer.{next_count}
 use Rattle.invite_console.specs.Session.{Delivers}
 

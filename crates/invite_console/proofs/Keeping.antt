@@ -10,9 +10,9 @@ use Rattle.histories.specs.NodeState.{NodeState}
 use Rattle.schedule.specs.declared.act.Act.{Act}
 use Rattle.cluster_sim.specs.declared.outcome.Outcome.{Outcome}
 use Rattle.cluster_sim.specs.Machine.{Machine, Acted, StandsFor}
-use Rattle.cluster_sim.proofs.Numbered.{step_adds}
+use Rattle.cluster_sim.proofs.PublicLaws.{step_adds}
 use Rattle.runs.specs.World.{World, start}
-use Rattle.runs.specs.Reporting.{step_sent}
+use Rattle.runs.specs.Step.{step_sent}
 use Rattle.runs.specs.Growth.{RunsGrow, RunsOpen}
 use Rattle.invite_console.specs.declared.running.Kept.{Kept}
 use Rattle.invite_console.specs.declared.telling.Telling.{Telling}
@@ -185,7 +185,7 @@ sent_grows : (old new : Machine) (w : World) (a : Act) (outcome : Outcome) → S
 sent_grows old new w a outcome stands acted =
     let n = length w.states in
     front_of old.net.sent new.net.sent (step_sent n w acted.step)
-    (ap (λ (net : Network). net.sent) acted.stands.net ∙ step_adds n w acted.step ∙ ap (λ (net : Network). net.sent ++ step_sent n w acted.step) (sym stands.net))
+    (ap (λ (net : Network). net.sent) acted.stands.net ∙ step_adds n w acted.step acted.next.allowed ∙ ap (λ (net : Network). net.sent ++ step_sent n w acted.step) (sym stands.net))
 
 -- an act was done, and what came of it was kept
 pub act_kept : RunsGrow → (telling : Telling) (nodes slots : ℕ) (old new : Machine) (before : List Act) (a : Act) (outcome : Outcome) (kept kept' : List Kept) (k : Kept) (text shown text' : List ℕ)

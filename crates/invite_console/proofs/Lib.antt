@@ -1,10 +1,10 @@
-pub mod Answering
-pub mod Deliveries
-pub mod Joins
-pub mod Sessions
-pub mod Shown
-pub mod Sents
-pub mod Sims
-pub mod Outs
-pub mod Keeping
-pub mod Endings
+mod Answering
+mod Deliveries
+mod Joins
+mod Sessions
+mod Shown
+mod Sents
+mod Sims
+mod Outs
+mod Keeping
+mod Endings

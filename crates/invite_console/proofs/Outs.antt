@@ -1,10 +1,10 @@
 -- The lines of a run, printed one after another.
-use Rattle.std.proofs.Common.{◌≡◌, ℕ, ◌+◌, ◌<◌, ◌≤◌, Bool, List, ◌++◌, length, Option, Some, refl, sym, ap, subst, add-one, zero-le, get_or}
+use Rattle.std.proofs.Common.{◌≡◌, ℕ, ◌+◌, ◌<◌, ◌≤◌, Bool, List, ◌++◌, length, Option, Some, refl, sym, subst, add-one, zero-le, get_or}
 use Rattle.std.specs.Prelude.{codes, slice_get}
 use Rattle.std.proofs.lemmas.Option.{slice_get_read}
 use Rattle.wire_msg.specs.Envelope.{Envelope}
 use Rattle.console_text.specs.Pages.{Hands}
-use Rattle.console_text.proofs.Handing.{hands_more, page_grows, page_stays}
+use Rattle.console_text.proofs.PublicLaws.{hands_more, page_grows, page_stays}
 use Rattle.invite_console.specs.declared.running.Kept.{Kept}
 use Rattle.invite_console.specs.Acts.{sent_text}
 use Rattle.invite_console.specs.Kept.{AreKept, IsKept, between, lines, run_text, sent_at, told_at}

@@ -3,7 +3,7 @@ use Rattle.std.proofs.Common.{◌≡◌, ℕ, zero, suc, ◌+◌, ◌-◌, ◌<�
 use Rattle.std.specs.Prelude.{Bool, slice_get, IfSome}
 use Rattle.wire_msg.specs.Envelope.{Envelope}
 use Rattle.console_text.specs.Pages.{Hands}
-use Rattle.console_text.proofs.Handing.{hands_more, page_grows, page_stays}
+use Rattle.console_text.proofs.PublicLaws.{hands_more, page_grows, page_stays}
 use Rattle.invite_console.specs.Acts.{message_text, sent_text}
 use Rattle.invite_console.specs.Kept.{between}
 

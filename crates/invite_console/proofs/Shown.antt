@@ -4,7 +4,7 @@ use Rattle.std.proofs.lemmas.List.Concat.{flat_map-cons}
 use Rattle.wire_msg.specs.Envelope.{Envelope}
 use Rattle.wire_msg.specs.Framing.{Begins, Breaks, IsPartial}
 use Rattle.wire_msg.specs.Contents.{messages_in, unfinished_in}
-use Rattle.wire_msg.proofs.Contents.{read_behind, partial_alone, broken_at_once}
+use Rattle.wire_msg.proofs.PublicLaws.{read_behind, partial_alone, broken_at_once}
 use Rattle.console_text.specs.Ends.{before, line}
 use Rattle.invite_console.specs.Show.{message_text, shown, shown_of, end_of_show, rest_text}
 use Rattle.invite_console.proofs.Sessions.{before_twice}

@@ -1,6 +1,6 @@
 -- A simulation told one act further.
-use Rattle.std.proofs.Common.{◌≡◌, ℕ, zero, suc, ◌+◌, Bool, true, false, List, [], ◌∷◌, ◌++◌, ◌<◌, ◌≤◌, length, map, drop, Option, Some, None, codes, decimal, slice_get, refl, sym, ap, subst, ◌∙◌, append_assoc, add-one, arith}
-use Rattle.std.proofs.lemmas.List.{drop_all, map-append, length-map, length-append}
+use Rattle.std.proofs.Common.{◌≡◌, ℕ, zero, suc, ◌+◌, Bool, true, false, List, [], ◌∷◌, ◌++◌, ◌<◌, length, map, drop, Option, Some, None, codes, decimal, slice_get, refl, sym, ap, subst, ◌∙◌, append_assoc, add-one, arith}
+use Rattle.std.proofs.lemmas.List.{drop_all, map-append, length-map}
 use Rattle.std.proofs.Math.Seq.{drop-append_seam}
 use Rattle.wire_msg.specs.Envelope.{Envelope}
 use Rattle.sim_net.specs.Network.{Network}
@@ -8,26 +8,28 @@ use Rattle.sector_disk.specs.Memory.{Memory, state_of}
 use Rattle.durable_node.specs.Node.{Node, Stands}
 use Rattle.histories.specs.NodeState.{NodeState}
 use Rattle.histories.specs.declared.what.What.{What}
-use Rattle.histories.specs.declared.what.What.TheVariants.{Did, Refused, Faulted, Rests, Crashed, Recovered, MountFailed, RaiseFailed, RaiseRefused}
+use Rattle.histories.specs.declared.what.What.TheVariants.{Rests, Crashed}
 use Rattle.histories.specs.declared.what.Rest.TheVariants.{Nothing, Compacted, CompactDown, CompactWorn}
 use Rattle.schedule.specs.declared.act.Act.{Act}
+use Rattle.schedule.specs.declared.act.Act.TheVariants as an
 use Rattle.cluster_sim.specs.declared.outcome.Outcome.{Outcome}
 use Rattle.cluster_sim.specs.declared.outcome.Outcome.TheVariants as outcome
 use Rattle.cluster_sim.specs.declared.outcome.Outcome.TheVariants.{Done}
-use Rattle.runs.specs.World.{World, start}
-use Rattle.runs.proofs.Grown.{step_length}
-use Rattle.cluster_sim.proofs.Numbered.{step_adds}
-use Rattle.runs.specs.Step.{Step, Takes, Loses, Cuts, Mends, Denies, OfNet, Stranger, sent_after, world_after}
-use Rattle.runs.specs.Acts.{node_outcome, outcome_of, is_compaction, if_compaction, act_outcome}
-use Rattle.runs.specs.Reporting.{Moment, moment_of, step_sent, report_of}
-use Rattle.runs.specs.Growth.{grown, IsNext, RunsGrow, RunsOpen}
+use Rattle.runs.specs.World.{World, node_in, start}
+use Rattle.runs.proofs.PublicLaws.{step_length, length_openings}
+use Rattle.cluster_sim.proofs.PublicLaws.{step_adds}
+use Rattle.runs.specs.Step.{Step, Takes, Changes, Denies, OfNet, Stranger, step_sent, world_after}
+use Rattle.runs.specs.Acts.{what_outcome, act_outcome}
+use Rattle.runs.specs.Run.{IsAllowed}
+use Rattle.histories.specs.After.{sent_at}
+use Rattle.runs.specs.Reporting.{Moment, grown, moment_of, report_of}
+use Rattle.runs.specs.Growth.{IsNext, RunsGrow, RunsOpen}
 use Rattle.cluster_sim.specs.Told.{told}
 use Rattle.cluster_sim.specs.Machine.{Machine, Acted, StandsFor}
 use Rattle.invite_console.specs.declared.telling.Telling.{Telling}
 use Rattle.invite_console.specs.Acts.{act_line, answer_text, moment_line, sent_text}
 use Rattle.invite_console.specs.Kept.{act_head}
-use Rattle.invite_console.specs.Sim.{AddsNodes, AddsRow, AddsRows, HasWorld, IsSoFar, nothing, one_more, TellsRun}
-use Rattle.runs.proofs.Opened.{length_openings}
+use Rattle.invite_console.specs.Sim.{AddsNodes, AddsRow, AddsRows, IsSoFar, nothing, one_more, TellsRun}
 
 -- ---- what was sent
 
@@ -38,79 +40,49 @@ messages_part names (outcome.Refused why) sent = []
 messages_part names outcome.Faulted sent = []
 
 -- An act that was done tells how many messages had been sent before it, and another one sends none.
-told_said : (names : Bool) (n nodes first : ℕ) (s : Option NodeState) (what : What)
-    → messages_part names (told (node_outcome n nodes first s what)) (sent_after n nodes s what) ≡ sent_text names first (sent_after n nodes s what)
-told_said names n nodes first None what = refl
-told_said names n nodes first (Some s) (Did event) = refl
-told_said names n nodes first (Some s) (Refused event fault) = refl
-told_said names n nodes first (Some s) (Faulted event) = refl
-told_said names n nodes first (Some s) (Rests Nothing) = refl
-told_said names n nodes first (Some s) (Rests Compacted) = refl
-told_said names n nodes first (Some s) (Rests CompactDown) = refl
-told_said names n nodes first (Some s) (Rests CompactWorn) = refl
-told_said names n nodes first (Some s) Crashed = refl
-told_said names n nodes first (Some s) (Recovered kept) = refl
-told_said names n nodes first (Some s) MountFailed = refl
-told_said names n nodes first (Some s) (RaiseFailed kept) = refl
-told_said names n nodes first (Some s) (RaiseRefused kept) = refl
+told_said : (names : Bool) (n nodes first : ℕ) (s : NodeState) (what : What) (a : Act)
+    → messages_part names (told (what_outcome n nodes first s what a)) (sent_at n nodes s what) ≡ sent_text names first (sent_at n nodes s what)
+told_said names n nodes first s (Rests Nothing) a = refl
+told_said names n nodes first s (Rests Compacted) a = refl
+told_said names n nodes first s (Rests CompactDown) a = refl
+told_said names n nodes first s (Rests CompactWorn) a = refl
+told_said names n nodes first s Crashed (an.Compact m) = refl
+told_said names n nodes first s Crashed _ = refl
+told_said names n nodes first s _ a = refl
 
-step_said : (names : Bool) (nodes : ℕ) (w : World) (step : Step)
-    → messages_part names (told (outcome_of nodes w step)) (step_sent nodes w step) ≡ sent_text names (length w.net.sent) (step_sent nodes w step)
-step_said names nodes w (Takes n number what) = told_said names n nodes (length w.net.sent) (slice_get w.states n) what
-step_said names nodes w (Loses k) = refl
-step_said names nodes w (Cuts a b) = refl
-step_said names nodes w (Mends a b) = refl
-step_said names nodes w (Denies (OfNet fault)) = refl
-step_said names nodes w (Denies Stranger) = refl
-
-crash_says : (names : Bool) (n nodes first : ℕ) (s : Option NodeState) → [] ≡ sent_text names first (sent_after n nodes s Crashed)
-crash_says names n nodes first None = refl
-crash_says names n nodes first (Some s) = refl
-
--- a compaction in which the device failed tells none
-compaction_said : (names : Bool) (nodes : ℕ) (w : World) (compacts : Bool) (step : Step)
-    → messages_part names (told (if_compaction compacts step (outcome_of nodes w step))) (step_sent nodes w step) ≡ sent_text names (length w.net.sent) (step_sent nodes w step)
-compaction_said names nodes w false step = step_said names nodes w step
-compaction_said names nodes w true (Takes n number (Did event)) = step_said names nodes w (Takes n number (Did event))
-compaction_said names nodes w true (Takes n number (Refused event fault)) = step_said names nodes w (Takes n number (Refused event fault))
-compaction_said names nodes w true (Takes n number (Faulted event)) = step_said names nodes w (Takes n number (Faulted event))
-compaction_said names nodes w true (Takes n number (Rests rest)) = step_said names nodes w (Takes n number (Rests rest))
-compaction_said names nodes w true (Takes n number Crashed) = crash_says names n nodes (length w.net.sent) (slice_get w.states n)
-compaction_said names nodes w true (Takes n number (Recovered kept)) = step_said names nodes w (Takes n number (Recovered kept))
-compaction_said names nodes w true (Takes n number MountFailed) = step_said names nodes w (Takes n number MountFailed)
-compaction_said names nodes w true (Takes n number (RaiseFailed kept)) = step_said names nodes w (Takes n number (RaiseFailed kept))
-compaction_said names nodes w true (Takes n number (RaiseRefused kept)) = step_said names nodes w (Takes n number (RaiseRefused kept))
-compaction_said names nodes w true (Loses k) = step_said names nodes w (Loses k)
-compaction_said names nodes w true (Cuts a b) = step_said names nodes w (Cuts a b)
-compaction_said names nodes w true (Mends a b) = step_said names nodes w (Mends a b)
-compaction_said names nodes w true (Denies why) = step_said names nodes w (Denies why)
+step_said : (names : Bool) (nodes : ℕ) (w : World) (a : Act) (step : Step)
+    → messages_part names (told (act_outcome nodes w a step)) (step_sent nodes w step) ≡ sent_text names (length w.net.sent) (step_sent nodes w step)
+step_said names nodes w a (Takes n number what) = told_said names n nodes (length w.net.sent) (node_in w.states n) what a
+step_said names nodes w a (Changes net) = refl
+step_said names nodes w a (Denies n (OfNet fault)) = refl
+step_said names nodes w a (Denies n Stranger) = refl
 
 -- the messages of a step are the last ones
-pub last_sent : (nodes : ℕ) (w : World) (step : Step) → drop (length w.net.sent) (world_after nodes w step).net.sent ≡ step_sent nodes w step
-last_sent nodes w step =
-    ap (λ (sent : List Envelope). drop (length w.net.sent) sent) (step_adds nodes w step) ∙ drop-append_seam w.net.sent (step_sent nodes w step)
+pub last_sent : (nodes : ℕ) (w : World) (step : Step) → IsAllowed nodes w step → drop (length w.net.sent) (world_after nodes w step).net.sent ≡ step_sent nodes w step
+last_sent nodes w step allowed =
+    ap (λ (sent : List Envelope). drop (length w.net.sent) sent) (step_adds nodes w step allowed) ∙ drop-append_seam w.net.sent (step_sent nodes w step)
 
 -- ---- one act further
 
 -- the line of the act, as its moment has it
-told_line : (names : Bool) (nodes k : ℕ) (w : World) (a : Act) (step : Step) (new : Machine) (outcome : Outcome) → outcome ≡ told (act_outcome nodes w a step) → StandsFor new (world_after nodes w step)
+told_line : (names : Bool) (nodes k : ℕ) (w : World) (a : Act) (step : Step) (new : Machine) (outcome : Outcome) → IsAllowed nodes w step → outcome ≡ told (act_outcome nodes w a step) → StandsFor new (world_after nodes w step)
     → act_line names k a outcome (drop (length w.net.sent) new.net.sent) ≡ moment_line names k (moment_of nodes w a step)
-told_line names nodes k w a step new outcome is_told stands =
+told_line names nodes k w a step new outcome allowed is_told stands =
     ap (λ (o : Outcome). act_line names k a o (drop (length w.net.sent) new.net.sent)) is_told
-    ∙ ap (λ (sent : List Envelope). act_line names k a (told (act_outcome nodes w a step)) sent) (ap (λ (net : Network). drop (length w.net.sent) net.sent) stands.net ∙ last_sent nodes w step)
+    ∙ ap (λ (sent : List Envelope). act_line names k a (told (act_outcome nodes w a step)) sent) (ap (λ (net : Network). drop (length w.net.sent) net.sent) stands.net ∙ last_sent nodes w step allowed)
 
 numbered : (acts : List Act) (ms : List Moment) → map (λ (m : Moment). m.act) ms ≡ acts → length acts ≡ length ms
 numbered acts ms same = ap length (sym same) ∙ length-map ms (λ (m : Moment). m.act)
 
 -- the line that was added is that of one moment more
 line_further : (names : Bool) (nodes : ℕ) (w : World) (ms : List Moment) (old new : Machine) (acts : List Act) (a : Act) (outcome : Outcome) (step : Step) (found behind : List ℕ)
-    → map (λ (m : Moment). m.act) ms ≡ acts → old.net ≡ w.net
+    → IsAllowed nodes w step → map (λ (m : Moment). m.act) ms ≡ acts → old.net ≡ w.net
     → outcome ≡ told (act_outcome nodes w a step) → StandsFor new (world_after nodes w step)
     → behind ≡ found ++ act_line names (length acts) a outcome (drop (length old.net.sent) new.net.sent)
     → behind ≡ found ++ moment_line names (length ms) (moment_of nodes w a step)
-line_further names nodes w ms old new acts a outcome step found behind acts_are net is_told stands added =
+line_further names nodes w ms old new acts a outcome step found behind allowed acts_are net is_told stands added =
     added ∙ (ap (λ (net : Network). found ++ act_line names (length acts) a outcome (drop (length net.sent) new.net.sent)) net
-    ∙ (ap (λ (l : List ℕ). found ++ l) (told_line names nodes (length acts) w a step new outcome is_told stands)
+    ∙ (ap (λ (l : List ℕ). found ++ l) (told_line names nodes (length acts) w a step new outcome allowed is_told stands)
     ∙ ap (λ (k : ℕ). found ++ moment_line names k (moment_of nodes w a step)) (numbered acts ms acts_are)))
 
 -- the acts so far, one act further
@@ -135,7 +107,7 @@ further grow telling nodes slots old new acts a outcome text found behind so act
       stands = stands;
       acts_are = map-append (λ (m : Moment). m.act) so.report.moments (moment_of nodes w a act.step ∷ []) ∙ ap (λ (xs : List Act). xs ++ a ∷ []) so.acts_are;
       told = one_more w so.report a act.step text found behind so.told next (rows w so.stands)
-          (line_further telling.names nodes w so.report.moments old new acts a outcome act.step found behind so.acts_are so.stands.net is_told stands added);
+          (line_further telling.names nodes w so.report.moments old new acts a outcome act.step found behind next.allowed so.acts_are so.stands.net is_told stands added);
     }
 
 -- ---- what the line of an act says
@@ -145,11 +117,11 @@ said_of : (names : Bool) (old new : Machine) (w : World) (a : Act) (outcome : Ou
 said_of names old new w a outcome stands acted =
     let n = length w.states in
     let step = acted.step in
-    let sent : drop (length w.net.sent) new.net.sent ≡ step_sent n w step = ap (λ (net : Network). drop (length w.net.sent) net.sent) acted.stands.net ∙ last_sent n w step in
+    let sent : drop (length w.net.sent) new.net.sent ≡ step_sent n w step = ap (λ (net : Network). drop (length w.net.sent) net.sent) acted.stands.net ∙ last_sent n w step acted.next.allowed in
     subst (λ (k : ℕ). messages_part names outcome (drop k new.net.sent) ≡ sent_text names k (drop k new.net.sent)) (ap (λ (net : Network). length net.sent) (sym stands.net))
     (subst (λ (ms : List Envelope). messages_part names outcome ms ≡ sent_text names (length w.net.sent) ms) (sym sent)
     (subst (λ (o : Outcome). messages_part names o (step_sent n w step) ≡ sent_text names (length w.net.sent) (step_sent n w step)) (sym acted.is_told)
-    (compaction_said names n w (is_compaction a) step)))
+    (step_said names n w a step)))
 
 line_parts : (names : Bool) (number : ℕ) (a : Act) (outcome : Outcome) (sent : List Envelope)
     → act_head number a outcome ++ (messages_part names outcome sent ++ codes "\n") ≡ act_line names number a outcome sent

@@ -6,8 +6,8 @@ use Rattle.schedule.specs.declared.act.Act.{Act}
 use Rattle.schedule.specs.Text.{Plan, plan_of}
 use Rattle.runs.specs.World.{World, start}
 use Rattle.runs.specs.Step.{Step, world_after}
-use Rattle.runs.specs.Reporting.{Report, moment_of, report_of}
-use Rattle.runs.specs.Growth.{IsLeft, IsNext, acts_in, grown}
+use Rattle.runs.specs.Reporting.{Report, grown, moment_of, report_of}
+use Rattle.runs.specs.Growth.{IsLeft, IsNext, acts_in}
 use Rattle.cluster_sim.specs.Machine.{Machine, StandsFor}
 use Rattle.console_text.specs.Ends.{Outcome, line, refused}
 use Rattle.invite_console.specs.declared.telling.Telling.{Telling}

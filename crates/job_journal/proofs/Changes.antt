@@ -1,38 +1,18 @@
 -- What an append leaves of the journal, also behind a compaction, and what a compaction leaves, in each image: an area
 -- written slot by slot, what it reads as in the end, and the area cell's raise.
-use Rattle.std.proofs.Common.{◌≡◌, ◌+◌, ◌*◌, ◌<◌, ◌⊎◌, inl, inr, ⊎_elim, ℕ, List, [], ◌∷◌, length, get_or, set, Bool, true, false, ◌==◌, Some, None, is_some, sym, ◌∙◌, ap, subst, subst₂, refl, arith, if◌then◌else◌, IsTrue, Result, Ok, Err, IfOk, ◌-◌, ◌≤◌, zero, suc, ◌++◌, map, slice_get, Option}
-use Rattle.std.proofs.lemmas.List.{length-append, append-nil, append_assoc, length-map}
-use Rattle.std.proofs.lemmas.Bool.Decides.{nat_tests}
+use Rattle.job_journal.proofs.Common.{◌≡◌, ◌+◌, ◌*◌, ◌<◌, ◌⊎◌, inl, inr, ⊎_elim, ℕ, List, [], ◌∷◌, length, get_or, set, Bool, false, Some, None, is_some, sym, ◌∙◌, ap, subst, subst₂, refl}
+use Rattle.job_journal.proofs.Common.{arith, IsTrue, Result, Ok, Err, IfOk, ◌-◌, ◌≤◌, zero, suc, ◌++◌, map, slice_get, Option, length-append, append-nil, append_assoc, length-map, nat_tests}
+use Rattle.job_journal.proofs.Common.{Image, DiskState, SameBut, AllSettled, Laws, Counts, sector_at, IsImage, Run, Each, run_widen, each_of_two, slot_at, InSlot, InSlots, run_on, Erased}
+use Rattle.job_journal.proofs.Common.{erased_start, slot_same, Stands, CellState, IsCellAt, AllStand, raised, stands_same, cell_at, Command, record_of, Table, Job, Record, IsInOrder}
+use Rattle.job_journal.proofs.Common.{jobs_of, jobs_after, id_of, Jobs, Reads, fresh, taken, found_at, then_slot, replayed, JournalFault, slots_from, sealed_prefix, IsPrefix, first_of}
+use Rattle.job_journal.proofs.Common.{jobs_in, IsSound, IsSoundImage, ImagesSince, InJournal, found_from, JournalState, Holds, AllHold, IsJournal, first_sector, next_slot, Admitted}
+use Rattle.job_journal.proofs.Common.{BeforeOrAfter, appended, record_for, with_slot, KeepsJobs, HasAppended, IsWritten, records_for, other_sector}
 use Rattle.std.proofs.lemmas.Option.{slice_get-map, slice_get_read}
 use Rattle.std.specs.Prelude.{option_map}
 use borrow.Author.Count.{below_more}
-use Rattle.sector_disk.specs.Disk.{Image, DiskState, SameBut, AllSettled, Laws, Counts, sector_at, IsImage}
-use Rattle.sector_disk.specs.Run.{Run, Each}
-use Rattle.sector_disk.proofs.Runs.{run_widen, each_of_two}
-use Rattle.slot_gate.specs.Slot.{slot_at, InSlot, InSlots}
 use Rattle.slot_gate.specs.Stored.{Knows, IsStored, Follows}
-use Rattle.slot_gate.proofs.Calls.{run_on}
-use Rattle.slot_gate.proofs.Rows.{Erased, erased_start}
-use Rattle.slot_gate.proofs.Slots.{slot_same}
-use Rattle.safe_cell.specs.Mounted.{Stands, CellState, IsCellAt, AllStand, raised}
-use Rattle.safe_cell.proofs.Values.{stands_same}
-use Rattle.safe_cell.specs.Cell.{cell_at}
-use Rattle.safe_cell.proofs.Raised.{raised_way}
-use Rattle.job_model.specs.declared.command.Command.{Command}
-use Rattle.job_model.specs.Records.{record_of}
-use Rattle.job_model.specs.Table.{Table}
-use Rattle.job_model.specs.declared.job.Job.{Job}
-use Rattle.job_model.specs.declared.record.Record.{Record}
-use Rattle.job_model.specs.Order.{IsInOrder}
-use Rattle.job_journal.specs.Jobs.{jobs_of, jobs_after, with_jobs, id_of, Jobs}
-use Rattle.job_journal.specs.Readings.{Reads, fresh, taken, found_at, then_slot, replayed, Reading}
-use Rattle.job_journal.specs.declared.fault.JournalFault.{JournalFault}
+use Rattle.safe_cell.proofs.PublicLaws.{raised_way}
 use Rattle.job_journal.specs.declared.place.Place.TheVariants.{Running, Keeping}
-use Rattle.job_journal.specs.Areas.{slots_from, sealed_prefix, IsPrefix, first_of}
-use Rattle.job_journal.specs.Journal.{jobs_in, IsSound, IsSoundImage, ImagesSince, InJournal, found_from}
-use Rattle.job_journal.specs.Mounted.{JournalState, Holds, AllHold, IsJournal, first_sector, next_slot}
-use Rattle.job_journal.specs.Appending.{Admitted, BeforeOrAfter, appended, record_for}
-use Rattle.job_journal.specs.Compacting.{compacted, with_slot, KeepsJobs, HasAppended, IsWritten, records_for, other_sector}
 use Rattle.job_journal.proofs.Commands.{leaves_room, command_taken, kept, room_for, keep_taken}
 use Rattle.job_journal.proofs.Frames.{synced_image, first_between, Stays, stays_by, stays_now, told_of, images_of, slots_same_from, stands_same_from, Told, told_at}
 use Rattle.job_journal.proofs.Areas.{size, free_slot, put_some, length_slots, nth_slots, slot_kept, slots_put, replayed_more, none_sealed, all_unsealed}
@@ -97,24 +77,6 @@ holds_more {journal = journal} {command = command} {content = content} {d = d} i
       prefix = λ _. subst IsPrefix (sym one_more) put.1;
     }
 
-pub appended_is : (journal : JournalState) (command : Command) → IsJournal journal → Admitted journal command → IsJournal (appended journal command)
-appended_is journal command is can = record {
-  least = is.least;
-  most = is.most;
-  used = omega (arith, can.free);
-  cell = is.cell;
-  present = is.present;
-  room = is.room;
-  whole = is.whole;
-  pending = leaves_room journal.slots (jobs_of journal.table) command is.pending can.fits;
-}
-
--- as the code knows it
-pub as_appended : (P : JournalState → Type 0) {journal was : JournalState} (table : Table) (command : Command) → journal ≡ was
-    → table ≡ with_jobs (jobs_after (jobs_of journal.table) command) journal.table → P (appended was command) → P (record journal { used = journal.used + 1; table = table })
-as_appended P {journal = journal} table command view is h =
-    subst (λ t. P (record journal { used = journal.used + 1; table = t })) (sym is) (subst (λ w. P (appended w command)) (sym view) h)
-
 -- in each image while the slot is stored
 pub append_since : {journal : JournalState} {command : Command} {content : List ℕ} {slot : ℕ} {old new : DiskState} → IsTrue old.honest → IsJournal journal → Admitted journal command
     → record_of content ≡ Some (record_for (jobs_of journal.table) command) → slot ≡ next_slot journal → IsSound journal.slots old → AllHold journal old
@@ -144,9 +106,6 @@ append_run journal {slot = slot} {old = old} {new = new} at free run =
     let w = first_between journal.slots journal.area.value in
     run_widen (InSlot slot) (InJournal journal.slots) old new (λ k is. (grind (arith, w.0, at, is), grind (arith, w.1, at, free, is))) run
 
-abbrev Between : ℕ → Table → Command → Image → Type 0
-Between slots table command image = (jobs_in slots image ≡ Some (jobs_of table)) ⊎ (jobs_in slots image ≡ Some (jobs_after (jobs_of table) command))
-
 -- the disk between the two parts is sound
 pub sound_between : {was now : JournalState} {old mid : DiskState} → KeepsJobs was now → Run (InJournal was.slots) old mid → Each old mid (IsSoundImage was.slots) → IsSound now.slots mid
 sound_between {mid = mid} keeps run each = subst (λ n. IsSound n mid) (sym keeps.slots) (λ honest c image. each c (run.ends c image))
@@ -159,27 +118,20 @@ pub room_images : (was now : JournalState) (command : Command) {old mid new : Di
     → ImagesSince was.slots old mid (λ c. jobs_in was.slots c ≡ Some (jobs_of was.table)) → ImagesSince now.slots mid new (BeforeOrAfter now command)
     → ImagesSince was.slots old new (BeforeOrAfter was command)
 room_images was now command {old = old} {mid = mid} {new = new} keeps first second before after =
-    let behind : ImagesSince was.slots mid new (BeforeOrAfter was command) = subst₂ (λ n t. ImagesSince n mid new (Between n t command)) keeps.slots keeps.table after in
+    let behind : ImagesSince was.slots mid new (BeforeOrAfter was command) = subst₂ (λ n t. ImagesSince n mid new
+    (λ c. (jobs_in n c ≡ Some (jobs_of t)) ⊎ (jobs_in n c ≡ Some (jobs_after (jobs_of t) command)))) keeps.slots keeps.table after in
     record {
       each = each_of_two (InJournal now.slots) old mid new (BeforeOrAfter was command) first.later second (λ c since. inl (before.each c since)) behind.each;
       sound = λ good. each_of_two (InJournal now.slots) old mid new (IsSoundImage was.slots) first.later second (before.sound good)
           (behind.sound (λ honest c image. before.sound good c (first.ends c image)));
     }
 
-still_whole : (b : Bool) (journal : JournalState) → (if b then compacted journal else journal).broken ≡ journal.broken
-still_whole true journal = refl
-still_whole false journal = refl
-
 -- a command that was written behind a free slot was appended
 pub has_appended : (was now new : JournalState) (command : Command) (answer : Result ℕ JournalFault) → KeepsJobs was now → now ≡ with_slot was
     → IfOk answer (λ id. (id ≡ id_of (jobs_of now.table) command) × (new ≡ appended now command)) → IfOk answer (HasAppended was new command)
 has_appended was now new command (Err fault) keeps is h = tt
-has_appended was now new command (Ok id) keeps is h = record {
-  id = h.0 ∙ ap (λ (t : Table). id_of (jobs_of t) command) keeps.table;
-  table = ap (λ (w : JournalState). w.table) h.1 ∙ ap (λ (t : Table). with_jobs (jobs_after (jobs_of t) command) t) keeps.table;
-  unbroken = ap (λ (w : JournalState). w.broken) h.1 ∙ ap (λ (w : JournalState). w.broken) is ∙ still_whole (was.used == was.slots) was;
-  whole = h.1 ∙ ap (λ (w : JournalState). appended w command) is;
-}
+has_appended was now new command (Ok id) keeps is h =
+    record { id = cc (h.0, keeps.table); table = cc (h.1, keeps.table); unbroken = grind (arith, nat_tests, h.1, is); whole = cc (h.1, is) }
 
 -- an area in which some slots were written, each by one call: what is said of it then, and that the calls end synced
 pub record Writing (first slots : ℕ) (Said : ℕ → Image → Type 0) (old now : DiskState) (done : ℕ) : Type 0 where
@@ -202,12 +154,9 @@ writing_more first slots {old = old} {mid = mid} was_ok into so_far counts run s
     run = run_on (InSlots first slots) into so_far.calls.honest so_far.calls.run run;
     unsealed = λ honest k less. absurd (omega (arith, less));
   };
-  said = λ honest was. said (still honest) (so_far.said honest was);
-  settled = λ honest less. settled (still honest);
+  said = λ honest was. said (so_far.calls.honest ∙ honest) (so_far.said honest was);
+  settled = λ honest less. settled (so_far.calls.honest ∙ honest);
 }
-  where
-    still : IsTrue old.honest → IsTrue mid.honest
-    still = subst (λ b. IsTrue b) (sym so_far.calls.honest)
 
 -- one body more
 pub written_fill : (first slots : ℕ) (records : List Record) (filled : ℕ) (d c : Image) → SameBut (λ k. k ≡ first + 2 * filled) d c
@@ -222,38 +171,36 @@ written_fill first slots records filled d c same here so_far = record {
 -- one seal more
 pub written_seal : (first slots : ℕ) (records : List Record) (filled sealed : ℕ) (d c : Image) → SameBut (λ k. k ≡ first + 2 * sealed + 1) d c
     → slot_at c (first + 2 * sealed) ≡ Some (sector_at d (first + 2 * sealed)) → IsWritten first slots records filled sealed d → IsWritten first slots records filled (sealed + 1) c
-written_seal first slots records filled sealed d c same here so_far = record {
-  bodies = λ k less. ap record_of (body k) ∙ so_far.bodies k less;
-  sealed = below_more (λ k. slot_at c (first + 2 * k) ≡ Some (sector_at c (first + 2 * k))) sealed
-      (λ k before. slot k (λ is. omega (arith, is, before)) ∙ so_far.sealed k before ∙ ap (λ s. Some s) (sym (body k))) (here ∙ ap (λ s. Some s) (sym (body sealed)));
-  free = λ k le less. slot k (λ is. omega (arith, is, le)) ∙ so_far.free k (omega (arith, le)) less;
-}
-  where
-    body : (k : ℕ) → sector_at c (first + 2 * k) ≡ sector_at d (first + 2 * k)
-    body k = same.same (first + 2 * k) (λ is. omega (arith, is))
-
-    slot : (k : ℕ) → (k ≡ sealed → ⊥) → slot_at c (first + 2 * k) ≡ slot_at d (first + 2 * k)
-    slot k other = slot_same c d (first + 2 * k) (same.same (first + 2 * k + 1) (λ is. other (omega (arith, is)))) (body k)
+written_seal first slots records filled sealed d c same here so_far =
+    let body : (k : ℕ) → sector_at c (first + 2 * k) ≡ sector_at d (first + 2 * k) = λ k. same.same (first + 2 * k) (λ is. omega (arith, is)) in
+    let slot : (k : ℕ) → (k ≡ sealed → ⊥) → slot_at c (first + 2 * k) ≡ slot_at d (first + 2 * k) =
+    λ k other. slot_same c d (first + 2 * k) (same.same (first + 2 * k + 1) (λ is. other (omega (arith, is)))) (body k) in
+    record {
+      bodies = λ k less. ap record_of (body k) ∙ so_far.bodies k less;
+      sealed = below_more (λ k. slot_at c (first + 2 * k) ≡ Some (sector_at c (first + 2 * k))) sealed
+          (λ k before. slot k (λ is. omega (arith, is, before)) ∙ so_far.sealed k before ∙ ap (λ s. Some s) (sym (body k))) (here ∙ ap (λ s. Some s) (sym (body sealed)));
+      free = λ k le less. slot k (λ is. omega (arith, is, le)) ∙ so_far.free k (omega (arith, le)) less;
+    }
 
 -- the record behind the first, of the job in the place before
-pub record_behind : (jobs : Jobs) (slot : ℕ) (job : Job) → (slot ≡ 0 → ⊥) → slot ≤ length jobs.pending → job ≡ get_or jobs.pending (slot - 1) job → slice_get (records_for jobs) slot ≡ Some (Record.Keep job)
+pub record_behind : (jobs : Jobs) (slot : ℕ) (job : Job) → (slot ≡ 0 → ⊥) → slot ≤ length jobs.pending → job ≡ get_or jobs.pending (slot - 1) job
+    → slice_get (records_for jobs) slot ≡ Some (Record.Keep job)
 record_behind jobs zero job some fits is = absurd (some refl)
 record_behind jobs (suc place) job some fits is =
     let there : job ≡ get_or jobs.pending place job = is ∙ ap (λ k. get_or jobs.pending k job) (omega arith) in
     slice_get-map Record.Keep jobs.pending place ∙ ap (λ o. option_map Record.Keep o) (slice_get_read jobs.pending (length jobs.pending) place job refl (omega (arith, fits)) there)
 
-abbrev some_each : List Record → List (Option Record)
-some_each records = map (λ r. Some r) records
-
 -- in an area with all of its records and nothing else the sealed slots are a prefix, and their bodies are the records
 whole_slots : (at n : ℕ) (records : List Record) (c : Image) → length records ≤ n → IsWritten at n records (length records) (length records) c
-    → IsPrefix (slots_from c at n) × (map record_of (sealed_prefix (slots_from c at n)) ≡ some_each records)
+    → IsPrefix (slots_from c at n) × (map record_of (sealed_prefix (slots_from c at n)) ≡ map (λ r. Some r) records)
 whole_slots at n [] c fits h =
     let none = none_sealed (slots_from c at n) (all_unsealed c at n (λ k less. h.free k (omega arith) less)) in
     (none.1, ap (λ bodies. map record_of bodies) none.0)
 whole_slots at zero (r ∷ rs) c fits h = absurd (omega (arith, fits))
 whole_slots at (suc n) (r ∷ rs) c fits h =
     let xs = slots_from c (at + 2) n in
+    let first : at + 2 * 0 ≡ at = omega arith in
+    let there : (k : ℕ) → at + 2 + 2 * k ≡ at + 2 * suc k = λ k. omega arith in
     let here : slot_at c at ≡ Some (sector_at c at) = subst (λ s. slot_at c s ≡ Some (sector_at c s)) first (h.sealed 0 (omega arith)) in
     let body : record_of (sector_at c at) ≡ Some r = subst (λ s. record_of (sector_at c s) ≡ Some r) first (h.bodies 0 (omega arith)) in
     let rest = whole_slots (at + 2) n rs c (omega (arith, fits)) (record {
@@ -262,38 +209,27 @@ whole_slots at (suc n) (r ∷ rs) c fits h =
       free = λ k le less. ap (λ s. slot_at c s) (there k) ∙ h.free (suc k) (omega (arith, le)) (omega (arith, less));
     }) in
     (subst (λ s. IsPrefix (s ∷ xs)) (sym here) rest.0, ap (λ s. map record_of (sealed_prefix (s ∷ xs))) here ∙ (λ i. body i ∷ rest.1 i))
-  where
-    first : at + 2 * 0 ≡ at
-    first = omega arith
-
-    there : (k : ℕ) → at + 2 + 2 * k ≡ at + 2 * suc k
-    there k = omega arith
-
--- one record that is allowed
-read_one : (slots at : ℕ) (r : Record) (body : List ℕ) (bodies : List (List ℕ)) (before after : Reading) → record_of body ≡ Some r → taken slots before (Some r) ≡ Some after
-    → replayed slots at (Reads before) (body ∷ bodies) ≡ replayed slots (at + 2) (Reads after) bodies
-read_one slots at r body bodies before after is allows = ap (λ o. replayed slots (at + 2) (found_at at o) bodies) (ap (λ o. taken slots before o) is ∙ allows)
 
 keeps_read : (slots at next : ℕ) (done rest : List Job) (bodies : List (List ℕ)) → IsInOrder (done ++ rest) next → length done + length rest + 2 ≤ slots
-    → map record_of bodies ≡ some_each (map Record.Keep rest) → replayed slots at (Reads (kept next done)) bodies ≡ Reads (kept next (done ++ rest))
+    → map record_of bodies ≡ map (λ r. Some r) (map Record.Keep rest) → replayed slots at (Reads (kept next done)) bodies ≡ Reads (kept next (done ++ rest))
 keeps_read slots at next done [] [] order fits is = ap (λ jobs. Reads (kept next jobs)) (sym (append-nil done))
 keeps_read slots at next done (job ∷ rest) [] order fits is = cc
 keeps_read slots at next done [] (body ∷ bodies) order fits is = cc
 keeps_read slots at next done (job ∷ rest) (body ∷ bodies) order fits is =
     let here : record_of body ≡ Some (Record.Keep job) = cc in
-    let others : map record_of bodies ≡ some_each (map Record.Keep rest) = cc in
+    let others : map record_of bodies ≡ map (λ r. Some r) (map Record.Keep rest) = cc in
     let more = append_assoc done (job ∷ []) rest in
-    read_one slots at (Record.Keep job) body bodies (kept next done) (kept next (done ++ job ∷ [])) here (keep_taken slots next done rest job order fits)
+    ap (λ o. replayed slots (at + 2) (found_at at o) bodies) (ap (λ o. taken slots (kept next done) o) here ∙ keep_taken slots next done rest job order fits)
     ∙ keeps_read slots (at + 2) next (done ++ job ∷ []) rest bodies (subst (λ jobs. IsInOrder jobs next) (sym more) order) (omega (arith, fits, length-append done (job ∷ []))) others
     ∙ ap (λ jobs. Reads (kept next jobs)) more
 
 all_read : (slots at : ℕ) (jobs : Jobs) (bodies : List (List ℕ)) → IsInOrder jobs.pending jobs.next → length jobs.pending + 2 ≤ slots
-    → map record_of bodies ≡ some_each (records_for jobs) → replayed slots at (Reads fresh) bodies ≡ Reads (kept jobs.next jobs.pending)
+    → map record_of bodies ≡ map (λ r. Some r) (records_for jobs) → replayed slots at (Reads fresh) bodies ≡ Reads (kept jobs.next jobs.pending)
 all_read slots at jobs [] order fits is = cc
 all_read slots at jobs (body ∷ bodies) order fits is =
     let here : record_of body ≡ Some (Record.Base jobs.next) = cc in
-    let others : map record_of bodies ≡ some_each (map Record.Keep jobs.pending) = cc in
-    read_one slots at (Record.Base jobs.next) body bodies fresh (kept jobs.next []) here (room_for slots (kept jobs.next []) (omega (arith, fits)))
+    let others : map record_of bodies ≡ map (λ r. Some r) (map Record.Keep jobs.pending) = cc in
+    ap (λ o. replayed slots (at + 2) (found_at at o) bodies) (ap (λ o. taken slots fresh o) here ∙ room_for slots (kept jobs.next []) (omega (arith, fits)))
     ∙ keeps_read slots (at + 2) jobs.next [] jobs.pending bodies order (omega (arith, fits)) others
 
 -- what an area that was written anew tells
@@ -321,7 +257,7 @@ pub still_since : (journal : JournalState) (disk : DiskState) → IsTrue disk.ho
 still_since journal disk honest laws all = images_of (λ c since. told_of (stays_now journal disk honest all c (laws.only_now c since)))
 
 -- each image while the other area is written: the journal stays as it was
-area_stays : (journal : JournalState) {other : ℕ} {old mid : DiskState} → IsTrue old.honest → AllHold journal old → other ≡ other_sector journal
+pub area_stays : (journal : JournalState) {other : ℕ} {old mid : DiskState} → IsTrue old.honest → AllHold journal old → other ≡ other_sector journal
     → Run (InSlots other journal.slots) old mid → Each old mid (Stays (IsSound journal.slots old) journal)
 area_stays journal {other = other} {old = old} honest all at run c since =
     let f = run.follows c since in
@@ -371,11 +307,10 @@ area_run {journal = journal} {other = other} {old = old} {mid = mid} view at run
     subst (λ j. Run (InJournal j.slots) old mid) view
     (run_widen (InSlots other journal.slots) (InJournal journal.slots) old mid (λ k is. (omega (arith, is.0, at, w.0), omega (arith, is.1, at, w.1))) run)
 
-pub area_since : {journal was : JournalState} {other : ℕ} {old mid : DiskState} → journal ≡ was → other ≡ other_sector journal → Run (InSlots other journal.slots) old mid → IsTrue old.honest
-    → AllHold was old → ImagesSince was.slots old mid (λ c. jobs_in was.slots c ≡ Some (jobs_of was.table))
-area_since {journal = journal} {old = old} {mid = mid} view at run honest =
-    subst (λ j. AllHold j old → ImagesSince j.slots old mid (λ c. jobs_in j.slots c ≡ Some (jobs_of j.table))) view
-    (λ all. images_of (λ c since. told_of (area_stays journal honest all at run c since)))
+pub told_since : {journal was : JournalState} {old new : DiskState} → journal ≡ was → (AllHold journal old → Each old new (Told (IsSound journal.slots old) journal)) → AllHold was old
+    → ImagesSince was.slots old new (λ c. jobs_in was.slots c ≡ Some (jobs_of was.table))
+told_since {old = old} {new = new} view told =
+    subst (λ j. AllHold j old → ImagesSince j.slots old new (λ c. jobs_in j.slots c ≡ Some (jobs_of j.table))) view (λ all. images_of (told all))
 
 -- then while the area cell is raised
 pub compact_run : {journal was : JournalState} {other : ℕ} {old mid new : DiskState} → journal ≡ was → IsJournal journal → other ≡ other_sector journal → mid.honest ≡ old.honest
@@ -383,35 +318,31 @@ pub compact_run : {journal was : JournalState} {other : ℕ} {old mid new : Disk
 compact_run {was = was} view is at same first second =
     run_on (InJournal was.slots) (λ k here. subst (λ j. InJournal j.slots k) view (grind (arith, is.cell, here), grind (arith, is.cell, here))) same (λ honest. area_run view at (first honest)) second
 
--- the area cell is as it was while the other area is written
-pub area_stands : {journal : JournalState} {other : ℕ} {old mid : DiskState} → IsTrue old.honest → AllHold journal old → Written journal other old mid → AllStand journal.area mid
-area_stands {journal = journal} honest all w d image = (area_stays journal honest all w.at w.run d (w.run.ends d image)).holds.area
-
 pub compact_since : {journal was : JournalState} {other : ℕ} {old mid new : DiskState} → journal ≡ was → IsTrue old.honest → IsJournal journal → IsInOrder journal.table.pending journal.table.next
     → mid.honest ≡ old.honest → Written journal other old mid → (IsTrue mid.honest → Run (InSlot journal.area.spare) mid new)
     → (IsTrue mid.honest → AllStand journal.area mid → Each mid new (λ c. (cell_at c 4 ≡ Some journal.area.value) ⊎ (cell_at c 4 ≡ Some (journal.area.value + 1))))
     → AllHold was old → ImagesSince was.slots old new (λ c. jobs_in was.slots c ≡ Some (jobs_of was.table))
 compact_since {journal = journal} {old = old} {mid = mid} {new = new} view honest is order same w run values =
-    let still = subst (λ b. IsTrue b) (sym same) honest in
-    subst (λ j. AllHold j old → ImagesSince j.slots old new (λ c. jobs_in j.slots c ≡ Some (jobs_of j.table))) view
-    (λ all. images_of (each_of_two (InSlot journal.area.spare) old mid new (Told (IsSound journal.slots old) journal) w.run.later (run still)
-    (λ c since. told_of (area_stays journal honest all w.at w.run c since)) (raise_told honest is order all w (run still) (values still (area_stands honest all w)))))
+    let still = same ∙ honest in
+    told_since view (λ all.
+    let stays = area_stays journal honest all w.at w.run in
+    each_of_two (InSlot journal.area.spare) old mid new (Told (IsSound journal.slots old) journal) w.run.later (run still) (λ c since. told_of (stays c since))
+    (raise_told honest is order all w (run still) (values still (λ d image. (stays d (w.run.ends d image)).holds.area))))
 
 -- the disk in the end
-pub compact_after : {journal was : JournalState} {area : CellState} {used other : ℕ} {old mid new : DiskState} → journal ≡ was → IsTrue old.honest → IsJournal journal
+pub compact_after : {journal was : JournalState} {area : CellState} {used other : ℕ} {broken : Bool} {old mid new : DiskState} → journal ≡ was → IsTrue old.honest → IsJournal journal
     → IsInOrder journal.table.pending journal.table.next → Written journal other old mid → Run (InSlot journal.area.spare) mid new → area ≡ raised journal.area
-    → used ≡ length journal.table.pending + 1 → (AllStand journal.area mid → AllStand area new) → AllHold was old → AllHold (record journal { area = area; used = used }) new
-compact_after {journal = journal} {area = area} {used = used} {old = old} {new = new} view honest is order w run here count stand known c image =
+    → used ≡ length journal.table.pending + 1 → (AllStand journal.area mid → AllStand area new) → AllHold was old → AllHold (record journal { area = area; used = used; broken = broken }) new
+compact_after {journal = journal} {area = area} {used = used} {broken = broken} {old = old} {new = new} view honest is order w run here count stand known c image =
     let f = run.follows c (run.ends c image) in
     let next = written_anew is order w f.0 f.1 in
-    let v = journal.area.value + 1 in
-    let same = area_kept journal v f.0 c is.cell f.2 in
-    let stands = stand (area_stands honest (subst (λ j. AllHold j old) (sym view) known) w) c image in
-    subst (λ a. Holds (record journal { area = a; used = used }) c) (sym here) (record {
+    let same = area_kept journal (journal.area.value + 1) f.0 c is.cell f.2 in
+    let stays = area_stays journal honest (subst (λ j. AllHold j old) (sym view) known) w.at w.run in
+    subst (λ a. Holds (record journal { area = a; used = used; broken = broken }) c) (sym here) (record {
       cell = raised_way 4 journal.area is.cell;
       present = omega arith;
-      area = subst (λ a. Stands a c) here stands;
+      area = subst (λ a. Stands a c) here (stand (λ d now. (stays d (w.run.ends d now)).holds.area) c image);
       place = Keeping;
-      reads = ap (λ ys. replayed journal.slots (first_of journal.slots v) (Reads fresh) (sealed_prefix ys)) same ∙ next.reads;
-      used = ap (λ ys. length (sealed_prefix ys)) same ∙ next.count ∙ sym count;
+      reads = cc (same, next.reads);
+      used = cc (same, next.count, count);
     })

@@ -56,12 +56,10 @@ impl JobJournal {
             self.broken = true;
             return Err(JournalFault::Device);
         };
-        let Ok(_) = self.area.raise(disk) else {
-            self.broken = true;
-            return Err(JournalFault::Device);
-        };
+        let raised = self.area.raise(disk);
         self.used = records;
-        Ok(())
+        self.broken = raised.is_err();
+        raised.and(Ok(())).or(Err(JournalFault::Device))
     }
 
     // Compacts where no slot is free.

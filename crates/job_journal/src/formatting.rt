@@ -37,8 +37,5 @@ pub fn format<D: SectorDisk>(disk: &mut D, slots: u64) -> Result<(), JournalFaul
     let Ok(()) = unseal_all(disk, 8, 2 * slots) else {
         return Err(JournalFault::Device);
     };
-    let Ok(()) = safe_cell::format(disk, 4, 1) else {
-        return Err(JournalFault::Device);
-    };
-    Ok(())
+    safe_cell::format(disk, 4, 1).or(Err(JournalFault::Device))
 }

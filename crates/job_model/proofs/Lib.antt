@@ -1,4 +1,4 @@
-pub mod OrderLaws
-pub mod Places
-pub mod RecordBytes
-pub mod RecordSectors
+mod OrderLaws
+mod Places
+mod RecordBytes
+mod RecordSectors

@@ -1,5 +1,6 @@
-pub mod Decimals
-pub mod Splitting
-pub mod Pairs
-pub mod Read
-pub mod Letters
+mod Decimals
+mod Splitting
+mod Pairs
+mod Read
+mod Letters
+pub mod PublicLaws

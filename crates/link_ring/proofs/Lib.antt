@@ -1,2 +1,2 @@
-pub mod Fronts
-pub mod Parted
+mod Fronts
+mod Parted

@@ -76,7 +76,7 @@ fn gather(node: &mut Node) -> Result<(), &'static str> {
     node.step(&Event::CheckTimer)?;
     hear_all(node, Body::Coordinator(true))?;
     node.step(&Event::MergeTimer)?;
-    let group = node.core.vector().group;
+    let group = node.core.vector().standing.group;
     hear_all(node, Body::Accept(group))?;
     node.step(&Event::AcceptTimer)?;
     hear_all(node, Body::ReadyAck(group))

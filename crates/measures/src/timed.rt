@@ -53,11 +53,11 @@ impl Timed {
 
     /// Whether it is Normal, in this group of these members.
     pub fn works_in(&self, group: GroupNo, members: Members) -> bool {
-        let vector = self.node.core.vector();
-        match &vector.task {
+        let standing = &self.node.core.vector().standing;
+        match &standing.task {
             Some(task) => {
-                matches!(vector.phase, Phase::Normal)
-                    && vector.group.is(group)
+                matches!(standing.phase, Phase::Normal)
+                    && standing.group.is(group)
                     && task.members() == members
             }
             None => false,
@@ -65,7 +65,7 @@ impl Timed {
     }
 
     pub fn group(&self) -> GroupNo {
-        self.node.core.vector().group
+        self.node.core.vector().standing.group
     }
 
     /// It comes up, alone in a new group, and sends nothing.

@@ -16,11 +16,9 @@ use Rattle.node_core.specs.Messages.{was_probed, takes_invitation, is_told}
 use Rattle.node_core.specs.Planned.{gain_of}
 
 -- where its guard holds, a message takes memory for its answer or for its change, but for those that give the group up or
--- that only the disk hears of
+-- that only the disk hears of. A question is answered by every node that is up
 abbrev pub delivered_takes : ℕ → ℕ → Body → State → Bool
-delivered_takes self from says.AreYouCoordinator s = not (is_down s.phase)
 delivered_takes self from (says.Coordinator agreed) s = agreed && merges self s
-delivered_takes self from (says.AreYouThere group) s = not (is_down s.phase)
 delivered_takes self from (says.Here group agreed) s = was_probed from group s && agreed
 delivered_takes self from (says.Invitation group) s = takes_invitation self group s
 delivered_takes self from (says.Accept group) s = is_election s.phase && s.coordinator == self && same_group group s.group
@@ -29,6 +27,7 @@ delivered_takes self from (says.ReadyAck group) s = awaits_ready self s && same_
 delivered_takes self from (says.Work group id work) s =
     is_normal s.phase && same_group group s.group && has (members_of s.task) from && owner s work.queue == self && not (holds s.hand from id)
 delivered_takes self from (says.Done id) s = false
+delivered_takes self from body s = not (is_down s.phase)
 
 abbrev pub takes_memory : ℕ → Event → State → Bool
 takes_memory self on.CheckTimer s = leads self s
@@ -38,9 +37,8 @@ takes_memory self on.ReadyTimer s = false
 takes_memory self on.CoordTimer s = follows self s && not s.probing
 takes_memory self on.DispatchTimer s = is_normal s.phase
 takes_memory self (on.Deliver m) s = delivered_takes self m.sender m.body s
-takes_memory self (on.Submit work) s = true
-takes_memory self (on.Finish origin id) s = true
 takes_memory self on.Recover s = false
+takes_memory self event s = true
 
 -- where the row takes no memory, it is planned, and its plan needs no room in the hand
 abbrev pub Spares : {E : Type 0} → Bool → Result Plan E → Type 0

@@ -9,49 +9,20 @@ use Rattle.node_core.specs.declared.durable.Durable.TheVariants as durable
 use Rattle.node_core.specs.declared.durable.Wanted.{Wanted}
 use Rattle.node_core.specs.declared.durable.Wanted.TheVariants as lent
 use Rattle.node_core.specs.declared.in_hand.InHand.{InHand}
-use Rattle.node_core.specs.declared.plan.Standing.{Standing}
 use Rattle.node_core.specs.declared.plan.HandChange.{HandChange}
 use Rattle.node_core.specs.declared.plan.HandChange.TheVariants.{Keep, Clear, Lose, Gain}
 use Rattle.node_core.specs.declared.plan.Act.{Act}
 use Rattle.node_core.specs.declared.plan.Act.TheVariants.{Stay, Mark, Settle, Invite, Recover, Place}
 use Rattle.node_core.specs.declared.plan.Plan.{Plan}
+use Rattle.node_core.specs.declared.seat.Seat.{Seat}
 use Rattle.node_core.specs.declared.phase.Phase.TheVariants.{Election}
-use Rattle.node_core.specs.declared.vector.Vector.{Vector}
-use Rattle.node_core.specs.State.{State}
+use Rattle.node_core.specs.State.{State, with_standing}
 use Rattle.node_core.specs.Effect.{Effect, quietly}
 use Rattle.node_core.specs.Words.{letter, to_each, own_group, regrouped, without_held}
 use Rattle.node_core.specs.Noted.{noted}
 use Rattle.node_core.specs.Timers.{recovery}
 use Rattle.node_core.specs.Consistent.{IsConsistent}
-
--- the state with this standing and this work in hand
-abbrev pub with_standing : Standing → List InHand → State
-with_standing standing hand = record {
-  phase = standing.phase;
-  coordinator = standing.coordinator;
-  group = standing.group;
-  up = standing.up;
-  task = standing.task;
-  found = standing.found;
-  unready = standing.unready;
-  checking = standing.checking;
-  probing = standing.probing;
-  hand = hand;
-}
-
--- what a vector has beside the work in hand
-abbrev pub standing_of : Vector → Standing
-standing_of v = record {
-  phase = v.phase;
-  coordinator = v.coordinator;
-  group = v.group;
-  up = v.up;
-  task = v.task;
-  found = v.found;
-  unready = v.unready;
-  checking = v.checking;
-  probing = v.probing;
-}
+use Rattle.node_core.specs.Seat.{state_at}
 
 abbrev pub hand_after : HandChange → List InHand → List InHand
 hand_after Keep hand = hand
@@ -149,7 +120,7 @@ CanAct nodes self s Recover sent room = sent ≡ []
 CanAct nodes self s (Place to work) sent room = (sent ≡ []) × (1 ≤ room)
 
 -- the plan makes this effect, for every answer, and wants this command
-pub record IsPlanOf (nodes self : ℕ) (s : State) (plan : Plan) (wants : Option Command) (effect : ℕ → Effect) : Type 0 where
-  pub effect_is : (answer : ℕ) → planned_effect self plan answer s ≡ effect answer
+pub record IsPlanOf (seat : Seat) (plan : Plan) (wants : Option Command) (effect : ℕ → Effect) : Type 0 where
+  pub effect_is : (answer : ℕ) → planned_effect seat.id plan answer (state_at seat) ≡ effect answer
   pub wants_is : plan_wants plan ≡ wants
-  pub fits : CanAct nodes self s plan.act plan.messages.items (vec_capacity plan.messages)
+  pub fits : CanAct seat.nodes seat.id (state_at seat) plan.act plan.messages.items (vec_capacity plan.messages)

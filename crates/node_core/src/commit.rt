@@ -1,10 +1,10 @@
 ghost use Rattle.std.specs.Prelude.{◌≡◌, ◌≢◌, ◌≤◌, ◌<◌, ◌+◌, length, None, false, [], ◌∷◌, ◌++◌, ℕ, vec_capacity};
 ghost use Rattle.group_task.specs.Ids.{has};
-ghost use Rattle.node_core.specs.State.{state_of};
+ghost use Rattle.node_core.specs.State.{state_of, with_standing};
 ghost use Rattle.node_core.specs.Words.{own_group, regrouped, letter, to_each};
 ghost use Rattle.node_core.specs.Timers.{recovery};
 ghost use Rattle.node_core.specs.Consistent.{IsConsistent};
-ghost use Rattle.node_core.specs.Planned.{hand_gain, with_standing, hand_after};
+ghost use Rattle.node_core.specs.Planned.{hand_gain, hand_after};
 
 use crate::in_hand::InHand;
 use crate::phase::Phase;
@@ -26,15 +26,7 @@ pub fn settle(vector: &mut Vector, change: Box<Change>)
         HandChange::Lose(origin, id) => vector.hand.remove(origin, id),
         HandChange::Gain(jobs) => vector.hand.append(jobs),
     }
-    vector.phase = standing.phase;
-    vector.coordinator = standing.coordinator;
-    vector.group = standing.group;
-    vector.up = standing.up;
-    vector.task = standing.task;
-    vector.found = standing.found;
-    vector.unready = standing.unready;
-    vector.checking = standing.checking;
-    vector.probing = standing.probing;
+    vector.standing = standing;
 }
 
 /// Stops work, and starts this group.
@@ -43,25 +35,26 @@ pub fn regroup(vector: &mut Vector, id: NodeId, group: GroupNo)
     ensures { state_of vector.new ≡ regrouped id group.count (state_of vector.old) }
 {
     vector.hand.clear();
-    vector.found = Members::new();
-    vector.unready = Members::new();
-    vector.task = None;
-    vector.checking = false;
-    vector.probing = false;
-    vector.coordinator = id;
-    vector.group = group;
-    vector.up = Members::new();
+    let standing = &mut vector.standing;
+    standing.found = Members::new();
+    standing.unready = Members::new();
+    standing.task = None;
+    standing.checking = false;
+    standing.probing = false;
+    standing.coordinator = id;
+    standing.group = group;
+    standing.up = Members::new();
 }
 
 /// Starts this group, alone in it.
-#[tactic(auto, using(group_task::proofs::IdLaws::none_others, group_task::proofs::IdLaws::with_has_same), unfolding(crate::specs::Timers::recovery))]
+#[tactic(auto, using(group_task::proofs::PublicLaws::none_others, group_task::proofs::PublicLaws::with_has_same), unfolding(crate::specs::Timers::recovery))]
 pub fn recover(vector: &mut Vector, id: NodeId, group: GroupNo)
     requires own { group ≡ own_group id group.count }
     ensures { record { state = state_of vector.new; sent = [] } ≡ recovery id group.count (state_of vector.old) }
 {
     regroup(vector, id, group);
-    vector.task = Some(share(group, Members::new().with(id)));
-    vector.phase = Phase::Normal;
+    vector.standing.task = Some(share(group, Members::new().with(id)));
+    vector.standing.phase = Phase::Normal;
 }
 
 /// Takes a new job in hand, or writes the message that sends it to its owner, in the room that is there. It stands apart, since each
@@ -84,7 +77,7 @@ pub fn place(
     })
         × (messages.new.items ≡ []) }
     ensures other { to ≢ id → (state_of vector.new ≡ state_of vector.old)
-        × (messages.new.items ≡ letter id to (Body.Work vector.old.group job work.value) ∷ []) }
+        × (messages.new.items ≡ letter id to (Body.Work vector.old.standing.group job work.value) ∷ []) }
     ensures consistent { (nodes : ℕ) → IsConsistent nodes id (state_of vector.old) → IsConsistent nodes id (state_of vector.new) }
 {
     let work = Box::into_inner(work);
@@ -96,7 +89,7 @@ pub fn place(
         });
     } else {
         let order = Body::Work {
-            group: vector.group,
+            group: vector.standing.group,
             id: job,
             work,
         };

@@ -2,7 +2,8 @@ ghost use Rattle.std.specs.Prelude.{◌≡◌, ◌≢◌, ◌<◌, ◌&&◌, [],
 ghost use Rattle.group_task.specs.Ids.{has};
 ghost use Rattle.group_task.specs.Others.{AreOthers};
 ghost use Rattle.job_model.specs.Fold.{is_pending};
-ghost use Rattle.node_core.specs.State.{state_of, is_down};
+ghost use Rattle.node_core.specs.Seat.{state_at};
+ghost use Rattle.node_core.specs.State.{is_down};
 ghost use Rattle.node_core.specs.Effect.{nothing};
 ghost use Rattle.wire_msg.specs.declared.body.Body.TheVariants as says;
 ghost use Rattle.node_core.specs.Messages.{asked_coordinator, answered_coordinator, invited, takes_invitation, passed_on, accepted};
@@ -11,7 +12,6 @@ ghost use Rattle.node_core.specs.Wants.{raise_if, done_if};
 ghost use Rattle.node_core.specs.Planned.{IsPlanOf, plan_sends, gain_of};
 ghost use Rattle.node_core.specs.Memory.{delivered_takes, Spares};
 ghost use Rattle.node_core.specs.Within.{AreWithin};
-ghost use Rattle.node_core.specs.Consistent.{IsConsistent};
 
 use crate::guards::{awaits_ready, leads};
 use crate::in_hand::InHand;
@@ -20,10 +20,10 @@ use crate::operator::recovery;
 use crate::others::{with_other, without_other};
 use crate::phase::Phase;
 use crate::plan::{
-    Act, HandChange, Plan, Standing, changed, marked, nothing, quietly, reply, standing_of,
-    with_room, write_to_each,
+    Act, HandChange, Plan, changed, marked, nothing, quietly, reply, with_room, write_to_each,
 };
-use crate::vector::Vector;
+use crate::seat::Seat;
+use crate::standing::Standing;
 use group_task::{GroupNo, Members, NodeId, Task, owner};
 use job_model::{JobTable, Work};
 use std::alloc::{AllocError, Global};
@@ -33,48 +33,38 @@ use wire_msg::{Body, Message};
 #[tactic(auto, unfolding(crate::specs::Messages::asked_coordinator))]
 pub fn asked_coordinator(
     room: Vec<Message>,
-    nodes: u8,
-    id: NodeId,
+    seat: &Seat<'_>,
     from: NodeId,
-    vector: &Vector,
 ) -> Result<Plan, AllocError>
     requires room { room.items ≡ [] }
-    requires other { id ≢ from }
-    requires known { from < nodes }
-    requires consistent { IsConsistent nodes id (state_of vector.now) }
-    ensures row { IfOk result (λ plan. IsPlanOf nodes id (state_of vector.now) plan None
-        (λ _. asked_coordinator id from (state_of vector.now))) }
-    ensures few { IfOk result (λ plan. plan_sends id plan < nodes) }
-    ensures memory { Spares (delivered_takes id from (says.AreYouCoordinator) (state_of vector.now)) result }
+    requires other { seat.now.id ≢ from }
+    requires known { from < seat.now.nodes }
+    ensures row { IfOk result (λ plan. IsPlanOf seat.now plan None
+        (λ _. asked_coordinator seat.now.id from (state_at seat.now))) }
+    ensures few { IfOk result (λ plan. plan_sends seat.now.id plan < seat.now.nodes) }
+    ensures memory { Spares (delivered_takes seat.now.id from (says.AreYouCoordinator) (state_at seat.now)) result }
 {
-    if matches!(vector.phase, Phase::Down) {
+    if matches!(seat.vector.standing.phase, Phase::Down) {
         return Ok(nothing(room));
     }
     let messages = with_room(room)?;
-    let answer = Message::between(id, from, Body::Coordinator(leads(id, vector)));
+    let answer = Message::between(seat.id, from, Body::Coordinator(leads(seat)));
     Ok(reply(Act::Stay(None), messages, answer))
 }
 
 /// Coordinator: a coordinator that checks notes the others.
 #[tactic(auto, unfolding(crate::specs::Messages::answered_coordinator))]
-pub fn answered_coordinator(
-    room: Vec<Message>,
-    nodes: u8,
-    id: NodeId,
-    from: NodeId,
-    agreed: bool,
-    vector: &Vector,
-) -> Plan
+pub fn answered_coordinator(room: Vec<Message>, seat: &Seat<'_>, from: NodeId, agreed: bool) -> Plan
     requires room { room.items ≡ [] }
-    requires other { id ≢ from }
-    requires known { from < nodes }
-    requires consistent { IsConsistent nodes id (state_of vector.now) }
-    ensures row { IsPlanOf nodes id (state_of vector.now) result None (λ _. answered_coordinator id from agreed (state_of vector.now)) }
-    ensures none { plan_sends id result ≡ 0 }
+    requires other { seat.now.id ≢ from }
+    requires known { from < seat.now.nodes }
+    ensures row { IsPlanOf seat.now result None (λ _. answered_coordinator seat.now.id from agreed (state_at seat.now)) }
+    ensures none { plan_sends seat.now.id result ≡ 0 }
     ensures gain { gain_of result.act ≡ 0 }
 {
-    if agreed && leads(id, vector) && vector.checking {
-        let found = with_other(nodes, id, vector.found, from);
+    let standing = &seat.vector.standing;
+    if agreed && leads(seat) && standing.checking {
+        let found = with_other(seat, standing.found, from);
         return marked(room, Note::Found(found));
     }
     nothing(room)
@@ -85,28 +75,25 @@ pub fn answered_coordinator(
 pub fn invited(
     alloc: Global,
     room: Vec<Message>,
-    nodes: u8,
-    id: NodeId,
+    seat: &Seat<'_>,
     group: GroupNo,
-    vector: &Vector,
 ) -> Result<Plan, AllocError>
     requires room { room.items ≡ [] }
-    requires known { group.creator < nodes }
-    requires consistent { IsConsistent nodes id (state_of vector.now) }
-    ensures row { IfOk result (λ plan. IsPlanOf nodes id (state_of vector.now) plan None
-        (λ _. invited id group (state_of vector.now))) }
-    ensures few { IfOk result (λ plan. plan_sends id plan < nodes) }
-    ensures memory { Spares (takes_invitation id group (state_of vector.now)) result }
+    requires known { group.creator < seat.now.nodes }
+    ensures row { IfOk result (λ plan. IsPlanOf seat.now plan None
+        (λ _. invited seat.now.id group (state_at seat.now))) }
+    ensures few { IfOk result (λ plan. plan_sends seat.now.id plan < seat.now.nodes) }
+    ensures memory { Spares (takes_invitation seat.now.id group (state_at seat.now)) result }
 {
-    if !takes_invitation(id, group, vector) {
+    if !takes_invitation(seat, group) {
         return Ok(nothing(room));
     }
     let creator = group.creator();
-    let members = passed_on(nodes, id, group, vector);
-    let with_creator = with_other(nodes, id, members, creator);
+    let members = passed_on(seat, group);
+    let with_creator = with_other(seat, members, creator);
     let mut messages = Vec::with_capacity(alloc, with_creator.len())?;
-    write_to_each(&mut messages, id, members, &Body::Invitation(group));
-    messages.push_reserved(Message::between(id, creator, Body::Accept(group)));
+    write_to_each(&mut messages, seat.id, members, &Body::Invitation(group));
+    messages.push_reserved(Message::between(seat.id, creator, Body::Accept(group)));
     Ok(Plan {
         act: Act::Mark(Note::Joined(group)),
         messages,
@@ -114,24 +101,27 @@ pub fn invited(
 }
 
 /// Whether the node joins the group: it is another node's, and not the present one.
-fn takes_invitation(id: NodeId, group: GroupNo, vector: &Vector) -> bool
-    ensures value { result ≡ takes_invitation id group (state_of vector.now) }
-    ensures other { IsTrue result → group.creator ≢ id }
+fn takes_invitation(seat: &Seat<'_>, group: GroupNo) -> bool
+    ensures value { result ≡ takes_invitation seat.now.id group (state_at seat.now) }
+    ensures other { IsTrue result → group.creator ≢ seat.now.id }
 {
-    matches!(vector.phase, Phase::Normal) && !group.creator().is(id) && !group.is(vector.group)
+    let standing = &seat.vector.standing;
+    matches!(standing.phase, Phase::Normal)
+        && !group.creator().is(seat.id)
+        && !group.is(standing.group)
 }
 
 /// The members to which a coordinator passes an invitation on: the creator knows of its own group.
-#[tactic(auto, using(crate::proofs::Sets::other_sets, group_task::proofs::IdLaws::without_has_same))]
-fn passed_on(nodes: u8, id: NodeId, group: GroupNo, vector: &Vector) -> Members
-    requires consistent { IsConsistent nodes id (state_of vector.now) }
-    requires other { group.creator ≢ id }
-    ensures value { result ≡ passed_on id group (state_of vector.now) }
-    ensures others { AreOthers nodes id result }
+#[tactic(auto, using(crate::proofs::Sets::other_sets, group_task::proofs::PublicLaws::without_has_same))]
+fn passed_on(seat: &Seat<'_>, group: GroupNo) -> Members
+    requires other { group.creator ≢ seat.now.id }
+    ensures value { result ≡ passed_on seat.now.id group (state_at seat.now) }
+    ensures others { AreOthers seat.now.nodes seat.now.id result }
     ensures absent { has result group.creator ≡ false }
 {
-    if vector.coordinator.is(id) {
-        without_other(nodes, id, vector.up, group.creator())
+    let standing = &seat.vector.standing;
+    if standing.coordinator.is(seat.id) {
+        without_other(seat, standing.up, group.creator())
     } else {
         Members::new()
     }
@@ -139,27 +129,20 @@ fn passed_on(nodes: u8, id: NodeId, group: GroupNo, vector: &Vector) -> Members
 
 /// Accept: the coordinator of a new group notes who joined.
 #[tactic(auto, unfolding(crate::specs::Messages::accepted))]
-pub fn accepted(
-    room: Vec<Message>,
-    nodes: u8,
-    id: NodeId,
-    from: NodeId,
-    group: GroupNo,
-    vector: &Vector,
-) -> Plan
+pub fn accepted(room: Vec<Message>, seat: &Seat<'_>, from: NodeId, group: GroupNo) -> Plan
     requires room { room.items ≡ [] }
-    requires other { id ≢ from }
-    requires known { from < nodes }
-    requires consistent { IsConsistent nodes id (state_of vector.now) }
-    ensures row { IsPlanOf nodes id (state_of vector.now) result None (λ _. accepted id from group (state_of vector.now)) }
-    ensures none { plan_sends id result ≡ 0 }
+    requires other { seat.now.id ≢ from }
+    requires known { from < seat.now.nodes }
+    ensures row { IsPlanOf seat.now result None (λ _. accepted seat.now.id from group (state_at seat.now)) }
+    ensures none { plan_sends seat.now.id result ≡ 0 }
     ensures gain { gain_of result.act ≡ 0 }
 {
-    if matches!(vector.phase, Phase::Election)
-        && vector.coordinator.is(id)
-        && group.is(vector.group)
+    let standing = &seat.vector.standing;
+    if matches!(standing.phase, Phase::Election)
+        && standing.coordinator.is(seat.id)
+        && group.is(standing.group)
     {
-        let up = with_other(nodes, id, vector.up, from);
+        let up = with_other(seat, standing.up, from);
         return marked(room, Note::Accepted(up));
     }
     nothing(room)
@@ -169,31 +152,29 @@ pub fn accepted(
 #[tactic(auto, unfolding(crate::specs::Messages::told_ready))]
 pub fn told_ready(
     room: Vec<Message>,
-    nodes: u8,
-    id: NodeId,
+    seat: &Seat<'_>,
     from: NodeId,
     task: Task,
-    vector: &Vector,
 ) -> Result<Plan, AllocError>
     requires room { room.items ≡ [] }
-    requires other { id ≢ from }
-    requires known { from < nodes }
-    requires members { AreWithin nodes task.members }
-    requires consistent { IsConsistent nodes id (state_of vector.now) }
-    ensures row { IfOk result (λ plan. IsPlanOf nodes id (state_of vector.now) plan None
-        (λ _. told_ready id from task (state_of vector.now))) }
-    ensures few { IfOk result (λ plan. plan_sends id plan < nodes) }
-    ensures memory { Spares (delivered_takes id from (says.Ready task) (state_of vector.now)) result }
+    requires other { seat.now.id ≢ from }
+    requires known { from < seat.now.nodes }
+    requires members { AreWithin seat.now.nodes task.members }
+    ensures row { IfOk result (λ plan. IsPlanOf seat.now plan None
+        (λ _. told_ready seat.now.id from task (state_at seat.now))) }
+    ensures few { IfOk result (λ plan. plan_sends seat.now.id plan < seat.now.nodes) }
+    ensures memory { Spares (delivered_takes seat.now.id from (says.Ready task) (state_at seat.now)) result }
 {
-    let told = is_told(id, from, task, vector);
-    if told && matches!(vector.phase, Phase::Reorganization) {
+    let standing = &seat.vector.standing;
+    let told = is_told(seat, from, task);
+    if told && matches!(standing.phase, Phase::Reorganization) {
         let messages = with_room(room)?;
-        let answer = Message::between(id, from, Body::ReadyAck(copied(vector.group)));
+        let answer = Message::between(seat.id, from, Body::ReadyAck(copied(standing.group)));
         return Ok(reply(Act::Mark(Note::Told(task)), messages, answer));
     }
-    if told && matches!(vector.phase, Phase::Normal) {
+    if told && matches!(standing.phase, Phase::Normal) {
         let messages = with_room(room)?;
-        let answer = Message::between(id, from, Body::ReadyAck(copied(vector.group)));
+        let answer = Message::between(seat.id, from, Body::ReadyAck(copied(standing.group)));
         return Ok(reply(Act::Stay(None), messages, answer));
     }
     Ok(nothing(room))
@@ -207,35 +188,29 @@ fn copied(group: GroupNo) -> GroupNo
 }
 
 /// Whether the task is that of the node's group, told by its coordinator, and makes it a member.
-fn is_told(id: NodeId, from: NodeId, task: Task, vector: &Vector) -> bool
-    ensures { result ≡ is_told id from task (state_of vector.now) }
+fn is_told(seat: &Seat<'_>, from: NodeId, task: Task) -> bool
+    ensures { result ≡ is_told seat.now.id from task (state_at seat.now) }
 {
-    vector.coordinator.is(from)
-        && !from.is(id)
-        && task.group().is(vector.group)
-        && task.members().contains(id)
+    let standing = &seat.vector.standing;
+    standing.coordinator.is(from)
+        && !from.is(seat.id)
+        && task.group().is(standing.group)
+        && task.members().contains(seat.id)
 }
 
 /// ReadyAck: the coordinator is Normal once all members are ready.
 #[tactic(auto, unfolding(crate::specs::Messages::acknowledged))]
-pub fn acknowledged(
-    room: Vec<Message>,
-    nodes: u8,
-    id: NodeId,
-    from: NodeId,
-    group: GroupNo,
-    vector: &Vector,
-) -> Plan
+pub fn acknowledged(room: Vec<Message>, seat: &Seat<'_>, from: NodeId, group: GroupNo) -> Plan
     requires room { room.items ≡ [] }
-    requires consistent { IsConsistent nodes id (state_of vector.now) }
-    ensures row { IsPlanOf nodes id (state_of vector.now) result None (λ _. acknowledged id from group (state_of vector.now)) }
-    ensures none { plan_sends id result ≡ 0 }
+    ensures row { IsPlanOf seat.now result None (λ _. acknowledged seat.now.id from group (state_at seat.now)) }
+    ensures none { plan_sends seat.now.id result ≡ 0 }
     ensures gain { gain_of result.act ≡ 0 }
 {
-    if !(awaits_ready(id, vector) && group.is(vector.group)) {
+    let standing = &seat.vector.standing;
+    if !(awaits_ready(seat) && group.is(standing.group)) {
         return nothing(room);
     }
-    let unready = without_other(nodes, id, vector.unready, from);
+    let unready = without_other(seat, standing.unready, from);
     marked(room, Note::Awaited(unready))
 }
 
@@ -243,27 +218,27 @@ pub fn acknowledged(
 #[tactic(auto, unfolding(crate::specs::Messages::asked_there))]
 pub fn asked_there(
     room: Vec<Message>,
-    nodes: u8,
-    id: NodeId,
+    seat: &Seat<'_>,
     from: NodeId,
     group: GroupNo,
-    vector: &Vector,
 ) -> Result<Plan, AllocError>
     requires room { room.items ≡ [] }
-    requires other { id ≢ from }
-    requires known { from < nodes }
-    requires consistent { IsConsistent nodes id (state_of vector.now) }
-    ensures row { IfOk result (λ plan. IsPlanOf nodes id (state_of vector.now) plan None
-        (λ _. asked_there id from group (state_of vector.now))) }
-    ensures few { IfOk result (λ plan. plan_sends id plan < nodes) }
-    ensures memory { Spares (delivered_takes id from (says.AreYouThere group) (state_of vector.now)) result }
+    requires other { seat.now.id ≢ from }
+    requires known { from < seat.now.nodes }
+    ensures row { IfOk result (λ plan. IsPlanOf seat.now plan None
+        (λ _. asked_there seat.now.id from group (state_at seat.now))) }
+    ensures few { IfOk result (λ plan. plan_sends seat.now.id plan < seat.now.nodes) }
+    ensures memory { Spares (delivered_takes seat.now.id from (says.AreYouThere group) (state_at seat.now)) result }
 {
-    if matches!(vector.phase, Phase::Down) {
+    let standing = &seat.vector.standing;
+    if matches!(standing.phase, Phase::Down) {
         return Ok(nothing(room));
     }
-    let here = group.is(vector.group) && vector.coordinator.is(id) && vector.up.contains(from);
+    let here = group.is(standing.group)
+        && standing.coordinator.is(seat.id)
+        && standing.up.contains(from);
     let messages = with_room(room)?;
-    let answer = Message::between(id, from, Body::Here(group, here));
+    let answer = Message::between(seat.id, from, Body::Here(group, here));
     Ok(reply(Act::Stay(None), messages, answer))
 }
 
@@ -272,33 +247,31 @@ pub fn asked_there(
 pub fn answered_there(
     alloc: Global,
     room: Vec<Message>,
-    nodes: u8,
-    id: NodeId,
+    seat: &Seat<'_>,
     from: NodeId,
     group: GroupNo,
     agreed: bool,
-    vector: &Vector,
 ) -> Result<Plan, AllocError>
     requires room { room.items ≡ [] }
-    requires consistent { IsConsistent nodes id (state_of vector.now) }
-    ensures row { IfOk result (λ plan. IsPlanOf nodes id (state_of vector.now) plan
-        (raise_if (was_probed from group (state_of vector.now) && not agreed))
-        (λ answer. answered_there id from group agreed answer (state_of vector.now))) }
-    ensures none { IfOk result (λ plan. plan_sends id plan ≡ 0) }
-    ensures memory { Spares (delivered_takes id from (says.Here group agreed) (state_of vector.now)) result }
+    ensures row { IfOk result (λ plan. IsPlanOf seat.now plan
+        (raise_if (was_probed from group (state_at seat.now) && not agreed))
+        (λ answer. answered_there seat.now.id from group agreed answer (state_at seat.now))) }
+    ensures none { IfOk result (λ plan. plan_sends seat.now.id plan ≡ 0) }
+    ensures memory { Spares (delivered_takes seat.now.id from (says.Here group agreed) (state_at seat.now)) result }
 {
-    if !(vector.probing && vector.coordinator.is(from) && group.is(vector.group)) {
+    let standing = &seat.vector.standing;
+    if !(standing.probing && standing.coordinator.is(from) && group.is(standing.group)) {
         return Ok(nothing(room));
     }
     if agreed {
-        let standing = Standing {
+        let next = Standing {
             probing: false,
-            ..standing_of(vector)
+            ..*standing
         };
-        let change = changed(alloc, standing, HandChange::Keep, None)?;
+        let change = changed(alloc, next, HandChange::Keep, None)?;
         return Ok(quietly(room, change));
     }
-    Ok(recovery(room, nodes, id, vector))
+    Ok(recovery(room, seat))
 }
 
 /// Work: a member takes a job of its group in hand, if the job's queue is its own.
@@ -306,31 +279,29 @@ pub fn answered_there(
 pub fn got_work(
     alloc: Global,
     room: Vec<Message>,
-    nodes: u8,
-    id: NodeId,
+    seat: &Seat<'_>,
     from: NodeId,
     group: GroupNo,
     job: u64,
     work: &Work,
-    vector: &Vector,
 ) -> Result<Plan, AllocError>
     requires room { room.items ≡ [] }
-    requires known { from < nodes }
-    requires consistent { IsConsistent nodes id (state_of vector.now) }
-    ensures row { IfOk result (λ plan. IsPlanOf nodes id (state_of vector.now) plan None
-        (λ _. got_work id from group job work.now (state_of vector.now))) }
-    ensures none { IfOk result (λ plan. plan_sends id plan ≡ 0) }
-    ensures memory { Spares (delivered_takes id from (says.Work group job work.now) (state_of vector.now)) result }
+    requires known { from < seat.now.nodes }
+    ensures row { IfOk result (λ plan. IsPlanOf seat.now plan None
+        (λ _. got_work seat.now.id from group job work.now (state_at seat.now))) }
+    ensures none { IfOk result (λ plan. plan_sends seat.now.id plan ≡ 0) }
+    ensures memory { Spares (delivered_takes seat.now.id from (says.Work group job work.now) (state_at seat.now)) result }
 {
-    if !matches!(vector.phase, Phase::Normal) || !group.is(vector.group) {
+    let standing = &seat.vector.standing;
+    if !matches!(standing.phase, Phase::Normal) || !group.is(standing.group) {
         return Ok(nothing(room));
     }
-    let Some(task) = vector.task else {
+    let Some(task) = standing.task else {
         return Ok(nothing(room));
     };
     if !task.members().contains(from)
-        || !owner(&task, work.queue).is(id)
-        || vector.hand.contains(from, job)
+        || !owner(&task, work.queue).is(seat.id)
+        || seat.vector.hand.contains(from, job)
     {
         return Ok(nothing(room));
     }
@@ -340,28 +311,20 @@ pub fn got_work(
         id: job,
         work: *work,
     })?;
-    let change = changed(alloc, standing_of(vector), HandChange::Gain(gains), None)?;
+    let change = changed(alloc, *standing, HandChange::Gain(gains), None)?;
     Ok(quietly(room, change))
 }
 
 /// Done: the node that keeps a job marks it as done. The vector stays.
-pub fn told_done(
-    room: Vec<Message>,
-    nodes: u8,
-    id: NodeId,
-    job: u64,
-    vector: &Vector,
-    table: &JobTable,
-) -> Plan
+pub fn told_done(room: Vec<Message>, seat: &Seat<'_>, job: u64, table: &JobTable) -> Plan
     requires room { room.items ≡ [] }
-    requires consistent { IsConsistent nodes id (state_of vector.now) }
-    ensures row { IsPlanOf nodes id (state_of vector.now) result
-        (done_if (not (is_down vector.now.phase) && is_pending table.now.pending job) job)
-        (λ _. nothing (state_of vector.now)) }
-    ensures none { plan_sends id result ≡ 0 }
+    ensures row { IsPlanOf seat.now result
+        (done_if (not (is_down seat.now.vector.now.standing.phase) && is_pending table.now.pending job) job)
+        (λ _. nothing (state_at seat.now)) }
+    ensures none { plan_sends seat.now.id result ≡ 0 }
     ensures gain { gain_of result.act ≡ 0 }
 {
-    if !matches!(vector.phase, Phase::Down) && table.contains(job) {
+    if !matches!(seat.vector.standing.phase, Phase::Down) && table.contains(job) {
         return Plan {
             act: Act::Stay(Some(job)),
             messages: room,

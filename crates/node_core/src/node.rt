@@ -5,6 +5,7 @@ ghost use Rattle.group_task.specs.declared.node.TheConstants.{NODES};
 ghost use Rattle.node_core.specs.declared.event.Event.{Event};
 ghost use Rattle.node_core.specs.declared.event.Event.TheVariants.{Deliver};
 ghost use Rattle.node_core.specs.State.{state_of};
+ghost use Rattle.node_core.specs.Seat.{state_at};
 ghost use Rattle.node_core.specs.Effects.{effect_of};
 ghost use Rattle.node_core.specs.Refusals.{refusal_of};
 ghost use Rattle.node_core.specs.Planned.{gain_of, plan_wants};
@@ -21,6 +22,7 @@ use crate::fault::CoreFault;
 use crate::notes::take_note;
 use crate::phase::Phase;
 use crate::plan::{Act, Plan};
+use crate::seat::Seat;
 use crate::vector::Vector;
 use group_task::{GroupNo, Members, NodeId};
 use job_model::JobTable;
@@ -130,7 +132,7 @@ impl NodeCore {
         ensures none { IsNone result ↔ (self.now.state.found ≡ []) }
         ensures wait { IfSome result (IsMergeWait self.now.id self.now.state.found) }
     {
-        let found = self.vector.found;
+        let found = self.vector.standing.found;
         if found.is_empty() {
             return None;
         }
@@ -152,7 +154,7 @@ impl NodeCore {
         ensures spares { result ≡ Err CoreFault.NoMemory → takes_memory self.old.id event.now self.old.state ≡ true }
         ensures unchanged { OnErr result (self.new ≡ self.old) }
     {
-        let plan = plan_event(self.alloc, self.nodes, self.id, &self.vector, event, table)?;
+        let plan = plan_event(self.alloc, &self.seat(), event, table)?;
         self.make_room(&plan)?;
         Ok(plan)
     }
@@ -176,17 +178,22 @@ impl NodeCore {
         ensures spares { result ≡ Err CoreFault.NoMemory → takes_memory self.old.id (Deliver message.now) self.old.state ≡ true }
         ensures unchanged { OnErr result (self.new ≡ self.old) }
     {
-        let plan = plan_delivery(
-            self.alloc,
-            room,
-            self.nodes,
-            self.id,
-            &self.vector,
-            message,
-            table,
-        )?;
+        let plan = plan_delivery(self.alloc, room, &self.seat(), message, table)?;
         self.make_room(&plan)?;
         Ok(plan)
+    }
+
+    /// The node as the rows of the table take it.
+    fn seat(&self) -> Seat<'_>
+        ensures id { result.id ≡ self.now.id }
+        ensures nodes { result.nodes ≡ self.now.nodes }
+        ensures state { state_at result ≡ self.now.state }
+    {
+        Seat {
+            id: self.id,
+            nodes: self.nodes,
+            vector: &self.vector,
+        }
     }
 
     /// Makes room for the jobs that a plan takes in hand.
@@ -222,7 +229,7 @@ impl NodeCore {
             Act::Invite(receivers) => {
                 let group = GroupNo::numbered(self.id, answer);
                 regroup(&mut self.vector, self.id, group);
-                self.vector.phase = Phase::Election;
+                self.vector.standing.phase = Phase::Election;
                 invite_each(&mut messages, self.id, receivers, group);
             }
             Act::Recover => {

@@ -32,26 +32,26 @@ pub fn take_note(vector: &mut Vector, note: Note)
 {
     match note {
         Note::Found(found) => {
-            vector.found = found;
-            vector.checking = true;
+            vector.standing.found = found;
+            vector.standing.checking = true;
         }
-        Note::Accepted(up) => vector.up = up,
+        Note::Accepted(up) => vector.standing.up = up,
         Note::Joined(group) => {
             regroup(vector, group.creator(), group);
-            vector.phase = Phase::Reorganization;
+            vector.standing.phase = Phase::Reorganization;
         }
         Note::Shared(task) => {
-            vector.task = Some(task);
-            vector.unready = vector.up;
-            vector.phase = waiting_for(vector.up);
+            vector.standing.task = Some(task);
+            vector.standing.unready = vector.standing.up;
+            vector.standing.phase = waiting_for(vector.standing.up);
         }
         Note::Told(task) => {
-            vector.task = Some(task);
-            vector.phase = Phase::Normal;
+            vector.standing.task = Some(task);
+            vector.standing.phase = Phase::Normal;
         }
         Note::Awaited(unready) => {
-            vector.unready = unready;
-            vector.phase = waiting_for(unready);
+            vector.standing.unready = unready;
+            vector.standing.phase = waiting_for(unready);
         }
     }
 }

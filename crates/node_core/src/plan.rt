@@ -2,31 +2,17 @@ ghost use Rattle.std.specs.Prelude.{◌≡◌, ◌+◌, ◌≤◌, ◌<◌, ◌+
 ghost use Rattle.group_task.specs.Ids.{has};
 ghost use Rattle.group_task.specs.Others.{AreOthers};
 ghost use Rattle.node_core.specs.Words.{to_each};
-ghost use Rattle.node_core.specs.Planned.{gain_of, hand_gain, done_wanted, lent_by, plan_wants, wanted_by, standing_of};
+ghost use Rattle.node_core.specs.Planned.{gain_of, hand_gain, done_wanted, lent_by, plan_wants, wanted_by};
 
 use crate::durable::{Durable, Wanted};
 use crate::in_hand::InHand;
 use crate::notes::Note;
-use crate::phase::Phase;
-use crate::vector::Vector;
-use group_task::{GroupNo, Members, NodeId, Task};
+use crate::seat::Seat;
+use crate::standing::Standing;
+use group_task::{Members, NodeId};
 use job_model::Work;
 use std::alloc::{AllocError, Global};
 use wire_msg::{Body, Message};
-
-/// A state vector but for the work in hand.
-#[derive(Clone, Copy)]
-pub struct Standing {
-    pub phase: Phase,
-    pub coordinator: NodeId,
-    pub group: GroupNo,
-    pub up: Members,
-    pub task: Option<Task>,
-    pub found: Members,
-    pub unready: Members,
-    pub checking: bool,
-    pub probing: bool,
-}
 
 /// What happens to the work in hand.
 #[derive(Drop)]
@@ -161,36 +147,17 @@ pub fn write_to_each(messages: &mut Vec<Message>, id: NodeId, receivers: Members
 /// A message to each of these other nodes.
 pub fn letters(
     alloc: Global,
-    nodes: u8,
-    id: NodeId,
+    seat: &Seat<'_>,
     receivers: Members,
     body: &Body,
 ) -> Result<Vec<Message>, AllocError>
-    requires within { id < nodes }
-    requires others { AreOthers nodes id receivers }
-    ensures value { IfOk result (λ messages. messages.items ≡ to_each id receivers body.now) }
-    ensures few { IfOk result (λ messages. length messages.items < nodes) }
+    requires { AreOthers seat.now.nodes seat.now.id receivers }
+    ensures value { IfOk result (λ messages. messages.items ≡ to_each seat.now.id receivers body.now) }
+    ensures few { IfOk result (λ messages. length messages.items < seat.now.nodes) }
 {
     let mut messages = Vec::with_capacity(alloc, receivers.len())?;
-    write_to_each(&mut messages, id, receivers, body);
+    write_to_each(&mut messages, seat.id, receivers, body);
     Ok(messages)
-}
-
-/// All of the vector but the work in hand.
-pub fn standing_of(vector: &Vector) -> Standing
-    ensures { result ≡ standing_of vector.now }
-{
-    Standing {
-        phase: vector.phase,
-        coordinator: vector.coordinator,
-        group: vector.group,
-        up: vector.up,
-        task: vector.task,
-        found: vector.found,
-        unready: vector.unready,
-        checking: vector.checking,
-        probing: vector.probing,
-    }
 }
 
 /// Nothing changes, and nothing is sent.

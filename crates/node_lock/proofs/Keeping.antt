@@ -10,7 +10,7 @@ use Rattle.histories.specs.What.{Entry as NodeEntry, brought, event_of}
 use Rattle.histories.specs.After.{after, sent_at}
 use Rattle.histories.specs.History.{replay, sent_in}
 use Rattle.histories.specs.Possible.{IsPossible}
-use Rattle.histories.proofs.Growing.{history_goes_on}
+use Rattle.histories.proofs.PublicLaws.{history_goes_on}
 use Rattle.node_lock.specs.declared.run.Run.{Run}
 use Rattle.node_lock.specs.declared.worker.Worker.{Worker}
 use Rattle.node_lock.specs.Asking.{Asked}

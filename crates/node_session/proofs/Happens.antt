@@ -163,16 +163,8 @@ begins {Disk} disks slots old new (Err fault) (Some found) s mounted fallen down
 -- ---- any event, over any disk
 
 recovers : (event : Event) → is_recover event ≡ true → event ≡ on.Recover
-recovers on.CheckTimer is = absurd cc
-recovers on.MergeTimer is = absurd cc
-recovers on.AcceptTimer is = absurd cc
-recovers on.ReadyTimer is = absurd cc
-recovers on.CoordTimer is = absurd cc
-recovers on.DispatchTimer is = absurd cc
-recovers (on.Deliver m) is = absurd cc
-recovers (on.Submit work) is = absurd cc
-recovers (on.Finish origin id) is = absurd cc
 recovers on.Recover is = refl
+recovers event is = absurd cc
 
 happens : {Disk : Type 0} (disks : Disk → DiskState) (old new : Node Disk) (event : Event) (reply : Result Came NodeFault) (was : Disk) (s : NodeState)
     → IfOk reply (Steps disks old new event) → IfErr reply (Stuck disks old new event) → reply ≢ Err (node.Core NoMemory)

@@ -1,8 +1,8 @@
-pub mod Reading
-pub mod Lines
-pub mod Calls
-pub mod Servings
-pub mod Happens
-pub mod Histories
-pub mod Cutting
-pub mod Pieces
+mod Reading
+mod Lines
+mod Calls
+mod Servings
+mod Happens
+mod Histories
+mod Cutting
+mod Pieces

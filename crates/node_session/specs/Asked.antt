@@ -2,23 +2,22 @@
 use Rattle.std.specs.Prelude.{ℕ, List, [], ◌∷◌, bytes_eq, codes, if◌then◌else◌, Option, Some, None, option_and_then}
 use Rattle.wire_msg.specs.Envelope.{Envelope}
 use Rattle.wire_msg.specs.Reading.{message_of}
+use Rattle.node_core.specs.declared.event.Event.{Event}
 use Rattle.node_core.specs.declared.event.Event.TheVariants as on
 use Rattle.line_words.specs.Words.{number_of, words_of}
 use Rattle.line_words.specs.Lines.{bytes_of}
 use Rattle.schedule.specs.Fields.{node_of, queue_of, priority_of, payload_of}
+use Rattle.node_session.specs.Words.{alone_events, event_word}
 use Rattle.node_session.specs.declared.asked.Asked.{Asked}
 use Rattle.node_session.specs.declared.asked.Asked.TheVariants as ask
 
--- the events that a word by itself names
+-- the event of these that the word names
+abbrev pub event_asked : List Event → List ℕ → Asked
+event_asked [] word = ask.Bad
+event_asked (event ∷ events) word = if bytes_eq word (event_word event) then ask.Event event else event_asked events word
+
 abbrev pub timer_asked : List ℕ → Asked
-timer_asked word =
-    if bytes_eq word (codes "check") then ask.Event on.CheckTimer else
-    if bytes_eq word (codes "merge") then ask.Event on.MergeTimer else
-    if bytes_eq word (codes "accept") then ask.Event on.AcceptTimer else
-    if bytes_eq word (codes "ready") then ask.Event on.ReadyTimer else
-    if bytes_eq word (codes "coord") then ask.Event on.CoordTimer else
-    if bytes_eq word (codes "dispatch") then ask.Event on.DispatchTimer else
-    if bytes_eq word (codes "recover") then ask.Event on.Recover else ask.Bad
+timer_asked word = event_asked alone_events word
 
 -- a word by itself
 abbrev pub alone_asked : List ℕ → Asked

@@ -1,5 +1,5 @@
 -- What a service that follows the node is told: that its group changed, and the jobs that came into its hand or left it.
-use Rattle.std.specs.Prelude.{ℕ, ◌==◌, ◌&&◌, List, [], ◌∷◌, ◌++◌, map, codes, decimal, bytes_eq, Bool, true, false, if◌then◌else◌, Option, Some, None}
+use Rattle.std.specs.Prelude.{ℕ, ◌==◌, ◌&&◌, List, [], ◌∷◌, ◌++◌, map, codes, decimal, bytes_eq, Bool, true, false, if◌then◌else◌, Option, Some}
 use Rattle.std.specs.List.{list_any}
 use Rattle.console_text.specs.Words.{work_text}
 use Rattle.wire_msg.specs.declared.body.Body.{Body}
@@ -78,15 +78,7 @@ drops_by false new old = drops new old
 
 abbrev pub gone_by : Body → ℕ → List ℕ
 gone_by (says.Done job) id = gone_line id
-gone_by says.AreYouCoordinator id = []
-gone_by (says.Coordinator agreed) id = []
-gone_by (says.AreYouThere group) id = []
-gone_by (says.Here group agreed) id = []
-gone_by (says.Invitation group) id = []
-gone_by (says.Accept group) id = []
-gone_by (says.Ready task) id = []
-gone_by (says.ReadyAck group) id = []
-gone_by (says.Work group job work) id = []
+gone_by body id = []
 
 -- the answer to a command that takes a job out of the table is its id
 abbrev pub gone_at : Option Event → ℕ → List ℕ
@@ -96,8 +88,7 @@ gone_at event id = []
 
 abbrev pub gone_told : Option Event → Ended → List ℕ
 gone_told event (end.Done (Some id)) = gone_at event id
-gone_told event (end.Done None) = []
-gone_told event (end.Denied fault) = []
+gone_told event ended = []
 
 -- ---- all
 

@@ -23,7 +23,7 @@ use Rattle.node_session.specs.declared.asked.Asked.TheVariants as ask
 use Rattle.node_session.specs.declared.ended.Ended.{Ended}
 use Rattle.node_session.specs.declared.ended.Ended.TheVariants as end
 use Rattle.node_session.specs.Asked.{asked_of}
-use Rattle.node_session.specs.Words.{group_text, ids_text, phase_text, truth_text}
+use Rattle.node_session.specs.Words.{event_word, group_text, ids_text, phase_text, truth_text}
 use Rattle.node_session.specs.Turns.{Turn, after_turn, cause, end_of, sent_in}
 use Rattle.node_session.specs.Chains.{At, after_line, after_turns, line_end, next}
 use Rattle.node_session.specs.Changes.{changes, gone_told, held_text, is_finish}
@@ -72,19 +72,6 @@ call_text event sent old new ended = send_lines sent ++ (changes (is_finish even
 
 abbrev pub turn_text : ℕ → ℕ → NodeState → Turn → List ℕ
 turn_text self nodes s turn = call_text (cause turn) (sent_in self nodes s turn) s.state (after_turn self nodes s turn).state (end_of self nodes s turn)
-
--- the word of an event, as a request has it
-abbrev pub event_word : Event → List ℕ
-event_word on.CheckTimer = codes "check"
-event_word on.MergeTimer = codes "merge"
-event_word on.AcceptTimer = codes "accept"
-event_word on.ReadyTimer = codes "ready"
-event_word on.CoordTimer = codes "coord"
-event_word on.DispatchTimer = codes "dispatch"
-event_word (on.Deliver m) = codes "deliver"
-event_word (on.Submit work) = codes "submit"
-event_word (on.Finish origin id) = codes "finish"
-event_word on.Recover = codes "recover"
 
 abbrev pub fired_line : Event → List ℕ
 fired_line event = codes "fired " ++ event_word event ++ codes "\n"

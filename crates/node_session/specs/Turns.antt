@@ -12,7 +12,7 @@ use Rattle.histories.specs.declared.what.What.{What}
 use Rattle.histories.specs.declared.what.What.TheVariants.{Did, Refused, Faulted, Rests, Crashed, Recovered, MountFailed, RaiseFailed, RaiseRefused}
 use Rattle.histories.specs.declared.what.Rest.{Rest}
 use Rattle.histories.specs.declared.what.Rest.TheVariants.{Nothing, Compacted, CompactDown, CompactWorn}
-use Rattle.histories.specs.What.{event_of, reason_of}
+use Rattle.histories.specs.What.{event_of}
 use Rattle.histories.specs.After.{after, sent_at}
 use Rattle.histories.specs.Possible.{IsPossible, IsOfSlots}
 use Rattle.durable_node.specs.declared.fault.NodeFault.{NodeFault}
@@ -76,7 +76,7 @@ rest_end CompactWorn = end.Denied node.Exhausted
 
 abbrev pub end_at : ℕ → ℕ → NodeState → What → Ended
 end_at self nodes s (Did event) = end.Done (answer_at self nodes s (Did event))
-end_at self nodes s (Refused event fault) = end.Denied (shown (reason_of fault))
+end_at self nodes s (Refused event fault) = end.Denied (shown fault)
 end_at self nodes s (Faulted event) = end.Denied node.Device
 end_at self nodes s (Rests rest) = rest_end rest
 end_at self nodes s Crashed = end.Denied node.Device
@@ -149,16 +149,10 @@ MayCompact self nodes slots s (Begins found what) = ⊥
 
 -- an event that a policy of timers makes
 abbrev pub IsTimer : Event → Type 0
-IsTimer on.CheckTimer = Unit {0}
-IsTimer on.MergeTimer = Unit {0}
-IsTimer on.AcceptTimer = Unit {0}
-IsTimer on.ReadyTimer = Unit {0}
-IsTimer on.CoordTimer = Unit {0}
-IsTimer on.DispatchTimer = Unit {0}
 IsTimer (on.Deliver m) = ⊥
 IsTimer (on.Submit work) = ⊥
 IsTimer (on.Finish origin id) = ⊥
-IsTimer on.Recover = Unit {0}
+IsTimer event = Unit {0}
 
 -- it came of such an event
 pub record IsTimely (self nodes slots : ℕ) (s : NodeState) (turn : Turn) : Type 0 where

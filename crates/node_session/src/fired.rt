@@ -1,6 +1,7 @@
 // The line before what an event brings that a tick or a loss made.
 ghost use Rattle.std.specs.Prelude.{◌≡◌, ◌++◌, OnOk};
-ghost use Rattle.node_session.specs.Text.{event_word, fired_line};
+ghost use Rattle.node_session.specs.Text.{fired_line};
+ghost use Rattle.node_session.specs.Words.{event_word};
 
 use console_text::push_text;
 use node_core::Event;

@@ -86,15 +86,16 @@ fn push_other(text: &mut Vec<u8>, old: &[u8], new: &[u8]) -> Result<(), AllocErr
 fn push_group_line(text: &mut Vec<u8>, vector: &Vector) -> Result<(), AllocError>
     ensures { OnOk result (text.new.items ≡ text.old.items ++ group_line (state_of vector.now)) }
 {
-    if matches!(vector.phase, Phase::Down) {
+    let standing = &vector.standing;
+    if matches!(standing.phase, Phase::Down) {
         return push_text(text, "group Down\n");
     }
     push_text(text, "group ")?;
-    push_text(text, phase_word(vector.phase))?;
+    push_text(text, phase_word(standing.phase))?;
     push_text(text, " ")?;
-    push_number(text, u64::from(vector.coordinator.number()))?;
+    push_number(text, u64::from(standing.coordinator.number()))?;
     push_text(text, " ")?;
-    push_group(text, vector.group)?;
+    push_group(text, standing.group)?;
     push_text(text, " ")?;
     push_ids(text, vector.members())?;
     push_text(text, "\n")

@@ -444,7 +444,7 @@ fn ran_out(reply: &Result<Came, NodeFault>) -> bool
 /// By how much the greatest coordinator that was found is above the node; none where none was found.
 fn merge_wait(id: NodeId, vector: &Vector) -> Option<u64> {
     let mut greatest = None;
-    for found in vector.found.iter() {
+    for found in vector.standing.found.iter() {
         greatest = Some(u64::from(found.number().saturating_sub(id.number())));
     }
     greatest
@@ -454,13 +454,14 @@ fn merge_wait(id: NodeId, vector: &Vector) -> Option<u64> {
 fn loss_of(id: NodeId, vector: &Vector, lost: NodeId) -> Option<Event>
     ensures { IfSome result IsTimer }
 {
-    if lost.is(id) || matches!(vector.phase, Phase::Down | Phase::Election) {
+    let standing = &vector.standing;
+    if lost.is(id) || matches!(standing.phase, Phase::Down | Phase::Election) {
         return None;
     }
-    if vector.coordinator.is(lost) {
+    if standing.coordinator.is(lost) {
         return Some(Event::CoordTimer);
     }
-    if vector.coordinator.is(id) && vector.members().contains(lost) {
+    if standing.coordinator.is(id) && vector.members().contains(lost) {
         return Some(Event::Recover);
     }
     None

@@ -27,7 +27,7 @@ pub(crate) fn push_state<D: SectorDisk>(
 {
     let vector = node.vector();
     match node.durable() {
-        Some((count, table)) if !matches!(vector.phase, Phase::Down) => {
+        Some((count, table)) if !matches!(vector.standing.phase, Phase::Down) => {
             push_up(text, vector, count, table)
         }
         _ => push_text(text, "state Down\n"),
@@ -43,7 +43,7 @@ pub(crate) fn push_all_jobs<D: SectorDisk>(
 {
     let vector = node.vector();
     match node.durable() {
-        Some((_count, table)) if !matches!(vector.phase, Phase::Down) => {
+        Some((_count, table)) if !matches!(vector.standing.phase, Phase::Down) => {
             push_pending(text, table.pending())?;
             push_hand(text, vector.hand.jobs())
         }
@@ -71,7 +71,7 @@ fn push_keeps<D: SectorDisk>(text: &mut Vec<u8>, node: &DurableNode<D>) -> Resul
 {
     let vector = node.vector();
     match node.durable() {
-        Some((count, table)) if !matches!(vector.phase, Phase::Down) => {
+        Some((count, table)) if !matches!(vector.standing.phase, Phase::Down) => {
             push_durable(text, count, table)
         }
         _ => Ok(()),
@@ -151,7 +151,7 @@ fn push_up(
     ensures { OnOk result (text.new.items ≡ text.old.items ++ up_line (state_of vector.now) (durable_of count table.now)) }
 {
     push_text(text, "state ")?;
-    push_text(text, phase_word(vector.phase))?;
+    push_text(text, phase_word(vector.standing.phase))?;
     push_group_part(text, vector)?;
     push_sets(text, vector)?;
     push_asks(text, vector)?;
@@ -163,9 +163,9 @@ fn push_group_part(text: &mut Vec<u8>, vector: &Vector) -> Result<(), AllocError
     ensures { OnOk result (text.new.items ≡ text.old.items ++ group_part (state_of vector.now)) }
 {
     push_text(text, " coord ")?;
-    push_number(text, u64::from(vector.coordinator.number()))?;
+    push_number(text, u64::from(vector.standing.coordinator.number()))?;
     push_text(text, " group ")?;
-    push_group(text, vector.group)
+    push_group(text, vector.standing.group)
 }
 
 fn push_sets(text: &mut Vec<u8>, vector: &Vector) -> Result<(), AllocError>
@@ -174,18 +174,18 @@ fn push_sets(text: &mut Vec<u8>, vector: &Vector) -> Result<(), AllocError>
     push_text(text, " members ")?;
     push_ids(text, vector.members())?;
     push_text(text, " found ")?;
-    push_ids(text, vector.found)?;
+    push_ids(text, vector.standing.found)?;
     push_text(text, " unready ")?;
-    push_ids(text, vector.unready)
+    push_ids(text, vector.standing.unready)
 }
 
 fn push_asks(text: &mut Vec<u8>, vector: &Vector) -> Result<(), AllocError>
     ensures { OnOk result (text.new.items ≡ text.old.items ++ asks_part (state_of vector.now)) }
 {
     push_text(text, " checking ")?;
-    push_truth(text, vector.checking)?;
+    push_truth(text, vector.standing.checking)?;
     push_text(text, " probing ")?;
-    push_truth(text, vector.probing)
+    push_truth(text, vector.standing.probing)
 }
 
 fn push_jobs(

@@ -1,6 +1,6 @@
 -- What is known of a node when its workers have ended, in the words of its plans and its history, how long that is,
 -- and how the nodes are taken out of their locks one after another.
-use Rattle.std.proofs.Common.{◌≡◌, ℕ, ◌≤◌, Option, Some, None, IsSome, List, [], ◌∷◌, ◌++◌, length, slice_get, slice_index_or, refl, ap, ◌∙◌, subst, subst₂, arith, ◌+◌, ◌<◌, sym, inl, inr, ◌⊎◌, zero, suc}
+use Rattle.std.proofs.Common.{◌≡◌, ℕ, ◌≤◌, Option, Some, None, IsSome, List, [], ◌∷◌, ◌++◌, length, slice_get, refl, ap, ◌∙◌, subst, subst₂, arith, ◌+◌, ◌<◌, sym, inl, inr}
 use Rattle.std.proofs.lemmas.List.{append-nil, length-append}
 use Rattle.std.proofs.lemmas.Option.{slice_get_within, get_or_from_slice_get, same_Some}
 use Rattle.wire_msg.specs.Envelope.{Envelope}
@@ -15,15 +15,15 @@ use Rattle.node_lock.specs.declared.worker.Worker.TheVariants.{Intake, Clock, Op
 use Rattle.node_lock.specs.Path.{Path}
 use Rattle.node_lock.specs.Asking.{IsAsked, Asked}
 use Rattle.node_lock.specs.Planned.{Planned, plan_len, turns_of, with_turn, no_turns}
-use Rattle.node_lock.specs.History.{Turn, FollowsPlans, PlanStep, entries_of, polled, from_link, listed}
+use Rattle.node_lock.specs.History.{Turn, FollowsPlans, PlanStep, entries_of, polled}
 use Rattle.node_lock.specs.HeldView.{HeldView, Kept, IsPutLink, IsTakeLink, IsPolled}
-use Rattle.node_lock.proofs.Keeping.{from_nothing}
+use Rattle.node_lock.proofs.PublicLaws.{from_nothing}
 use Rattle.node_lock.specs.declared.held.TheConstants.{MOST_ENTRIES}
 use Rattle.node_lock.specs.Kept.{Log}
 use Rattle.node_threads.specs.Nodes.{NodeEnds, run_at}
 use Rattle.node_threads.specs.Ended.{HasEnded, AreEnded}
 use Rattle.node_threads.specs.Whole.{IsInterleaving}
-use Rattle.node_threads.proofs.Places.{among_at, place_of, at_or_before}
+use Rattle.node_threads.proofs.Places.{among_at, place_of, at_or_before, get_before, get_last}
 use Rattle.node_threads.specs.declared.size.Size.{Size}
 use Rattle.node_threads.specs.Reasons.{planned, FirstFit}
 
@@ -57,10 +57,6 @@ nothing_by : (o : Option Envelope) → (IsSome o → ⊥) → o ≡ None
 nothing_by None h = refl
 nothing_by (Some m) h = absurd (h refl)
 
--- nothing waits where no plan has a turn left
-nothing_waits : (h : HeldView) → Kept h → ((w : Worker) → plan_len h.plans w ≤ turns_of h.turns w) → h.waiting ≡ None
-nothing_waits h k ended = nothing_by h.waiting (λ s. let lt = k.waiting s in let least = ended Intake in absurd (omega (arith, lt, least)))
-
 -- ---- the facts
 
 -- all that was taken from the link was found by polls of the history
@@ -78,31 +74,24 @@ pub record Facts (run : Run) (plan : Planned) (history : List Turn) (ends : Node
 take_link : (h : HeldView) (t : Side) → h.waiting ≡ None → IsTakeLink h t → IsAllTaken h.run h.plans h.history t
 take_link h t none is = record {
   receiver = is.receiver;
-  messages =
-      let plan = h.plans.intake in
-      is.messages ∙ (ap (λ (o : Option Envelope). polled plan t.sender h.history ++ from_link plan t.sender h.turns.intake (listed o)) none
-      ∙ (ap (λ (ms : List Envelope). polled plan t.sender h.history ++ ms) (from_nothing plan t.sender h.turns.intake [] refl) ∙ append-nil (polled plan t.sender h.history)));
-}
-
-facts_of : (h : HeldView) → Kept h → ((w : Worker) → plan_len h.plans w ≤ turns_of h.turns w) → Facts h.run h.plans h.history (record { puts = h.puts; takes = h.takes })
-facts_of h k used_up = record {
-  follows = k.replay.follows;
-  interleaved = interleaves h.plans h.history h.turns k.turns used_up;
-  puts = λ x is. let at = among_at x h.puts is in subst (IsPutLink h.run h.history) at.2 (k.puts at.0 x at.1).0;
-  takes = λ x is. let at = among_at x h.takes is in take_link h x (nothing_waits h k used_up) (subst (IsTakeLink h) at.2 (k.takes at.0 x at.1).0);
-  polls = λ i j at.
-      let within = slice_get_within h.plans.intake i j at in
-      let named : slice_index_or h.plans.intake i 0 ≡ j = get_or_from_slice_get h.plans.intake i j 0 at in
-      subst (IsPolled h.run) named (k.intake i 0 within);
+  messages = rw (none, from_nothing h.plans.intake t.sender h.turns.intake [] refl, append-nil (polled h.plans.intake t.sender h.history)) at is.messages;
 }
 
 pub facts : (run : Run) (plan : Planned) (history : List Turn) (ends : NodeEnds) → HasEnded run plan history ends → Facts run plan history ends
 facts run plan history ends e =
     let h = e.view in
-    let known : Facts h.run h.plans h.history (record { puts = h.puts; takes = h.takes }) = facts_of h e.kept e.used_up in
-    subst₂ (λ (r : Run) (p : Planned). Facts r p history ends) e.is_run e.is_plan
-    (subst (λ (ts : List Turn). Facts h.run h.plans ts ends) e.is_history
-    (subst₂ (λ (s t : List Side). Facts h.run h.plans h.history (record { puts = s; takes = t })) e.is_puts e.is_takes known))
+    let none = nothing_by h.waiting (λ s. let lt = e.kept.waiting s in let least = e.used_up Intake in absurd (omega (arith, lt, least))) in
+    record {
+      follows = rw (e.is_run, e.is_history) at e.kept.replay.follows;
+      interleaved = rw (e.is_plan, e.is_history) at (interleaves h.plans h.history h.turns e.kept.turns e.used_up);
+      puts = λ x is. let at = among_at x h.puts (rw e.is_puts is) in rw (at.2, e.is_run, e.is_history) at (e.kept.puts at.0 x at.1).0;
+      takes = λ x is.
+          let at = among_at x h.takes (rw e.is_takes is) in
+          rw (e.is_run, e.is_plan, e.is_history) at (take_link h x none (rw at.2 at (e.kept.takes at.0 x at.1).0));
+      polls = λ i j is.
+          let at : slice_get h.plans.intake i ≡ Some j = rw e.is_plan is in
+          rw (get_or_from_slice_get h.plans.intake i j 0 at, e.is_run) at (e.kept.intake i 0 (slice_get_within h.plans.intake i j at));
+    }
 
 -- the turns of all three workers
 abbrev taken : Turns → ℕ
@@ -123,11 +112,11 @@ as_many : (p : Planned) (ts : List Turn) (c : Turns) → FollowsPlans p ts c →
 as_many p ts c follows = let all = all_taken p no_turns ts c follows in omega (arith, all)
 
 -- all turns were taken, so there was room for them
-fits : (h : HeldView) → Kept h → ((w : Worker) → plan_len h.plans w ≤ turns_of h.turns w) → planned h.plans ≤ MOST_ENTRIES
-fits h k used_up = omega (arith, as_many h.plans h.history h.turns k.turns, k.few, used_up Intake, used_up Clock, used_up Operator)
-
 pub ended_fits : (run : Run) (plan : Planned) (history : List Turn) (ends : NodeEnds) → HasEnded run plan history ends → planned plan ≤ MOST_ENTRIES
-ended_fits run plan history ends e = subst (λ (p : Planned). planned p ≤ MOST_ENTRIES) e.is_plan (fits e.view e.kept e.used_up)
+ended_fits run plan history ends e =
+    let h = e.view in
+    subst (λ (p : Planned). planned p ≤ MOST_ENTRIES) e.is_plan
+    (omega (arith, as_many h.plans h.history h.turns e.kept.turns, e.kept.few, e.used_up Intake, e.used_up Clock, e.used_up Operator))
 
 -- the history is full, and a worker has turns left
 pub is_more : (h : HeldView) (w : Worker) → Kept h → MOST_ENTRIES ≤ length h.history → turns_of h.turns w < plan_len h.plans w → (MOST_ENTRIES < planned h.plans) × (0 < plan_len h.plans w)
@@ -140,13 +129,6 @@ is_more h w k full left = (by_worker w left, omega (arith, left))
     by_worker Intake lt = omega (arith, as_many h.plans h.history h.turns k.turns, full, lt, within.1, within.2)
     by_worker Clock lt = omega (arith, as_many h.plans h.history h.turns k.turns, full, lt, within.0, within.2)
     by_worker Operator lt = omega (arith, as_many h.plans h.history h.turns k.turns, full, lt, within.0, within.1)
-
--- the same, as it is told once the lock is open
-pub is_more_as : (h : HeldView) (w : Worker) (p q : Planned) (ts : List Turn) → Kept h → ts ≡ h.history → q ≡ h.plans → q ≡ p → MOST_ENTRIES ≤ length ts → (plan_len h.plans w ≤ turns_of h.turns w → ⊥)
-    → (MOST_ENTRIES < planned p) × (0 < plan_len p w)
-is_more_as h w p q ts k history plans same full left =
-    subst (λ (x : Planned). (MOST_ENTRIES < planned x) × (0 < plan_len x w)) (sym plans ∙ same)
-    (is_more h w k (subst (λ (l : List Turn). MOST_ENTRIES ≤ length l) history full) (omega (arith, left)))
 
 -- where each node has ended, all plans fit
 pub all_fit : (size : Size) (plans : List Planned) (histories : List Log) (ends : List NodeEnds) → AreEnded size plans histories ends → FirstFit (length plans) plans
@@ -168,12 +150,9 @@ pub record AreEndedBelow (bound : ℕ) (size : Size) (plans : List Planned) (his
   pub ends_count : length ends ≡ bound
   pub each : (n : ℕ) (p : Planned) (h : Log) (e : NodeEnds) → slice_get plans n ≡ Some p → slice_get histories n ≡ Some h → slice_get ends n ≡ Some e → HasEnded (run_at size n) p h.turns e
 
--- what stands in a list that was added to stood there, or was added
-added : {A : Type 0} (xs : List A) (x y : A) (k : ℕ) → slice_get (xs ++ x ∷ []) k ≡ Some y → (slice_get xs k ≡ Some y) ⊎ ((k ≡ length xs) × (x ≡ y))
-added [] x y zero at = inr (refl, same_Some x y at)
-added [] x y (suc k) at = absurd cc
-added (z ∷ xs) x y zero at = inl at
-added (z ∷ xs) x y (suc k) at = elim (added xs x y k at) [ inl before ↦ inl before | inr last ↦ inr (ap suc last.0, last.1) ]
+-- what stands at the end of a list that was added to
+last_of : {A : Type 0} (xs : List A) (x y : A) (k : ℕ) → k ≡ length xs → slice_get (xs ++ x ∷ []) k ≡ Some y → y ≡ x
+last_of xs x y k here at = same_Some y x (sym at ∙ get_last xs k x here)
 
 pub none_ended : (size : Size) (plans : List Planned) → AreEndedBelow 0 size plans [] []
 none_ended size plans = record { history_count = refl; ends_count = refl; each = λ n p h e at_plan at at'. absurd cc }
@@ -186,22 +165,12 @@ ended_more bound size plans histories ends plan log mine hs es logs_are ends_are
     subst₂ (λ xs ys. AreEndedBelow (bound + 1) size plans xs ys) (sym logs_are) (sym ends_are) (record {
       history_count = omega (arith, many, length-append histories (log ∷ []));
       ends_count = omega (arith, many', length-append ends (mine ∷ []));
-      each = λ n p h e at_plan at at'. elim (added histories log h n at) [
-        | inl before ↦ elim (added ends mine e n at') [
-          | inl before' ↦ all.each n p h e at_plan before before'
-          | inr last ↦ (let lt = slice_get_within histories n h before in let at_end = last.0 in absurd (omega (arith, lt, many, many', at_end)))
-        ]
-        | inr last ↦ elim (added ends mine e n at') [
-          | inl before' ↦ (let lt = slice_get_within ends n e before' in let at_end = last.0 in absurd (omega (arith, lt, many, many', at_end)))
-          | inr last' ↦ (
-              let here : bound ≡ n = sym (last.0 ∙ many) in
-              let same : plan ≡ p = same_Some plan p (sym plan_at ∙ (ap (slice_get plans) here ∙ at_plan)) in
-              subst (λ (k : ℕ). HasEnded (run_at size k) p h.turns e) here
-              (subst (λ (q : Planned). HasEnded (run_at size bound) q h.turns e) same
-              (subst (λ (l : Log). HasEnded (run_at size bound) plan l.turns e) last.1
-              (subst (λ (o : NodeEnds). HasEnded (run_at size bound) plan log.turns o) last'.1 has))))
-        ]
-      ];
+      each = λ n p h e at_plan at at'.
+          let lt : n < bound + 1 = omega (arith, slice_get_within (histories ++ log ∷ []) n h at, many, length-append histories (log ∷ [])) in
+          elim (at_or_before n bound lt) [
+            | inl before ↦ all.each n p h e at_plan (get_before histories n h log (omega (arith, before, many)) at) (get_before ends n e mine (omega (arith, before, many')) at')
+            | inr here ↦ rw (here, same_Some p plan (sym at_plan ∙ (ap (slice_get plans) here ∙ plan_at)), last_of histories log h n (here ∙ sym many) at, last_of ends mine e n (here ∙ sym many') at') has
+          ];
     })
 
 pub all_ended : (size : Size) (plans : List Planned) (histories : List Log) (ends : List NodeEnds) → AreEndedBelow (length plans) size plans histories ends → AreEnded size plans histories ends

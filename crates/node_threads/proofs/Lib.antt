@@ -1,4 +1,5 @@
-pub mod Places
-pub mod Facts
-pub mod Runs
-pub mod Links
+mod Places
+mod Facts
+mod Runs
+mod Links
+pub mod PublicLaws

@@ -3,7 +3,7 @@ use Rattle.std.proofs.Common.{◌≡◌, ◌≢◌, ℕ, ◌+◌, ◌<◌, ◌�
 use Rattle.std.proofs.lemmas.Bool.{cases_eq, cases_lt}
 use Rattle.std.proofs.lemmas.List.{length-append, get_or_append_left, get_or_push}
 use Rattle.std.proofs.lemmas.Option.{slice_get_within, get_or_from_slice_get, same_Some}
-use Rattle.link_ring.specs.Sides.{Side, unused, Paired}
+use Rattle.link_ring.specs.Sides.{Side, unused}
 use Rattle.link_ring.specs.declared.gathering.LinkEnd.{LinkEnd}
 use Rattle.histories.specs.Lists.{IsAmong}
 use Rattle.node_lock.specs.HeldView.{IsOther}
@@ -238,18 +238,6 @@ next_place s r k many more ne len other = elim (cases_lt s r) [
   | inr ge ↦ elim (cases_lt k s) [ inl less ↦ omega (arith, other.0 less, len.1 ge) | inr above ↦ absurd (ne (omega (arith, other.1 above, above, ge))) ]
 ]
 
--- what gathering one link gives
-pub record IsJoined (p t : Side) (link : LinkEnd) : Type 0 where
-  pub paired : Paired p t
-  pub sender : link.sender ≡ p.sender
-  pub receiver : link.receiver ≡ p.receiver
-  pub put : link.put.messages ≡ p.messages
-  pub taken : link.taken.messages ≡ t.messages
-
-link_of : (from to : NodeEnds) (link : LinkEnd) (p t : Side) → IsAmong p from.puts → IsAmong t to.takes → IsJoined p t link → IsLinkOf from to link
-link_of from to link p t put take j =
-    record { put_end = p; take_end = t; is_put = put; is_take = take; paired = j.paired; sender = j.sender; receiver = j.receiver; put = j.put; taken = j.taken }
-
 -- what is left of a node's ends, where it has a place
 part_at : (old ends : List NodeEnds) (n : ℕ) (e : NodeEnds) → AreParts old ends → slice_get ends n ≡ Some e → IsPartOf (slice_index_or old n e) e
 part_at old ends n e all at =
@@ -257,7 +245,7 @@ part_at old ends n e all at =
     subst (λ (v : NodeEnds). IsPartOf v e) (sym (get_or_from_slice_get old n o.0 e o.1)) (all.each n o.0 e o.1 at)
 
 -- a link more: its ends are the next ones of both nodes
-pub gathers : (s r : ℕ) (ends old new : List NodeEnds) (links more grown : List LinkEnd) (p t : Side) (link : LinkEnd) → grown ≡ more ++ link ∷ [] → TookEnds s r p t old new → r ≢ s → IsJoined p t link → IsGathering s r ends old links more → IsGathering s (r + 1) ends new links grown
+pub gathers : (s r : ℕ) (ends old new : List NodeEnds) (links more grown : List LinkEnd) (p t : Side) (link : LinkEnd) → grown ≡ more ++ link ∷ [] → TookEnds s r p t old new → r ≢ s → ((from to : NodeEnds) → IsAmong p from.puts → IsAmong t to.takes → IsLinkOf from to link) → IsGathering s r ends old links more → IsGathering s (r + 1) ends new links grown
 gathers s r ends old new links more grown p t link is took ne joined all = subst (IsGathering s (r + 1) ends new links) (sym is) (record {
   parts = parts_of_parts new old ends (less_left old new s r p t took) all.parts;
   len = subst (λ (n : ℕ). (s < r + 1 → n + 1 ≡ length links + (r + 1)) × (r + 1 ≤ s → n ≡ length links + (r + 1))) (sym (length-append more (link ∷ []))) (next_len s r (length links) (length more) ne all.len);
@@ -268,7 +256,7 @@ gathers s r ends old new links more grown p t link is took ne joined all = subst
         let to_at : slice_get ends r ≡ Some to = subst (λ (m : ℕ). slice_get ends m ≡ Some to) here at' in
         let put = (part_at old ends s from all.parts at).puts p (subst (IsAmong p) (sym (took.put from)) (inl refl)) in
         let take = (part_at old ends r to all.parts to_at).takes t (subst (IsAmong t) (sym (took.take to)) (inl refl)) in
-        (link, get_last more (length links + k) link (next_place s r k (length links) (length more) ne all.len (subst (IsOther s k) here other)), link_of from to link p t put take joined))
+        (link, get_last more (length links + k) link (next_place s r k (length links) (length more) ne all.len (subst (IsOther s k) here other)), joined from to put take))
   ];
 })
 
@@ -304,8 +292,17 @@ sender_gathered sender ends left rest links more all new = record {
         let place : length links + k ≡ i * (length ends - 1) + k = ap (λ (n : ℕ). n + k) (all.count ∙ ap (λ (n : ℕ). n * (length ends - 1)) (sym here)) in (
           l.0,
           ap (slice_get more) (sym place) ∙ l.1,
-          link_of from to l.0 l.2.put_end l.2.take_end (a_part.puts l.2.put_end l.2.is_put) (b_part.takes l.2.take_end l.2.is_take)
-              (record { paired = l.2.paired; sender = l.2.sender; receiver = l.2.receiver; put = l.2.put; taken = l.2.taken }),
+          (record {
+            put_end = l.2.put_end;
+            take_end = l.2.take_end;
+            is_put = a_part.puts l.2.put_end l.2.is_put;
+            is_take = b_part.takes l.2.take_end l.2.is_take;
+            paired = l.2.paired;
+            sender = l.2.sender;
+            receiver = l.2.receiver;
+            put = l.2.put;
+            taken = l.2.taken;
+          }),
         ))
   ];
 }

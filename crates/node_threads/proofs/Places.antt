@@ -1,8 +1,9 @@
 -- Places of lists.
 use Rattle.std.proofs.Common.{◌≡◌, ◌≢◌, ℕ, zero, suc, ◌+◌, ◌<◌, ◌⊎◌, Some, List, [], ◌∷◌, ◌++◌, map, length, slice_get, slice_index_or, get_or, refl, ap, sym, ◌∙◌, subst, inl, inr, arith}
-use Rattle.std.proofs.lemmas.Option.{slice_get-get_or, same_Some}
+use Rattle.std.proofs.lemmas.Option.{slice_get-get_or, slice_get_within, same_Some}
 use Rattle.histories.specs.Lists.{IsAmong}
 use Rattle.node_lock.specs.declared.run.Run.{Run}
+use Rattle.node_lock.proofs.PublicLaws.{get_same, get_again}
 use Rattle.node_lock.specs.Planned.{Planned}
 use Rattle.node_threads.specs.declared.size.Size.{Size}
 use Rattle.node_threads.specs.Nodes.{PollOthers, run_at}
@@ -29,15 +30,14 @@ at_or_before k n lt = grind (arith, lt)
 
 -- what stands in a list stays there when the list is added to
 pub get_more : {A : Type 0} (xs ys : List A) (k : ℕ) (x : A) → slice_get xs k ≡ Some x → slice_get (xs ++ ys) k ≡ Some x
-get_more [] ys k x at = absurd cc
-get_more (y ∷ xs) ys zero x at = at
-get_more (y ∷ xs) ys (suc k) x at = get_more xs ys k x at
+get_more xs ys k x at = get_same xs ys k (slice_get_within xs k x at) ∙ at
+
+pub get_before : {A : Type 0} (xs : List A) (k : ℕ) (x y : A) → k < length xs → slice_get (xs ++ y ∷ []) k ≡ Some x → slice_get xs k ≡ Some x
+get_before xs k x y lt at = sym (get_same xs (y ∷ []) k lt) ∙ at
 
 -- and what is added stands behind it
 pub get_last : {A : Type 0} (xs : List A) (k : ℕ) (x : A) → k ≡ length xs → slice_get (xs ++ x ∷ []) k ≡ Some x
-get_last [] k x is = rw is refl
-get_last (y ∷ xs) zero x is = absurd cc
-get_last (y ∷ xs) (suc k) x is = get_last xs k x (omega (arith, is))
+get_last xs k x is = rw is (get_again xs x)
 
 -- what a node's intake polls, by the plan that stands at its place
 pub polls_of : (size : Size) (plans : List Planned) (run : Run) (at node : ℕ) (own p : Planned) → PollOthers plans → length plans ≡ size.nodes → node < length plans → own ≡ get_or plans node own → p ≡ own → run ≡ run_at size at → at ≡ node

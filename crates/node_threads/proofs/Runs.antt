@@ -12,11 +12,8 @@ use Rattle.histories.specs.Lists.{IsAmong, Each}
 use Rattle.histories.specs.What.{brought, event_of, Entry}
 use Rattle.histories.specs.NodeState.{opening}
 use Rattle.histories.specs.History.{sent_in, brought_in, Follows}
-use Rattle.histories.proofs.Among.{among_left, among_right, among_either, each_at, each_of, sent_of_one}
-use Rattle.histories.proofs.OwnMessages.{senders}
+use Rattle.histories.proofs.PublicLaws.{among_left, among_right, among_either, each_at, each_of, sent_of_one, senders, each_bundle_rises, one_book, one_coordinator, one_task}
 use Rattle.histories.specs.Bundle.{Bundle, sent_by_all}
-use Rattle.histories.proofs.Counts.{each_bundle_rises}
-use Rattle.histories.proofs.OneBooks.{one_book, one_coordinator, one_task}
 use Rattle.node_lock.specs.declared.run.Run.{Run}
 use Rattle.node_lock.specs.declared.worker.Turns.{Turns}
 use Rattle.node_lock.specs.declared.worker.Worker.{Worker}
@@ -27,8 +24,7 @@ use Rattle.node_lock.specs.Path.{Path}
 use Rattle.node_lock.specs.Planned.{Planned, no_turns}
 use Rattle.node_lock.specs.Sending.{PutsSome, addressed_to}
 use Rattle.node_lock.specs.History.{Turn, PlanStep, entries_of, polled, from_link}
-use Rattle.node_lock.proofs.Keeping.{from_nothing}
-use Rattle.node_lock.proofs.Telling.{none_of_tick, none_of_order}
+use Rattle.node_lock.proofs.PublicLaws.{from_nothing, none_of_tick, none_of_order}
 use Rattle.node_lock.specs.HeldView.{IsOther}
 use Rattle.node_lock.specs.Kept.{Log}
 use Rattle.node_threads.specs.Nodes.{NodeEnds, run_at}

@@ -8,10 +8,10 @@ use Rattle.node_core.specs.declared.phase.Phase.{Phase}
 use Rattle.node_core.specs.declared.phase.Phase.TheVariants.{Normal}
 use Rattle.pace.specs.declared.setting.Setting.{Setting}
 use Rattle.pace.specs.declared.timer.Timer.{Timer}
-use Rattle.pace.specs.declared.timer.Timer.TheVariants.{Check, Merge, Accept, Ready, Task, Coordinator, Answer}
+use Rattle.pace.specs.declared.timer.Timer.TheVariants.{Check}
 use Rattle.pace.specs.declared.deadline.Deadline.{Deadline}
 use Rattle.pace.specs.declared.sight.Sight.{Sight}
-use Rattle.pace.specs.Timers.{timer_of, due, longer_pause}
+use Rattle.pace.specs.Timers.{timer_of, event_of, due, longer_pause}
 
 -- the policy of a node: the deadline that is set, how many checks were fired and how many of them before each node was last
 -- heard, when work was last dispatched and how long after it the next is due
@@ -48,12 +48,7 @@ has_silent p members = list_any (is_silent p) members
 -- what is fired when a timer runs out: a coordinator gives its group up in place of one more check, where a member is silent
 abbrev pub event_at : Policy → List ℕ → Timer → Event
 event_at p members Check = if has_silent p members then on.Recover else on.CheckTimer
-event_at p members Merge = on.MergeTimer
-event_at p members Accept = on.AcceptTimer
-event_at p members Ready = on.ReadyTimer
-event_at p members Task = on.CoordTimer
-event_at p members Coordinator = on.CoordTimer
-event_at p members Answer = on.CoordTimer
+event_at p members timer = event_of timer
 
 -- this deadline is set, and is the one of the timer that runs where this is seen
 pub record Runs (p : Policy) (s : Sight) (d : Deadline) : Type 0 where

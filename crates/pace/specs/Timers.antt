@@ -26,9 +26,7 @@ event_of Check = on.CheckTimer
 event_of Merge = on.MergeTimer
 event_of Accept = on.AcceptTimer
 event_of Ready = on.ReadyTimer
-event_of Task = on.CoordTimer
-event_of Coordinator = on.CoordTimer
-event_of Answer = on.CoordTimer
+event_of timer = on.CoordTimer
 
 abbrev pub units_of : Setting → Timer → ℕ
 units_of s Check = s.check

@@ -31,15 +31,11 @@ invites s sender receiver group = (is_election s.phase && not (has s.up receiver
 -- answer to its question, who accepts its invitation, its task, or who has the task
 abbrev pub is_waited_for : Option ℕ → State → ℕ → ℕ → Body → Bool
 is_waited_for answered s sender receiver says.AreYouCoordinator = s.checking && not (is_of receiver answered)
-is_waited_for answered s sender receiver (says.Coordinator agreed) = false
 is_waited_for answered s sender receiver (says.AreYouThere group) = s.probing && same_group group s.group
-is_waited_for answered s sender receiver (says.Here group agreed) = false
 is_waited_for answered s sender receiver (says.Invitation group) = same_group group s.group && invites s sender receiver group
 is_waited_for answered s sender receiver (says.Accept group) = is_reorganization s.phase && same_group group s.group
 is_waited_for answered s sender receiver (says.Ready task) = is_reorganization s.phase && (same_group task.group s.group && has s.unready receiver)
-is_waited_for answered s sender receiver (says.ReadyAck group) = false
-is_waited_for answered s sender receiver (says.Work group id work) = false
-is_waited_for answered s sender receiver (says.Done id) = false
+is_waited_for answered s sender receiver body = false
 
 abbrev pub is_waited : Option ℕ → State → Envelope → Bool
 is_waited answered s m = is_waited_for answered s m.sender m.receiver m.body

@@ -27,17 +27,18 @@ impl Sight {
     pub fn of(id: NodeId, vector: &Vector, merge_wait: Option<u64>) -> Sight
         ensures { result ≡ sight_of id (state_of vector.now) merge_wait }
     {
-        let members = match &vector.task {
+        let standing = &vector.standing;
+        let members = match &standing.task {
             Some(task) => task.members(),
             None => Members::new(),
         };
         Sight {
-            phase: vector.phase,
-            is_coordinator: vector.coordinator.is(id),
-            group: vector.group,
+            phase: standing.phase,
+            is_coordinator: standing.coordinator.is(id),
+            group: standing.group,
             members,
-            checking: vector.checking,
-            probing: vector.probing,
+            checking: standing.checking,
+            probing: standing.probing,
             merge_wait,
         }
     }

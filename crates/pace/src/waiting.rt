@@ -120,24 +120,21 @@ fn push_waited(
 fn is_waited(answered: &Option<NodeId>, vector: &Vector, message: &Message) -> bool
     ensures { result ≡ is_waited answered.now (state_of vector.now) message.now }
 {
+    let standing = &vector.standing;
     let receiver = message.receiver();
     match message.body() {
-        Body::AreYouCoordinator => vector.checking && !is_of(receiver, answered),
-        Body::AreYouThere(group) => vector.probing && group.is(vector.group),
-        Body::Invitation(group) => group.is(vector.group) && invites(vector, message, *group),
+        Body::AreYouCoordinator => standing.checking && !is_of(receiver, answered),
+        Body::AreYouThere(group) => standing.probing && group.is(standing.group),
+        Body::Invitation(group) => group.is(standing.group) && invites(vector, message, *group),
         Body::Accept(group) => {
-            matches!(vector.phase, Phase::Reorganization) && group.is(vector.group)
+            matches!(standing.phase, Phase::Reorganization) && group.is(standing.group)
         }
         Body::Ready(task) => {
-            matches!(vector.phase, Phase::Reorganization)
-                && task.group().is(vector.group)
-                && vector.unready.contains(receiver)
+            matches!(standing.phase, Phase::Reorganization)
+                && task.group().is(standing.group)
+                && standing.unready.contains(receiver)
         }
-        Body::Coordinator(_)
-        | Body::Here(_, _)
-        | Body::ReadyAck(_)
-        | Body::Work { .. }
-        | Body::Done(_) => false,
+        _ => false,
     }
 }
 
@@ -145,8 +142,8 @@ fn is_waited(answered: &Option<NodeId>, vector: &Vector, message: &Message) -> b
 fn invites(vector: &Vector, message: &Message, group: GroupNo) -> bool
     ensures { result ≡ invites (state_of vector.now) message.now.sender message.now.receiver group }
 {
-    match vector.phase {
-        Phase::Election => !vector.up.contains(message.receiver()),
+    match vector.standing.phase {
+        Phase::Election => !vector.standing.up.contains(message.receiver()),
         Phase::Reorganization => !group.creator().is(message.sender()),
         Phase::Down | Phase::Normal => false,
     }

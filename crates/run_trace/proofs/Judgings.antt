@@ -14,19 +14,15 @@ use Rattle.trace_check.specs.Claims.{Claim, MayCome, after_claim, brought_by}
 use Rattle.trace_check.specs.Traces.{claim}
 use Rattle.run_trace.specs.Traced.{deed_of, claim_of, trace_in, IsTraceOf}
 use Rattle.histories.specs.Lists.{IsAmong, Each}
-use Rattle.histories.proofs.Among.{among_either, each_of}
+use Rattle.histories.proofs.PublicLaws.{among_either, each_of}
 use Rattle.schedule.specs.declared.act.Act.{Act}
-use Rattle.runs.specs.World.{World, openings, start}
-use Rattle.runs.specs.Step.{Step, Takes, Loses, Cuts, Mends, Denies, sent_after, world_after}
+use Rattle.runs.specs.World.{World, node_in, start}
+use Rattle.runs.specs.Step.{Step, Takes, Changes, Denies, world_after}
 use Rattle.runs.specs.Run.{IsAllowed, RunFrom, entry_at, history_in, histories_of}
-use Rattle.runs.proofs.Exact.{all_acts_run}
-use Rattle.runs.proofs.Grown.{step_length}
-use Rattle.runs.proofs.Opened.{length_openings}
-use Rattle.runs.proofs.Runs.{at_place, brought_sent, history_at, how_many, opened, state_elsewhere, state_here}
+use Rattle.runs.proofs.PublicLaws.{all_acts_run, step_length, length_openings, at_place, brought_sent, history_at, how_many, opened, state_elsewhere, state_here}
 use Rattle.trace_check.specs.Orders.{claims_of, history, taken, state_of, IsSent, MayTake, IsLegal}
 use Rattle.trace_check.specs.Verdicts.{IsRun, Turned}
-use Rattle.trace_check.proofs.Turning.{turns}
-use Rattle.trace_check.proofs.Turns.{none_past}
+use Rattle.trace_check.proofs.PublicLaws.{turns, none_past}
 use Rattle.run_trace.proofs.Tracings.{entry_here, entry_elsewhere}
 
 tells_so : (n nodes : ℕ) (s : NodeState) (what : What) → IsPossible n nodes s what
@@ -65,7 +61,7 @@ takes nodes hs w past n number what left at rest may =
     let s = may.0 in
     let there = may.1 in
     let after_it = world_after nodes w (Takes n number what) in
-    let es = sent_after n nodes (slice_get w.states n) what in
+    let es = sent_at n nodes (node_in w.states n) what in
     let c = claim (deed_of what) es in
     let here = rest n ∙ ap (λ (xs : List Entry). map claim_of (xs ++ history_in n nodes after_it left)) (entry_here n nodes w number what) in
     let next = next_of (history hs n) (taken n past) c (map claim_of (history_in n nodes after_it left)) here in
@@ -86,7 +82,7 @@ takes nodes hs w past n number what left at rest may =
       record {
         many = at.many;
         within = λ k. (let was = at.within k in grind arith);
-        states = λ k s' is. (let was = at.states k s' in let moved = t.state ∙ leaves in let here = state_here n k nodes what w.states s in let elsewhere = state_elsewhere n k nodes what (slice_get w.states n) w.states in grind arith);
+        states = λ k s' is. (let was = at.states k s' in let moved = t.state ∙ leaves in let here = state_here n k nodes what w.states s in let elsewhere = state_elsewhere n k nodes what w.states in grind arith);
         sent = λ m is. elim (among_either m w.net.sent es is) [ inl old ↦ t.keeps m (at.sent m old) | inr new ↦ t.adds m new ];
         legal = (taken_so, at.legal);
       },
@@ -98,10 +94,9 @@ to_the_end nodes hs [] w past at rest run = (past, at.legal, λ n. (let most = a
 to_the_end nodes hs (Takes n number what ∷ left) w past at rest run =
     let next = takes nodes hs w past n number what left at rest run.0 in
     to_the_end nodes hs left (world_after nodes w (Takes n number what)) (n ∷ past) next.0 next.1 run.1
-to_the_end nodes hs (Loses k ∷ left) w past at rest run = to_the_end nodes hs left (world_after nodes w (Loses k)) past at rest run.1
-to_the_end nodes hs (Cuts x y ∷ left) w past at rest run = to_the_end nodes hs left (world_after nodes w (Cuts x y)) past at rest run.1
-to_the_end nodes hs (Mends x y ∷ left) w past at rest run = to_the_end nodes hs left (world_after nodes w (Mends x y)) past at rest run.1
-to_the_end nodes hs (Denies why ∷ left) w past at rest run = to_the_end nodes hs left w past at rest run.1
+to_the_end nodes hs (Changes net ∷ left) w past at rest run =
+    to_the_end nodes hs left (world_after nodes w (Changes net)) past (subst (λ (ms : List Envelope). IsAt nodes hs w.states ms past) (sym run.0) at) rest run.1
+to_the_end nodes hs (Denies told why ∷ left) w past at rest run = to_the_end nodes hs left w past at rest run.1
 
 -- ---- the beginning
 
@@ -120,7 +115,7 @@ history_is : (nodes n : ℕ) (steps : List Step) → RunFrom nodes (start nodes)
 history_is nodes n steps run = elim (cases_lt n nodes) [
   | inr out ↦ none_past (trace_in (histories_of nodes steps)) n (let many = as_many nodes steps in omega (arith, many, out))
       ∙ sym (ap (map claim_of) (no_history n nodes steps (start nodes) (length_openings 0 nodes) out run))
-  | inl within ↦ (let o = at_place (openings 0 nodes) n (let many = length_openings 0 nodes in omega (arith, many, within)) in
+  | inl within ↦ (let o = at_place (start nodes).states n (let many = length_openings 0 nodes in omega (arith, many, within)) in
       ap claims_of (slice_get-map (λ (h : List Entry). map claim_of h) (histories_of nodes steps) n ∙ ap (λ (h : Option (List Entry)). option_map (map claim_of) h) (history_at nodes 0 n nodes steps o.0 n (omega arith) o.1)))
 ]
   where

@@ -1,2 +1,2 @@
-pub mod Tracings
-pub mod Judgings
+mod Tracings
+mod Judgings

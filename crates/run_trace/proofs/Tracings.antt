@@ -9,10 +9,10 @@ use Rattle.histories.specs.declared.what.What.{What}
 use Rattle.schedule.specs.declared.act.Act.{Act}
 use Rattle.sim_net.specs.declared.fault.NetFault.{NetFault}
 use Rattle.sim_net.specs.Network.{delivery, Network, after_all_sent}
-use Rattle.runs.specs.World.{World, start}
-use Rattle.runs.specs.Step.{Step, Takes, sent_after, world_after}
+use Rattle.runs.specs.World.{World, node_in, start}
+use Rattle.runs.specs.Step.{Step, Takes, world_after}
 use Rattle.runs.specs.Run.{entry_at, history_in, histories_from, world_at, IsAllowed, histories_of}
-use Rattle.runs.specs.Acts.{At, Brings, IsStepOf, ActOutcome, is_compaction, if_compaction, fall_outcome, what_outcome, IsRunOf, IsOfSlotsAt, StepOfSlots, node_outcome, outcome_of, act_outcome}
+use Rattle.runs.specs.Acts.{At, Brings, IsStepOf, ActOutcome, what_outcome, IsRunOf, StepOfSlots, act_outcome}
 use Rattle.run_trace.specs.declared.bringing.Brought.{Brought}
 use Rattle.run_trace.specs.declared.bringing.Brought.TheVariants.{Event, Recovery, Arming, Crash, Compaction}
 use Rattle.run_trace.specs.Bringing.{delivered, brought_by, CameOf}
@@ -22,9 +22,10 @@ use Rattle.node_core.specs.Start.{down}
 use Rattle.node_core.specs.State.{is_down, State}
 use Rattle.durable_node.specs.Node.{told_doubt, Node, Stands}
 use Rattle.durable_node.specs.Remounting.{IsKeptIn}
-use Rattle.durable_node.proofs.Settling.{settled_so}
+use Rattle.durable_node.proofs.PublicLaws.{settled_so}
 use Rattle.histories.specs.NodeState.{NodeState, settled}
 use Rattle.histories.specs.declared.what.What.TheVariants.{Did, Refused, Faulted, Rests, Crashed, Recovered, MountFailed, RaiseFailed, RaiseRefused}
+use Rattle.histories.specs.declared.what.Rest.TheVariants as resting
 use Rattle.trace_check.specs.declared.trace.Deed.TheVariants.{Nothing}
 use Rattle.histories.specs.What.{event_of, brought, Entry}
 use Rattle.histories.specs.After.{after, sent_at, found_at}
@@ -39,9 +40,7 @@ use Rattle.run_trace.specs.Traced.{deed_of, claim_of, trace_in, IsSoFar, HasWorl
 use Rattle.runs.specs.Growth.{IsNext}
 use Rattle.trace_check.specs.Claims.{Claim}
 use Rattle.sector_disk.specs.Memory.{Memory, state_of}
-use Rattle.runs.proofs.Grown.{step_length}
-use Rattle.runs.proofs.Opened.{length_openings}
-use Rattle.runs.proofs.Runs.{at_place, how_many}
+use Rattle.runs.proofs.PublicLaws.{step_length, length_openings, at_place, how_many, node_there}
 use Rattle.cluster_sim.specs.Machine.{Machine, StandsFor, Shows}
 use Rattle.trace_check.specs.Traces.{claim}
 use Rattle.node_core.specs.declared.event.Event.TheVariants as on
@@ -50,10 +49,27 @@ use Rattle.schedule.specs.declared.act.Act.TheVariants as act
 pub some_is : {A : Type 0} (x y : A) → Some x ≡ Some y → x ≡ y
 some_is x y is = cc
 
--- what would be told of it: a compaction in which the device failed is told as a fault
-abbrev pub as_told : Brought → What → ActOutcome → ActOutcome
-as_told Compaction what o = fall_outcome what o
-as_told b what o = o
+-- an act that brings such a thing
+abbrev pub bringing : Brought → Act
+bringing Compaction = act.Compact 0
+bringing b = act.Recover 0
+
+-- what came is told alike of any compaction, and alike of all other acts
+compaction_told : (self nodes first : ℕ) (s : NodeState) (n m : ℕ) (what : What) → what_outcome self nodes first s what (act.Compact n) ≡ what_outcome self nodes first s what (act.Compact m)
+compaction_told self nodes first s n m (Rests resting.Nothing) = refl
+compaction_told self nodes first s n m (Rests resting.Compacted) = refl
+compaction_told self nodes first s n m (Rests resting.CompactDown) = refl
+compaction_told self nodes first s n m (Rests resting.CompactWorn) = refl
+compaction_told self nodes first s n m _ = refl
+
+other_told : (self nodes first : ℕ) (s : NodeState) (a : Act) (what : What) → ((n : ℕ) → a ≡ act.Compact n → ⊥) → what_outcome self nodes first s what a ≡ what_outcome self nodes first s what (act.Recover 0)
+other_told self nodes first s (act.Compact n) Crashed none = absurd (none n refl)
+other_told self nodes first s _ Crashed none = refl
+other_told self nodes first s a (Rests resting.Nothing) none = refl
+other_told self nodes first s a (Rests resting.Compacted) none = refl
+other_told self nodes first s a (Rests resting.CompactDown) none = refl
+other_told self nodes first s a (Rests resting.CompactWorn) none = refl
+other_told self nodes first s a _ none = refl
 
 -- The step is one of this node, to which this was brought; another outcome of it would be a step of the act too.
 pub record IsStepAt (steps : Step → Type 0) (a : Act) (n : ℕ) (b : Brought) (step : Step) : Type 0 where
@@ -62,44 +78,45 @@ pub record IsStepAt (steps : Step → Type 0) (a : Act) (n : ℕ) (b : Brought) 
   pub is : step ≡ Takes n number what
   pub came : CameOf b what
   pub again : (other : What) → CameOf b other → steps (Takes n number other)
-  pub told : (o : ActOutcome) → if_compaction (is_compaction a) (Takes n number what) o ≡ as_told b what o
+  pub plain : b ≢ Event on.Recover
+  pub told : (self nodes first : ℕ) (s : NodeState) → what_outcome self nodes first s what a ≡ what_outcome self nodes first s what (bringing b)
 
 -- what comes to a node, if it is one of the cluster
 abbrev if_there : Bool → ℕ × Brought → Option (ℕ × Brought)
 if_there t comes = if t then Some comes else None
 
-comes_at : (a : Act) (t : Bool) (m number : ℕ) (b : Brought) (n : ℕ) (c : Brought) (step : Step) → ((what : What) (o : ActOutcome) → if_compaction (is_compaction a) (Takes m number what) o ≡ as_told b what o)
+comes_at : (a : Act) (t : Bool) (m number : ℕ) (b : Brought) (n : ℕ) (c : Brought) (step : Step) → b ≢ Event on.Recover → ((what : What) (self nodes first : ℕ) (s : NodeState) → what_outcome self nodes first s what a ≡ what_outcome self nodes first s what (bringing b))
     → if_there t (m, b) ≡ Some (n, c) → At t m number (CameOf b) step → IsStepAt (At t m number (CameOf b)) a n c step
-comes_at a true m number b n c step told is at =
+comes_at a true m number b n c step plain told is at =
     let x : ℕ × Brought = (m, b) in
     let y : ℕ × Brought = (n, c) in
     let same : x ≡ y = some_is x y is in
     subst (λ (p : ℕ × Brought). IsStepAt (At true m number (CameOf b)) a p.0 p.1 step) same
-    (record { number = number; what = at.0; is = at.1; came = at.2; again = λ other came. (other, refl, came); told = told at.0 })
-comes_at a false m number b n c step told is at = absurd cc
+    (record { number = number; what = at.0; is = at.1; came = at.2; again = λ other came. (other, refl, came); plain = plain; told = told at.0 })
+comes_at a false m number b n c step plain told is at = absurd cc
 
-delivers_at : (nodes k : ℕ) (r : Result Envelope NetFault) (n : ℕ) (c : Brought) (step : Step)
-    → option_and_then (λ (comes : ℕ × Brought). if nat_lt comes.0 nodes then Some comes else None) (delivered r) ≡ Some (n, c) → Brings nodes k r step → IsStepAt (Brings nodes k r) (act.Deliver k) n c step
-delivers_at nodes k (Ok m) n c step is brings = comes_at (act.Deliver k) (nat_lt m.receiver nodes) m.receiver k (Event (on.Deliver m)) n c step (λ what o. refl) is brings
-delivers_at nodes k (Err why) n c step is brings = absurd cc
+delivers_at : (nodes : ℕ) (net : Network) (k : ℕ) (r : Result Envelope NetFault) (n : ℕ) (c : Brought) (step : Step)
+    → option_and_then (λ (comes : ℕ × Brought). if nat_lt comes.0 nodes then Some comes else None) (delivered r) ≡ Some (n, c) → Brings nodes net k r step → IsStepAt (Brings nodes net k r) (act.Deliver k) n c step
+delivers_at nodes net k (Ok m) n c step is brings = comes_at (act.Deliver k) (nat_lt m.receiver nodes) m.receiver k (Event (on.Deliver m)) n c step (λ e. cc) (λ what self size first s. other_told self size first s _ what (λ k e. cc)) is brings
+delivers_at nodes net k (Err why) n c step is brings = absurd cc
 
 pub step_at : (nodes : ℕ) (w : World) (a : Act) (n : ℕ) (b : Brought) (step : Step) → brought_by nodes w.net a ≡ Some (n, b) → IsStepOf nodes w a step → IsStepAt (IsStepOf nodes w a) a n b step
-step_at nodes w (act.Check m) n b step is of = comes_at (act.Check m) (nat_lt m nodes) m 0 (Event on.CheckTimer) n b step (λ what o. refl) is of
-step_at nodes w (act.Merge m) n b step is of = comes_at (act.Merge m) (nat_lt m nodes) m 0 (Event on.MergeTimer) n b step (λ what o. refl) is of
-step_at nodes w (act.Accept m) n b step is of = comes_at (act.Accept m) (nat_lt m nodes) m 0 (Event on.AcceptTimer) n b step (λ what o. refl) is of
-step_at nodes w (act.Ready m) n b step is of = comes_at (act.Ready m) (nat_lt m nodes) m 0 (Event on.ReadyTimer) n b step (λ what o. refl) is of
-step_at nodes w (act.Coord m) n b step is of = comes_at (act.Coord m) (nat_lt m nodes) m 0 (Event on.CoordTimer) n b step (λ what o. refl) is of
-step_at nodes w (act.Dispatch m) n b step is of = comes_at (act.Dispatch m) (nat_lt m nodes) m 0 (Event on.DispatchTimer) n b step (λ what o. refl) is of
-step_at nodes w (act.Deliver k) n b step is of = delivers_at nodes k (delivery w.net k) n b step is of
+step_at nodes w (act.Check m) n b step is of = comes_at (act.Check m) (nat_lt m nodes) m 0 (Event on.CheckTimer) n b step (λ e. cc) (λ what self size first s. other_told self size first s _ what (λ k e. cc)) is of
+step_at nodes w (act.Merge m) n b step is of = comes_at (act.Merge m) (nat_lt m nodes) m 0 (Event on.MergeTimer) n b step (λ e. cc) (λ what self size first s. other_told self size first s _ what (λ k e. cc)) is of
+step_at nodes w (act.Accept m) n b step is of = comes_at (act.Accept m) (nat_lt m nodes) m 0 (Event on.AcceptTimer) n b step (λ e. cc) (λ what self size first s. other_told self size first s _ what (λ k e. cc)) is of
+step_at nodes w (act.Ready m) n b step is of = comes_at (act.Ready m) (nat_lt m nodes) m 0 (Event on.ReadyTimer) n b step (λ e. cc) (λ what self size first s. other_told self size first s _ what (λ k e. cc)) is of
+step_at nodes w (act.Coord m) n b step is of = comes_at (act.Coord m) (nat_lt m nodes) m 0 (Event on.CoordTimer) n b step (λ e. cc) (λ what self size first s. other_told self size first s _ what (λ k e. cc)) is of
+step_at nodes w (act.Dispatch m) n b step is of = comes_at (act.Dispatch m) (nat_lt m nodes) m 0 (Event on.DispatchTimer) n b step (λ e. cc) (λ what self size first s. other_told self size first s _ what (λ k e. cc)) is of
+step_at nodes w (act.Deliver k) n b step is of = delivers_at nodes w.net k (delivery w.net k) n b step is of
 step_at nodes w (act.Lose k) n b step is of = absurd cc
 step_at nodes w (act.Cut x y) n b step is of = absurd cc
 step_at nodes w (act.Mend x y) n b step is of = absurd cc
-step_at nodes w (act.Submit m work) n b step is of = comes_at (act.Submit m work) (nat_lt m nodes) m 0 (Event (on.Submit work)) n b step (λ what o. refl) is of
-step_at nodes w (act.Finish m origin id) n b step is of = comes_at (act.Finish m origin id) (nat_lt m nodes) m 0 (Event (on.Finish origin id)) n b step (λ what o. refl) is of
-step_at nodes w (act.Arm m calls) n b step is of = comes_at (act.Arm m calls) (nat_lt m nodes) m 0 Arming n b step (λ what o. refl) is of
-step_at nodes w (act.Crash m fill) n b step is of = comes_at (act.Crash m fill) (nat_lt m nodes) m 0 Crash n b step (λ what o. refl) is of
-step_at nodes w (act.Recover m) n b step is of = comes_at (act.Recover m) (nat_lt m nodes) m 0 Recovery n b step (λ what o. refl) is of
-step_at nodes w (act.Compact m) n b step is of = comes_at (act.Compact m) (nat_lt m nodes) m 0 Compaction n b step (λ what o. refl) is of
+step_at nodes w (act.Submit m work) n b step is of = comes_at (act.Submit m work) (nat_lt m nodes) m 0 (Event (on.Submit work)) n b step (λ e. cc) (λ what self size first s. other_told self size first s _ what (λ k e. cc)) is of
+step_at nodes w (act.Finish m origin id) n b step is of = comes_at (act.Finish m origin id) (nat_lt m nodes) m 0 (Event (on.Finish origin id)) n b step (λ e. cc) (λ what self size first s. other_told self size first s _ what (λ k e. cc)) is of
+step_at nodes w (act.Arm m calls) n b step is of = comes_at (act.Arm m calls) (nat_lt m nodes) m 0 Arming n b step (λ e. cc) (λ what self size first s. other_told self size first s _ what (λ k e. cc)) is of
+step_at nodes w (act.Crash m fill) n b step is of = comes_at (act.Crash m fill) (nat_lt m nodes) m 0 Crash n b step (λ e. cc) (λ what self size first s. other_told self size first s _ what (λ k e. cc)) is of
+step_at nodes w (act.Recover m) n b step is of = comes_at (act.Recover m) (nat_lt m nodes) m 0 Recovery n b step (λ e. cc) (λ what self size first s. other_told self size first s _ what (λ k e. cc)) is of
+step_at nodes w (act.Compact m) n b step is of = comes_at (act.Compact m) (nat_lt m nodes) m 0 Compaction n b step (λ e. cc) (λ what self size first s. compaction_told self size first s m 0 what) is of
 
 -- ---- an act that comes to no node adds no entry
 
@@ -111,7 +128,7 @@ none_comes nodes w a step none of k = grind arith
 
 -- ---- one that does adds its entry to the history of its node, and to no other
 
-pub entry_here : (n nodes : ℕ) (w : World) (number : ℕ) (what : What) → entry_at n nodes w (Takes n number what) ≡ record { what = what; sent = sent_after n nodes (slice_get w.states n) what } ∷ []
+pub entry_here : (n nodes : ℕ) (w : World) (number : ℕ) (what : What) → entry_at n nodes w (Takes n number what) ≡ record { what = what; sent = sent_at n nodes (node_in w.states n) what } ∷ []
 entry_here n nodes w number what = rw (eq-eqb n n refl) refl
 
 pub entry_elsewhere : (n m nodes : ℕ) (w : World) (number : ℕ) (what : What) → m ≢ n → entry_at m nodes w (Takes n number what) ≡ []
@@ -134,10 +151,10 @@ ended_by o = ended (told o)
 module _ (slots n nodes first : ℕ) (s : NodeState) (rise : Rise) (doubt : Option (Wanted × ℕ)) (found : Option Durable) (in_doubt : doubt ≡ told_doubt s.durable s.doubt)
     (stood : IsRise (is_down s.state.phase) doubt found rise) where
   abbrev Retold : Brought → What → Type 0
-  Retold b what = IsRetold slots n nodes s b what (deed_told b rise (ended_by (as_told b what (what_outcome n nodes first s what))))
+  Retold b what = IsRetold slots n nodes s b what (deed_told b rise (ended_by (what_outcome n nodes first s what (bringing b))))
 
-  as_it_is : (b : Brought) (what : What) → CameOf b what → IsPossible n nodes s what → IsOfSlots slots n nodes s what → found ≡ found_at s what → (found_at s what ≡ None) ⊎ (deed_of what ≡ Nothing) → Retold b what
-  as_it_is b what came possible of_slots at none = record { other = what; came = came; possible = possible; of_slots = of_slots; brings = refl; leaves = refl; sends = refl; told = grind arith }
+  as_it_is : (b : Brought) (what : What) → b ≢ Event on.Recover → CameOf b what → IsPossible n nodes s what → IsOfSlots slots n nodes s what → found ≡ found_at s what → (found_at s what ≡ None) ⊎ (deed_of what ≡ Nothing) → Retold b what
+  as_it_is b what plain came possible of_slots at none = record { other = what; came = came; possible = possible; of_slots = of_slots; brings = refl; leaves = refl; sends = refl; told = grind arith }
 
   -- what was found has the command in doubt, or hasn't, as the flag tells
   mounted_at : (r : Rise) (kept : Bool) → IsRise (is_down s.state.phase) doubt found r → is_down s.state.phase ≡ true → IsSettling kept s.doubt → found ≡ Some (settled kept s)
@@ -148,20 +165,20 @@ module _ (slots n nodes first : ℕ) (s : NodeState) (rise : Rise) (doubt : Opti
       (flag, refl, so.0, sym so.1 ∙ found_it)
   mounted_at r kept is down settling some = absurd (let bad : true ≡ false = grind arith in cc)
 
-  pub retold : (b : Brought) (what : What) → CameOf b what → IsPossible n nodes s what → IsOfSlots slots n nodes s what → found ≡ found_at s what → Retold b what
-  retold b (Recovered kept) came possible of_slots at =
+  pub retold : (b : Brought) (what : What) → b ≢ Event on.Recover → CameOf b what → IsPossible n nodes s what → IsOfSlots slots n nodes s what → found ≡ found_at s what → Retold b what
+  retold b (Recovered kept) plain came possible of_slots at =
       let m = mounted_at rise kept stood possible.0 possible.1 at in
       record { other = Recovered m.0; came = (grind arith); possible = (possible.0, m.2, rw m.3 possible.2); of_slots = tt; brings = refl; leaves = rw m.3 refl; sends = refl; told = grind arith }
-  retold b (RaiseFailed kept) came possible of_slots at =
+  retold b (RaiseFailed kept) plain came possible of_slots at =
       let m = mounted_at rise kept stood possible.0 possible.1 at in
       record { other = RaiseFailed m.0; came = (grind arith); possible = (possible.0, m.2, rw m.3 possible.2); of_slots = tt; brings = refl; leaves = rw m.3 refl; sends = refl; told = grind arith }
-  retold b (Did e) came possible of_slots at = as_it_is b (Did e) came possible of_slots at (inl refl)
-  retold b (Refused e fault) came possible of_slots at = as_it_is b (Refused e fault) came possible of_slots at (inl refl)
-  retold b (Faulted e) came possible of_slots at = as_it_is b (Faulted e) came possible of_slots at (inl refl)
-  retold b (Rests rest) came possible of_slots at = as_it_is b (Rests rest) came possible of_slots at (inl refl)
-  retold b Crashed came possible of_slots at = as_it_is b Crashed came possible of_slots at (inl refl)
-  retold b MountFailed came possible of_slots at = as_it_is b MountFailed came possible of_slots at (inl refl)
-  retold b (RaiseRefused kept) came possible of_slots at = as_it_is b (RaiseRefused kept) came possible of_slots at (inr refl)
+  retold b (Did e) plain came possible of_slots at = as_it_is b (Did e) plain came possible of_slots at (inl refl)
+  retold b (Refused e fault) plain came possible of_slots at = as_it_is b (Refused e fault) plain came possible of_slots at (inl refl)
+  retold b (Faulted e) plain came possible of_slots at = as_it_is b (Faulted e) plain came possible of_slots at (inl refl)
+  retold b (Rests rest) plain came possible of_slots at = as_it_is b (Rests rest) plain came possible of_slots at (inl refl)
+  retold b Crashed plain came possible of_slots at = as_it_is b Crashed plain came possible of_slots at (inl refl)
+  retold b MountFailed plain came possible of_slots at = as_it_is b MountFailed plain came possible of_slots at (inl refl)
+  retold b (RaiseRefused kept) plain came possible of_slots at = as_it_is b (RaiseRefused kept) plain came possible of_slots at (inr refl)
 
 pub acts_go_on : (nodes slots : ℕ) (acts : List Act) (steps : List Step) (w : World) (a : Act) (step : Step) → IsRunOf nodes slots w acts steps → IsNext nodes slots (world_at nodes w steps) a step
     → IsRunOf nodes slots w (acts ++ a ∷ []) (steps ++ step ∷ [])
@@ -254,23 +271,24 @@ traced nodes slots before a n b rise e old new was now place sent trace trace' s
     let allowed : IsAllowed size w step = subst (λ (x : Step). IsAllowed size w x) at.is acted.next.allowed in
     let s = allowed.0 in
     let there : slice_get w.states n ≡ Some s = allowed.1 in
-    let fits = subst (λ (p : Option NodeState). IsOfSlotsAt new.slots n size p at.what) there (subst (λ (x : Step). StepOfSlots new.slots size w x) at.is acted.next.of_slots) in
+    let is_s : node_in w.states n ≡ s = node_there w.states n s there in
+    let fits = subst (λ (x : NodeState). IsOfSlots new.slots n size x at.what) is_s (subst (λ (x : Step). StepOfSlots new.slots size w x) at.is acted.next.of_slots) in
     let node : Stands state_of was s = so.stands.each n was s old_at there in
     let found = (subst (λ (x : Step). Shows w x new) at.is acted.shows) now s new_at there in
     let stood_s = subst (λ (x : State). IsRise (is_down x.phase) was.doubt now.found rise) node.state stood in
-    let r = retold new.slots n size (length w.net.sent) s rise was.doubt now.found node.doubt stood_s b at.what at.came allowed.2 fits found in
-    let told_is : e ≡ ended (told (as_told b at.what (what_outcome n size (length w.net.sent) s at.what))) =
-    (acts w so.stands).2 ∙ ap ended (acted.is_told ∙ ap (λ (x : Step). told (act_outcome size w a x)) at.is ∙ ap told (at.told (outcome_of size w step))
-    ∙ ap (λ (p : Option NodeState). told (as_told b at.what (node_outcome n size (length w.net.sent) p at.what))) there) in
+    let r = retold new.slots n size (length w.net.sent) s rise was.doubt now.found node.doubt stood_s b at.what at.plain at.came allowed.2 fits found in
+    let told_is : e ≡ ended (told (what_outcome n size (length w.net.sent) s at.what (bringing b))) =
+    (acts w so.stands).2 ∙ ap ended (acted.is_told ∙ ap (λ (x : Step). told (act_outcome size w a x)) at.is ∙ ap told (at.told n size (length w.net.sent) (node_in w.states n))
+    ∙ ap (λ (x : NodeState). told (what_outcome n size (length w.net.sent) x at.what (bringing b))) is_s) in
     let taken = Takes n at.number r.other in
     let same_world : world_after size w taken ≡ world_after size w step = rw there (λ i. record { states = slice_set w.states n (r.leaves i); net = after_all_sent w.net (r.sends i) }) in
     let stands : StandsFor new (world_after size w taken) = subst (λ (x : World). StandsFor new x) (sym same_world) (subst (λ (x : Step). StandsFor new (world_after size w x)) at.is acted.stands) in
-    let sent_are : sent_after n size (slice_get w.states n) r.other ≡ sent =
-    sym (drop-append_seam w.net.sent (sent_after n size (slice_get w.states n) r.other)) ∙ ap (λ (net : Network). drop (length w.net.sent) net.sent) (sym stands.net)
+    let sent_are : sent_at n size (node_in w.states n) r.other ≡ sent =
+    sym (drop-append_seam w.net.sent (sent_at n size (node_in w.states n) r.other)) ∙ ap (λ (net : Network). drop (length w.net.sent) net.sent) (sym stands.net)
     ∙ ap (λ (net : Network). drop (length net.sent) new.net.sent) (sym so.stands.net) ∙ ap (λ (k : ℕ). drop k new.net.sent) (sym place_is) ∙ sym sent_is in
-    let entry : Entry = record { what = r.other; sent = sent_after n nodes (slice_get w.states n) r.other } in
+    let entry : Entry = record { what = r.other; sent = sent_at n nodes (node_in w.states n) r.other } in
     let deed_is : deed_of r.other ≡ deed_told b rise e = r.told ∙ ap (λ (x : Ended). deed_told b rise x) (sym told_is) in
-    let sent_there : entry.sent ≡ sent = subst (λ (k : ℕ). sent_after n k (slice_get w.states n) r.other ≡ sent) so.count sent_are in
+    let sent_there : entry.sent ≡ sent = subst (λ (k : ℕ). sent_at n k (node_in w.states n) r.other ≡ sent) so.count sent_are in
     let claim_is : claim_of entry ≡ claim (deed_told b rise e) sent = λ i. record { deed = deed_is i; sent = sent_there i } in
     let hs = trace_in (histories_of nodes so.run.steps) in
     let many = length-map (histories_of nodes so.run.steps) (λ (h : List Entry). map claim_of h) ∙ how_many nodes 0 nodes so.run.steps in

@@ -9,7 +9,7 @@ use Rattle.schedule.specs.declared.act.Act.{Act}
 use Rattle.schedule.specs.declared.act.Act.TheVariants as act
 use Rattle.sim_net.specs.declared.fault.NetFault.{NetFault}
 use Rattle.sim_net.specs.Network.{Network, delivery}
-use Rattle.runs.specs.Acts.{IsOf, IsRecovery, IsCompaction}
+use Rattle.runs.specs.Acts.{IsOf, IsCompaction}
 use Rattle.run_trace.specs.declared.bringing.Brought.{Brought}
 use Rattle.run_trace.specs.declared.bringing.Brought.TheVariants.{Event, Recovery, Arming, Crash, Compaction}
 
@@ -44,7 +44,7 @@ brought_by nodes net a = option_and_then (λ (comes : ℕ × Brought). if nat_lt
 -- it came of what was brought
 abbrev pub CameOf : Brought → What → Type 0
 CameOf (Event event) what = IsOf event what
-CameOf Recovery what = IsRecovery what
+CameOf Recovery what = IsOf on.Recover what
 CameOf Arming what = what ≡ Rests Nothing
 CameOf Crash what = what ≡ Crashed
 CameOf Compaction what = IsCompaction what

@@ -45,7 +45,7 @@ pub(crate) fn seen_at(node: &DurableNode<MemDisk>) -> Seen
     ensures doubt { result.doubt ≡ node.now.doubt }
 {
     Seen {
-        down: matches!(node.vector().phase, Phase::Down),
+        down: matches!(node.vector().standing.phase, Phase::Down),
         doubt: node.doubt(),
     }
 }

@@ -1,42 +1,42 @@
 -- What an act is, is exact: the network and the nodes can't refuse at will.
-use Rattle.std.proofs.Common.{◌≡◌, ◌≢◌, ◌++◌, ℕ, Bool, true, false, arith, slice_get, List, [], ◌∷◌, refl, sym, ◌∙◌, subst, Option, Some, None}
+use Rattle.std.proofs.Common.{◌≡◌, ◌≢◌, ◌++◌, ℕ, Bool, true, false, arith, slice_get, List, [], ◌∷◌, refl, sym, ◌∙◌, subst, Some, None}
 use Rattle.std.specs.Prelude.{if◌then◌else◌, ◌==◌, ◌<◌, nat_lt, Result, Ok, Err}
 use Rattle.std.proofs.lemmas.Bool.Decides.{nat_tests}
 use Rattle.node_core.specs.declared.event.Event.TheVariants as on
-use Rattle.node_core.specs.NodeStep.{OfCore, Full, Exhausted, Worn}
+use Rattle.node_core.specs.declared.fault.Refusal.TheVariants.{Core, Full, Exhausted, Worn}
 use Rattle.histories.specs.NodeState.{NodeState}
 use Rattle.wire_msg.specs.Envelope.{Envelope}
 use Rattle.schedule.specs.declared.act.Act.{Act}
 use Rattle.sim_net.specs.declared.fault.NetFault.{NetFault}
-use Rattle.sim_net.specs.Network.{delivery}
-use Rattle.runs.specs.World.{World}
-use Rattle.runs.specs.Step.{Denial, Step, Takes as TakesStep, Loses, Cuts, Mends, Denies, sent_after, world_after}
+use Rattle.sim_net.specs.Network.{Network, delivery}
+use Rattle.runs.specs.World.{World, node_in}
+use Rattle.runs.specs.Step.{Denial, Step, Takes as TakesStep, Changes, Denies, world_after}
 use Rattle.runs.specs.Run.{RunFrom, history_in}
-use Rattle.runs.specs.Acts.{IsOf, At, Brings, IsOfSlotsAt, IsRunOf}
+use Rattle.runs.specs.Acts.{IsOf, At, Brings, IsRunOf}
 use Rattle.runs.specs.Exact.{NoIdleDenial, OneOutcome, ActsRun, RunsOfSlots}
 use Rattle.histories.specs.declared.what.What.{What}
-use Rattle.histories.specs.After.{after}
+use Rattle.histories.specs.After.{after, sent_at}
 use Rattle.histories.specs.Possible.{IsOfSlots}
 use Rattle.histories.specs.History.{FollowsSlots}
-use Rattle.histories.proofs.Tests.{eq_nat}
-use Rattle.runs.proofs.Runs.{state_here, state_elsewhere}
+use Rattle.histories.proofs.PublicLaws.{eq_nat}
+use Rattle.runs.proofs.Runs.{node_there, state_here, state_elsewhere}
 
-not_denied : (known : Bool) (n k : ℕ) (P : What → Type 0) (why : Denial) → known ≡ true → At known n k P (Denies why) → ⊥
-not_denied true n k P why is h = absurd cc (h.1)
-not_denied false n k P why is h = absurd cc
+not_denied : (known : Bool) (n k : ℕ) (P : What → Type 0) (told : ℕ) (why : Denial) → known ≡ true → At known n k P (Denies told why) → ⊥
+not_denied true n k P told why is h = absurd cc (h.1)
+not_denied false n k P told why is h = absurd cc
 
-no_idle : (nodes : ℕ) (d : Result Envelope NetFault) (k : ℕ) (m : Envelope) (why : Denial) → d ≡ Ok m → m.receiver < nodes → Brings nodes k d (Denies why) → ⊥
-no_idle nodes (Ok x) k m why is within h =
+no_idle : (nodes : ℕ) (net : Network) (d : Result Envelope NetFault) (k : ℕ) (m : Envelope) (told : ℕ) (why : Denial) → d ≡ Ok m → m.receiver < nodes → Brings nodes net k d (Denies told why) → ⊥
+no_idle nodes net (Ok x) k m told why is within h =
     let same : x ≡ m = cc is in
     let known : nat_lt x.receiver nodes ≡ true = rw same (grind (arith, nat_tests, within)) in
-    not_denied (nat_lt x.receiver nodes) x.receiver k (IsOf (on.Deliver x)) why known h
-no_idle nodes (Err y) k m why is within h = absurd cc
+    not_denied (nat_lt x.receiver nodes) x.receiver k (IsOf (on.Deliver x)) told why known h
+no_idle nodes net (Err y) k m told why is within h = absurd cc
 
 pub no_idle_denial : NoIdleDenial
-no_idle_denial nodes w k m why is within h = no_idle nodes (delivery w.net k) k m why is within h
+no_idle_denial nodes w k m told why is within h = no_idle nodes w.net (delivery w.net k) k m told why is within h
 
 pub one_outcome : OneOutcome
-one_outcome slots self nodes s event (OfCore fault) taken fits refused of_slots = (let both : None ≡ Some fault = sym taken.1.by_core ∙ refused in absurd cc)
+one_outcome slots self nodes s event (Core fault) taken fits refused of_slots = (let both : None ≡ Some fault = sym taken.1.by_core ∙ refused in absurd cc)
 one_outcome slots self nodes s event Full taken fits refused of_slots = absurd (fits of_slots)
 one_outcome slots self nodes s event Exhausted taken fits refused of_slots = absurd (taken.1.not_spent refused.1)
 one_outcome slots self nodes s event Worn taken fits refused of_slots = refl
@@ -59,19 +59,17 @@ slots_follow slots n nodes (a ∷ acts) (TakesStep m number what ∷ steps) w s 
   where
     pick : (b : Bool) → (m == n) ≡ b
         → ((t : NodeState) → slice_get (world_after nodes w (TakesStep m number what)).states n ≡ Some t → FollowsSlots slots n nodes t (history_in n nodes (world_after nodes w (TakesStep m number what)) steps))
-        → FollowsSlots slots n nodes s ((if b then record { what = what; sent = sent_after m nodes (slice_get w.states m) what } ∷ [] else []) ++ history_in n nodes (world_after nodes w (TakesStep m number what)) steps)
+        → FollowsSlots slots n nodes s ((if b then record { what = what; sent = sent_at m nodes (node_in w.states m) what } ∷ [] else []) ++ history_in n nodes (world_after nodes w (TakesStep m number what)) steps)
     pick true is rest =
         let same : m ≡ n = eq_nat m n is in
         let here : slice_get w.states m ≡ Some s = subst (λ (j : ℕ). slice_get w.states j ≡ Some s) (sym same) at in
-        let of_slots : IsOfSlots slots m nodes s what = subst (λ (o : Option NodeState). IsOfSlotsAt slots m nodes o what) here run.2 in
+        let of_slots : IsOfSlots slots m nodes s what = subst (λ (x : NodeState). IsOfSlots slots m nodes x what) (node_there w.states m s here) run.2 in
         (subst (λ (j : ℕ). IsOfSlots slots j nodes s what) same of_slots, rest (after n nodes s what) (state_here m n nodes what w.states s same at))
     pick false is rest =
         let ne : n ≢ m = grind (arith, nat_tests) in
-        rest s (state_elsewhere m n nodes what (slice_get w.states m) w.states ne ∙ at)
-slots_follow slots n nodes (a ∷ acts) (Loses k ∷ steps) w s at run = slots_follow slots n nodes acts steps (world_after nodes w (Loses k)) s at run.3
-slots_follow slots n nodes (a ∷ acts) (Cuts x y ∷ steps) w s at run = slots_follow slots n nodes acts steps (world_after nodes w (Cuts x y)) s at run.3
-slots_follow slots n nodes (a ∷ acts) (Mends x y ∷ steps) w s at run = slots_follow slots n nodes acts steps (world_after nodes w (Mends x y)) s at run.3
-slots_follow slots n nodes (a ∷ acts) (Denies why ∷ steps) w s at run = slots_follow slots n nodes acts steps w s at run.3
+        rest s (state_elsewhere m n nodes what w.states ne ∙ at)
+slots_follow slots n nodes (a ∷ acts) (Changes net ∷ steps) w s at run = slots_follow slots n nodes acts steps (world_after nodes w (Changes net)) s at run.3
+slots_follow slots n nodes (a ∷ acts) (Denies told why ∷ steps) w s at run = slots_follow slots n nodes acts steps w s at run.3
 
 pub runs_of_slots : RunsOfSlots
 runs_of_slots nodes slots w acts steps run n s at = slots_follow slots n nodes acts steps w s at run

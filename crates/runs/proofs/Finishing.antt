@@ -1,6 +1,6 @@
 -- Only an act `finish` tells a node that a job is finished.
-use Rattle.std.proofs.Common.{◌≡◌, ℕ, Bool, true, false, List, [], ◌∷◌, ◌++◌, slice_get, refl, sym, ◌∙◌, ap, subst, inl, inr}
-use Rattle.std.specs.Prelude.{if◌then◌else◌, ◌==◌, ◌&&◌, nat_lt, Result, Ok, Err}
+use Rattle.std.proofs.Common.{◌≡◌, ◌≢◌, length, ℕ, Bool, true, false, List, [], ◌∷◌, ◌++◌, refl, sym, ◌∙◌, ap, subst, inl, inr}
+use Rattle.std.specs.Prelude.{if◌then◌else◌, ◌==◌, ◌&&◌, nat_lt, Result, Ok, Err, MatchResult}
 use Rattle.wire_msg.specs.Envelope.{Envelope}
 use Rattle.node_core.specs.declared.event.Event.{Event}
 use Rattle.node_core.specs.declared.event.Event.TheVariants as on
@@ -9,16 +9,20 @@ use Rattle.histories.specs.declared.what.What.{What}
 use Rattle.histories.specs.declared.what.What.TheVariants.{Did, Refused, Faulted, Rests, Crashed, Recovered, MountFailed, RaiseFailed, RaiseRefused}
 use Rattle.histories.specs.declared.what.Rest.TheVariants.{Nothing}
 use Rattle.histories.specs.Owners.{acted, acted_in}
-use Rattle.histories.proofs.Among.{among_either}
-use Rattle.histories.proofs.Tests.{eq_nat}
+use Rattle.histories.proofs.PublicLaws.{among_either, eq_nat}
 use Rattle.schedule.specs.declared.act.Act.{Act}
 use Rattle.schedule.specs.declared.act.Act.TheVariants as act
 use Rattle.sim_net.specs.declared.fault.NetFault.{NetFault}
-use Rattle.sim_net.specs.Network.{found, delivery}
-use Rattle.runs.specs.World.{World}
-use Rattle.runs.specs.Step.{Step, Takes, Loses, Cuts, Mends, Denies, sent_after, world_after}
+use Rattle.sim_net.specs.Network.{Network, found, delivery, after_lost, after_cut, after_mend}
+use Rattle.runs.specs.World.{World, node_in}
+use Rattle.runs.specs.Step.{Denial, Step, Takes, Changes, Denies, OfNet, Stranger, world_after}
 use Rattle.runs.specs.Run.{history_in}
-use Rattle.runs.specs.Acts.{IsOf, IsRecovery, IsCompaction, At, Brings, lost_step, if_known, IsStepOf, IsRunOf}
+use Rattle.runs.specs.Reporting.{Moment, moment_of}
+use Rattle.runs.proofs.Reports.{moments_from}
+use Rattle.node_core.specs.declared.fault.Refusal.{Refusal}
+use Rattle.histories.specs.NodeState.{NodeState}
+use Rattle.runs.specs.Acts.{DeniedAct, RefusedAct, what_outcome, IsOf, IsCompaction, At, Brings, IsStepOf, IsRunOf}
+use Rattle.histories.specs.After.{sent_at}
 
 abbrev SaysFinished : What → ℕ → ℕ → Type 0
 SaysFinished what origin id = IsAmong (on.Finish origin id) (acted what)
@@ -42,27 +46,10 @@ event_said event MountFailed origin id is i = absurd i
 event_said event (RaiseFailed kept) origin id is i = absurd i
 event_said event (RaiseRefused kept) origin id is i = absurd i
 
-recovery_said : (what : What) (origin id : ℕ) → IsRecovery what → SaysFinished what origin id → ⊥
-recovery_said (Did e) origin id is i = elim i [ inl same ↦ (let bad : on.Finish origin id ≡ on.Recover = same ∙ is in absurd cc) | inr none ↦ absurd none ]
-recovery_said (Refused e fault) origin id is i = i
-recovery_said (Faulted e) origin id is i = elim i [ inl same ↦ (let bad : on.Finish origin id ≡ on.Recover = same ∙ is in absurd cc) | inr none ↦ absurd none ]
-recovery_said (Rests rest) origin id is i = i
-recovery_said Crashed origin id is i = i
-recovery_said (Recovered kept) origin id is i = i
-recovery_said MountFailed origin id is i = i
-recovery_said (RaiseFailed kept) origin id is i = i
-recovery_said (RaiseRefused kept) origin id is i = i
-
 compaction_said : (what : What) (origin id : ℕ) → IsCompaction what → SaysFinished what origin id → ⊥
 compaction_said (Did e) origin id is i = is
-compaction_said (Refused e fault) origin id is i = i
 compaction_said (Faulted e) origin id is i = is
-compaction_said (Rests rest) origin id is i = i
-compaction_said Crashed origin id is i = i
-compaction_said (Recovered kept) origin id is i = i
-compaction_said MountFailed origin id is i = i
-compaction_said (RaiseFailed kept) origin id is i = i
-compaction_said (RaiseRefused kept) origin id is i = i
+compaction_said _ origin id is i = i
 
 -- the act of a step that says so is `finish`
 by_event : (a : Act) (known : Bool) (n k : ℕ) (event : Event) (m number : ℕ) (what : What) (origin id : ℕ) → (event ≡ on.Finish origin id → a ≡ act.Finish n origin id)
@@ -75,19 +62,20 @@ at_rest : (known : Bool) (n k : ℕ) (P : What → Type 0) (m number : ℕ) (wha
     → At known n k P (Takes m number what) → SaysFinished what origin id → ⊥
 at_rest known n k P m number what origin id none h i = none (taken_there known n k P m number what h).1 i
 
-brings_none : (nodes k : ℕ) (d : Result Envelope NetFault) (m number : ℕ) (what : What) (origin id : ℕ) → Brings nodes k d (Takes m number what) → SaysFinished what origin id → ⊥
-brings_none nodes k (Ok x) m number what origin id h i =
+brings_none : (nodes : ℕ) (net : Network) (k : ℕ) (d : Result Envelope NetFault) (m number : ℕ) (what : What) (origin id : ℕ) → Brings nodes net k d (Takes m number what) → SaysFinished what origin id → ⊥
+brings_none nodes net k (Ok x) m number what origin id h i =
     let there = taken_there (nat_lt x.receiver nodes) x.receiver k (IsOf (on.Deliver x)) m number what h in
     let bad : on.Deliver x ≡ on.Finish origin id = event_said (on.Deliver x) what origin id there.1 i in absurd cc
-brings_none nodes k (Err why) m number what origin id h i = absurd cc
+brings_none nodes net k (Err why) m number what origin id h i = absurd cc
 
-pub loses_none : (k : ℕ) (d : Result Envelope NetFault) (m number : ℕ) (what : What) → Takes m number what ≡ lost_step k d → ⊥
-loses_none k (Ok x) m number what h = absurd cc
-loses_none k (Err why) m number what h = absurd cc
+pub loses_none : (net : Network) (d : Result Envelope NetFault) (m number : ℕ) (what : What)
+    → MatchResult d (λ (x : Envelope). Takes m number what ≡ Changes net) (λ (why : NetFault). Takes m number what ≡ Denies 0 (OfNet why)) → ⊥
+loses_none net (Ok x) m number what h = absurd cc
+loses_none net (Err why) m number what h = absurd cc
 
-pub link_none : (known : Bool) (step : Step) (m number : ℕ) (what : What) → (Takes m number what ≡ step → ⊥) → Takes m number what ≡ if_known known step → ⊥
-link_none true step m number what none h = none h
-link_none false step m number what none h = absurd cc
+pub link_none : (known : Bool) (net : Network) (m number : ℕ) (what : What) → Takes m number what ≡ (if known then Changes net else Denies 0 Stranger) → ⊥
+link_none true net m number what h = absurd cc
+link_none false net m number what h = absurd cc
 
 same_finish : (n origin id o i : ℕ) → on.Finish origin id ≡ on.Finish o i → act.Finish n origin id ≡ act.Finish n o i
 same_finish n origin id o i e = (let of_origin : origin ≡ o = cc e in let of_id : id ≡ i = cc e in rw (of_origin, of_id) refl)
@@ -99,22 +87,40 @@ finish_act nodes w (act.Accept n) m number what o i h says = by_event (act.Accep
 finish_act nodes w (act.Ready n) m number what o i h says = by_event (act.Ready n) (nat_lt n nodes) n 0 on.ReadyTimer m number what o i (λ e. absurd cc) h says
 finish_act nodes w (act.Coord n) m number what o i h says = by_event (act.Coord n) (nat_lt n nodes) n 0 on.CoordTimer m number what o i (λ e. absurd cc) h says
 finish_act nodes w (act.Dispatch n) m number what o i h says = by_event (act.Dispatch n) (nat_lt n nodes) n 0 on.DispatchTimer m number what o i (λ e. absurd cc) h says
-finish_act nodes w (act.Deliver k) m number what o i h says = absurd (brings_none nodes k (delivery w.net k) m number what o i h says)
-finish_act nodes w (act.Lose k) m number what o i h says = absurd (loses_none k (found w.net k) m number what h)
-finish_act nodes w (act.Cut x y) m number what o i h says = absurd (link_none (nat_lt x nodes && nat_lt y nodes) (Cuts x y) m number what (λ e. absurd cc) h)
-finish_act nodes w (act.Mend x y) m number what o i h says = absurd (link_none (nat_lt x nodes && nat_lt y nodes) (Mends x y) m number what (λ e. absurd cc) h)
+finish_act nodes w (act.Deliver k) m number what o i h says = absurd (brings_none nodes w.net k (delivery w.net k) m number what o i h says)
+finish_act nodes w (act.Lose k) m number what o i h says = absurd (loses_none (after_lost w.net k) (found w.net k) m number what h)
+finish_act nodes w (act.Cut x y) m number what o i h says = absurd (link_none (nat_lt x nodes && nat_lt y nodes) (after_cut w.net x y) m number what h)
+finish_act nodes w (act.Mend x y) m number what o i h says = absurd (link_none (nat_lt x nodes && nat_lt y nodes) (after_mend w.net x y) m number what h)
 finish_act nodes w (act.Submit n work) m number what o i h says = by_event (act.Submit n work) (nat_lt n nodes) n 0 (on.Submit work) m number what o i (λ e. absurd cc) h says
 finish_act nodes w (act.Finish n origin id) m number what o i h says = by_event (act.Finish n origin id) (nat_lt n nodes) n 0 (on.Finish origin id) m number what o i (same_finish n origin id o i) h says
 finish_act nodes w (act.Arm n calls) m number what o i h says =
     absurd (at_rest (nat_lt n nodes) n 0 (λ (x : What). x ≡ Rests Nothing) m number what o i (λ is j. subst (λ (x : What). SaysFinished x o i) is j) h says)
 finish_act nodes w (act.Crash n fill) m number what o i h says =
     absurd (at_rest (nat_lt n nodes) n 0 (λ (x : What). x ≡ Crashed) m number what o i (λ is j. subst (λ (x : What). SaysFinished x o i) is j) h says)
-finish_act nodes w (act.Recover n) m number what o i h says = absurd (at_rest (nat_lt n nodes) n 0 IsRecovery m number what o i (recovery_said what o i) h says)
+finish_act nodes w (act.Recover n) m number what o i h says = by_event (act.Recover n) (nat_lt n nodes) n 0 on.Recover m number what o i (λ e. absurd cc) h says
 finish_act nodes w (act.Compact n) m number what o i h says = absurd (at_rest (nat_lt n nodes) n 0 IsCompaction m number what o i (compaction_said what o i) h says)
+
+-- what a node didn't refuse is told as neither denied nor refused
+acted_told : (self nodes first : ℕ) (s : NodeState) (what : What) (a : Act) (event : Event) → IsAmong event (acted what)
+    → ((why : Denial) → what_outcome self nodes first s what a ≢ DeniedAct why) × ((fault : Refusal) → what_outcome self nodes first s what a ≢ RefusedAct fault)
+acted_told self nodes first s (Did e) a event i = (λ why is. absurd (let bad = is in cc), λ fault is. absurd (let bad = is in cc))
+acted_told self nodes first s (Faulted e) a event i = (λ why is. absurd (let bad = is in cc), λ fault is. absurd (let bad = is in cc))
+acted_told self nodes first s _ a event i = absurd i
+
+-- a moment tells the act
+pub record IsTold (ms : List Moment) (worker origin id : ℕ) : Type 0 where
+  pub told : Moment
+  pub among : IsAmong told ms
+  pub of_act : told.act ≡ act.Finish worker origin id
+  pub not_denied : (why : Denial) → told.outcome ≢ DeniedAct why
+  pub not_refused : (fault : Refusal) → told.outcome ≢ RefusedAct fault
+
+told_later : (m : Moment) (ms : List Moment) (worker origin id : ℕ) → IsTold ms worker origin id → IsTold (m ∷ ms) worker origin id
+told_later m ms worker origin id it = record { told = it.told; among = inr it.among; of_act = it.of_act; not_denied = it.not_denied; not_refused = it.not_refused }
 
 -- and so in a whole run
 pub told_by_act : (nodes slots worker origin id : ℕ) (acts : List Act) (steps : List Step) (w : World) → IsRunOf nodes slots w acts steps
-    → IsAmong (on.Finish origin id) (acted_in (history_in worker nodes w steps)) → IsAmong (act.Finish worker origin id) acts
+    → IsAmong (on.Finish origin id) (acted_in (history_in worker nodes w steps)) → IsTold (moments_from nodes w acts steps) worker origin id
 told_by_act nodes slots worker origin id [] [] w run i = absurd i
 told_by_act nodes slots worker origin id [] (step ∷ steps) w run i = absurd run
 told_by_act nodes slots worker origin id (a ∷ acts) [] w run i = absurd run
@@ -122,16 +128,19 @@ told_by_act nodes slots worker origin id (a ∷ acts) (Takes m number what ∷ s
     by_node (m == worker) refl i (λ j. told_by_act nodes slots worker origin id acts steps (world_after nodes w (Takes m number what)) run.3 j)
   where
     by_node : (b : Bool) → (m == worker) ≡ b
-        → IsAmong (on.Finish origin id) (acted_in ((if b then record { what = what; sent = sent_after m nodes (slice_get w.states m) what } ∷ [] else []) ++ history_in worker nodes (world_after nodes w (Takes m number what)) steps))
-        → (IsAmong (on.Finish origin id) (acted_in (history_in worker nodes (world_after nodes w (Takes m number what)) steps)) → IsAmong (act.Finish worker origin id) acts)
-        → IsAmong (act.Finish worker origin id) (a ∷ acts)
+        → IsAmong (on.Finish origin id) (acted_in ((if b then record { what = what; sent = sent_at m nodes (node_in w.states m) what } ∷ [] else []) ++ history_in worker nodes (world_after nodes w (Takes m number what)) steps))
+        → (IsAmong (on.Finish origin id) (acted_in (history_in worker nodes (world_after nodes w (Takes m number what)) steps)) → IsTold (moments_from nodes (world_after nodes w (Takes m number what)) acts steps) worker origin id)
+        → IsTold (moment_of nodes w a (Takes m number what) ∷ moments_from nodes (world_after nodes w (Takes m number what)) acts steps) worker origin id
     by_node true is i rest = elim (among_either (on.Finish origin id) (acted what) (acted_in (history_in worker nodes (world_after nodes w (Takes m number what)) steps)) i) [
-      | inl now ↦ (let it : a ≡ act.Finish m origin id = finish_act nodes w a m number what origin id run.0 now in
-          inl (sym (it ∙ ap (λ (n : ℕ). act.Finish n origin id) (eq_nat m worker is))))
-      | inr later ↦ inr (rest later)
+      | inl now ↦ (let neither = acted_told m nodes (length w.net.sent) (node_in w.states m) what a (on.Finish origin id) now in record {
+        told = moment_of nodes w a (Takes m number what);
+        among = inl refl;
+        of_act = finish_act nodes w a m number what origin id run.0 now ∙ ap (λ (n : ℕ). act.Finish n origin id) (eq_nat m worker is);
+        not_denied = neither.0;
+        not_refused = neither.1;
+      })
+      | inr later ↦ told_later _ _ worker origin id (rest later)
     ]
-    by_node false is i rest = inr (rest i)
-told_by_act nodes slots worker origin id (a ∷ acts) (Loses k ∷ steps) w run i = inr (told_by_act nodes slots worker origin id acts steps (world_after nodes w (Loses k)) run.3 i)
-told_by_act nodes slots worker origin id (a ∷ acts) (Cuts x y ∷ steps) w run i = inr (told_by_act nodes slots worker origin id acts steps (world_after nodes w (Cuts x y)) run.3 i)
-told_by_act nodes slots worker origin id (a ∷ acts) (Mends x y ∷ steps) w run i = inr (told_by_act nodes slots worker origin id acts steps (world_after nodes w (Mends x y)) run.3 i)
-told_by_act nodes slots worker origin id (a ∷ acts) (Denies why ∷ steps) w run i = inr (told_by_act nodes slots worker origin id acts steps w run.3 i)
+    by_node false is i rest = told_later _ _ worker origin id (rest i)
+told_by_act nodes slots worker origin id (a ∷ acts) (Changes net ∷ steps) w run i = told_later _ _ worker origin id (told_by_act nodes slots worker origin id acts steps (world_after nodes w (Changes net)) run.3 i)
+told_by_act nodes slots worker origin id (a ∷ acts) (Denies told why ∷ steps) w run i = told_later _ _ worker origin id (told_by_act nodes slots worker origin id acts steps w run.3 i)

@@ -10,8 +10,7 @@ use Rattle.job_model.specs.Durable.{Durable, formatted}
 use Rattle.job_model.specs.Fold.{after_command, after_commands, without_job}
 use Rattle.histories.specs.Lists.{IsAmong}
 use Rattle.histories.specs.Kept.{Tried, Mounting, Kept, counted, stands_after}
-use Rattle.histories.proofs.Among.{among_left, among_right}
-use Rattle.histories.proofs.Tests.{eq_nat}
+use Rattle.histories.proofs.PublicLaws.{among_left, among_right, eq_nat}
 use Rattle.runs.specs.Reporting.{MountedAt, own_mountings}
 use Rattle.runs.proofs.Runs.{at_place}
 use Rattle.runs.specs.Uses.{RaisesAreFound, JobsAreFound, DoubtsApart}

@@ -1,5 +1,5 @@
 -- The groups that a run names were given before, each of them once.
-use Rattle.std.proofs.Common.{◌≡◌, ◌≢◌, ℕ, zero, suc, ◌+◌, ◌<◌, ◌≤◌, Bool, true, false, List, [], ◌∷◌, ◌++◌, slice_get, refl, sym, ◌∙◌, ap, subst, inl, inr, arith, Option, Some, None, append_assoc}
+use Rattle.std.proofs.Common.{◌≡◌, ◌≢◌, ℕ, zero, suc, ◌+◌, ◌<◌, ◌≤◌, Bool, true, false, List, [], ◌∷◌, ◌++◌, map, slice_get, refl, sym, ◌∙◌, ap, subst, inl, inr, arith, Option, Some, None, append_assoc}
 use Rattle.std.proofs.lemmas.List.{append-nil}
 use Rattle.std.specs.Prelude.{◌==◌}
 use Rattle.std.proofs.lemmas.Bool.Decides.{nat_tests}
@@ -22,16 +22,12 @@ use Rattle.histories.specs.declared.what.What.TheVariants.{Did, Refused, Faulted
 use Rattle.histories.specs.What.{event_of, brought}
 use Rattle.histories.specs.After.{after, sent_at, given_at, raised}
 use Rattle.histories.specs.Named.{BodyHolds, AllHold, TaskHolds, PlaceHolds, StateHolds}
-use Rattle.histories.proofs.Tests.{eq_nat}
-use Rattle.histories.proofs.Among.{among_left, among_right, among_either, each_append, each_at, each_of, each_more}
-use Rattle.histories.proofs.Anything.{AnyWork, any_pending}
-use Rattle.histories.proofs.Moves.{GivenHold, Knows, SaysIn, Says}
-use Rattle.histories.proofs.Entries.{entry_does}
-use Rattle.runs.specs.World.{World, openings, start}
-use Rattle.runs.specs.Step.{Step, Takes, Loses, Cuts, Mends, Denies, state_after, sent_after, world_after}
+use Rattle.histories.proofs.PublicLaws.{eq_nat, among_left, among_right, among_either, each_append, each_at, each_of, each_more, AnyWork, any_pending, GivenHold, Knows, SaysIn, Says, entry_does}
+use Rattle.runs.specs.World.{World, ids_from, start, node_in}
+use Rattle.runs.specs.Step.{Step, Takes, Changes, Denies, world_after}
 use Rattle.runs.specs.Run.{IsBrought, IsAllowed, RunFrom, world_at}
-use Rattle.runs.specs.Given.{numbered, given_by, groups_at, groups_from, opening_groups, AllGiven, GivenBefore, IsOnceEach, NoneTwice}
-use Rattle.runs.proofs.Runs.{brought_sent, state_here, state_elsewhere, opened}
+use Rattle.runs.specs.Given.{groups_at, groups_from, AllGiven, GivenBefore, IsOnceEach, NoneTwice}
+use Rattle.runs.proofs.Runs.{brought_sent, node_there, state_here, state_elsewhere, opened}
 
 -- what is said names groups
 says_names : (P : Group → Type 0) (J : ℕ → ℕ → ℕ → Type 0) (self sender receiver : ℕ) (made : List Assignment) (event : Option Event) (body : Body) → SaysIn P J self made event sender receiver body → BodyHolds P body
@@ -78,7 +74,7 @@ all_more P Q ms sub h = each_more (λ (m : Envelope). BodyHolds P m.body) (λ (m
 brought_holds : (P : Group → Type 0) (w : World) (k : ℕ) (ms : List Envelope) → AllHold P w.net.sent → IsBrought w k ms → AllHold P ms
 brought_holds P w k ms h b = each_of (λ (m : Envelope). BodyHolds P m.body) ms (λ m i. each_at (λ (m : Envelope). BodyHolds P m.body) w.net.sent m h (brought_sent w k ms m b i))
 
-given_holds : (P : Group → Type 0) (n : ℕ) (ks : List ℕ) → ((g : Group) → IsAmong g (numbered n ks) → P g) → GivenHold P n ks
+given_holds : (P : Group → Type 0) (n : ℕ) (ks : List ℕ) → ((g : Group) → IsAmong g (map (own_group n) ks) → P g) → GivenHold P n ks
 given_holds P n [] h = tt
 given_holds P n (k ∷ ks) h = (h (own_group n k) (inl refl), given_holds P n ks (λ g i. h g (inr i)))
 
@@ -86,12 +82,12 @@ given_holds P n (k ∷ ks) h = (h (own_group n k) (inl refl), given_holds P n ks
 step_given : (nodes : ℕ) (w : World) (step : Step) (given : List Group) → AllGiven w given → IsAllowed nodes w step → AllGiven (world_after nodes w step) (given ++ groups_at nodes w step)
 step_given nodes w (Takes n number what) given all may =
     let s : NodeState = may.0 in
-    let now : List Group = given ++ given_by n nodes (slice_get w.states n) what in
+    let now : List Group = given ++ map (own_group n) (given_at n nodes (node_in w.states n) what) in
     let P : Group → Type 0 = λ g. IsAmong g given in
     let Q : Group → Type 0 = λ g. IsAmong g now in
-    let sub : Stronger P Q = λ g i. among_left g given (given_by n nodes (slice_get w.states n) what) i in
-    let new : (g : Group) → IsAmong g (numbered n (given_at n nodes s what)) → Q g =
-    λ g i. among_right g given (given_by n nodes (slice_get w.states n) what) (rw may.1 i) in
+    let sub : Stronger P Q = λ g i. among_left g given (map (own_group n) (given_at n nodes (node_in w.states n) what)) i in
+    let new : (g : Group) → IsAmong g (map (own_group n) (given_at n nodes s what)) → Q g =
+    λ g i. among_right g given (map (own_group n) (given_at n nodes (node_in w.states n) what)) (rw (node_there w.states n s may.1) i) in
     let row = entry_does Q AnyWork AnyWork n nodes s what may.2 in
     let knows : Knows Q n s.state (given_at n nodes s what) (brought (event_of what)) = record {
       place = place_more P Q s.state.phase s.state.group s.state.task sub (all.vectors n s may.1);
@@ -101,44 +97,42 @@ step_given nodes w (Takes n number what) given all may =
     let said : AllHold Q (sent_at n nodes s what) = each_more (Says Q AnyWork n row.made (event_of what)) (λ (m : Envelope). BodyHolds Q m.body) (sent_at n nodes s what)
     (λ m h. says_names Q AnyWork n m.sender m.receiver row.made (event_of what) m.body h) (row.says knows (any_pending n s.durable.pending) (any_pending n (after n nodes s what).durable.pending)) in record {
       vectors = λ j t at. by_node j t at (n == j) refl (row.names knows) (λ x was. place_more P Q x.state.phase x.state.group x.state.task sub (all.vectors j x was));
-      messages = each_append (λ (m : Envelope). BodyHolds Q m.body) w.net.sent (sent_after n nodes (slice_get w.states n) what) (all_more P Q w.net.sent sub all.messages) (subst (λ (o : Option NodeState). AllHold Q (sent_after n nodes o what)) (sym may.1) said);
+      messages = each_append (λ (m : Envelope). BodyHolds Q m.body) w.net.sent (sent_at n nodes (node_in w.states n) what) (all_more P Q w.net.sent sub all.messages) (subst (λ (x : NodeState). AllHold Q (sent_at n nodes x what)) (sym (node_there w.states n s may.1)) said);
     }
   where
-    by_node : (j : ℕ) (t : NodeState) → slice_get (state_after n nodes (slice_get w.states n) what w.states) j ≡ Some t → (b : Bool) → (n == j) ≡ b
-        → StateHolds (λ g. IsAmong g (given ++ given_by n nodes (slice_get w.states n) what)) (after n nodes may.0 what).state
-        → ((x : NodeState) → slice_get w.states j ≡ Some x → StateHolds (λ g. IsAmong g (given ++ given_by n nodes (slice_get w.states n) what)) x.state)
-        → StateHolds (λ g. IsAmong g (given ++ given_by n nodes (slice_get w.states n) what)) t.state
+    by_node : (j : ℕ) (t : NodeState) → slice_get (world_after nodes w (Takes n number what)).states j ≡ Some t → (b : Bool) → (n == j) ≡ b
+        → StateHolds (λ g. IsAmong g (given ++ map (own_group n) (given_at n nodes (node_in w.states n) what))) (after n nodes may.0 what).state
+        → ((x : NodeState) → slice_get w.states j ≡ Some x → StateHolds (λ g. IsAmong g (given ++ map (own_group n) (given_at n nodes (node_in w.states n) what))) x.state)
+        → StateHolds (λ g. IsAmong g (given ++ map (own_group n) (given_at n nodes (node_in w.states n) what))) t.state
     by_node j t at true is here other =
         let same : n ≡ j = eq_nat n j is in
         let mine : slice_get w.states j ≡ Some may.0 = subst (λ (x : ℕ). slice_get w.states x ≡ Some may.0) same may.1 in
-        let new : slice_get (state_after n nodes (slice_get w.states n) what w.states) j ≡ Some (after j nodes may.0 what) = state_here n j nodes what w.states may.0 same mine in
+        let new : slice_get (world_after nodes w (Takes n number what)).states j ≡ Some (after j nodes may.0 what) = state_here n j nodes what w.states may.0 same mine in
         let it : after j nodes may.0 what ≡ t = cc (new, at) in
-        subst (λ (x : NodeState). StateHolds (λ g. IsAmong g (given ++ given_by n nodes (slice_get w.states n) what)) x.state) it
-        (subst (λ (x : ℕ). StateHolds (λ g. IsAmong g (given ++ given_by n nodes (slice_get w.states n) what)) (after x nodes may.0 what).state) same here)
+        subst (λ (x : NodeState). StateHolds (λ g. IsAmong g (given ++ map (own_group n) (given_at n nodes (node_in w.states n) what))) x.state) it
+        (subst (λ (x : ℕ). StateHolds (λ g. IsAmong g (given ++ map (own_group n) (given_at n nodes (node_in w.states n) what))) (after x nodes may.0 what).state) same here)
     by_node j t at false is here other =
         let ne : j ≢ n = grind (arith, nat_tests) in
-        other t (sym (state_elsewhere n j nodes what (slice_get w.states n) w.states ne) ∙ at)
-step_given nodes w (Loses k) given all may = rw append-nil (record { vectors = all.vectors; messages = all.messages })
-step_given nodes w (Cuts a b) given all may = rw append-nil (record { vectors = all.vectors; messages = all.messages })
-step_given nodes w (Mends a b) given all may = rw append-nil (record { vectors = all.vectors; messages = all.messages })
-step_given nodes w (Denies why) given all may = rw append-nil all
+        other t (sym (state_elsewhere n j nodes what w.states ne) ∙ at)
+step_given nodes w (Changes net) given all may = rw append-nil (record { vectors = all.vectors; messages = rw may all.messages })
+step_given nodes w (Denies told why) given all may = rw append-nil all
 
 run_given : (nodes : ℕ) (steps : List Step) (w : World) (given : List Group) → AllGiven w given → RunFrom nodes w steps → AllGiven (world_at nodes w steps) (given ++ groups_from nodes w steps)
 run_given nodes [] w given all run = rw append-nil all
 run_given nodes (step ∷ steps) w given all run =
     rw (← append_assoc) (run_given nodes steps (world_after nodes w step) (given ++ groups_at nodes w step) (step_given nodes w step given all run.0) run.1)
 
-opening_among : (k i j m : ℕ) (s : NodeState) → m ≡ i + j → slice_get (openings i k) j ≡ Some s → IsAmong (own_group m 1) (opening_groups i k)
+opening_among : (k i j m : ℕ) (s : NodeState) → m ≡ i + j → slice_get (map opening (ids_from i k)) j ≡ Some s → IsAmong (own_group m 1) (map (λ (x : ℕ). own_group x 1) (ids_from i k))
 opening_among zero i j m s is at = absurd cc
 opening_among (suc k) i zero m s is at = inl (let number : m ≡ i = omega (arith, is) in ap (λ (x : ℕ). own_group x 1) number)
 opening_among (suc k) i (suc j) m s is at = inr (opening_among k (suc i) j m s (omega (arith, is)) at)
 
 pub given_before : GivenBefore
-given_before nodes steps run = run_given nodes steps (start nodes) (opening_groups 0 nodes) (record {
+given_before nodes steps run = run_given nodes steps (start nodes) (map (λ (x : ℕ). own_group x 1) (ids_from 0 nodes)) (record {
   vectors = λ n s at.
       (let is : s ≡ opening n = opened nodes 0 n s n (omega arith) at in
       let among = opening_among nodes 0 n n s (omega arith) at in
-      subst (λ (x : NodeState). StateHolds (λ g. IsAmong g (opening_groups 0 nodes)) x.state) (sym is) (among, among));
+      subst (λ (x : NodeState). StateHolds (λ g. IsAmong g (map (λ (x : ℕ). own_group x 1) (ids_from 0 nodes))) x.state) (sym is) (among, among));
   messages = tt;
 }) run
 
@@ -146,7 +140,7 @@ given_before nodes steps run = run_given nodes steps (start nodes) (opening_grou
 record Raises (self : ℕ) (low high : ℕ) (ks : List ℕ) : Type 0 where
   grows : low ≤ high
   between : (k : ℕ) → IsAmong k ks → (low < k) × (k ≤ high)
-  once : IsOnceEach (numbered self ks)
+  once : IsOnceEach (map (own_group self) ks)
 
 none_raised : (self low high : ℕ) → low ≤ high → Raises self low high []
 none_raised self low high le = record { grows = le; between = λ k i. absurd i; once = tt }
@@ -186,7 +180,7 @@ once_append (x ∷ xs) ys h k apart = (
   once_append xs ys h.1 k (λ g i j. apart g (inr i) j),
 )
 
-numbered_parts : (n : ℕ) (ks : List ℕ) (g : Group) → IsAmong g (numbered n ks) → (g.creator ≡ n) × IsAmong g.count ks
+numbered_parts : (n : ℕ) (ks : List ℕ) (g : Group) → IsAmong g (map (own_group n) ks) → (g.creator ≡ n) × IsAmong g.count ks
 numbered_parts n [] g i = absurd i
 numbered_parts n (k ∷ ks) g i = elim i [
   | inl e ↦ (ap (λ (x : Group). x.creator) e, inl (ap (λ (x : Group). x.count) e))
@@ -204,14 +198,14 @@ step_bounded nodes w (Takes n number what) given all may =
     let ks : List ℕ = given_at n nodes s what in
     let raises : Raises n s.durable.counter (after n nodes s what).durable.counter ks = entry_raises n nodes s what in
     let mine : slice_get (world_after nodes w (Takes n number what)).states n ≡ Some (after n nodes s what) = state_here n n nodes what w.states s refl may.1 in
-    let these : given_by n nodes (slice_get w.states n) what ≡ numbered n ks = ap (λ (o : Option NodeState). given_by n nodes o what) may.1 in
+    let these : map (own_group n) (given_at n nodes (node_in w.states n) what) ≡ map (own_group n) ks = ap (λ (x : NodeState). map (own_group n) (given_at n nodes x what)) (node_there w.states n s may.1) in
     subst (λ (gs : List Group). Bounded (world_after nodes w (Takes n number what)) (given ++ gs)) (sym these) (record {
-      bound = λ g i. elim (among_either g given (numbered n ks) i) [
+      bound = λ g i. elim (among_either g given (map (own_group n) ks) i) [
         | inl old ↦ old_bound g (n == g.creator) refl (all.bound g old) mine raises.grows
         | inr new ↦ (let parts = numbered_parts n ks g new in
             (after n nodes s what, subst (λ (c : ℕ). slice_get (world_after nodes w (Takes n number what)).states c ≡ Some (after n nodes s what)) (sym parts.0) mine, (raises.between g.count parts.1).1))
       ];
-      once = once_append given (numbered n ks) all.once raises.once (λ g old new.
+      once = once_append given (map (own_group n) ks) all.once raises.once (λ g old new.
           (let parts = numbered_parts n ks g new in
           let was = all.bound g old in
           let at : slice_get w.states n ≡ Some was.0 = subst (λ (c : ℕ). slice_get w.states c ≡ Some was.0) parts.0 was.1 in
@@ -233,18 +227,16 @@ step_bounded nodes w (Takes n number what) given all may =
         (after n nodes may.0 what, subst (λ (c : ℕ). slice_get (world_after nodes w (Takes n number what)).states c ≡ Some (after n nodes may.0 what)) same mine, omega (arith, low, grows))
     old_bound g false is was mine grows =
         let ne : g.creator ≢ n = grind (arith, nat_tests) in
-        (was.0, state_elsewhere n g.creator nodes what (slice_get w.states n) w.states ne ∙ was.1, was.2)
-step_bounded nodes w (Loses k) given all may = rw append-nil (record { bound = all.bound; once = all.once })
-step_bounded nodes w (Cuts a b) given all may = rw append-nil (record { bound = all.bound; once = all.once })
-step_bounded nodes w (Mends a b) given all may = rw append-nil (record { bound = all.bound; once = all.once })
-step_bounded nodes w (Denies why) given all may = rw append-nil all
+        (was.0, state_elsewhere n g.creator nodes what w.states ne ∙ was.1, was.2)
+step_bounded nodes w (Changes net) given all may = rw append-nil (record { bound = all.bound; once = all.once })
+step_bounded nodes w (Denies told why) given all may = rw append-nil all
 
 run_bounded : (nodes : ℕ) (steps : List Step) (w : World) (given : List Group) → Bounded w given → RunFrom nodes w steps → Bounded (world_at nodes w steps) (given ++ groups_from nodes w steps)
 run_bounded nodes [] w given all run = rw append-nil all
 run_bounded nodes (step ∷ steps) w given all run =
     rw (← append_assoc) (run_bounded nodes steps (world_after nodes w step) (given ++ groups_at nodes w step) (step_bounded nodes w step given all run.0) run.1)
 
-openings_bound : (k i : ℕ) (g : Group) → IsAmong g (opening_groups i k) → (j : ℕ) × (g ≡ own_group (i + j) 1) × (slice_get (openings i k) j ≡ Some (opening (i + j)))
+openings_bound : (k i : ℕ) (g : Group) → IsAmong g (map (λ (x : ℕ). own_group x 1) (ids_from i k)) → (j : ℕ) × (g ≡ own_group (i + j) 1) × (slice_get (map opening (ids_from i k)) j ≡ Some (opening (i + j)))
 openings_bound zero i g h = absurd h
 openings_bound (suc k) i g h = elim h [
   | inl e ↦ (0, e ∙ ap (λ (x : ℕ). own_group x 1) (let n : i ≡ i + 0 = omega arith in n), ap (λ (x : ℕ). Some (opening x)) (let n : i ≡ i + 0 = omega arith in n))
@@ -253,15 +245,15 @@ openings_bound (suc k) i g h = elim h [
       (suc rest.0, rest.1 ∙ ap (λ (x : ℕ). own_group x 1) n, rest.2 ∙ ap (λ (x : ℕ). Some (opening x)) n))
 ]
 
-openings_once : (k i : ℕ) → IsOnceEach (opening_groups i k)
+openings_once : (k i : ℕ) → IsOnceEach (map (λ (x : ℕ). own_group x 1) (ids_from i k))
 openings_once zero i = tt
 openings_once (suc k) i = (λ h. (let it = openings_bound k (suc i) (own_group i 1) h in let c : i ≡ suc i + it.0 = ap (λ (x : Group). x.creator) it.1 in absurd (omega (arith, c))), openings_once k (suc i))
 
 pub none_twice : NoneTwice
-none_twice nodes steps run = (run_bounded nodes steps (start nodes) (opening_groups 0 nodes) (record {
+none_twice nodes steps run = (run_bounded nodes steps (start nodes) (map (λ (x : ℕ). own_group x 1) (ids_from 0 nodes)) (record {
   bound = λ g h.
       (let it = openings_bound nodes 0 g h in
       let creator : g.creator ≡ it.0 = ap (λ (x : Group). x.creator) it.1 ∙ (let n : 0 + it.0 ≡ it.0 = omega arith in n) in
-      (opening (0 + it.0), subst (λ (c : ℕ). slice_get (openings 0 nodes) c ≡ Some (opening (0 + it.0))) (sym creator) it.2, omega (arith, ap (λ (x : Group). x.count) it.1)));
+      (opening (0 + it.0), subst (λ (c : ℕ). slice_get (map opening (ids_from 0 nodes)) c ≡ Some (opening (0 + it.0))) (sym creator) it.2, omega (arith, ap (λ (x : Group). x.count) it.1)));
   once = openings_once nodes 0;
 }) run).once

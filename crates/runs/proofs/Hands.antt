@@ -16,7 +16,7 @@ use Rattle.node_core.specs.State.{State, is_down, is_election, is_reorganization
 use Rattle.node_core.specs.Effect.{Effect}
 use Rattle.node_core.specs.Words.{is_empty, leads, members_of, owner, holds}
 use Rattle.node_core.specs.Priorities.{by_priority}
-use Rattle.node_core.proofs.Priorities.{few_by_priority}
+use Rattle.node_core.proofs.PublicLaws.{few_by_priority}
 use Rattle.node_core.specs.Timers.{recovery, check_timer, merges, offer, merge_timer, accept_timer, awaits_ready, ready_timer, follows, coord_timer, in_own_hand, is_own, own_jobs, dispatch_timer}
 use Rattle.node_core.specs.Messages.{asked_coordinator, answered_coordinator, asked_there, was_probed, answered_there, takes_invitation, invited, accepted, is_told, told_ready, acknowledged, got_work}
 use Rattle.node_core.specs.Operator.{submit, finish}

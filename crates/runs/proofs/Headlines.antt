@@ -9,6 +9,9 @@ use Rattle.node_core.specs.declared.phase.Phase.{Phase}
 use Rattle.node_core.specs.declared.phase.Phase.TheVariants.{Down, Normal}
 use Rattle.node_core.specs.declared.in_hand.InHand.{InHand}
 use Rattle.node_core.specs.State.{State}
+use Rattle.node_core.specs.Start.{down}
+use Rattle.job_model.specs.Durable.{formatted}
+use Rattle.std.specs.Prelude.{unwrap_or}
 use Rattle.histories.specs.Lists.{IsAmong}
 use Rattle.histories.specs.NodeState.{NodeState, opening}
 use Rattle.histories.specs.What.{Entry}
@@ -16,64 +19,80 @@ use Rattle.histories.specs.Named.{BodyHolds, StateHolds}
 use Rattle.histories.specs.Book.{IsTaskOf, AgreesIn, AgreesAt, IsInGroup}
 use Rattle.histories.specs.Rising.{Rises}
 use Rattle.histories.specs.Kept.{Kept, Tried}
-use Rattle.histories.specs.Marks.{commands_of, marks_of, opening_marks}
+use Rattle.histories.specs.Marks.{commands_of, mountings_of, marks_of}
 use Rattle.histories.specs.Owners.{FinishedBy}
-use Rattle.histories.proofs.Counts.{counts_rise}
+use Rattle.histories.proofs.PublicLaws.{counts_rise, owner_finishes, one_worker, each_kept, agreed_coordinator, same_task}
 use Rattle.histories.specs.Moments.{IsMoment}
-use Rattle.histories.proofs.Owners.{owner_finishes, one_worker}
 use Rattle.schedule.specs.declared.act.Act.{Act}
-use Rattle.runs.specs.World.{openings, start}
+use Rattle.runs.specs.World.{start, node_in}
 use Rattle.runs.specs.Step.{Step}
 use Rattle.runs.specs.Run.{RunFrom, world_at, history_in, histories_of}
-use Rattle.runs.specs.Given.{AllGiven, groups_of}
-use Rattle.runs.specs.Tagged.{own, run_marks}
+use Rattle.runs.specs.Given.{AllGiven, IsOnceEach, groups_of}
+use Rattle.runs.specs.Acts.{IsRunOf}
 use Rattle.histories.specs.Counts.{IsShort}
-use Rattle.runs.specs.Reporting.{Moment, TriedAt, moments_from, state_at, state_or_down, commands_in, mountings_in, own_commands, own_mountings, own_counts, marks_of_run, report_of}
-use Rattle.runs.specs.Headline.{IsShown, groups_within, commands_within, NamesGiven, HasBook, EverySchedule}
-use Rattle.runs.proofs.Runs.{history_at, how_many, runs_are_bundles}
+use Rattle.runs.specs.Reporting.{Moment, TriedAt, own_commands, own_mountings, own_counts, report_of}
+use Rattle.runs.proofs.Finished.{finished_in_report}
+use Rattle.runs.specs.Headline.{IsFinished, IsShown, report_within, NamesGiven, HasBook, EverySchedule}
+use Rattle.runs.proofs.Runs.{history_at, history_follows, how_many, runs_are_bundles, starts_opened}
 use Rattle.runs.proofs.RunBooks.{state_moment, run_book}
 use Rattle.runs.proofs.Given.{given_before, none_twice}
-use Rattle.runs.proofs.Tagged.{runs_are_kept}
+use Rattle.runs.proofs.Tagged.{history_few}
+use Rattle.runs.proofs.Reports.{moments_from, opening_is, moments_are, groups_are, commands_told, mounted_told}
 use Rattle.runs.proofs.Exact.{all_acts_run}
-use Rattle.runs.proofs.Picked.{own_tried, own_mounted, own_marks, own_history, starts_opened, among_own, own_counts_of}
-use Rattle.runs.proofs.Moments.{run_front, as_many, moment_state, moment_says, opening_shown}
-use Rattle.histories.proofs.OneBooks.{agreed_coordinator, same_task}
+use Rattle.runs.proofs.Picked.{among_own, own_counts_of}
+use Rattle.runs.proofs.Moments.{run_front, acts_front, as_many, moment_state, moment_says, opening_shown}
 
 -- ---- 2
 
-each_kept : (nodes : ℕ) (steps : List Step) → RunFrom nodes (start nodes) steps → IsShort steps → (n : ℕ) → n < nodes
-    → Kept (own_commands n (commands_in (marks_of_run nodes steps))) (own_mountings n (mountings_in (marks_of_run nodes steps)))
-each_kept nodes steps run few n lt =
-    let marks : own n (marks_of_run nodes steps) ≡ opening_marks ++ own n (run_marks nodes (start nodes) (λ (k : ℕ). 1) steps) = own_marks nodes n steps lt in
-    rw (own_tried n (marks_of_run nodes steps), own_mounted n (marks_of_run nodes steps), marks) (runs_are_kept nodes steps run few n (opening n) (starts_opened nodes n lt))
+kept_by_history : (nodes : ℕ) (steps : List Step) → RunFrom nodes (start nodes) steps → IsShort steps → (n : ℕ) → n < nodes
+    → let h = history_in n nodes (start nodes) steps in Kept (commands_of (marks_of n nodes h)) (mountings_of (marks_of n nodes h))
+kept_by_history nodes steps run few n lt =
+    each_kept n nodes (history_in n nodes (start nodes) steps) (history_follows n nodes steps (start nodes) (opening n) (starts_opened nodes n lt) run)
+    (omega (arith, few, history_few n nodes steps (start nodes)))
+
+kept_by_report : (nodes slots : ℕ) (acts : List Act) (steps : List Step) → IsRunOf nodes slots (start nodes) acts steps → IsShort steps → (n : ℕ) → n < nodes
+    → Kept (own_commands n (report_of nodes acts steps).commands) (own_mountings n (report_of nodes acts steps).mounted)
+kept_by_report nodes slots acts steps is_run few n lt =
+    rw (commands_told nodes slots n acts steps is_run lt, mounted_told nodes slots n acts steps is_run lt) (kept_by_history nodes steps (all_acts_run nodes slots (start nodes) acts steps is_run) few n lt)
 
 -- ---- 3
 
-each_rises : (nodes : ℕ) (steps : List Step) (n : ℕ) → n < nodes → Rises 0 (own_counts n (groups_of nodes steps))
-each_rises nodes steps n lt =
-    rw (own_counts_of nodes n steps lt) (omega arith, counts_rise n nodes (opening n) (history_in n nodes (start nodes) steps) 1 (omega arith))
+each_rises : (nodes slots : ℕ) (acts : List Act) (steps : List Step) → IsRunOf nodes slots (start nodes) acts steps → (n : ℕ) → n < nodes → Rises 0 (own_counts n (report_of nodes acts steps).groups)
+each_rises nodes slots acts steps is_run n lt =
+    rw (groups_are nodes slots acts steps is_run, own_counts_of nodes n steps lt) (omega arith, counts_rise n nodes (opening n) (history_in n nodes (start nodes) steps) 1 (omega arith))
 
-down_or_given : (P : Group → Type 0) (o : Option NodeState) → ((s : NodeState) → o ≡ Some s → StateHolds P s.state) → StateHolds P (state_or_down o)
-down_or_given P None h = tt
-down_or_given P (Some s) h = h s refl
+given_once : (nodes slots : ℕ) (acts : List Act) (steps : List Step) → IsRunOf nodes slots (start nodes) acts steps → IsOnceEach (report_of nodes acts steps).groups
+given_once nodes slots acts steps is_run = rw (groups_are nodes slots acts steps is_run) (none_twice nodes steps (all_acts_run nodes slots (start nodes) acts steps is_run))
 
-moment_given : (nodes : ℕ) (acts : List Act) (steps : List Step) → RunFrom nodes (start nodes) steps → (k : ℕ) (m : Moment) → slice_get (moments_from nodes (start nodes) acts steps) k ≡ Some m
-    → NamesGiven (groups_within nodes (suc k) steps) m
-moment_given nodes acts steps run k m at =
+down_or_given : (P : Group → Type 0) (states : List NodeState) (n : ℕ) → ((s : NodeState) → slice_get states n ≡ Some s → StateHolds P s.state) → StateHolds P (node_in states n).state
+down_or_given P states n h = by_state (slice_get states n) h
+  where
+    by_state : (o : Option NodeState) → ((s : NodeState) → o ≡ Some s → StateHolds P s.state) → StateHolds P (unwrap_or o (record { state = down n; durable = formatted; doubt = None })).state
+    by_state None h = tt
+    by_state (Some s) h = h s refl
+
+moment_given : (nodes slots : ℕ) (acts : List Act) (steps : List Step) → IsRunOf nodes slots (start nodes) acts steps → (k : ℕ) (m : Moment) → slice_get (report_of nodes acts steps).moments k ≡ Some m
+    → NamesGiven (report_within nodes (suc k) acts steps).groups m
+moment_given nodes slots acts steps is_run k m at =
     let front : List Step = take (suc k) steps in
+    let run : RunFrom nodes (start nodes) steps = all_acts_run nodes slots (start nodes) acts steps is_run in
     let given : List Group = groups_of nodes front in
     let all : AllGiven (world_at nodes (start nodes) front) given = given_before nodes front (run_front (suc k) nodes steps (start nodes) run) in
-    record {
-      by_state = rw (moment_state k nodes acts steps (start nodes) m at)
-          (down_or_given (λ (g : Group). IsAmong g given) (slice_get (world_at nodes (start nodes) front).states m.node) (λ s here. all.vectors m.node s here));
-      by_messages = moment_says (λ (x : Envelope). BodyHolds (λ (g : Group). IsAmong g given) x.body) k nodes acts steps (start nodes) m at all.messages;
-    }
+    let there : slice_get (moments_from nodes (start nodes) acts steps) k ≡ Some m = subst (λ (ms : List Moment). slice_get ms k ≡ Some m) (moments_are nodes acts steps) at in
+    subst (λ (gs : List Group). NamesGiven gs m) (sym (groups_are nodes slots (take (suc k) acts) front (acts_front (suc k) nodes slots acts steps (start nodes) is_run))) (record {
+      by_state = rw (moment_state k nodes acts steps (start nodes) m there)
+          (down_or_given (λ (g : Group). IsAmong g given) (world_at nodes (start nodes) front).states m.node (λ s here. all.vectors m.node s here));
+      by_messages = moment_says (λ (x : Envelope). BodyHolds (λ (g : Group). IsAmong g given) x.body) k nodes acts steps (start nodes) m there all.messages;
+    })
 
 -- ---- 4
 
-down_or_agrees : (book : List Assignment) (n : ℕ) (o : Option NodeState) → ((s : NodeState) → o ≡ Some s → AgreesAt book n s.state) → AgreesAt book n (state_or_down o)
-down_or_agrees book n None h = tt
-down_or_agrees book n (Some s) h = h s refl
+down_or_agrees : (book : List Assignment) (states : List NodeState) (n : ℕ) → ((s : NodeState) → slice_get states n ≡ Some s → AgreesAt book n s.state) → AgreesAt book n (node_in states n).state
+down_or_agrees book states n h = by_state (slice_get states n) h
+  where
+    by_state : (o : Option NodeState) → ((s : NodeState) → o ≡ Some s → AgreesAt book n s.state) → AgreesAt book n (unwrap_or o (record { state = down n; durable = formatted; doubt = None })).state
+    by_state None h = tt
+    by_state (Some s) h = h s refl
 
 its_book : (nodes : ℕ) (acts : List Act) (steps : List Step) → RunFrom nodes (start nodes) steps → HasBook (report_of nodes acts steps)
 its_book nodes acts steps run =
@@ -81,17 +100,17 @@ its_book nodes acts steps run =
     record {
       book = law.0;
       agrees = λ n s shown. elim shown [
-        | inl first ↦ (let it = opening_shown (openings 0 nodes) n s first in
+        | inl first ↦ (let it = opening_shown (start nodes).states n s (subst (λ (xs : List State). slice_get xs n ≡ Some s) (opening_is nodes acts steps) first) in
             subst (λ (x : State). AgreesAt law.0 n x) it.2 (law.1 [] steps refl n it.0 it.1))
         | inr moment ↦ (
             let k : ℕ = moment.0 in
             let m : Moment = moment.1 in
             let front : List Step = take (suc k) steps in
-            let agrees : AgreesAt law.0 m.node (state_at (world_at nodes (start nodes) front).states m.node) =
-            down_or_agrees law.0 m.node (slice_get (world_at nodes (start nodes) front).states m.node)
+            let agrees : AgreesAt law.0 m.node (node_in (world_at nodes (start nodes) front).states m.node).state =
+            down_or_agrees law.0 (world_at nodes (start nodes) front).states m.node
             (λ x here. law.1 front (drop (suc k) steps) (take-append-drop (suc k) steps) m.node x here) in
             subst (λ (x : State). AgreesAt law.0 n x) moment.4
-            (subst (λ (j : ℕ). AgreesAt law.0 j m.state) moment.3 (rw (moment_state k nodes acts steps (start nodes) m moment.2) agrees)))
+            (subst (λ (j : ℕ). AgreesAt law.0 j m.state) moment.3 (rw (moment_state k nodes acts steps (start nodes) m (subst (λ (ms : List Moment). slice_get ms k ≡ Some m) (moments_are nodes acts steps) moment.2)) agrees)))
       ];
     }
 
@@ -117,38 +136,40 @@ shown_task nodes acts steps h n m s t a b in_s in_t same = task_of_two h.book n 
 
 -- ---- jobs
 
-finished_by : (nodes : ℕ) (steps : List Step) → RunFrom nodes (start nodes) steps → (t : TriedAt) (id : ℕ) → IsAmong t (commands_in (marks_of_run nodes steps)) → t.node < nodes
+finished_by : (nodes slots : ℕ) (acts : List Act) (steps : List Step) → IsRunOf nodes slots (start nodes) acts steps → (t : TriedAt) (id : ℕ) → IsAmong t (report_of nodes acts steps).commands → t.node < nodes
     → t.tried.command ≡ Done id → FinishedBy (histories_of nodes steps) t.node id
-finished_by nodes steps run t id among lt done =
+finished_by nodes slots acts steps is_run t id among lt done =
     let n : ℕ = t.node in
     let h : List Entry = history_in n nodes (start nodes) steps in
     let at : slice_get (histories_of nodes steps) n ≡ Some h = history_at nodes 0 n nodes steps (opening n) n (omega arith) (starts_opened nodes n lt) in
-    let mine : IsAmong t.tried (own_commands n (commands_in (marks_of_run nodes steps))) = among_own n t (commands_in (marks_of_run nodes steps)) refl among in
-    let marks : own_commands n (commands_in (marks_of_run nodes steps)) ≡ commands_of (marks_of n nodes h) = own_tried n (marks_of_run nodes steps) ∙ ap commands_of (own_history nodes n steps lt) in
-    let tried : IsAmong t.tried (commands_of (marks_of n nodes h)) = subst (λ (ts : List Tried). IsAmong t.tried ts) marks mine in
-    owner_finishes (histories_of nodes steps) (runs_are_bundles nodes steps run) n h at t.tried id
+    let tried : IsAmong t.tried (commands_of (marks_of n nodes h)) =
+    subst (λ (ts : List Tried). IsAmong t.tried ts) (commands_told nodes slots n acts steps is_run lt) (among_own n t (report_of nodes acts steps).commands refl among) in
+    owner_finishes (histories_of nodes steps) (runs_are_bundles nodes steps (all_acts_run nodes slots (start nodes) acts steps is_run)) n h at t.tried id
     (subst (λ (j : ℕ). IsAmong t.tried (commands_of (marks_of n j h))) (sym (how_many nodes 0 nodes steps)) tried) done
 
-finished_at : (nodes : ℕ) (steps : List Step) → RunFrom nodes (start nodes) steps → (k : ℕ) (t : TriedAt) (id : ℕ) → IsAmong t (commands_within nodes k steps) → t.node < nodes
-    → t.tried.command ≡ Done id → FinishedBy (histories_of nodes (take k steps)) t.node id
-finished_at nodes steps run k t id among lt done = finished_by nodes (take k steps) (run_front k nodes steps (start nodes) run) t id among lt done
+finished_at : (nodes slots : ℕ) (acts : List Act) (steps : List Step) → IsRunOf nodes slots (start nodes) acts steps → (k : ℕ) (t : TriedAt) (id : ℕ) → IsAmong t (report_within nodes k acts steps).commands → t.node < nodes
+    → t.tried.command ≡ Done id → IsFinished (report_within nodes k acts steps) t.node id
+finished_at nodes slots acts steps is_run k t id among lt done =
+    let front = acts_front k nodes slots acts steps (start nodes) is_run in
+    finished_in_report nodes slots (take k acts) (take k steps) t.node id front (finished_by nodes slots (take k acts) (take k steps) front t id among lt done)
 
 -- a state that is shown in Normal is a moment of the node's history
 shown_moment : (nodes : ℕ) (acts : List Act) (steps : List Step) (n : ℕ) (s : State) → IsShown (report_of nodes acts steps) n s → s.phase ≡ Normal → IsMoment (histories_of nodes steps) n s
 shown_moment nodes acts steps n s shown normal = elim shown [
-  | inl first ↦ (let it = opening_shown (openings 0 nodes) n s first in
+  | inl first ↦ (let it = opening_shown (start nodes).states n s (subst (λ (xs : List State). slice_get xs n ≡ Some s) (opening_is nodes acts steps) first) in
       subst (λ (x : State). IsMoment (histories_of nodes steps) n x) it.2 (state_moment nodes steps [] steps refl n it.0 it.1))
   | inr moment ↦ (
       let k : ℕ = moment.0 in
       let m : Moment = moment.1 in
       let front : List Step = take (suc k) steps in
-      let o : Option NodeState = slice_get (world_at nodes (start nodes) front).states m.node in
-      let here : state_or_down o ≡ s = sym (moment_state k nodes acts steps (start nodes) m moment.2) ∙ moment.4 in
+      let states : List NodeState = (world_at nodes (start nodes) front).states in
+      let here : (node_in states m.node).state ≡ s = sym (moment_state k nodes acts steps (start nodes) m (subst (λ (ms : List Moment). slice_get ms k ≡ Some m) (moments_are nodes acts steps) moment.2)) ∙ moment.4 in
       subst (λ (j : ℕ). IsMoment (histories_of nodes steps) j s) moment.3
-      (is_up m.node o here (λ x at. state_moment nodes steps front (drop (suc k) steps) (take-append-drop (suc k) steps) m.node x at)))
+      (is_up m.node (slice_get states m.node) here (λ x at. state_moment nodes steps front (drop (suc k) steps) (take-append-drop (suc k) steps) m.node x at)))
 ]
   where
-    is_up : (j : ℕ) (o : Option NodeState) → state_or_down o ≡ s → ((x : NodeState) → o ≡ Some x → IsMoment (histories_of nodes steps) j x.state) → IsMoment (histories_of nodes steps) j s
+    is_up : (j : ℕ) (o : Option NodeState) → (unwrap_or o (record { state = down j; durable = formatted; doubt = None })).state ≡ s → ((x : NodeState) → o ≡ Some x → IsMoment (histories_of nodes steps) j x.state)
+        → IsMoment (histories_of nodes steps) j s
     is_up j None here at = (let none : Down ≡ Normal = ap (λ (x : State). x.phase) here ∙ normal in absurd cc)
     is_up j (Some x) here at = subst (λ (y : State). IsMoment (histories_of nodes steps) j y) here (at x refl)
 
@@ -169,13 +190,13 @@ every_schedule nodes slots acts steps short is_run =
       steps = steps;
       is_run = search (rules, is_run);
       reported = search rules;
-      kept = search (rules, each_kept nodes steps run few);
-      rising = search (rules, each_rises nodes steps);
-      once = search (rules, none_twice nodes steps run);
-      given = search (rules, moment_given nodes acts steps run);
+      kept = search (rules, kept_by_report nodes slots acts steps is_run few);
+      rising = search (rules, each_rises nodes slots acts steps is_run);
+      once = search (rules, given_once nodes slots acts steps is_run);
+      given = search (rules, moment_given nodes slots acts steps is_run);
       has_book = search (rules, the_book);
       one_coordinator = search (rules, shown_coordinator nodes acts steps the_book);
       one_task = search (rules, shown_task nodes acts steps the_book);
       one_worker = search (rules, worker_of_two nodes acts steps run);
-      finished = search (rules, finished_at nodes steps run);
+      finished = search (rules, finished_at nodes slots acts steps is_run);
     }

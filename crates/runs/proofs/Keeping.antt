@@ -5,7 +5,7 @@ use Rattle.std.proofs.lemmas.Bool.Decides.{nat_tests}
 use Rattle.histories.specs.NodeState.{NodeState}
 use Rattle.histories.specs.declared.what.What.{What}
 use Rattle.histories.specs.After.{after}
-use Rattle.histories.proofs.Tests.{eq_nat}
+use Rattle.histories.proofs.PublicLaws.{eq_nat}
 use Rattle.runs.specs.World.{World}
 use Rattle.runs.specs.Step.{Takes, world_after}
 use Rattle.runs.proofs.Runs.{state_here, state_elsewhere}
@@ -28,4 +28,4 @@ states_keep P nodes w m number what s at kept all n t at_n = by_place (m == n) r
         subst (λ (j : ℕ). P j t) same (subst (λ (x : NodeState). P m x) is_after kept)
     by_place false is =
         let ne : n ≢ m = grind (arith, nat_tests) in
-        all n t (sym (state_elsewhere m n nodes what (slice_get w.states m) w.states ne) ∙ at_n)
+        all n t (sym (state_elsewhere m n nodes what w.states ne) ∙ at_n)

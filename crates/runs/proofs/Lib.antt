@@ -1,24 +1,26 @@
-pub mod Runs
-pub mod RunBooks
-pub mod Tagged
-pub mod Picked
-pub mod Moments
-pub mod Headlines
-pub mod Grown
-pub mod Given
-pub mod Growing
-pub mod Examples
-pub mod Exact
-pub mod Sending
-pub mod Hands
-pub mod Keeping
-pub mod Rooms
-pub mod Strangers
-pub mod Opened
-pub mod Found
-pub mod Fences
-pub mod Numbers
-pub mod Finishing
-pub mod Told
-pub mod Shown
-pub mod Finished
+mod Runs
+mod RunBooks
+mod Tagged
+mod Reports
+mod Picked
+mod Moments
+mod Headlines
+mod Grown
+mod Given
+mod Growing
+mod Examples
+mod Exact
+mod Sending
+mod Hands
+mod Keeping
+mod Rooms
+mod Strangers
+mod Opened
+mod Found
+mod Fences
+mod Numbers
+mod Finishing
+mod Told
+mod Shown
+mod Finished
+pub mod PublicLaws

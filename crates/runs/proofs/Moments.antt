@@ -4,13 +4,15 @@ use Rattle.wire_msg.specs.Envelope.{Envelope}
 use Rattle.node_core.specs.State.{State}
 use Rattle.histories.specs.Lists.{Each}
 use Rattle.histories.specs.NodeState.{NodeState}
-use Rattle.histories.proofs.Among.{each_split}
+use Rattle.histories.proofs.PublicLaws.{each_split}
 use Rattle.schedule.specs.declared.act.Act.{Act}
-use Rattle.runs.specs.World.{World}
-use Rattle.runs.specs.Step.{Step, Takes, Loses, Cuts, Mends, Denies, sent_after, world_after}
+use Rattle.runs.specs.World.{World, node_in}
+use Rattle.runs.specs.Step.{Step, Takes, Changes, Denies, world_after, step_sent}
 use Rattle.runs.specs.Run.{RunFrom, world_at}
 use Rattle.runs.specs.Acts.{IsRunOf}
-use Rattle.runs.specs.Reporting.{Moment, moment_of, moments_from, state_at, step_sent}
+use Rattle.runs.specs.Reporting.{Moment, moment_of}
+use Rattle.runs.proofs.Reports.{moments_from}
+use Rattle.histories.specs.After.{sent_at}
 
 -- a front of a run is a run
 pub run_front : (k nodes : ℕ) (steps : List Step) (w : World) → RunFrom nodes w steps → RunFrom nodes w (take k steps)
@@ -18,6 +20,14 @@ run_front zero nodes [] w run = tt
 run_front zero nodes (step ∷ steps) w run = tt
 run_front (suc k) nodes [] w run = tt
 run_front (suc k) nodes (step ∷ steps) w run = (run.0, run_front k nodes steps (world_after nodes w step) run.1)
+
+-- the first steps are a run of the first acts
+pub acts_front : (k nodes slots : ℕ) (acts : List Act) (steps : List Step) (w : World) → IsRunOf nodes slots w acts steps → IsRunOf nodes slots w (take k acts) (take k steps)
+acts_front zero nodes slots acts steps w run = tt
+acts_front (suc k) nodes slots [] [] w run = tt
+acts_front (suc k) nodes slots [] (step ∷ steps) w run = absurd run
+acts_front (suc k) nodes slots (a ∷ acts) [] w run = absurd run
+acts_front (suc k) nodes slots (a ∷ acts) (step ∷ steps) w run = (run.0, run.1, run.2, acts_front k nodes slots acts steps (world_after nodes w step) run.3)
 
 -- there is a step for each act
 pub as_many : (nodes slots : ℕ) (acts : List Act) (steps : List Step) (w : World) → IsRunOf nodes slots w acts steps → length acts ≡ length steps
@@ -28,22 +38,20 @@ as_many nodes slots (a ∷ acts) (step ∷ steps) w run = ap suc (as_many nodes 
 
 -- a moment shows its node after the acts so far
 pub moment_state : (k nodes : ℕ) (acts : List Act) (steps : List Step) (w : World) (m : Moment) → slice_get (moments_from nodes w acts steps) k ≡ Some m
-    → m.state ≡ state_at (world_at nodes w (take (suc k) steps)).states m.node
+    → m.state ≡ (node_in (world_at nodes w (take (suc k) steps)).states m.node).state
 moment_state k nodes [] steps w m at = absurd cc
 moment_state k nodes (a ∷ acts) [] w m at = absurd cc
 moment_state zero nodes (a ∷ acts) (step ∷ []) w m at =
-    let it : moment_of nodes w a step ≡ m = cc at in subst (λ (x : Moment). x.state ≡ state_at (world_after nodes w step).states x.node) it refl
+    let it : moment_of nodes w a step ≡ m = cc at in subst (λ (x : Moment). x.state ≡ (node_in (world_after nodes w step).states x.node).state) it refl
 moment_state zero nodes (a ∷ acts) (step ∷ next ∷ steps) w m at =
-    let it : moment_of nodes w a step ≡ m = cc at in subst (λ (x : Moment). x.state ≡ state_at (world_after nodes w step).states x.node) it refl
+    let it : moment_of nodes w a step ≡ m = cc at in subst (λ (x : Moment). x.state ≡ (node_in (world_after nodes w step).states x.node).state) it refl
 moment_state (suc k) nodes (a ∷ acts) (step ∷ steps) w m at = moment_state k nodes acts steps (world_after nodes w step) m at
 
 -- what a step sends is among all that was sent
 step_says : (P : Envelope → Type 0) (nodes : ℕ) (w : World) (step : Step) → Each P (world_after nodes w step).net.sent → Each P (step_sent nodes w step)
-step_says P nodes w (Takes n number what) h = (each_split P w.net.sent (sent_after n nodes (slice_get w.states n) what) h).1
-step_says P nodes w (Loses k) h = tt
-step_says P nodes w (Cuts a b) h = tt
-step_says P nodes w (Mends a b) h = tt
-step_says P nodes w (Denies why) h = tt
+step_says P nodes w (Takes n number what) h = (each_split P w.net.sent (sent_at n nodes (node_in w.states n) what) h).1
+step_says P nodes w (Changes net) h = tt
+step_says P nodes w (Denies told why) h = tt
 
 pub moment_says : (P : Envelope → Type 0) (k nodes : ℕ) (acts : List Act) (steps : List Step) (w : World) (m : Moment) → slice_get (moments_from nodes w acts steps) k ≡ Some m
     → Each P (world_at nodes w (take (suc k) steps)).net.sent → Each P m.sent
@@ -55,7 +63,7 @@ moment_says P zero nodes (a ∷ acts) (step ∷ next ∷ steps) w m at h =
     let it : moment_of nodes w a step ≡ m = cc at in subst (λ (x : Moment). Each P x.sent) it (step_says P nodes w step h)
 moment_says P (suc k) nodes (a ∷ acts) (step ∷ steps) w m at h = moment_says P k nodes acts steps (world_after nodes w step) m at h
 
--- a state of the openings is that of a node
+-- a state of the map opening (ids_from is that) of a node
 pub opening_shown : (states : List NodeState) (n : ℕ) (s : State) → slice_get (map (λ (x : NodeState). x.state) states) n ≡ Some s → (x : NodeState) × (slice_get states n ≡ Some x) × (x.state ≡ s)
 opening_shown [] n s at = absurd cc
 opening_shown (x ∷ states) zero s at = (x, refl, cc at)

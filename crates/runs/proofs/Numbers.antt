@@ -12,10 +12,10 @@ use Rattle.node_core.specs.State.{State}
 use Rattle.histories.specs.Lists.{IsAmong}
 use Rattle.histories.specs.Named.{BodyHolds, PlaceHolds}
 use Rattle.histories.specs.Rising.{Rises}
-use Rattle.histories.proofs.Among.{each_at}
+use Rattle.histories.proofs.PublicLaws.{each_at}
 use Rattle.runs.specs.Given.{IsOnceEach}
 use Rattle.runs.specs.Reporting.{own_counts}
-use Rattle.runs.specs.Headline.{groups_within}
+use Rattle.runs.specs.Headline.{report_within}
 use Rattle.runs.specs.Uses.{groups_in, GivenAtOnePlace, LaterIsGreater, NamedWasGiven}
 use Rattle.runs.proofs.Found.{among_of}
 
@@ -86,7 +86,7 @@ group_said P (DoneMessage id) g h i = absurd i
 
 pub named_was_given : NamedWasGiven
 named_was_given nodes slots acts r head k m at =
-    let given : List Group = groups_within nodes (suc k) head.steps in
+    let given : List Group = (report_within nodes (suc k) acts head.steps).groups in
     let P = λ (g : Group). IsAmong g given in
     let named = head.given k m at in (
       group_shown P m.state m.state.phase refl named.by_state,

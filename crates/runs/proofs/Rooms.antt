@@ -15,16 +15,15 @@ use Rattle.histories.specs.declared.what.What.TheVariants.{Did, Refused, Faulted
 use Rattle.histories.specs.After.{after}
 use Rattle.histories.specs.Possible.{IsPossible, IsOfSlots}
 use Rattle.histories.specs.Marks.{IsNone}
-use Rattle.histories.proofs.Downs.{at_down}
-use Rattle.histories.proofs.Kepts.{DoubtIsDown, doubt_after}
+use Rattle.histories.proofs.PublicLaws.{at_down, DoubtIsDown, doubt_after}
 use Rattle.schedule.specs.declared.act.Act.{Act}
 use Rattle.runs.specs.World.{World, start}
-use Rattle.runs.specs.Step.{Step, Takes, Loses, Cuts, Mends, Denies, world_after}
+use Rattle.runs.specs.Step.{Step, Takes, Changes, Denies, world_after}
 use Rattle.runs.specs.Run.{IsAllowed, world_at}
-use Rattle.runs.specs.Acts.{IsOfSlotsAt, StepOfSlots, IsRunOf}
+use Rattle.runs.specs.Acts.{StepOfSlots, IsRunOf}
 use Rattle.runs.specs.Reporting.{Report}
 use Rattle.runs.specs.Growth.{IsLeft, acts_in}
-use Rattle.runs.proofs.Runs.{opened}
+use Rattle.runs.proofs.Runs.{node_there, opened}
 use Rattle.runs.proofs.Keeping.{AllStates, states_keep}
 
 -- ---- one command
@@ -92,12 +91,10 @@ room_opened slots self = record { few = omega arith; doubt = inl tt }
 step_rooms : (nodes slots : ℕ) (w : World) (step : Step) → IsAllowed nodes w step → StepOfSlots slots nodes w step → AllStates (HasRoom slots) w → AllStates (HasRoom slots) (world_after nodes w step)
 step_rooms nodes slots w (Takes m number what) allowed fits all =
     let s : NodeState = allowed.0 in
-    let of_slots : IsOfSlots slots m nodes s what = subst (λ (o : Option NodeState). IsOfSlotsAt slots m nodes o what) allowed.1 fits in
+    let of_slots : IsOfSlots slots m nodes s what = subst (λ (x : NodeState). IsOfSlots slots m nodes x what) (node_there w.states m s allowed.1) fits in
     states_keep (HasRoom slots) nodes w m number what s allowed.1 (room_kept slots m nodes s what allowed.2 of_slots (all m s allowed.1)) all
-step_rooms nodes slots w (Loses k) allowed fits all = all
-step_rooms nodes slots w (Cuts a b) allowed fits all = all
-step_rooms nodes slots w (Mends a b) allowed fits all = all
-step_rooms nodes slots w (Denies why) allowed fits all = all
+step_rooms nodes slots w (Changes net) allowed fits all = all
+step_rooms nodes slots w (Denies told why) allowed fits all = all
 
 run_rooms : (nodes slots : ℕ) (acts : List Act) (steps : List Step) (w : World) → IsRunOf nodes slots w acts steps → AllStates (HasRoom slots) w → AllStates (HasRoom slots) (world_at nodes w steps)
 run_rooms nodes slots [] [] w run all = all

@@ -1,5 +1,5 @@
 -- A run of a cluster, seen from each node, is a bundle of histories.
-use Rattle.std.proofs.Common.{◌≡◌, ◌≢◌, ◌⊎◌, ℕ, zero, suc, ◌+◌, ◌<◌, Bool, true, false, List, [], ◌∷◌, ◌++◌, length, slice_get, refl, sym, ◌∙◌, ap, subst, inl, inr, arith, Option, Some, None}
+use Rattle.std.proofs.Common.{◌≡◌, ◌≢◌, ◌⊎◌, ℕ, zero, suc, ◌+◌, ◌<◌, Bool, true, false, List, [], ◌∷◌, ◌++◌, length, slice_get, refl, sym, ◌∙◌, ap, subst, inl, inr, arith, Option, Some, None, map}
 use Rattle.std.specs.Prelude.{if◌then◌else◌, ◌==◌, slice_set, Result, Ok, Err}
 use Rattle.std.proofs.lemmas.Bool.Decides.{nat_tests}
 use Rattle.wire_msg.specs.Envelope.{Envelope}
@@ -10,13 +10,12 @@ use Rattle.histories.specs.What.{Entry, event_of, brought, AreAddressed}
 use Rattle.histories.specs.After.{after, sent_at}
 use Rattle.histories.specs.Possible.{IsPossible}
 use Rattle.histories.specs.History.{Follows, brought_in, sent_in}
-use Rattle.histories.proofs.Tests.{eq_nat}
-use Rattle.histories.proofs.Among.{among_left, among_right, among_either, sent_of_one, each_append}
+use Rattle.histories.proofs.PublicLaws.{eq_nat, among_left, among_right, among_either, sent_of_one, each_append}
 use Rattle.sim_net.specs.declared.fault.NetFault.{NetFault}
 use Rattle.sim_net.specs.declared.fault.NetFault.TheVariants.{Cut}
 use Rattle.sim_net.specs.Network.{Network, is_cut, found_by, found, unless_cut, delivery}
-use Rattle.runs.specs.World.{World, openings, start}
-use Rattle.runs.specs.Step.{Step, Takes, Loses, Cuts, Mends, Denies, state_after, sent_after, world_after}
+use Rattle.runs.specs.World.{World, ids_from, start, node_in}
+use Rattle.runs.specs.Step.{Step, Takes, Changes, Denies, world_after}
 use Rattle.runs.specs.Run.{IsBrought, RunFrom, world_at, history_in, histories_from, histories_of, RunsAreBundles}
 
 -- what stands at a place
@@ -38,16 +37,19 @@ get_set_other (z ∷ xs) zero (suc m) y ne = refl
 get_set_other (z ∷ xs) (suc n) zero y ne = refl
 get_set_other (z ∷ xs) (suc n) (suc m) y ne = get_set_other xs n m y (λ e. ne (ap suc e))
 
+-- the node that is there
+pub node_there : (states : List NodeState) (n : ℕ) (s : NodeState) → slice_get states n ≡ Some s → node_in states n ≡ s
+node_there states n s at = rw at refl
+
 -- the node that takes a step is the one after it
 pub state_here : (m n nodes : ℕ) (what : What) (states : List NodeState) (s : NodeState) → m ≡ n → slice_get states n ≡ Some s
-    → slice_get (state_after m nodes (slice_get states m) what states) n ≡ Some (after n nodes s what)
+    → slice_get (slice_set states m (after m nodes (node_in states m) what)) n ≡ Some (after n nodes s what)
 state_here m n nodes what states s same at =
-    let here : slice_get states m ≡ Some s = subst (λ (j : ℕ). slice_get states j ≡ Some s) (sym same) at in
-    rw here (subst (λ (j : ℕ). slice_get (slice_set states j (after j nodes s what)) n ≡ Some (after n nodes s what)) (sym same) (get_set_same states n s (after n nodes s what) at))
+    subst (λ (j : ℕ). slice_get (slice_set states j (after j nodes (node_in states j) what)) n ≡ Some (after n nodes s what)) (sym same)
+    (subst (λ (x : NodeState). slice_get (slice_set states n (after n nodes x what)) n ≡ Some (after n nodes s what)) (sym (node_there states n s at)) (get_set_same states n s (after n nodes s what) at))
 
-pub state_elsewhere : (m n nodes : ℕ) (what : What) (o : Option NodeState) (states : List NodeState) → n ≢ m → slice_get (state_after m nodes o what states) n ≡ slice_get states n
-state_elsewhere m n nodes what None states ne = refl
-state_elsewhere m n nodes what (Some s) states ne = get_set_other states n m (after m nodes s what) ne
+pub state_elsewhere : (m n nodes : ℕ) (what : What) (states : List NodeState) → n ≢ m → slice_get (slice_set states m (after m nodes (node_in states m) what)) n ≡ slice_get states n
+state_elsewhere m n nodes what states ne = get_set_other states n m (after m nodes (node_in states m) what) ne
 
 -- the history of node n follows its own steps
 pub history_follows : (n nodes : ℕ) (steps : List Step) (w : World) (s : NodeState) → slice_get w.states n ≡ Some s → RunFrom nodes w steps → Follows n nodes s (history_in n nodes w steps)
@@ -57,23 +59,21 @@ history_follows n nodes (Takes m number what ∷ steps) w s at run =
   where
     pick : (b : Bool) → (m == n) ≡ b
         → ((t : NodeState) → slice_get (world_after nodes w (Takes m number what)).states n ≡ Some t → Follows n nodes t (history_in n nodes (world_after nodes w (Takes m number what)) steps))
-        → Follows n nodes s ((if b then record { what = what; sent = sent_after m nodes (slice_get w.states m) what } ∷ [] else []) ++ history_in n nodes (world_after nodes w (Takes m number what)) steps)
+        → Follows n nodes s ((if b then record { what = what; sent = sent_at m nodes (node_in w.states m) what } ∷ [] else []) ++ history_in n nodes (world_after nodes w (Takes m number what)) steps)
     pick true is rest =
         let same : m ≡ n = eq_nat m n is in
         let here : slice_get w.states m ≡ Some s = subst (λ (j : ℕ). slice_get w.states j ≡ Some s) (sym same) at in
         let it : run.0.0 ≡ s = cc (here, run.0.1) in
         let may : IsPossible m nodes s what = subst (λ (x : NodeState). IsPossible m nodes x what) it run.0.2 in (
           subst (λ (j : ℕ). IsPossible j nodes s what) same may,
-          rw here (ap (λ (j : ℕ). sent_at j nodes s what) same),
+          ap (λ (x : NodeState). sent_at m nodes x what) (node_there w.states m s here) ∙ ap (λ (j : ℕ). sent_at j nodes s what) same,
           rest (after n nodes s what) (state_here m n nodes what w.states s same at),
         )
     pick false is rest =
         let ne : n ≢ m = grind (arith, nat_tests) in
-        rest s (state_elsewhere m n nodes what (slice_get w.states m) w.states ne ∙ at)
-history_follows n nodes (Loses k ∷ steps) w s at run = history_follows n nodes steps (world_after nodes w (Loses k)) s at run.1
-history_follows n nodes (Cuts a b ∷ steps) w s at run = history_follows n nodes steps (world_after nodes w (Cuts a b)) s at run.1
-history_follows n nodes (Mends a b ∷ steps) w s at run = history_follows n nodes steps (world_after nodes w (Mends a b)) s at run.1
-history_follows n nodes (Denies why ∷ steps) w s at run = history_follows n nodes steps w s at run.1
+        rest s (state_elsewhere m n nodes what w.states ne ∙ at)
+history_follows n nodes (Changes net ∷ steps) w s at run = history_follows n nodes steps (world_after nodes w (Changes net)) s at run.1
+history_follows n nodes (Denies told why ∷ steps) w s at run = history_follows n nodes steps w s at run.1
 
 -- what comes was sent
 found_sent : (o : Option Envelope) (lost : Option Bool) (m : Envelope) → found_by o lost ≡ Ok m → o ≡ Some m
@@ -106,13 +106,11 @@ brought_sent w k (x ∷ xs) m h i = elim i [
 ]
 
 -- what was sent stays sent
-sent_stays : (nodes : ℕ) (steps : List Step) (w : World) (m : Envelope) → IsAmong m w.net.sent → IsAmong m (world_at nodes w steps).net.sent
-sent_stays nodes [] w m i = i
-sent_stays nodes (Takes n number what ∷ steps) w m i = sent_stays nodes steps (world_after nodes w (Takes n number what)) m (among_left m w.net.sent (sent_after n nodes (slice_get w.states n) what) i)
-sent_stays nodes (Loses k ∷ steps) w m i = sent_stays nodes steps (world_after nodes w (Loses k)) m i
-sent_stays nodes (Cuts a b ∷ steps) w m i = sent_stays nodes steps (world_after nodes w (Cuts a b)) m i
-sent_stays nodes (Mends a b ∷ steps) w m i = sent_stays nodes steps (world_after nodes w (Mends a b)) m i
-sent_stays nodes (Denies why ∷ steps) w m i = sent_stays nodes steps w m i
+sent_stays : (nodes : ℕ) (steps : List Step) (w : World) (m : Envelope) → RunFrom nodes w steps → IsAmong m w.net.sent → IsAmong m (world_at nodes w steps).net.sent
+sent_stays nodes [] w m run i = i
+sent_stays nodes (Takes n number what ∷ steps) w m run i = sent_stays nodes steps (world_after nodes w (Takes n number what)) m run.1 (among_left m w.net.sent (sent_at n nodes (node_in w.states n) what) i)
+sent_stays nodes (Changes net ∷ steps) w m run i = sent_stays nodes steps (world_after nodes w (Changes net)) m run.1 (subst (λ (ms : List Envelope). IsAmong m ms) (sym run.0) i)
+sent_stays nodes (Denies told why ∷ steps) w m run i = sent_stays nodes steps w m run.1 i
 
 -- what a node is brought was sent in the run
 brought_in_run : (n nodes : ℕ) (steps : List Step) (w : World) (m : Envelope) → RunFrom nodes w steps → IsAmong m (brought_in (history_in n nodes w steps)) → IsAmong m (world_at nodes w steps).net.sent
@@ -120,18 +118,16 @@ brought_in_run n nodes [] w m run i = absurd i
 brought_in_run n nodes (Takes j number what ∷ steps) w m run i = pick (j == n) i (λ k. brought_in_run n nodes steps (world_after nodes w (Takes j number what)) m run.1 k)
   where
     pick : (b : Bool)
-        → IsAmong m (brought_in ((if b then record { what = what; sent = sent_after j nodes (slice_get w.states j) what } ∷ [] else []) ++ history_in n nodes (world_after nodes w (Takes j number what)) steps))
+        → IsAmong m (brought_in ((if b then record { what = what; sent = sent_at j nodes (node_in w.states j) what } ∷ [] else []) ++ history_in n nodes (world_after nodes w (Takes j number what)) steps))
         → (IsAmong m (brought_in (history_in n nodes (world_after nodes w (Takes j number what)) steps)) → IsAmong m (world_at nodes (world_after nodes w (Takes j number what)) steps).net.sent)
         → IsAmong m (world_at nodes (world_after nodes w (Takes j number what)) steps).net.sent
     pick true i rest = elim (among_either m (brought (event_of what)) (brought_in (history_in n nodes (world_after nodes w (Takes j number what)) steps)) i) [
-      | inl l ↦ sent_stays nodes steps (world_after nodes w (Takes j number what)) m (among_left m w.net.sent (sent_after j nodes (slice_get w.states j) what) (brought_sent w number (brought (event_of what)) m run.0.3 l))
+      | inl l ↦ sent_stays nodes steps (world_after nodes w (Takes j number what)) m run.1 (among_left m w.net.sent (sent_at j nodes (node_in w.states j) what) (brought_sent w number (brought (event_of what)) m run.0.3 l))
       | inr r ↦ rest r
     ]
     pick false i rest = rest i
-brought_in_run n nodes (Loses k ∷ steps) w m run i = brought_in_run n nodes steps (world_after nodes w (Loses k)) m run.1 i
-brought_in_run n nodes (Cuts a b ∷ steps) w m run i = brought_in_run n nodes steps (world_after nodes w (Cuts a b)) m run.1 i
-brought_in_run n nodes (Mends a b ∷ steps) w m run i = brought_in_run n nodes steps (world_after nodes w (Mends a b)) m run.1 i
-brought_in_run n nodes (Denies why ∷ steps) w m run i = brought_in_run n nodes steps w m run.1 i
+brought_in_run n nodes (Changes net ∷ steps) w m run i = brought_in_run n nodes steps (world_after nodes w (Changes net)) m run.1 i
+brought_in_run n nodes (Denies told why ∷ steps) w m run i = brought_in_run n nodes steps w m run.1 i
 
 -- what a node is brought is addressed to it
 addressed_in_run : (n nodes : ℕ) (steps : List Step) (w : World) → RunFrom nodes w steps → AreAddressed n (brought_in (history_in n nodes w steps))
@@ -139,14 +135,12 @@ addressed_in_run n nodes [] w run = tt
 addressed_in_run n nodes (Takes j number what ∷ steps) w run = pick (j == n) refl (addressed_in_run n nodes steps (world_after nodes w (Takes j number what)) run.1)
   where
     pick : (b : Bool) → (j == n) ≡ b → AreAddressed n (brought_in (history_in n nodes (world_after nodes w (Takes j number what)) steps))
-        → AreAddressed n (brought_in ((if b then record { what = what; sent = sent_after j nodes (slice_get w.states j) what } ∷ [] else []) ++ history_in n nodes (world_after nodes w (Takes j number what)) steps))
+        → AreAddressed n (brought_in ((if b then record { what = what; sent = sent_at j nodes (node_in w.states j) what } ∷ [] else []) ++ history_in n nodes (world_after nodes w (Takes j number what)) steps))
     pick true is rest = each_append (λ (m : Envelope). m.receiver ≡ n) (brought (event_of what)) (brought_in (history_in n nodes (world_after nodes w (Takes j number what)) steps))
         (subst (λ (k : ℕ). AreAddressed k (brought (event_of what))) (eq_nat j n is) run.0.4) rest
     pick false is rest = rest
-addressed_in_run n nodes (Loses k ∷ steps) w run = addressed_in_run n nodes steps (world_after nodes w (Loses k)) run.1
-addressed_in_run n nodes (Cuts a b ∷ steps) w run = addressed_in_run n nodes steps (world_after nodes w (Cuts a b)) run.1
-addressed_in_run n nodes (Mends a b ∷ steps) w run = addressed_in_run n nodes steps (world_after nodes w (Mends a b)) run.1
-addressed_in_run n nodes (Denies why ∷ steps) w run = addressed_in_run n nodes steps w run.1
+addressed_in_run n nodes (Changes net ∷ steps) w run = addressed_in_run n nodes steps (world_after nodes w (Changes net)) run.1
+addressed_in_run n nodes (Denies told why ∷ steps) w run = addressed_in_run n nodes steps w run.1
 
 -- a message that some node of the run sent
 record SentInRun (m : Envelope) (nodes : ℕ) (w : World) (steps : List Step) : Type 0 where
@@ -156,17 +150,12 @@ record SentInRun (m : Envelope) (nodes : ℕ) (w : World) (steps : List Step) : 
   sent : IsAmong m (sent_in (history_in node nodes w steps))
 
 -- a node after a step was one before it
-pub was_node : (j n nodes : ℕ) (what : What) (states : List NodeState) (s : NodeState) → slice_get (state_after j nodes (slice_get states j) what states) n ≡ Some s
-    → (t : NodeState) × (slice_get states n ≡ Some t)
-was_node j n nodes what states s at = by_node (j == n) refl
-  where
-    by_node : (b : Bool) → (j == n) ≡ b → (t : NodeState) × (slice_get states n ≡ Some t)
-    by_node true is = by_state (slice_get states j) refl
-      where
-        by_state : (o : Option NodeState) → slice_get states j ≡ o → (t : NodeState) × (slice_get states n ≡ Some t)
-        by_state None none = (s, (let same = ap (λ (x : Option NodeState). state_after j nodes x what states) none in sym (ap (λ (xs : List NodeState). slice_get xs n) same) ∙ at))
-        by_state (Some t) some = (t, subst (λ (k : ℕ). slice_get states k ≡ Some t) (eq_nat j n is) some)
-    by_node false is = (s, sym (state_elsewhere j n nodes what (slice_get states j) states (let ne : n ≢ j = grind (arith, nat_tests) in ne)) ∙ at)
+pub was_node : (j n : ℕ) (states : List NodeState) (new s : NodeState) → slice_get (slice_set states j new) n ≡ Some s → (t : NodeState) × (slice_get states n ≡ Some t)
+was_node j n [] new s at = absurd cc
+was_node zero zero (x ∷ states) new s at = (x, refl)
+was_node (suc j) zero (x ∷ states) new s at = (x, refl)
+was_node zero (suc n) (x ∷ states) new s at = (s, at)
+was_node (suc j) (suc n) (x ∷ states) new s at = was_node j n states new s at
 
 eq_self : (n : ℕ) → (n == n) ≡ true
 eq_self n = grind (arith, nat_tests)
@@ -177,41 +166,33 @@ sent_by_node : (nodes : ℕ) (steps : List Step) (w : World) (m : Envelope) → 
 sent_by_node nodes [] w m run i = inl i
 sent_by_node nodes (Takes j number what ∷ steps) w m run i =
     elim (sent_by_node nodes steps (world_after nodes w (Takes j number what)) m run.1 i) [
-      | inl l ↦ elim (among_either m w.net.sent (sent_after j nodes (slice_get w.states j) what) l) [
+      | inl l ↦ elim (among_either m w.net.sent (sent_at j nodes (node_in w.states j) what) l) [
         | inl before ↦ inl before
         | inr now ↦ inr (record { node = j; state = run.0.0; is_node = run.0.1; sent = by_self now })
       ]
-      | inr later ↦ inr (let was = was_node j later.node nodes what w.states later.state later.is_node in
+      | inr later ↦ inr (let was = was_node j later.node w.states _ later.state later.is_node in
           record { node = later.node; state = was.0; is_node = was.1; sent = after_other later.node (j == later.node) later.sent })
     ]
   where
-    by_self : IsAmong m (sent_after j nodes (slice_get w.states j) what) → IsAmong m (sent_in (history_in j nodes w (Takes j number what ∷ steps)))
+    by_self : IsAmong m (sent_at j nodes (node_in w.states j) what) → IsAmong m (sent_in (history_in j nodes w (Takes j number what ∷ steps)))
     by_self now = let itself : (j == j) ≡ true = eq_self j in
-        rw itself (among_left m (sent_after j nodes (slice_get w.states j) what) (sent_in (history_in j nodes (world_after nodes w (Takes j number what)) steps)) now)
+        rw itself (among_left m (sent_at j nodes (node_in w.states j) what) (sent_in (history_in j nodes (world_after nodes w (Takes j number what)) steps)) now)
 
     after_other : (n : ℕ) (b : Bool) → IsAmong m (sent_in (history_in n nodes (world_after nodes w (Takes j number what)) steps))
-        → IsAmong m (sent_in ((if b then record { what = what; sent = sent_after j nodes (slice_get w.states j) what } ∷ [] else []) ++ history_in n nodes (world_after nodes w (Takes j number what)) steps))
-    after_other n true k = among_right m (sent_after j nodes (slice_get w.states j) what) (sent_in (history_in n nodes (world_after nodes w (Takes j number what)) steps)) k
+        → IsAmong m (sent_in ((if b then record { what = what; sent = sent_at j nodes (node_in w.states j) what } ∷ [] else []) ++ history_in n nodes (world_after nodes w (Takes j number what)) steps))
+    after_other n true k = among_right m (sent_at j nodes (node_in w.states j) what) (sent_in (history_in n nodes (world_after nodes w (Takes j number what)) steps)) k
     after_other n false k = k
-sent_by_node nodes (Loses k ∷ steps) w m run i = elim (sent_by_node nodes steps (world_after nodes w (Loses k)) m run.1 i) [
-  | inl l ↦ inl l
+sent_by_node nodes (Changes net ∷ steps) w m run i = elim (sent_by_node nodes steps (world_after nodes w (Changes net)) m run.1 i) [
+  | inl l ↦ inl (subst (λ (ms : List Envelope). IsAmong m ms) run.0 l)
   | inr x ↦ inr (record { node = x.node; state = x.state; is_node = x.is_node; sent = x.sent })
 ]
-sent_by_node nodes (Cuts a b ∷ steps) w m run i = elim (sent_by_node nodes steps (world_after nodes w (Cuts a b)) m run.1 i) [
-  | inl l ↦ inl l
-  | inr x ↦ inr (record { node = x.node; state = x.state; is_node = x.is_node; sent = x.sent })
-]
-sent_by_node nodes (Mends a b ∷ steps) w m run i = elim (sent_by_node nodes steps (world_after nodes w (Mends a b)) m run.1 i) [
-  | inl l ↦ inl l
-  | inr x ↦ inr (record { node = x.node; state = x.state; is_node = x.is_node; sent = x.sent })
-]
-sent_by_node nodes (Denies why ∷ steps) w m run i = elim (sent_by_node nodes steps w m run.1 i) [
+sent_by_node nodes (Denies told why ∷ steps) w m run i = elim (sent_by_node nodes steps w m run.1 i) [
   | inl l ↦ inl l
   | inr x ↦ inr (record { node = x.node; state = x.state; is_node = x.is_node; sent = x.sent })
 ]
 
 -- the nodes and their histories stand at the same places
-pub opened : (k i j : ℕ) (s : NodeState) (m : ℕ) → m ≡ i + j → slice_get (openings i k) j ≡ Some s → s ≡ opening m
+pub opened : (k i j : ℕ) (s : NodeState) (m : ℕ) → m ≡ i + j → slice_get (map opening (ids_from i k)) j ≡ Some s → s ≡ opening m
 opened zero i j s m is at = absurd cc
 opened (suc k) i zero s m is at =
     let number : i ≡ m = omega (arith, is) in
@@ -219,7 +200,15 @@ opened (suc k) i zero s m is at =
     sym here ∙ ap opening number
 opened (suc k) i (suc j) s m is at = opened k (suc i) j s m (omega (arith, is)) at
 
-pub history_at : (k i j nodes : ℕ) (steps : List Step) (s : NodeState) (m : ℕ) → m ≡ i + j → slice_get (openings i k) j ≡ Some s
+pub opened_at : (k i j : ℕ) → j < k → slice_get (map opening (ids_from i k)) j ≡ Some (opening (i + j))
+opened_at zero i j lt = absurd (omega (arith, lt))
+opened_at (suc k) i zero lt = ap (λ (x : ℕ). Some (opening x)) (let n : i ≡ i + 0 = omega arith in n)
+opened_at (suc k) i (suc j) lt = opened_at k (suc i) j (omega (arith, lt)) ∙ ap (λ (x : ℕ). Some (opening x)) (let n : suc i + j ≡ i + suc j = omega arith in n)
+
+pub starts_opened : (nodes n : ℕ) → n < nodes → slice_get (start nodes).states n ≡ Some (opening n)
+starts_opened nodes n lt = opened_at nodes 0 n lt ∙ ap (λ (x : ℕ). Some (opening x)) (let e : 0 + n ≡ n = omega arith in e)
+
+pub history_at : (k i j nodes : ℕ) (steps : List Step) (s : NodeState) (m : ℕ) → m ≡ i + j → slice_get (map opening (ids_from i k)) j ≡ Some s
     → slice_get (histories_from i k nodes steps) j ≡ Some (history_in m nodes (start nodes) steps)
 history_at zero i j nodes steps s m is at = absurd cc
 history_at (suc k) i zero nodes steps s m is at =
@@ -228,7 +217,7 @@ history_at (suc k) i (suc j) nodes steps s m is at = history_at k (suc i) j node
 
 -- a history of the list is that of a node
 pub record IsNodeOf (k i j nodes : ℕ) (steps : List Step) (h : List Entry) (m : ℕ) : Type 0 where
-  pub is_node : slice_get (openings i k) j ≡ Some (opening m)
+  pub is_node : slice_get (map opening (ids_from i k)) j ≡ Some (opening m)
   pub is_history : h ≡ history_in m nodes (start nodes) steps
 
 pub node_of : (k i j nodes : ℕ) (steps : List Step) (h : List Entry) (m : ℕ) → m ≡ i + j → slice_get (histories_from i k nodes steps) j ≡ Some h → IsNodeOf k i j nodes steps h m

@@ -1,19 +1,18 @@
 -- The marks of a run, picked out for one node, are those of its history.
-use Rattle.std.proofs.Common.{◌≡◌, ◌≢◌, ℕ, suc, ◌+◌, ◌≤◌, Bool, true, false, List, [], ◌∷◌, ◌++◌, length, slice_get, refl, sym, ◌∙◌, ap, subst, arith, Option, Some, add-zero}
+use Rattle.std.proofs.Common.{◌≡◌, ◌≢◌, ℕ, suc, ◌+◌, ◌≤◌, Bool, true, false, List, [], ◌∷◌, ◌++◌, length, slice_get, refl, sym, ◌∙◌, ap, subst, arith, Some, add-zero}
 use Rattle.std.specs.Prelude.{if◌then◌else◌, ◌==◌}
 use Rattle.std.proofs.lemmas.Bool.Decides.{nat_tests}
 use Rattle.histories.specs.NodeState.{NodeState, opening}
 use Rattle.histories.specs.What.{Entry}
-use Rattle.histories.specs.After.{after}
+use Rattle.histories.specs.After.{after, sent_at}
 use Rattle.histories.specs.Kept.{Kept}
 use Rattle.histories.specs.Marks.{Mark, commands_of, mountings_of, marks_at, marks_from, marks_of, opening_marks}
-use Rattle.histories.proofs.Tests.{eq_nat}
-use Rattle.histories.proofs.Kepts.{each_kept}
-use Rattle.runs.specs.World.{World, start}
-use Rattle.runs.specs.Step.{Step, Takes, Loses, Cuts, Mends, Denies, sent_after, world_after}
+use Rattle.histories.proofs.PublicLaws.{eq_nat, each_kept}
+use Rattle.runs.specs.World.{World, start, node_in}
+use Rattle.runs.specs.Step.{Step, Takes, Changes, Denies, world_after}
 use Rattle.runs.specs.Run.{history_in}
-use Rattle.runs.specs.Tagged.{tagged, own, marks_for, step_marks, counts_after, run_marks, RunsAreKept}
-use Rattle.runs.proofs.Runs.{state_here, state_elsewhere, opened, history_follows}
+use Rattle.runs.specs.Tagged.{tagged, own, step_marks, counts_after, run_marks, RunsAreKept}
+use Rattle.runs.proofs.Runs.{node_there, state_here, state_elsewhere, opened, history_follows}
 
 pub own_same : (m n : ℕ) (ms : List Mark) (ps : List (ℕ × Mark)) → (m == n) ≡ true → own n (tagged m ms ++ ps) ≡ ms ++ own n ps
 own_same m n [] ps is = refl
@@ -40,40 +39,36 @@ run_own n nodes (Takes m number what ∷ steps) w counts s c at is =
     pick : (b : Bool) → (m == n) ≡ b
         → ((t : NodeState) (k : ℕ) → slice_get (world_after nodes w (Takes m number what)).states n ≡ Some t → counts_after counts (step_marks nodes w counts (Takes m number what)) n ≡ k
         → own n (run_marks nodes (world_after nodes w (Takes m number what)) (counts_after counts (step_marks nodes w counts (Takes m number what))) steps) ≡ marks_from n nodes t k (history_in n nodes (world_after nodes w (Takes m number what)) steps))
-        → own n (tagged m (marks_for m nodes (slice_get w.states m) (counts m) what) ++ run_marks nodes (world_after nodes w (Takes m number what)) (counts_after counts (step_marks nodes w counts (Takes m number what))) steps)
-        ≡ marks_from n nodes s c ((if b then record { what = what; sent = sent_after m nodes (slice_get w.states m) what } ∷ [] else []) ++ history_in n nodes (world_after nodes w (Takes m number what)) steps)
+        → own n (tagged m (marks_at m nodes (node_in w.states m) (counts m) what) ++ run_marks nodes (world_after nodes w (Takes m number what)) (counts_after counts (step_marks nodes w counts (Takes m number what))) steps)
+        ≡ marks_from n nodes s c ((if b then record { what = what; sent = sent_at m nodes (node_in w.states m) what } ∷ [] else []) ++ history_in n nodes (world_after nodes w (Takes m number what)) steps)
     pick true e rest =
         let same : m ≡ n = eq_nat m n e in
         let here : slice_get w.states m ≡ Some s = subst (λ (j : ℕ). slice_get w.states j ≡ Some s) (sym same) at in
-        let mine : marks_for m nodes (slice_get w.states m) (counts m) what ≡ marks_at n nodes s c what =
-        ap (λ (o : Option NodeState). marks_for m nodes o (counts m) what) here ∙ (ap (λ (j : ℕ). marks_at j nodes s (counts j) what) same ∙ ap (λ (k : ℕ). marks_at n nodes s k what) is) in
+        let mine : marks_at m nodes (node_in w.states m) (counts m) what ≡ marks_at n nodes s c what =
+        ap (λ (x : NodeState). marks_at m nodes x (counts m) what) (node_there w.states m s here) ∙ (ap (λ (j : ℕ). marks_at j nodes s (counts j) what) same ∙ ap (λ (k : ℕ). marks_at n nodes s k what) is) in
         let count : counts_after counts (step_marks nodes w counts (Takes m number what)) n ≡ c + length (commands_of (marks_at n nodes s c what)) =
-        ap (λ (ms : List Mark). counts n + length (commands_of ms)) (own_all m n (marks_for m nodes (slice_get w.states m) (counts m) what) e ∙ mine) ∙ ap (λ (k : ℕ). k + length (commands_of (marks_at n nodes s c what))) is in
+        ap (λ (ms : List Mark). counts n + length (commands_of ms)) (own_all m n (marks_at m nodes (node_in w.states m) (counts m) what) e ∙ mine) ∙ ap (λ (k : ℕ). k + length (commands_of (marks_at n nodes s c what))) is in
         own_same m n _ _ e ∙ (ap (λ (ms : List Mark). ms ++ own n (run_marks nodes (world_after nodes w (Takes m number what)) (counts_after counts (step_marks nodes w counts (Takes m number what))) steps)) mine
         ∙ ap (λ (ms : List Mark). marks_at n nodes s c what ++ ms) (rest (after n nodes s what) (c + length (commands_of (marks_at n nodes s c what))) (state_here m n nodes what w.states s same at) count))
     pick false e rest =
         let ne : n ≢ m = grind (arith, nat_tests) in
         let none : counts_after counts (step_marks nodes w counts (Takes m number what)) n ≡ c =
-        ap (λ (ms : List Mark). counts n + length (commands_of ms)) (own_none m n (marks_for m nodes (slice_get w.states m) (counts m) what) e) ∙ (add-zero (counts n) ∙ is) in
-        own_other m n _ _ e ∙ rest s c (state_elsewhere m n nodes what (slice_get w.states m) w.states ne ∙ at) none
-run_own n nodes (Loses k ∷ steps) w counts s c at is = run_own n nodes steps (world_after nodes w (Loses k)) (counts_after counts []) s c at (add-zero (counts n) ∙ is)
-run_own n nodes (Cuts a b ∷ steps) w counts s c at is = run_own n nodes steps (world_after nodes w (Cuts a b)) (counts_after counts []) s c at (add-zero (counts n) ∙ is)
-run_own n nodes (Mends a b ∷ steps) w counts s c at is = run_own n nodes steps (world_after nodes w (Mends a b)) (counts_after counts []) s c at (add-zero (counts n) ∙ is)
-run_own n nodes (Denies why ∷ steps) w counts s c at is = run_own n nodes steps w (counts_after counts []) s c at (add-zero (counts n) ∙ is)
+        ap (λ (ms : List Mark). counts n + length (commands_of ms)) (own_none m n (marks_at m nodes (node_in w.states m) (counts m) what) e) ∙ (add-zero (counts n) ∙ is) in
+        own_other m n _ _ e ∙ rest s c (state_elsewhere m n nodes what w.states ne ∙ at) none
+run_own n nodes (Changes net ∷ steps) w counts s c at is = run_own n nodes steps (world_after nodes w (Changes net)) (counts_after counts []) s c at (add-zero (counts n) ∙ is)
+run_own n nodes (Denies told why ∷ steps) w counts s c at is = run_own n nodes steps w (counts_after counts []) s c at (add-zero (counts n) ∙ is)
 
 -- a node's history has an entry for each step at most
-history_few : (n nodes : ℕ) (steps : List Step) (w : World) → length (history_in n nodes w steps) ≤ length steps
+pub history_few : (n nodes : ℕ) (steps : List Step) (w : World) → length (history_in n nodes w steps) ≤ length steps
 history_few n nodes [] w = omega arith
 history_few n nodes (Takes m number what ∷ steps) w = pick (m == n) (history_few n nodes steps (world_after nodes w (Takes m number what)))
   where
     pick : (b : Bool) → length (history_in n nodes (world_after nodes w (Takes m number what)) steps) ≤ length steps
-        → length ((if b then record { what = what; sent = sent_after m nodes (slice_get w.states m) what } ∷ [] else []) ++ history_in n nodes (world_after nodes w (Takes m number what)) steps) ≤ suc (length steps)
+        → length ((if b then record { what = what; sent = sent_at m nodes (node_in w.states m) what } ∷ [] else []) ++ history_in n nodes (world_after nodes w (Takes m number what)) steps) ≤ suc (length steps)
     pick true h = omega (arith, h)
     pick false h = omega (arith, h)
-history_few n nodes (Loses k ∷ steps) w = let few = history_few n nodes steps (world_after nodes w (Loses k)) in omega (arith, few)
-history_few n nodes (Cuts a b ∷ steps) w = let few = history_few n nodes steps (world_after nodes w (Cuts a b)) in omega (arith, few)
-history_few n nodes (Mends a b ∷ steps) w = let few = history_few n nodes steps (world_after nodes w (Mends a b)) in omega (arith, few)
-history_few n nodes (Denies why ∷ steps) w = let few = history_few n nodes steps w in omega (arith, few)
+history_few n nodes (Changes net ∷ steps) w = let few = history_few n nodes steps (world_after nodes w (Changes net)) in omega (arith, few)
+history_few n nodes (Denies told why ∷ steps) w = let few = history_few n nodes steps w in omega (arith, few)
 
 pub runs_are_kept : RunsAreKept
 runs_are_kept nodes steps run few n s at =

@@ -1,17 +1,19 @@
 -- Each act is told, and the openings are.
-use Rattle.std.proofs.Common.{◌≡◌, ℕ, zero, suc, List, [], ◌∷◌, map, slice_get, refl, ◌∙◌, ap, Some}
+use Rattle.std.proofs.Common.{◌≡◌, ℕ, zero, suc, List, [], ◌∷◌, length, map, slice_get, refl, ◌∙◌, ap, Some}
 use Rattle.std.proofs.lemmas.List.{length-map}
 use Rattle.histories.specs.NodeState.{NodeState, opening}
 use Rattle.schedule.specs.declared.act.Act.{Act}
-use Rattle.runs.specs.World.{World, openings, start}
+use Rattle.runs.specs.World.{World, start}
 use Rattle.runs.specs.Step.{Step, world_after}
 use Rattle.runs.specs.Acts.{IsRunOf}
-use Rattle.runs.specs.Reporting.{Moment, moments_from}
+use Rattle.runs.specs.Reporting.{Moment}
+use Rattle.runs.proofs.Reports.{moments_from, moments_are, opening_is}
+use Rattle.node_core.specs.State.{State}
 use Rattle.runs.specs.Uses.{ActsAreTold}
 use Rattle.runs.proofs.Opened.{length_openings}
-use Rattle.runs.proofs.Picked.{starts_opened}
+use Rattle.runs.proofs.Runs.{starts_opened}
 
-acts_told : (nodes slots : ℕ) (acts : List Act) (steps : List Step) (w : World) → IsRunOf nodes slots w acts steps → map (λ (m : Moment). m.act) (moments_from nodes w acts steps) ≡ acts
+pub acts_told : (nodes slots : ℕ) (acts : List Act) (steps : List Step) (w : World) → IsRunOf nodes slots w acts steps → map (λ (m : Moment). m.act) (moments_from nodes w acts steps) ≡ acts
 acts_told nodes slots [] steps w run = refl
 acts_told nodes slots (a ∷ acts) [] w run = absurd run
 acts_told nodes slots (a ∷ acts) (step ∷ steps) w run = ap (λ (xs : List Act). a ∷ xs) (acts_told nodes slots acts steps (world_after nodes w step) run.3)
@@ -23,7 +25,7 @@ state_there (y ∷ states) (suc n) x at = state_there states n x at
 
 pub acts_are_told : ActsAreTold
 acts_are_told nodes slots acts r h = rw h.reported (
-  acts_told nodes slots acts h.steps (start nodes) h.is_run,
-  length-map (openings 0 nodes) (λ (s : NodeState). s.state) ∙ length_openings 0 nodes,
-  λ n lt. state_there (openings 0 nodes) n (opening n) (starts_opened nodes n lt),
+  ap (map (λ (m : Moment). m.act)) (moments_are nodes acts h.steps) ∙ acts_told nodes slots acts h.steps (start nodes) h.is_run,
+  ap (λ (xs : List State). length xs) (opening_is nodes acts h.steps) ∙ length-map (start nodes).states (λ (s : NodeState). s.state) ∙ length_openings 0 nodes,
+  λ n lt. ap (λ (xs : List State). slice_get xs n) (opening_is nodes acts h.steps) ∙ state_there (start nodes).states n (opening n) (starts_opened nodes n lt),
 )

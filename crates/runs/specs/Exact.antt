@@ -2,7 +2,9 @@
 use Rattle.std.specs.Prelude.{ℕ, ◌≡◌, ◌<◌, List, slice_get, Some, Ok}
 use Rattle.wire_msg.specs.Envelope.{Envelope}
 use Rattle.node_core.specs.declared.event.Event.{Event}
-use Rattle.node_core.specs.NodeStep.{StepFault, Worn, IsRefused, FitsSlots, Handled, Refused as Refusal}
+use Rattle.node_core.specs.NodeStep.{IsRefused, FitsSlots, Handled, Refused}
+use Rattle.node_core.specs.declared.fault.Refusal.{Refusal}
+use Rattle.node_core.specs.declared.fault.Refusal.TheVariants.{Worn}
 use Rattle.histories.specs.NodeState.{NodeState, wants_at}
 use Rattle.histories.specs.Possible.{Takes}
 use Rattle.histories.specs.History.{FollowsSlots}
@@ -15,13 +17,13 @@ use Rattle.runs.specs.Acts.{Brings, IsRunOf}
 
 -- the network doesn't deny a message that comes
 abbrev pub NoIdleDenial : Type 0
-NoIdleDenial = (nodes : ℕ) (w : World) (k : ℕ) (m : Envelope) (why : Denial) → delivery w.net k ≡ Ok m → m.receiver < nodes → Brings nodes k (delivery w.net k) (Denies why) → ⊥
+NoIdleDenial = (nodes : ℕ) (w : World) (k : ℕ) (m : Envelope) (n : ℕ) (why : Denial) → delivery w.net k ≡ Ok m → m.receiver < nodes → Brings nodes w.net k (delivery w.net k) (Denies n why) → ⊥
 
 -- an event that a node may handle can be refused only where no area of its disk is left, which the layout alone tells
 abbrev pub OneOutcome : Type 0
-OneOutcome = (slots self nodes : ℕ) (s : NodeState) (event : Event) (fault : StepFault) →
+OneOutcome = (slots self nodes : ℕ) (s : NodeState) (event : Event) (fault : Refusal) →
     Takes self nodes s event → FitsSlots slots s.durable (wants_at self nodes s event) Handled →
-    IsRefused nodes self s.state s.durable event fault → FitsSlots slots s.durable (wants_at self nodes s event) (Refusal fault) →
+    IsRefused nodes self s.state s.durable event fault → FitsSlots slots s.durable (wants_at self nodes s event) (Refused fault) →
     fault ≡ Worn
 
 -- a run of acts is a run, so all laws of runs hold of it

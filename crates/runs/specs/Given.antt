@@ -1,27 +1,18 @@
 -- The groups that a run gives, and those that it names.
-use Rattle.std.specs.Prelude.{ℕ, zero, suc, ◌≡◌, List, [], ◌∷◌, ◌++◌, slice_get, Option, Some, None}
+use Rattle.std.specs.Prelude.{ℕ, ◌≡◌, List, [], ◌∷◌, ◌++◌, map, slice_get, Some}
 use Rattle.group_task.specs.Group.{Group}
 use Rattle.node_core.specs.Words.{own_group}
 use Rattle.histories.specs.Lists.{IsAmong}
 use Rattle.histories.specs.NodeState.{NodeState}
-use Rattle.histories.specs.declared.what.What.{What}
 use Rattle.histories.specs.After.{given_at}
 use Rattle.histories.specs.Named.{AllHold, StateHolds}
-use Rattle.runs.specs.World.{World, start}
+use Rattle.runs.specs.World.{World, ids_from, node_in, start}
 use Rattle.runs.specs.Step.{Step, Takes, world_after}
 use Rattle.runs.specs.Run.{IsAllowed, RunFrom, world_at}
 
 -- the groups that a step gives
-abbrev pub numbered : ℕ → List ℕ → List Group
-numbered n [] = []
-numbered n (k ∷ ks) = own_group n k ∷ numbered n ks
-
-abbrev pub given_by : ℕ → ℕ → Option NodeState → What → List Group
-given_by n nodes None what = []
-given_by n nodes (Some s) what = numbered n (given_at n nodes s what)
-
 abbrev pub groups_at : ℕ → World → Step → List Group
-groups_at nodes w (Takes n number what) = given_by n nodes (slice_get w.states n) what
+groups_at nodes w (Takes n number what) = map (own_group n) (given_at n nodes (node_in w.states n) what)
 groups_at nodes w step = []
 
 -- those of a run, from w on
@@ -29,14 +20,9 @@ abbrev pub groups_from : ℕ → World → List Step → List Group
 groups_from nodes w [] = []
 groups_from nodes w (step ∷ steps) = groups_at nodes w step ++ groups_from nodes (world_after nodes w step) steps
 
--- those of the openings: each node gives the group of its first count
-abbrev pub opening_groups : ℕ → ℕ → List Group
-opening_groups n zero = []
-opening_groups n (suc k) = own_group n 1 ∷ opening_groups (suc n) k
-
--- all groups of a run, the openings' first
+-- all groups of a run, the openings' first: each node gives the group of its first count
 abbrev pub groups_of : ℕ → List Step → List Group
-groups_of nodes steps = opening_groups 0 nodes ++ groups_from nodes (start nodes) steps
+groups_of nodes steps = map (λ (n : ℕ). own_group n 1) (ids_from 0 nodes) ++ groups_from nodes (start nodes) steps
 
 -- each group in a vector, or in a message that was ever sent, is one of those that were given so far
 pub record AllGiven (w : World) (given : List Group) : Type 0 where

@@ -1,33 +1,17 @@
 -- A cluster that a run leaves, with its report, and how they grow by one act.
-use Rattle.std.specs.Prelude.{ℕ, ◌≡◌, List, [], ◌∷◌, ◌++◌, map, length}
+use Rattle.std.specs.Prelude.{ℕ, ◌≡◌, List, [], map}
 use Rattle.schedule.specs.declared.act.Act.{Act}
 use Rattle.runs.specs.World.{World, start}
 use Rattle.runs.specs.Step.{Step, world_after}
 use Rattle.runs.specs.Run.{IsAllowed, world_at}
 use Rattle.runs.specs.Acts.{IsStepOf, StepOfSlots, IsRunOf}
-use Rattle.runs.specs.Given.{groups_at}
-use Rattle.runs.specs.Tagged.{step_marks}
-use Rattle.runs.specs.Reporting.{Moment, Report, moment_of, commands_in, mountings_in, own_commands, report_of}
+use Rattle.runs.specs.Reporting.{Moment, Report, grown, report_of}
 use Rattle.runs.specs.Headline.{Headline}
 use Rattle.histories.specs.Counts.{IsShort}
 
 -- the acts so far
 abbrev pub acts_in : Report → List Act
 acts_in r = map (λ (m : Moment). m.act) r.moments
-
--- how many commands a node tried so far
-abbrev pub tried_so_far : Report → ℕ → ℕ
-tried_so_far r n = length (own_commands n r.commands)
-
--- the report with one act more
-abbrev pub grown : ℕ → World → Act → Step → Report → Report
-grown nodes w a step r = record {
-  opening = r.opening;
-  moments = r.moments ++ moment_of nodes w a step ∷ [];
-  groups = r.groups ++ groups_at nodes w step;
-  commands = r.commands ++ commands_in (step_marks nodes w (tried_so_far r) step);
-  mounted = r.mounted ++ mountings_in (step_marks nodes w (tried_so_far r) step);
-}
 
 -- some run of the acts so far leaves this cluster, and this is its report
 pub record IsLeft (nodes slots : ℕ) (w : World) (r : Report) : Type 0 where

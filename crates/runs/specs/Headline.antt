@@ -1,37 +1,51 @@
 -- What is promised of every schedule.
-use Rattle.std.specs.Prelude.{ℕ, suc, ◌≡◌, ◌⊎◌, ◌<◌, List, take, slice_get, Some}
+use Rattle.std.specs.Prelude.{ℕ, suc, ◌≡◌, ◌≢◌, ◌⊎◌, ◌<◌, List, take, slice_get, Some}
 use Rattle.job_model.specs.Command.{Done}
 use Rattle.group_task.specs.Group.{Group}
 use Rattle.group_task.specs.Assignment.{Assignment}
 use Rattle.node_core.specs.declared.phase.Phase.TheVariants.{Normal}
 use Rattle.node_core.specs.declared.in_hand.InHand.{InHand}
+use Rattle.node_core.specs.declared.fault.Refusal.{Refusal}
 use Rattle.node_core.specs.State.{State}
+use Rattle.node_core.specs.Words.{owner}
 use Rattle.histories.specs.Lists.{IsAmong}
 use Rattle.histories.specs.Named.{AllHold, StateHolds}
 use Rattle.histories.specs.Book.{AgreesAt, IsInGroup}
 use Rattle.histories.specs.Counts.{IsShort}
 use Rattle.histories.specs.Kept.{Kept}
 use Rattle.histories.specs.Rising.{Rises}
-use Rattle.histories.specs.Owners.{FinishedBy}
 use Rattle.schedule.specs.declared.act.Act.{Act}
+use Rattle.schedule.specs.declared.act.Act.TheVariants as act
 use Rattle.runs.specs.World.{start}
-use Rattle.runs.specs.Step.{Step}
-use Rattle.runs.specs.Run.{histories_of}
-use Rattle.runs.specs.Acts.{IsRunOf}
-use Rattle.runs.specs.Given.{groups_of, IsOnceEach}
-use Rattle.runs.specs.Reporting.{Moment, TriedAt, Report, own_commands, own_mountings, own_counts, commands_in, marks_of_run, report_of}
+use Rattle.runs.specs.Step.{Denial, Step}
+use Rattle.runs.specs.Acts.{IsRunOf, DeniedAct, RefusedAct}
+use Rattle.runs.specs.Given.{IsOnceEach}
+use Rattle.runs.specs.Reporting.{Moment, TriedAt, Report, own_commands, own_mountings, own_counts, report_of}
 
 -- a state that the report shows: of a node's opening, or of the moment of an act
 abbrev pub IsShown : Report → ℕ → State → Type 0
 IsShown r n s = (slice_get r.opening n ≡ Some s) ⊎ ((k : ℕ) × (m : Moment) × (slice_get r.moments k ≡ Some m) × (m.node ≡ n) × (m.state ≡ s))
 
--- the groups that were given in the openings or in the first acts, so many of them
-abbrev pub groups_within : ℕ → ℕ → List Step → List Group
-groups_within nodes count steps = groups_of nodes (take count steps)
+-- the report of the first acts, so many of them
+abbrev pub report_within : ℕ → ℕ → List Act → List Step → Report
+report_within nodes count acts steps = report_of nodes (take count acts) (take count steps)
 
--- the commands that were tried in the openings or in the first acts, so many of them
-abbrev pub commands_within : ℕ → ℕ → List Step → List TriedAt
-commands_within nodes count steps = commands_in (marks_of_run nodes (take count steps))
+-- a worker finished the job of this origin and id: an act says so, which it didn't refuse, and it is shown at work in a group, as
+-- the owner of the job's queue, with the job in hand
+pub record IsFinished (r : Report) (origin id : ℕ) : Type 0 where
+  pub worker : ℕ
+  pub told : Moment
+  pub among : IsAmong told r.moments
+  pub of_act : told.act ≡ act.Finish worker origin id
+  pub not_denied : (why : Denial) → told.outcome ≢ DeniedAct why
+  pub not_refused : (fault : Refusal) → told.outcome ≢ RefusedAct fault
+  pub state : State
+  pub shown : IsShown r worker state
+  pub works : state.phase ≡ Normal
+  pub job : InHand
+  pub in_hand : IsAmong job state.hand
+  pub of_job : (job.origin ≡ origin) × (job.id ≡ id)
+  pub owned : owner state job.work.queue ≡ worker
 
 -- the groups that a moment names were given then or before
 pub record NamesGiven (given : List Group) (m : Moment) : Type 0 where
@@ -54,7 +68,7 @@ pub record Headline (nodes slots : ℕ) (acts : List Act) (r : Report) : Type 0 
   -- 3: the counts of each node rise, no group is given twice, and none is named before it is given
   pub rising : (n : ℕ) → n < nodes → Rises 0 (own_counts n r.groups)
   pub once : IsOnceEach r.groups
-  pub given : (k : ℕ) (m : Moment) → slice_get r.moments k ≡ Some m → NamesGiven (groups_within nodes (suc k) steps) m
+  pub given : (k : ℕ) (m : Moment) → slice_get r.moments k ≡ Some m → NamesGiven (report_within nodes (suc k) acts steps).groups m
   -- 4: there is one book of groups
   pub has_book : HasBook r
   -- 5: so two states in one group have one coordinator, and one task where both nodes work
@@ -62,8 +76,8 @@ pub record Headline (nodes slots : ℕ) (acts : List Act) (r : Report) : Type 0 
   pub one_task : (n m : ℕ) (s t : State) → IsShown r n s → IsShown r m t → s.phase ≡ Normal → t.phase ≡ Normal → s.group ≡ t.group → s.task ≡ t.task
   -- so jobs of one queue are in the hand of one node where two nodes work in one group
   pub one_worker : (n m : ℕ) (s t : State) → IsShown r n s → IsShown r m t → s.phase ≡ Normal → t.phase ≡ Normal → s.group ≡ t.group → (a b : InHand) → IsAmong a s.hand → IsAmong b t.hand → a.work.queue ≡ b.work.queue → n ≡ m
-  -- and a job is done only once an owner of its queue finished it: in each front of the run that has the command
-  pub finished : (k : ℕ) (t : TriedAt) (id : ℕ) → IsAmong t (commands_within nodes k steps) → t.node < nodes → t.tried.command ≡ Done id → FinishedBy (histories_of nodes (take k steps)) t.node id
+  -- and a job is done only once an owner of its queue finished it: in the first acts, where the command is tried in them
+  pub finished : (k : ℕ) (t : TriedAt) (id : ℕ) → IsAmong t (report_within nodes k acts steps).commands → t.node < nodes → t.tried.command ≡ Done id → IsFinished (report_within nodes k acts steps) t.node id
 
 -- whatever run of its acts a schedule has, its report keeps groups and jobs
 abbrev pub EverySchedule : Type 0

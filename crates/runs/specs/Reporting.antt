@@ -1,19 +1,21 @@
 -- What a run reports: a moment for each act, the groups that were given, and what each node tried and mounted.
-use Rattle.std.specs.Prelude.{ℕ, zero, suc, nat_lt, List, [], ◌∷◌, ◌++◌, map, slice_get, if◌then◌else◌, ◌==◌, Option, Some, None}
+use Rattle.std.specs.Prelude.{ℕ, ◌+◌, List, [], ◌∷◌, ◌++◌, map, length, if◌then◌else◌, ◌==◌, Option, Some, None, option_to_list, flat_map}
 use Rattle.group_task.specs.Group.{Group}
+use Rattle.job_model.specs.Command.{Command, Raise}
+use Rattle.job_model.specs.Durable.{Durable, formatted}
+use Rattle.job_model.specs.Answer.{answer_of}
 use Rattle.wire_msg.specs.Envelope.{Envelope}
 use Rattle.node_core.specs.State.{State}
-use Rattle.node_core.specs.Start.{down}
-use Rattle.histories.specs.NodeState.{NodeState}
+use Rattle.node_core.specs.Words.{own_group}
+use Rattle.histories.specs.NodeState.{NodeState, wants_at, settled}
+use Rattle.histories.specs.declared.what.What.{What}
+use Rattle.histories.specs.declared.what.What.TheVariants.{Did, Faulted, Recovered, RaiseFailed}
+use Rattle.histories.specs.After.{found_at}
 use Rattle.histories.specs.Kept.{Tried, Mounting}
-use Rattle.histories.specs.Marks.{Mark, Acknowledged, Unanswered, Mounted, opening_marks}
 use Rattle.schedule.specs.declared.act.Act.{Act}
-use Rattle.schedule.specs.declared.act.Act.TheVariants as act
-use Rattle.runs.specs.World.{World, openings, start}
-use Rattle.runs.specs.Step.{Step, Takes, sent_after, world_after}
+use Rattle.runs.specs.World.{World, ids_from, node_in, start}
+use Rattle.runs.specs.Step.{Step, Takes, Changes, Denies, step_sent, world_after}
 use Rattle.runs.specs.Acts.{ActOutcome, act_outcome}
-use Rattle.runs.specs.Given.{groups_of}
-use Rattle.runs.specs.Tagged.{tagged, run_marks}
 
 -- an act, the node that it is told of, what came of it, what was sent, and the state of that node after it
 pub record Moment : Type 0 where
@@ -40,85 +42,20 @@ pub record Report : Type 0 where
   pub commands : List TriedAt
   pub mounted : List MountedAt
 
--- ---- moments
-
--- node 0 in place of a node outside the cluster
-abbrev pub node_or_first : ℕ → ℕ → ℕ
-node_or_first nodes n = if nat_lt n nodes then n else 0
-
-abbrev pub receiver_or_first : ℕ → Option Envelope → ℕ
-receiver_or_first nodes None = 0
-receiver_or_first nodes (Some m) = node_or_first nodes m.receiver
-
--- the node that an act is told of, where these were sent: that of the act, or the receiver of the message, or node 0
-abbrev pub node_named : ℕ → List Envelope → Act → ℕ
-node_named nodes sent (act.Check n) = node_or_first nodes n
-node_named nodes sent (act.Merge n) = node_or_first nodes n
-node_named nodes sent (act.Accept n) = node_or_first nodes n
-node_named nodes sent (act.Ready n) = node_or_first nodes n
-node_named nodes sent (act.Coord n) = node_or_first nodes n
-node_named nodes sent (act.Dispatch n) = node_or_first nodes n
-node_named nodes sent (act.Deliver k) = receiver_or_first nodes (slice_get sent k)
-node_named nodes sent (act.Lose k) = 0
-node_named nodes sent (act.Cut a b) = 0
-node_named nodes sent (act.Mend a b) = 0
-node_named nodes sent (act.Submit n work) = node_or_first nodes n
-node_named nodes sent (act.Finish n origin id) = node_or_first nodes n
-node_named nodes sent (act.Arm n calls) = node_or_first nodes n
-node_named nodes sent (act.Crash n fill) = node_or_first nodes n
-node_named nodes sent (act.Recover n) = node_or_first nodes n
-node_named nodes sent (act.Compact n) = node_or_first nodes n
-
-abbrev pub node_of : ℕ → World → Act → ℕ
-node_of nodes w a = node_named nodes w.net.sent a
-
-abbrev pub state_or_down : Option NodeState → State
-state_or_down None = down 0
-state_or_down (Some s) = s.state
-
-abbrev pub state_at : List NodeState → ℕ → State
-state_at states n = state_or_down (slice_get states n)
-
-abbrev pub step_sent : ℕ → World → Step → List Envelope
-step_sent nodes w (Takes n number what) = sent_after n nodes (slice_get w.states n) what
-step_sent nodes w step = []
+-- the node that a step is told of: node 0 where the network alone changes
+abbrev pub node_of : Step → ℕ
+node_of (Takes n number what) = n
+node_of (Changes net) = 0
+node_of (Denies n why) = n
 
 abbrev pub moment_of : ℕ → World → Act → Step → Moment
 moment_of nodes w a step = record {
   act = a;
-  node = node_of nodes w a;
+  node = node_of step;
   outcome = act_outcome nodes w a step;
   sent = step_sent nodes w step;
-  state = state_at (world_after nodes w step).states (node_of nodes w a);
+  state = (node_in (world_after nodes w step).states (node_of step)).state;
 }
-
--- a moment for each act that has its step
-abbrev pub moments_from : ℕ → World → List Act → List Step → List Moment
-moments_from nodes w [] steps = []
-moments_from nodes w (a ∷ acts) [] = []
-moments_from nodes w (a ∷ acts) (step ∷ steps) = moment_of nodes w a step ∷ moments_from nodes (world_after nodes w step) acts steps
-
--- ---- commands and mountings
-
--- each node mounts and raises once in its opening
-abbrev pub opening_marks_from : ℕ → ℕ → List (ℕ × Mark)
-opening_marks_from n zero = []
-opening_marks_from n (suc k) = tagged n opening_marks ++ opening_marks_from (suc n) k
-
-abbrev pub marks_of_run : ℕ → List Step → List (ℕ × Mark)
-marks_of_run nodes steps = opening_marks_from 0 nodes ++ run_marks nodes (start nodes) (λ k. 1) steps
-
-abbrev pub commands_in : List (ℕ × Mark) → List TriedAt
-commands_in [] = []
-commands_in ((n, Acknowledged c a) ∷ ms) = record { node = n; tried = record { command = c; acked = Some a } } ∷ commands_in ms
-commands_in ((n, Unanswered c) ∷ ms) = record { node = n; tried = record { command = c; acked = None } } ∷ commands_in ms
-commands_in ((n, Mounted w) ∷ ms) = commands_in ms
-
-abbrev pub mountings_in : List (ℕ × Mark) → List MountedAt
-mountings_in [] = []
-mountings_in ((n, Acknowledged c a) ∷ ms) = mountings_in ms
-mountings_in ((n, Unanswered c) ∷ ms) = mountings_in ms
-mountings_in ((n, Mounted w) ∷ ms) = record { node = n; mounting = w } ∷ mountings_in ms
 
 -- those of one node
 abbrev pub own_commands : ℕ → List TriedAt → List Tried
@@ -136,11 +73,54 @@ own_counts n (g ∷ gs) = if g.creator == n then g.count ∷ own_counts n gs els
 
 -- ---- the report
 
-abbrev pub report_of : ℕ → List Act → List Step → Report
-report_of nodes acts steps = record {
-  opening = map (λ (s : NodeState). s.state) (openings 0 nodes);
-  moments = moments_from nodes (start nodes) acts steps;
-  groups = groups_of nodes steps;
-  commands = commands_in (marks_of_run nodes steps);
-  mounted = mountings_in (marks_of_run nodes steps);
+-- the report of the openings: each node mounts an empty disk, and its first raise gives its first group
+abbrev pub first_report : ℕ → Report
+first_report nodes = record {
+  opening = map (λ (s : NodeState). s.state) (start nodes).states;
+  moments = [];
+  groups = map (λ (n : ℕ). own_group n 1) (ids_from 0 nodes);
+  commands = map (λ (n : ℕ). record { node = n; tried = record { command = Raise; acked = Some 1 } }) (ids_from 0 nodes);
+  mounted = map (λ (n : ℕ). record { node = n; mounting = record { before = 0; state = formatted } }) (ids_from 0 nodes);
 }
+
+-- the commands that something tries on the device, each with its answer if it is acknowledged
+abbrev pub tries : ℕ → ℕ → NodeState → What → List Tried
+tries n nodes s (Did event) = map (λ (c : Command). record { command = c; acked = Some (answer_of s.durable c) }) (option_to_list (wants_at n nodes s event))
+tries n nodes s (Faulted event) = map (λ (c : Command). record { command = c; acked = None }) (option_to_list (wants_at n nodes s event))
+tries n nodes s (Recovered kept) = record { command = Raise; acked = Some ((settled kept s).counter + 1) } ∷ []
+tries n nodes s (RaiseFailed kept) = record { command = Raise; acked = None } ∷ []
+tries n nodes s what = []
+
+-- the commands that a step tries
+abbrev pub commands_at : ℕ → World → Step → List TriedAt
+commands_at nodes w (Takes n number what) = map (λ (t : Tried). record { node = n; tried = t }) (tries n nodes (node_in w.states n) what)
+commands_at nodes w step = []
+
+-- the group that a command gives, where it is an acknowledged raise
+abbrev pub group_of : ℕ → Command → Option ℕ → List Group
+group_of n Raise (Some count) = own_group n count ∷ []
+group_of n command acked = []
+
+-- what a step mounts, where these commands were tried before
+abbrev pub mountings_at : World → List TriedAt → Step → List MountedAt
+mountings_at w before (Takes n number what) =
+    map (λ (d : Durable). record { node = n; mounting = record { before = length (own_commands n before); state = d } }) (option_to_list (found_at (node_in w.states n) what))
+mountings_at w before step = []
+
+-- the report with one act more
+abbrev pub grown : ℕ → World → Act → Step → Report → Report
+grown nodes w a step r = record {
+  opening = r.opening;
+  moments = r.moments ++ moment_of nodes w a step ∷ [];
+  groups = r.groups ++ flat_map (λ (t : TriedAt). group_of t.node t.tried.command t.tried.acked) (commands_at nodes w step);
+  commands = r.commands ++ commands_at nodes w step;
+  mounted = r.mounted ++ mountings_at w r.commands step;
+}
+
+-- and with all these acts, from w on
+abbrev pub report_from : ℕ → World → Report → List Act → List Step → Report
+report_from nodes w r (a ∷ acts) (step ∷ steps) = report_from nodes (world_after nodes w step) (grown nodes w a step r) acts steps
+report_from nodes w r acts steps = r
+
+abbrev pub report_of : ℕ → List Act → List Step → Report
+report_of nodes acts steps = report_from nodes (start nodes) (first_report nodes) acts steps

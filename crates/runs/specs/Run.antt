@@ -2,28 +2,27 @@
 use Rattle.std.specs.Prelude.{ℕ, zero, suc, ◌≡◌, ◌==◌, List, [], ◌∷◌, ◌++◌, slice_get, if◌then◌else◌, Some, Ok}
 use Rattle.group_task.specs.Assignment.{Assignment}
 use Rattle.wire_msg.specs.Envelope.{Envelope}
+use Rattle.histories.specs.Lists.{Each}
 use Rattle.histories.specs.NodeState.{NodeState}
 use Rattle.histories.specs.What.{Entry, event_of, brought, AreAddressed}
 use Rattle.histories.specs.Possible.{IsPossible}
 use Rattle.histories.specs.Bundle.{Bundle}
 use Rattle.histories.specs.Book.{AgreesAt}
-use Rattle.sim_net.specs.Network.{found, delivery}
-use Rattle.runs.specs.World.{World, start}
-use Rattle.runs.specs.Step.{Step, Takes, Loses, Cuts, Mends, Denies, sent_after, world_after}
+use Rattle.sim_net.specs.Network.{delivery}
+use Rattle.histories.specs.After.{sent_at}
+use Rattle.runs.specs.World.{World, node_in, start}
+use Rattle.runs.specs.Step.{Step, Takes, Changes, Denies, world_after}
 
 -- what is brought is the message that comes under this number
 abbrev pub IsBrought : World → ℕ → List Envelope → Type 0
-IsBrought w number [] = Unit {0}
-IsBrought w number (m ∷ ms) = (delivery w.net number ≡ Ok m) × IsBrought w number ms
+IsBrought w number ms = Each (λ (m : Envelope). delivery w.net number ≡ Ok m) ms
 
--- the step may happen: it is possible at its node, which is brought what comes under its number; and what is lost is there
+-- the step may happen: it is possible at its node, which is brought what comes under its number; and what was sent stays sent
 abbrev pub IsAllowed : ℕ → World → Step → Type 0
 IsAllowed nodes w (Takes n number what) =
     (s : NodeState) × (slice_get w.states n ≡ Some s) × IsPossible n nodes s what × IsBrought w number (brought (event_of what)) × AreAddressed n (brought (event_of what))
-IsAllowed nodes w (Loses k) = (m : Envelope) × (found w.net k ≡ Ok m)
-IsAllowed nodes w (Cuts a b) = Unit {0}
-IsAllowed nodes w (Mends a b) = Unit {0}
-IsAllowed nodes w (Denies why) = Unit {0}
+IsAllowed nodes w (Changes net) = net.sent ≡ w.net.sent
+IsAllowed nodes w (Denies n why) = Unit {0}
 
 -- a run, from w on
 abbrev pub RunFrom : ℕ → World → List Step → Type 0
@@ -37,8 +36,7 @@ world_at nodes w (step ∷ steps) = world_at nodes (world_after nodes w step) st
 
 -- the entry of a node in a step
 abbrev pub entry_at : ℕ → ℕ → World → Step → List Entry
-entry_at n nodes w (Takes m number what) =
-    if m == n then record { what = what; sent = sent_after m nodes (slice_get w.states m) what } ∷ [] else []
+entry_at n nodes w (Takes m number what) = if m == n then record { what = what; sent = sent_at m nodes (node_in w.states m) what } ∷ [] else []
 entry_at n nodes w step = []
 
 -- the history of a node in a run

@@ -1,12 +1,11 @@
 -- The commands and mountings of a run, each with its node, in the order of the steps.
-use Rattle.std.specs.Prelude.{ℕ, ◌+◌, ◌≡◌, ◌==◌, List, [], ◌∷◌, ◌++◌, map, length, slice_get, if◌then◌else◌, Option, Some, None}
+use Rattle.std.specs.Prelude.{ℕ, ◌+◌, ◌≡◌, ◌==◌, List, [], ◌∷◌, ◌++◌, map, length, slice_get, if◌then◌else◌, Some}
 use Rattle.histories.specs.NodeState.{NodeState}
-use Rattle.histories.specs.declared.what.What.{What}
 use Rattle.histories.specs.Counts.{IsShort}
 use Rattle.histories.specs.Kept.{Kept}
 use Rattle.histories.specs.Marks.{Mark, commands_of, mountings_of, marks_at, opening_marks}
-use Rattle.runs.specs.World.{World, start}
-use Rattle.runs.specs.Step.{Step, Takes, Loses, Cuts, Mends, Denies, world_after}
+use Rattle.runs.specs.World.{World, node_in, start}
+use Rattle.runs.specs.Step.{Step, Takes, world_after}
 use Rattle.runs.specs.Run.{RunFrom}
 
 abbrev pub tagged : ℕ → List Mark → List (ℕ × Mark)
@@ -17,18 +16,10 @@ abbrev pub own : ℕ → List (ℕ × Mark) → List Mark
 own n [] = []
 own n (p ∷ ps) = if p.0 == n then p.1 ∷ own n ps else own n ps
 
--- what comes at node n leaves these marks, if there is such a node: it gave so many commands before
-abbrev pub marks_for : ℕ → ℕ → Option NodeState → ℕ → What → List Mark
-marks_for n nodes None count what = []
-marks_for n nodes (Some s) count what = marks_at n nodes s count what
-
 -- the marks of a step, where each node has given so many commands
 abbrev pub step_marks : ℕ → World → (ℕ → ℕ) → Step → List (ℕ × Mark)
-step_marks nodes w counts (Takes n number what) = tagged n (marks_for n nodes (slice_get w.states n) (counts n) what)
-step_marks nodes w counts (Loses k) = []
-step_marks nodes w counts (Cuts a b) = []
-step_marks nodes w counts (Mends a b) = []
-step_marks nodes w counts (Denies why) = []
+step_marks nodes w counts (Takes n number what) = tagged n (marks_at n nodes (node_in w.states n) (counts n) what)
+step_marks nodes w counts step = []
 
 -- how many commands each node gave, once these marks came too
 abbrev pub counts_after : (ℕ → ℕ) → List (ℕ × Mark) → ℕ → ℕ

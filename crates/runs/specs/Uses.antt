@@ -16,9 +16,8 @@ use Rattle.histories.specs.Lists.{IsAmong}
 use Rattle.histories.specs.Kept.{Tried}
 use Rattle.schedule.specs.declared.act.Act.{Act}
 use Rattle.schedule.specs.declared.act.Act.TheVariants as act
-use Rattle.runs.specs.Reporting.{Moment, TriedAt, MountedAt, Report, own_commands, commands_in, marks_of_run}
-use Rattle.runs.specs.Given.{groups_of}
-use Rattle.runs.specs.Headline.{Headline}
+use Rattle.runs.specs.Reporting.{Moment, TriedAt, MountedAt, Report, own_commands}
+use Rattle.runs.specs.Headline.{Headline, report_within}
 
 -- ---- what is told
 
@@ -78,8 +77,8 @@ groups_in (DoneMessage id) = []
 -- were given in the openings, by an earlier act or by this one
 abbrev pub NamedWasGiven : Type 0
 NamedWasGiven = (nodes slots : ℕ) (acts : List Act) (r : Report) (h : Headline nodes slots acts r) (k : ℕ) (m : Moment) → slice_get r.moments k ≡ Some m →
-    ((m.state.phase ≡ Down) ⊎ IsAmong m.state.group (groups_of nodes (take (suc k) h.steps)))
-    × ((x : Envelope) (g : Group) → IsAmong x m.sent → IsAmong g (groups_in x.body) → IsAmong g (groups_of nodes (take (suc k) h.steps)))
+    ((m.state.phase ≡ Down) ⊎ IsAmong m.state.group (report_within nodes (suc k) acts h.steps).groups)
+    × ((x : Envelope) (g : Group) → IsAmong x m.sent → IsAmong g (groups_in x.body) → IsAmong g (report_within nodes (suc k) acts h.steps).groups)
 
 -- ---- fences
 
@@ -127,6 +126,6 @@ first_moments k r = record r { moments = take k r.moments }
 -- the job's queue and has the job in hand
 abbrev pub DoneWasFinished : Type 0
 DoneWasFinished = (nodes slots : ℕ) (acts : List Act) (r : Report) (h : Headline nodes slots acts r) →
-    (k : ℕ) (t : TriedAt) (id : ℕ) → IsAmong t (commands_in (marks_of_run nodes (take k h.steps))) → t.node < nodes → t.tried.command ≡ Done id →
+    (k : ℕ) (t : TriedAt) (id : ℕ) → IsAmong t (report_within nodes k acts h.steps).commands → t.node < nodes → t.tried.command ≡ Done id →
     (worker : ℕ) × IsAmong (act.Finish worker t.node id) (take k acts)
     × ((s : State) × (job : InHand) × ShowsWorking (first_moments k r) worker s × IsAmong job s.hand × (job.origin ≡ t.node) × (job.id ≡ id) × (owner s job.work.queue ≡ worker))

@@ -1,5 +1,7 @@
 -- The nodes of a cluster and its network, at one moment.
-use Rattle.std.specs.Prelude.{ℕ, zero, suc, List, [], ◌∷◌}
+use Rattle.std.specs.Prelude.{ℕ, zero, suc, List, [], ◌∷◌, map, slice_get, None, unwrap_or}
+use Rattle.job_model.specs.Durable.{formatted}
+use Rattle.node_core.specs.Start.{down}
 use Rattle.histories.specs.NodeState.{NodeState, opening}
 use Rattle.sim_net.specs.Network.{Network, silent}
 
@@ -7,11 +9,15 @@ pub record World : Type 0 where
   pub states : List NodeState
   pub net : Network
 
--- so many nodes, from n on, each as it opens
-abbrev pub openings : ℕ → ℕ → List NodeState
-openings n zero = []
-openings n (suc k) = opening n ∷ openings (suc n) k
+-- node n of these, and one that is down where there is none
+abbrev pub node_in : List NodeState → ℕ → NodeState
+node_in states n = unwrap_or (slice_get states n) (record { state = down n; durable = formatted; doubt = None })
 
--- each node alone in the group of its first count, and nothing sent
+-- so many ids, from n on
+abbrev pub ids_from : ℕ → ℕ → List ℕ
+ids_from n zero = []
+ids_from n (suc k) = n ∷ ids_from (suc n) k
+
+-- each node alone in the group of its first count, with no job, and nothing sent
 abbrev pub start : ℕ → World
-start nodes = record { states = openings 0 nodes; net = silent }
+start nodes = record { states = map opening (ids_from 0 nodes); net = silent }

@@ -2,10 +2,10 @@
 use Rattle.std.proofs.Common.{◌≡◌, ◌+◌, ◌<◌, ◌^◌, inl, inr, ⊎_elim, ℕ, List, false, Some, None, is_some, ◌∙◌, ap, arith, refl}
 use Rattle.sector_disk.specs.Disk.{Image, DiskState, IsImage, SameBut, AllSettled}
 use Rattle.sector_disk.specs.Run.{Run, Each}
-use Rattle.sector_disk.proofs.Runs.{each_of_two}
+use Rattle.sector_disk.proofs.PublicLaws.{each_of_two}
 use Rattle.slot_gate.specs.Slot.{slot_at, InSlot}
 use Rattle.slot_gate.specs.Stored.{Knows, Follows, IsStored}
-use Rattle.slot_gate.proofs.Slots.{slot_same, slot_either, slot_settled}
+use Rattle.slot_gate.proofs.PublicLaws.{slot_same, slot_either, slot_settled}
 use Rattle.safe_cell.specs.Body.{body_of}
 use Rattle.safe_cell.specs.Cell.{AllHave}
 use Rattle.safe_cell.specs.Mounted.{AllStand}

@@ -1,6 +1,7 @@
-pub mod ReadOnly
-pub mod Bodies
-pub mod Values
-pub mod Raised
-pub mod Tellings
-pub mod Formats
+mod ReadOnly
+mod Bodies
+mod Values
+mod Raised
+mod Tellings
+mod Formats
+pub mod PublicLaws

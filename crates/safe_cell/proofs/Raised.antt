@@ -4,7 +4,7 @@ use Rattle.sector_disk.specs.Disk.{Image, DiskState, SameBut, AllSettled}
 use Rattle.sector_disk.specs.Run.{Run, Each}
 use Rattle.slot_gate.specs.Slot.{slot_at, InSlot}
 use Rattle.slot_gate.specs.Stored.{IsStored, Follows, Knows}
-use Rattle.slot_gate.proofs.Slots.{slot_same, slot_settled}
+use Rattle.slot_gate.proofs.PublicLaws.{slot_same, slot_settled}
 use Rattle.safe_cell.specs.Body.{body_of}
 use Rattle.safe_cell.specs.Cell.{cell_at, AllHave}
 use Rattle.safe_cell.specs.Mounted.{CellState, IsCellAt, IsSpare, Stands, raised, AllStand}

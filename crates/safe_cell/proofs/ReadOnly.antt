@@ -2,7 +2,7 @@
 use Rattle.std.proofs.Common.{◌≡◌, ℕ, inl, inr, ⊎_elim, ◌∙◌, arith, IsTrue}
 use Rattle.sector_disk.specs.Disk.{DiskState, nothing}
 use Rattle.sector_disk.specs.Run.{Run}
-use Rattle.sector_disk.proofs.Runs.{run_of_two, run_widen}
+use Rattle.sector_disk.proofs.PublicLaws.{run_of_two, run_widen}
 use Rattle.safe_cell.specs.Answered.{OnlyReads}
 
 -- together they touch what either does

@@ -2,9 +2,9 @@
 use Rattle.std.proofs.Common.{◌≡◌, ◌+◌, ◌⊎◌, inl, inr, ℕ, true, false, Option, Some, None, ◌∙◌, subst, arith, Ok, Err, Result, IsErrOf, IsErrAnd, IfOk, IfErr, IsFalse, IsTrue}
 use Rattle.sector_disk.specs.Disk.{Image, DiskState, nothing}
 use Rattle.sector_disk.specs.Run.{Run}
-use Rattle.sector_disk.proofs.Runs.{run_of_two}
+use Rattle.sector_disk.proofs.PublicLaws.{run_of_two}
 use Rattle.slot_gate.specs.Slot.{slot_at}
-use Rattle.slot_gate.proofs.Slots.{slot_kept}
+use Rattle.slot_gate.proofs.PublicLaws.{slot_kept}
 use Rattle.safe_cell.specs.declared.fault.CellFault.{CellFault}
 use Rattle.safe_cell.specs.declared.fault.CellFault.TheVariants.{NotFormatted, Damaged, Device}
 use Rattle.safe_cell.specs.Cell.{IsDamaged, InCell}

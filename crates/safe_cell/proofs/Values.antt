@@ -3,7 +3,7 @@ use Rattle.std.proofs.Common.{◌≡◌, ◌+◌, max, ◌⊎◌, inl, inr, ⊎_
 use Rattle.sector_disk.specs.Disk.{Image, DiskState, nothing}
 use Rattle.sector_disk.specs.Run.{Run}
 use Rattle.slot_gate.specs.Slot.{slot_at, InSlot}
-use Rattle.slot_gate.proofs.Slots.{slot_same, slot_settled}
+use Rattle.slot_gate.proofs.PublicLaws.{slot_same, slot_settled}
 use Rattle.safe_cell.specs.Body.{body_value}
 use Rattle.safe_cell.specs.Cell.{cell_of, cell_at, AllHave, InCell}
 use Rattle.safe_cell.specs.Mounted.{CellState, IsCellAt, IsSpare, Stands, AllStand}

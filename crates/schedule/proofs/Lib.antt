@@ -1,4 +1,4 @@
-pub mod Behind
-pub mod Fits
-pub mod Counts
-pub mod Delivered
+mod Behind
+mod Fits
+mod Counts
+mod Delivered

@@ -1,9 +1,10 @@
-pub mod Runs
-pub mod Bytes
-pub mod Undoing
-pub mod Paddings
-pub mod Halves
-pub mod Parts
-pub mod Calls
-pub mod Crashed
-pub mod Blanks
+mod Runs
+mod Bytes
+mod Undoing
+mod Paddings
+mod Halves
+mod Parts
+mod Calls
+mod Crashed
+mod Blanks
+pub mod PublicLaws

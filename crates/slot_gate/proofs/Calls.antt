@@ -2,7 +2,7 @@
 use Rattle.std.proofs.Common.{◌≡◌, ◌<◌, ℕ, sym, subst, IsTrue}
 use Rattle.sector_disk.specs.Disk.{DiskState, Laws, Touches, nothing}
 use Rattle.sector_disk.specs.Run.{Run}
-use Rattle.sector_disk.proofs.Runs.{quiet_run, run_of_two, run_widen, write_run}
+use Rattle.sector_disk.proofs.PublicLaws.{quiet_run, run_of_two, run_widen, write_run}
 
 -- a call that writes nothing
 pub quiet_call : {D : Type 0} (state : D → DiskState) (laws : (disk : D) → IsTrue (state disk).honest → Laws (state disk)) (old new : D) → (state new).honest ≡ (state old).honest

@@ -1,4 +1,5 @@
-pub mod Slots
-pub mod Calls
-pub mod Stored
-pub mod Rows
+mod Slots
+mod Calls
+mod Stored
+mod Rows
+pub mod PublicLaws

@@ -3,7 +3,7 @@ use Rattle.std.proofs.Common.{◌≡◌, ◌+◌, ◌*◌, ◌<◌, inl, ℕ, No
 use borrow.Author.Count.{below_more}
 use Rattle.sector_disk.specs.Disk.{DiskState, Laws, Counts}
 use Rattle.sector_disk.specs.Run.{Run}
-use Rattle.sector_disk.proofs.Runs.{same_image}
+use Rattle.sector_disk.proofs.PublicLaws.{same_image}
 use Rattle.slot_gate.specs.Slot.{slot_at, InSlots}
 use Rattle.slot_gate.proofs.Calls.{run_on}
 use Rattle.slot_gate.proofs.Slots.{slot_same}

@@ -2,7 +2,7 @@
 use Rattle.std.proofs.Common.{◌≡◌, ◌+◌, ◌⊎◌, inl, inr, ⊎_elim, ℕ, List, Some, None, IsTrue}
 use Rattle.sector_disk.specs.Disk.{DiskState}
 use Rattle.sector_disk.specs.Run.{Run, Each}
-use Rattle.sector_disk.proofs.Runs.{same_trans, same_widen, each_of_two, run_widen}
+use Rattle.sector_disk.proofs.PublicLaws.{same_trans, same_widen, each_of_two, run_widen}
 use Rattle.slot_gate.specs.Slot.{slot_at, InSlot}
 use Rattle.slot_gate.proofs.Calls.{run_on}
 use Rattle.slot_gate.specs.Stored.{IsStored, IsCleared, Follows}

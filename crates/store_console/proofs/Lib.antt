@@ -1,3 +1,3 @@
-pub mod Behind
-pub mod Counts
-pub mod Sessions
+mod Behind
+mod Counts
+mod Sessions

@@ -69,12 +69,18 @@ type Known = (
 );
 
 fn known(node: &DurableNode<MemDisk>) -> Known {
-    let vector = node.vector();
+    let standing = &node.vector().standing;
     let kept = match node.durable() {
         Some((count, table)) => Some((count, table.next(), table.pending().len())),
         None => None,
     };
-    (vector.phase, vector.group, vector.task, vector.up, kept)
+    (
+        standing.phase,
+        standing.group,
+        standing.task,
+        standing.up,
+        kept,
+    )
 }
 
 /// An event. One that is refused for want of memory changes nothing, and is made again.

@@ -8,7 +8,7 @@ use Rattle.line_words.specs.declared.lines.LineFault.TheVariants.{BadLine, NoMem
 use Rattle.line_words.specs.Lines.{IsFaultAt, IsLineFault}
 use Rattle.line_words.specs.Words.{words_of}
 use Rattle.node_lock.specs.Planned.{Planned}
-use Rattle.node_threads.proofs.Places.{place_of}
+use Rattle.node_threads.proofs.PublicLaws.{place_of}
 use Rattle.threads_console.specs.declared.turn.Turn.{Turn}
 use Rattle.threads_console.specs.declared.turn.Turn.TheVariants.{Poll, Fire, Do}
 use Rattle.threads_console.specs.Planning.{AddsLine, ArePlanned, IsPlaced, done_in, fired_in, no_plans, polled_in, turns_at, with_turn}

@@ -1,5 +1,5 @@
-pub mod Counts
-pub mod Cuts
-pub mod Filling
-pub mod Polls
-pub mod Tellings
+mod Counts
+mod Cuts
+mod Filling
+mod Polls
+mod Tellings

@@ -4,7 +4,7 @@ use Rattle.std.proofs.lemmas.Bool.Decides.{nat_tests}
 use Rattle.std.proofs.lemmas.List.{length-set}
 use Rattle.node_lock.specs.Planned.{Planned}
 use Rattle.node_threads.specs.Nodes.{ArePolled, PollOthers}
-use Rattle.node_threads.proofs.Places.{place_of}
+use Rattle.node_threads.proofs.PublicLaws.{place_of}
 use Rattle.threads_console.specs.declared.turn.Turn.{Turn}
 use Rattle.threads_console.specs.declared.turn.Turn.TheVariants.{Poll, Fire, Do}
 use Rattle.threads_console.specs.Planning.{IsPlaced, PollFits, TurnFits, no_plans, with_turn}

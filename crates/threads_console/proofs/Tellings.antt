@@ -14,8 +14,7 @@ use Rattle.trace_check.specs.Claims.{Claim}
 use Rattle.run_trace.specs.Traced.{deed_of, done}
 use Rattle.trace_text.specs.Tokens.{message_tokens}
 use Rattle.trace_text.specs.Written.{entry_data, history_data}
-use Rattle.trace_text.proofs.Joined.{there}
-use Rattle.trace_text.proofs.Printing.{drop_get, drop_all, messages_more}
+use Rattle.trace_text.proofs.PublicLaws.{there, drop_get, drop_all, messages_more}
 use Rattle.threads_console.specs.Told.{IsTextAt, entries_text, histories_text, log_told, quiet_told, turn_told}
 
 -- a text with one item more: what is left has that item no more

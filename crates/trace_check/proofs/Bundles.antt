@@ -13,7 +13,7 @@ use Rattle.histories.specs.After.{sent_at}
 use Rattle.histories.specs.Possible.{IsPossible}
 use Rattle.histories.specs.History.{Follows, sent_in, brought_in}
 use Rattle.histories.specs.Bundle.{sent_by_all}
-use Rattle.histories.proofs.Among.{among_left, among_right, sent_of_one, each_append, each_at, each_more}
+use Rattle.histories.proofs.PublicLaws.{among_left, among_right, sent_of_one, each_append, each_at, each_more}
 use Rattle.trace_check.specs.declared.trace.Deed.{Deed}
 use Rattle.trace_check.specs.declared.trace.Deed.TheVariants as deed
 use Rattle.trace_check.specs.declared.trace.RecoverFault.TheVariants as recover

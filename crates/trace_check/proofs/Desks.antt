@@ -3,12 +3,12 @@ use Rattle.std.proofs.Common.{◌≡◌, ◌≢◌, ◌<◌, ◌==◌, ◌⊎◌
 use Rattle.std.proofs.lemmas.Bool.{cases_Bool, eqb-true, eq-eqb}
 use Rattle.std.proofs.lemmas.Bool.Decides.{nat_tests}
 use Rattle.group_task.specs.Ids.{has, with_id, without_id}
-use Rattle.group_task.proofs.Words.{has-with_id, has-without_id}
+use Rattle.group_task.proofs.PublicLaws.{has-with_id, has-without_id}
 use Rattle.wire_msg.specs.Envelope.{Envelope}
 use Rattle.histories.specs.Lists.{IsAmong, Each}
 use Rattle.histories.specs.NodeState.{NodeState}
 use Rattle.histories.specs.What.{AreAddressed}
-use Rattle.histories.proofs.Among.{among_left, among_right, among_either, each_more}
+use Rattle.histories.proofs.PublicLaws.{among_left, among_right, among_either, each_more}
 use Rattle.trace_check.specs.declared.desk.Seat.{Seat}
 use Rattle.trace_check.specs.Claims.{Claim, MayCome, after_claim, brought_by}
 use Rattle.trace_check.specs.Orders.{history, taken, state_of, IsSent, MayTake}

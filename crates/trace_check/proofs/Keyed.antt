@@ -7,7 +7,7 @@ use Rattle.std.specs.Cmp.Lexicographic.{bytes_decides}
 use Rattle.std.proofs.lemmas.List.Sorted.{list_any-IsPermutation}
 use Rattle.wire_msg.specs.Envelope.{Envelope}
 use Rattle.message_list.specs.Lent.{numbers_of, same_message}
-use Rattle.message_list.proofs.Numbers.{one_message}
+use Rattle.message_list.proofs.PublicLaws.{one_message}
 use Rattle.trace_check.specs.Posts.{IsPosted, Posts}
 
 not_true : (b : Bool) → false ≡ not b → b ≡ true

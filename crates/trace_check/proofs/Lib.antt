@@ -1,10 +1,11 @@
 mod Furthest
 mod Bundles
-pub mod Turning
-pub mod Twins
-pub mod Keyed
-pub mod Desks
-pub mod Turns
-pub mod KeptEntries
-pub mod Brought
-pub mod Builders
+mod Turning
+mod Twins
+mod Keyed
+mod Desks
+mod Turns
+mod KeptEntries
+mod Brought
+mod Builders
+pub mod PublicLaws

@@ -6,8 +6,7 @@ use Rattle.std.proofs.lemmas.List.{reverse-append}
 use Rattle.std.proofs.lemmas.Option.{same_Some, slice_get_within, slice_get_past, slice_get_read}
 use Rattle.group_task.specs.Ids.{has, with_id, without_id, ids_below, IsSet}
 use Rattle.group_task.specs.declared.node.TheConstants.{NODES}
-use Rattle.group_task.proofs.Words.{has_below}
-use Rattle.group_task.proofs.IdLaws.{has_below as has_ids_below}
+use Rattle.group_task.proofs.PublicLaws.{has_below, has_ids_below}
 use Rattle.wire_msg.specs.Envelope.{Envelope}
 use Rattle.histories.specs.Lists.{Each}
 use Rattle.histories.specs.NodeState.{opening}

@@ -22,8 +22,7 @@ use Rattle.node_core.specs.Wants.{wants_of}
 use Rattle.histories.specs.NodeState.{wants_at, effect_at}
 use Rattle.histories.specs.Possible.{IsForNode, Takes}
 use Rattle.histories.specs.declared.what.What.TheVariants.{Did}
-use Rattle.histories.proofs.Downs.{at_down}
-use Rattle.histories.proofs.Ups.{stays_up}
+use Rattle.histories.proofs.PublicLaws.{at_down, stays_up}
 use Rattle.trace_check.specs.Twins.{Twin, IsTwin, Judged}
 
 clash : (b : Bool) → b ≡ true → b ≡ false → ⊥

@@ -377,7 +377,7 @@ impl Replica {
     fn is_down(&self) -> bool
         ensures { result ≡ is_down self.now.node.state.phase }
     {
-        matches!(self.core.vector().phase, Phase::Down)
+        matches!(self.core.vector().standing.phase, Phase::Down)
     }
 }
 

@@ -7,9 +7,7 @@ use Rattle.histories.specs.NodeState.{opening}
 use Rattle.trace_check.specs.Claims.{Claim, after_claim}
 use Rattle.trace_check.specs.Orders.{history, taken, state_of, MayTake}
 use Rattle.trace_check.specs.Twins.{Twin}
-use Rattle.trace_check.proofs.Desks.{twin_in}
-use Rattle.trace_check.proofs.Turning.{turns}
-use Rattle.trace_check.proofs.Turns.{none_past}
+use Rattle.trace_check.proofs.PublicLaws.{twin_in, turns, none_past}
 use Rattle.trace_draw.specs.declared.turns.Seat.{Seat}
 use Rattle.trace_draw.specs.declared.turn.Turn.{Turn}
 use Rattle.trace_draw.specs.Turns.{AreSeats, AreFirst, IsTurn, seat_at}

@@ -6,7 +6,7 @@ use Rattle.wire_msg.specs.Envelope.{Envelope}
 use Rattle.histories.specs.Lists.{IsAmong}
 use Rattle.trace_check.specs.Claims.{Claim}
 use Rattle.trace_check.specs.Orders.{history, IsSent}
-use Rattle.trace_check.proofs.Turning.{turns}
+use Rattle.trace_check.proofs.PublicLaws.{turns}
 use Rattle.trace_draw.specs.declared.turn.Turn.{Turn}
 use Rattle.trace_draw.specs.Turns.{before, Takes, Sends, IsTurn, AreFirst, IsLastSender}
 use Rattle.trace_draw.proofs.Orders.{before_more}

@@ -151,10 +151,10 @@ fn is_same(message: &Message, other: &Message) -> bool
 fn group_in(replica: &Replica) -> Option<GroupNo>
     ensures { result ≡ group_in replica.now.node }
 {
-    let vector = replica.vector();
-    match vector.phase {
+    let standing = &replica.vector().standing;
+    match standing.phase {
         Phase::Down => None,
-        _ => Some(vector.group),
+        _ => Some(standing.group),
     }
 }
 

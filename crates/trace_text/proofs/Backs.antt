@@ -14,8 +14,7 @@ use Rattle.job_model.specs.declared.work.Work.{Work}
 use Rattle.wire_msg.specs.Envelope.{Envelope}
 use Rattle.wire_msg.specs.Spelling.{spelling, AreBytes, IsMessage}
 use Rattle.wire_msg.specs.Reading.{message_of}
-use Rattle.wire_msg.proofs.Bytes.{IsBytes-from_all}
-use Rattle.wire_msg.proofs.Spelled.{IsBytes-spelling, spelled_is_message}
+use Rattle.wire_msg.proofs.PublicLaws.{IsBytes-from_all, IsBytes-spelling, spelled_is_message}
 use Rattle.node_core.specs.declared.event.Event.{Event}
 use Rattle.node_core.specs.declared.event.Event.TheVariants as on
 use Rattle.histories.specs.Lists.{Each}

@@ -6,7 +6,7 @@ use Rattle.wire_msg.specs.declared.fault.WireFault.{WireFault}
 use Rattle.wire_msg.specs.Envelope.{Envelope}
 use Rattle.wire_msg.specs.Spelling.{Spells}
 use Rattle.wire_msg.specs.Reading.{message_of}
-use Rattle.wire_msg.proofs.Spelled.{message_is_spelled, spelled_is_message}
+use Rattle.wire_msg.proofs.PublicLaws.{message_is_spelled, spelled_is_message}
 use Rattle.trace_text.specs.Entries.{good, spelled_in}
 
 -- where nothing is decoded, no message is spelled

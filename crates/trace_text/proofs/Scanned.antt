@@ -1,14 +1,13 @@
 -- The token at the front of a text, and the tokens behind it.
-use Rattle.std.proofs.Common.{◌≡◌, ◌≤◌, ◌≢◌, ◌<◌, ◌+◌, ℕ, Bool, true, false, cond, ◌||◌, ◌==◌, ◌⊎◌, inl, inr, List, [], ◌∷◌, ◌++◌, length, take, drop, get_or, Option, Some, None, refl, sym, ap, ap₂, ◌∙◌, subst, arith}
-use Rattle.std.proofs.lemmas.Bool.{eqb-true, or_cases, false≢true}
+use Rattle.std.proofs.Common.{◌≡◌, ◌≢◌, ◌<◌, ◌+◌, ℕ, Bool, true, false, cond, ◌||◌, ◌==◌, List, [], ◌∷◌, ◌++◌, length, take, drop, get_or, Option, Some, None, refl, sym, ap, ap₂, ◌∙◌, subst, arith}
+use Rattle.std.proofs.lemmas.Bool.{eqb-true, false≢true}
 use Rattle.std.proofs.lemmas.Slice.Eq.{bytes_eq-Decides}
 use Rattle.std.specs.Str.{bytes_eq}
 use Rattle.std.proofs.lemmas.List.{drop_more, get_or-take, length-take-le, take-append-drop}
-use Rattle.std.specs.List.{prefix_len}
-use Rattle.json.specs.Token.{Token, bad, begin_array, begin_object, boolean, end_array, end_object, key, number, string}
+use Rattle.json.specs.Token.{Token, bad, begin_array, begin_object, boolean, number, string}
 use Rattle.json.specs.Text.{content, plain}
 use Rattle.json.specs.Word.{ends_word, head, is_operator, is_space, word}
-use Rattle.json.specs.Lex.{Lexeme, token, comma, colon, string_token, between, in_string, lex, Place, after_comma, after_value, fresh, begins_colon, place_token, punctuate, tokens}
+use Rattle.json.specs.Lex.{Lexeme, token, colon, string_token, between, in_string, lex, Place, after_comma, after_value, fresh, begins_colon, place_token, punctuate, tokens}
 use Rattle.json.specs.Json.{after_end_array, read_key}
 use Rattle.json.specs.Print.{IsNumber}
 use Rattle.json.specs.Run.{is_plain}

@@ -3,6 +3,8 @@
 ghost use Rattle.std.specs.Prelude.{◌≡◌, ◌<◌, ◌≤◌, ◌+◌, ◌∷◌, [], ◌++◌, length, map, codes, false, OnOk, option_map, Some};
 ghost use Rattle.std.specs.Str.{bytes_eq};
 ghost use Rattle.trace_check.specs.Claims.{Claim};
+ghost use Rattle.wire_msg.specs.declared.body.Body.TheVariants.{AreYouCoordinator};
+ghost use Rattle.trace_text.specs.Digits.{AreTables};
 ghost use Rattle.trace_text.specs.Fields.{found_by};
 ghost use Rattle.trace_text.specs.Entries.{deed_in, deed_named, deliver_in, finish_in, spelled_in, submit_in};
 ghost use Rattle.trace_text.specs.Places.{with_device};
@@ -31,7 +33,12 @@ pub struct Desk {
 }
 
 impl Desk {
-    pub(crate) fn new(alloc: Global) -> Desk {
+    /// An empty one.
+    pub(crate) fn new(alloc: Global) -> Desk
+        ensures tables { AreTables result.digits.0 result.digits.1 }
+        ensures empty { (result.room.items ≡ []) × (result.payload.items ≡ []) × (result.deed ≡ Deed.Nothing) }
+        ensures message { result.message ≡ record { sender = 0; receiver = 1; body = AreYouCoordinator } }
+    {
         Desk {
             digits: Digits::new(),
             room: Vec::new(alloc),

@@ -3,7 +3,7 @@
 ghost use Rattle.std.specs.Prelude.{◌≡◌, ◌*◌, ◌<◌, length, slice_index, IfOk, MatchBool, Ok, Some, None};
 ghost use Rattle.hex.specs.Hex.{decode_of, decode_pairs};
 ghost use Rattle.trace_text.specs.Entries.{good};
-ghost use Rattle.trace_text.specs.Digits.{digit_of};
+ghost use Rattle.trace_text.specs.Digits.{AreTables, digit_of};
 
 use std::alloc::AllocError;
 use std::marker::Model;
@@ -16,17 +16,20 @@ pub struct Digits {
 }
 
 impl Model for Digits {
+    ghost use Rattle.std.specs.Prelude.{ℕ, List};
     ghost use Rattle.trace_text.specs.Digits.{AreTables};
 
-    ghost Value = { Unit {0} };
+    ghost Value = { List ℕ × List ℕ };
 
-    ghost view = { λ _. tt };
+    ghost view = { λ a. (a.high, a.low) };
 
     ghost invariant = { λ a. AreTables a.high a.low };
 }
 
 impl Digits {
-    pub(crate) fn new() -> Digits {
+    pub(crate) fn new() -> Digits
+        ensures { AreTables result.0 result.1 }
+    {
         let mut high = [0u32; 256];
         let mut low = [0u32; 256];
         for place in 0..256usize {

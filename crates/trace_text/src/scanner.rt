@@ -1,11 +1,11 @@
 //! A reader of tokens that knows how `write` writes them: strings without escapes, whole numbers, true and false, with any spaces.
 //! Anywhere else it stops.
 
-ghost use Rattle.std.specs.Prelude.{◌≡◌, ◌<◌, ◌≤◌, ◌^◌, ◌∷◌, [], ◌++◌, length, true, option_map, decimal, IfOk, OnOk, IfSome, Some, None, MatchBool};
+ghost use Rattle.std.specs.Prelude.{ℕ, List, ◌≡◌, ◌<◌, ◌≤◌, ◌^◌, ◌∷◌, [], ◌++◌, length, true, option_map, decimal, IfOk, OnOk, IfSome, Some, None, MatchBool};
 ghost use Rattle.json.specs.Json.{after_end_array, read_key};
 ghost use Rattle.json.specs.Lex.{after_comma, between, colon, in_string, lex, punctuate, tokens};
 ghost use Rattle.json.specs.Text.{content, plain};
-ghost use Rattle.json.specs.Token.{begin_array, begin_object, boolean, number, string};
+ghost use Rattle.json.specs.Token.{Token, begin_array, begin_object, boolean, number, string};
 ghost use Rattle.json.specs.Word.{ends_word, head, is_space};
 ghost use Rattle.trace_text.specs.Scanning.{EndsValue, begins_value, ends_value};
 
@@ -107,7 +107,10 @@ impl<'a> Scanner<'a> {
 
     /// The first byte of the next token.
     #[inline(always)]
-    pub(crate) fn front(&self) -> u8 {
+    pub(crate) fn front(&self) -> u8
+        ensures text { (s : List ℕ) (ts : List Token) → self.now ≡ string s ∷ ts → result ≡ 34 }
+        ensures value { begins_value result ≡ true → after_end_array self.now ≡ None }
+    {
         head(solid(self.rest))
     }
 
@@ -166,6 +169,7 @@ fn head(text: &[u8]) -> u8
 fn solid(text: &[u8]) -> &[u8]
     ensures same { lex between result.now ≡ lex between text.now }
     ensures no_word { ends_word result.now ≡ true → ends_word text.now ≡ true }
+    ensures no_space { is_space (head result.now) ≡ true → result.now ≡ [] }
 {
     if head(text) > b' ' {
         text
@@ -179,6 +183,7 @@ fn solid(text: &[u8]) -> &[u8]
 fn behind_spaces(text: &[u8]) -> &[u8]
     ensures same { lex between result.now ≡ lex between text.now }
     ensures no_word { ends_word result.now ≡ true → ends_word text.now ≡ true }
+    ensures no_space { is_space (head result.now) ≡ true → result.now ≡ [] }
 {
     let mut left = text;
     while !left.is_empty() && is_space(left[0]) {

@@ -9,7 +9,7 @@ use Rattle.wire_msg.specs.declared.body.Body.{Body}
 use Rattle.wire_msg.specs.declared.body.Body.TheVariants.{AreYouCoordinator, Coordinator, AreYouThere, Here, Invitation, Accept, Ready, ReadyAck, Work, Done}
 use Rattle.wire_msg.specs.declared.body.TheConstants.{BODY_CAPACITY}
 use Rattle.wire_msg.specs.Spelling.{priority, payload, work, content, IsBody}
-use Rattle.group_task.proofs.Words.{length-rising}
+use Rattle.group_task.proofs.PublicLaws.{length-rising}
 
 -- a priority takes a byte at most
 short_priority : (p : ℕ) → length (priority p) ≤ 1

@@ -30,7 +30,7 @@ add-requires-clause-count c = λ count raise.
     let inv = c.requires.recorded in
     (step_is_told c.args.simulation.now c.perform.new.self inv.world c.args.act c.in_ok-deed.deed c.node_named-id.result c.node.result.now c.node-2.result.now inv.tells.stands (c.in_ok-deed.ensures.acted inv.world inv.tells.stands)
     (named_in c.args.simulation.now inv.world c.args.act c.node_named-id.result c.count.result c.net.result.now.network inv.tells.stands c.count.ensures.value c.net.ensures c.node_named-id.ensures.named) c.node.ensures c.node-2.ensures
-    (λ (k : ℕ). 0)).parts.raises count (ap (λ (t : Option Attempt). command_in c.args.act t) raise)
+    inv.run).parts.raises count (ap (λ (t : Option Attempt). command_in c.args.act t) raise)
 
 pub overflow_add-before : goal.overflow_add-before
 overflow_add-before c =

@@ -4,7 +4,7 @@ use Rattle.sim_net.specs.Network.{Network}
 use Rattle.runs.specs.World.{start}
 use Rattle.runs.specs.Reporting.{report_of}
 use Rattle.cluster_sim.specs.Recorded.{moment_in, report_in}
-use Rattle.runs.proofs.Opened.{length_openings}
+use Rattle.runs.proofs.PublicLaws.{length_openings}
 use Rattle.cluster_sim.proofs.Promised.{all_promised}
 use Rattle.cluster_sim.proofs.cluster.run.Goals as goal
 

@@ -8,12 +8,12 @@ returns-clause-same c =
     same_by c.args.node.now c.compact-answer.new.self c.compact-answer.result e.id e.nodes e.counts
 
 pub returns-clause-came : goal.returns-clause-came
-returns-clause-came c = λ slots s stands.
+returns-clause-came c = λ slots n s stands.
     let old = c.args.node.now in
     let e = c.compact-answer.ensures in
     let was = some_of old.disk e.counts.was_there in
     let came = e.step was.0 s was.1 stands in
-    compacted_comes slots old.id old.nodes s c.compaction_told.result c.compact-answer.new.self c.args.net.now.network came.0 c.compact-answer.result came.1 came.2 c.compaction_told.ensures
+    compacted_comes slots n old.id old.nodes s c.compaction_told.result c.compact-answer.new.self c.args.net.now.network came.0 c.compact-answer.result came.1 came.2 c.compaction_told.ensures
     (nothing_found old c.compact-answer.new.self c.compact-answer.result e.moved e.fallen e.refused) came.3
 
 pub returns-clause-counted : goal.returns-clause-counted

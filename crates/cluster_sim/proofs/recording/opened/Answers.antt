@@ -1,8 +1,8 @@
 use Rattle.std.proofs.Common.{◌≡◌, ℕ, ◌<◌, length, slice_get, ◌∙◌, ap, subst, arith, Some}
 use Rattle.node_core.specs.State.{state_of}
 use Rattle.cluster_sim.specs.Recorded.{with_opening}
-use Rattle.runs.proofs.Opened.{length_openings}
-use Rattle.cluster_sim.proofs.Opening.{opened_to, opened_more, opened_all, opened_state}
+use Rattle.runs.proofs.PublicLaws.{length_openings}
+use Rattle.cluster_sim.proofs.Opening.{opened_to, opened_more, opened_state}
 use Rattle.cluster_sim.proofs.recording.opened.Goals as goal
 
 pub loop-number-init : goal.loop-number-init
@@ -27,4 +27,4 @@ returns c = λ nodes stands.
     let past = c.loop-number-test.false in
     let within = c.loop-number.auto.number-end in
     let all : c.loop-number.number ≡ nodes = omega (arith, many, count, past, within) in
-    c.loop-number.invariant nodes stands ∙ ap opened_to all ∙ opened_all nodes
+    c.loop-number.invariant nodes stands ∙ ap opened_to all

@@ -1,19 +1,22 @@
-use Rattle.std.proofs.Common.{sym, ◌∙◌, refl}
+use Rattle.std.proofs.Common.{◌≡◌, true, sym, ◌∙◌, refl, rules}
+use Rattle.node_core.specs.State.{is_down}
 use Rattle.durable_node.proofs.Nodes.{over}
 use Rattle.durable_node.proofs.Compactions.{compact_down, compacts}
 use Rattle.durable_node.proofs.compacting.compact.Goals as goal
 
-pub returns-then-is_down-clause-step : goal.returns-then-is_down-clause-step
-returns-then-is_down-clause-step g c =
-    compact_down g.D.SectorDisk.state c.args.id c.args.nodes c.args.core.now c.args.disk.now c.args.doubt.now c.args.found.now _ (sym c.is_down.ensures ∙ c.if-is_down.true) refl
+pub returns-in_default-clause-step : goal.returns-in_default-clause-step
+returns-in_default-clause-step g c =
+    let down : is_down c.args.core.now.state.phase ≡ true = search rules in
+    let same : c.in_default.disk ≡ c.args.disk.now = search rules in
+    rw same (compact_down g.D.SectorDisk.state c.args.id c.args.nodes c.args.core.now c.args.disk.now c.args.doubt.now c.args.found.now _ down refl)
 
 pub rewrite-requires : goal.rewrite-requires
 rewrite-requires g c =
-    record { over = over g.D.SectorDisk.state c.args.id c.args.nodes c.args.core.now c.in-Mounted.store (rw c.in-Mounted.is at c.requires.node) (sym c.is_down.ensures ∙ c.if-is_down.false) }
+    record { over = over g.D.SectorDisk.state c.args.id c.args.nodes c.args.core.now c.in-Mounted.store (rw c.in-Mounted.is at c.requires.node) (sym c.is_down.ensures ∙ c.if-not-is_down.true) }
 
-pub returns-clause-step : goal.returns-clause-step
-returns-clause-step g c =
+pub returns-in-Mounted-clause-step : goal.returns-in-Mounted-clause-step
+returns-in-Mounted-clause-step g c =
     let e = c.rewrite.ensures in
     let node = rw c.in-Mounted.is at c.requires.node in
     rw c.in-Mounted.is (compacts g.D.SectorDisk.state c.args.id c.args.nodes c.args.core.now c.rewrite.new.core c.in-Mounted.store c.rewrite.new.store c.args.doubt.now c.args.found.now
-    (sym c.is_down.ensures ∙ c.if-is_down.false) c.rewrite.result (node.slots c.in-Mounted.store refl) e.core e.answers e.kept _ e.store e.images)
+    (sym c.is_down.ensures ∙ c.if-not-is_down.true) c.rewrite.result (node.slots c.in-Mounted.store refl) e.core e.answers e.kept _ e.store e.images)

@@ -1,7 +1,6 @@
 use Rattle.std.proofs.Common.{ap, refl, inr}
 use Rattle.node_core.specs.Core.{Core}
 use Rattle.node_store.specs.Store.{durable_of}
-use Rattle.histories.specs.What.{reason_of}
 use Rattle.durable_node.proofs.Mounts.{unwritten}
 use Rattle.durable_node.proofs.Parts.{clash}
 use Rattle.durable_node.proofs.Turned.{same_fault, turned_as, wanted_so}
@@ -20,7 +19,7 @@ returns-then-not-is_device-clause-what g c =
     let wants = wanted_so _ _ a.core.now c.planned.new.core a.id a.event.now c.table.result.now a.store.now.journal.table c.wanted-wants.ensures c.in-Ok.ensures.plan.wants_is c.planned.ensures.kept of.id c.table.ensures in
     let carried = c.in-Err-carry.ensures.refused (λ e. clash c.is_device.result (c.is_device.ensures.1 e) c.if-not-is_device.true) in
     let cant = rw wants at carried.1 in
-    let turned = turned_as a.store.now.journal.slots a.nodes a.id a.core.now.state (durable_of a.store.now) a.event.now c.in-Err-carry.fault (reason_of c.refusal.result)
+    let turned = turned_as a.store.now.journal.slots a.nodes a.id a.core.now.state (durable_of a.store.now) a.event.now c.in-Err-carry.fault c.refusal.result
     (rw (of.nodes, of.id) at c.in-Ok.ensures.done) cant ((rw (carried.0, wants) at c.refusal.ensures) _ cant) in
     rw c.silent-then-not-is_device.ensures.fate
     (turned, c.silent-then-not-is_device.ensures.silent, record { same_state = ap (λ (k : Core). k.state) c.planned.ensures.kept; same_store = carried.0; same_doubt = refl })

@@ -3,7 +3,7 @@ use Rattle.wire_msg.specs.Envelope.{Envelope}
 use Rattle.node_core.specs.State.{State}
 use Rattle.node_core.specs.Quiet.{IsQuiet}
 use Rattle.node_core.specs.Start.{alone}
-use Rattle.node_core.proofs.Quiets.{quiet_wants, stays_quiet}
+use Rattle.node_core.proofs.PublicLaws.{quiet_wants, stays_quiet}
 use Rattle.invite_console.specs.Answer.{delivery, first_count, next_count, state_after}
 use Rattle.invite_console.proofs.answers.needs_no_disk.Goals as goal
 

@@ -1,4 +1,4 @@
-use Rattle.slot_gate.proofs.Rows.{Erased}
+use Rattle.job_journal.proofs.Common.{Erased}
 use Rattle.job_journal.proofs.area.erase.Given as goal
 
 abbrev pub invariant-loop-erased : goal.invariant-loop-erased

@@ -1,14 +1,10 @@
-use Rattle.std.proofs.Common.{◌∙◌}
-use Rattle.slot_gate.specs.Slot.{InSlots}
-use Rattle.slot_gate.proofs.Calls.{run_on}
+use Rattle.job_journal.proofs.Common.{◌∙◌, run_on}
 use Rattle.job_journal.proofs.area.write_area.Goals as goal
 
 pub returns-in_default-fill_area-clause-run : goal.returns-in_default-fill_area-clause-run
-returns-in_default-fill_area-clause-run g c =
-    run_on (InSlots c.args.first c.args.slots) (λ k is. is) c.erase.ensures.counts.honest c.erase.ensures.run c.fill_area.ensures.run
+returns-in_default-fill_area-clause-run g c = run_on _ (λ k is. is) c.erase.ensures.counts.honest c.erase.ensures.run c.fill_area.ensures.run
 
 pub returns-clause-run : goal.returns-clause-run
 returns-clause-run g c =
-    let touched = InSlots c.args.first c.args.slots in
-    run_on touched (λ k is. is) (c.fill_area.ensures.counts.honest ∙ c.erase.ensures.counts.honest)
-    (run_on touched (λ k is. is) c.erase.ensures.counts.honest c.erase.ensures.run c.fill_area.ensures.run) c.seal_area.ensures.run
+    run_on _ (λ k is. is) (c.fill_area.ensures.counts.honest ∙ c.erase.ensures.counts.honest)
+    (run_on _ (λ k is. is) c.erase.ensures.counts.honest c.erase.ensures.run c.fill_area.ensures.run) c.seal_area.ensures.run

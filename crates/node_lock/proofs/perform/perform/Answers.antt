@@ -1,5 +1,5 @@
 use Rattle.std.proofs.Common.{refl}
-use Rattle.durable_node.proofs.Forgets.{steps_and_forgets}
+use Rattle.durable_node.proofs.PublicLaws.{steps_and_forgets}
 use Rattle.node_lock.proofs.perform.perform.Goals as goal
 
 pub returns-in-Ok-clause-did : goal.returns-in-Ok-clause-did

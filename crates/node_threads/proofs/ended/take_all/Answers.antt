@@ -1,6 +1,5 @@
-use Rattle.std.proofs.Common.{◌≡◌, List, [], ◌∷◌, ◌++◌, Some, length, slice_get, ◌∙◌, ap, subst, refl}
+use Rattle.std.proofs.Common.{◌≡◌, List, [], ◌∷◌, ◌++◌, Some, length, slice_get, ◌∙◌, ap, refl}
 use Rattle.std.proofs.lemmas.Option.{slice_get_read}
-use Rattle.node_lock.specs.declared.run.Run.{Run}
 use Rattle.node_lock.specs.Kept.{Log}
 use Rattle.node_threads.specs.Nodes.{NodeEnds, run_at}
 use Rattle.node_threads.specs.Ended.{HasEnded}
@@ -15,8 +14,7 @@ loop-node-preserved c =
     let log = c.in_ok-history.history in
     let mine = c.in_ok-history.ends in
     let at : slice_get plans node ≡ Some plan = slice_get_read plans (length plans) node plan refl c.loop-node-test.true c.index-plans-node.is in
-    let is : c.run-run.result ≡ run_at c.args.size node = c.run-run.ensures ∙ ap (run_at c.args.size) c.numbered.ensures in
-    let has : HasEnded (run_at c.args.size node) plan log.turns mine = subst (λ (r : Run). HasEnded r plan log.turns mine) is c.in_ok-history.ensures in
+    let has : HasEnded (run_at c.args.size node) plan log.turns mine = rw (c.run-run.ensures, c.numbered.ensures) at c.in_ok-history.ensures in
     ended_more node c.args.size plans c.loop-node.histories.items c.loop-node.left.items plan log mine c.push_reserved.new.self.items c.push_reserved-in-loop-node.new.self.items
     (c.push_reserved.ensures.items ∙ ap (λ (xs : List Log). xs ++ log ∷ []) c.reserve.ensures.items)
     (c.push_reserved-in-loop-node.ensures.items ∙ ap (λ (xs : List NodeEnds). xs ++ mine ∷ []) c.reserve-in-loop-node.ensures.items) at has c.loop-node.invariant

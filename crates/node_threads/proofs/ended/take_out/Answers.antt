@@ -1,13 +1,10 @@
-use Rattle.std.proofs.Common.{◌≡◌, ℕ, true, sym, ◌∙◌, ap, arith}
+use Rattle.std.proofs.Common.{◌≡◌, true, sym, ◌∙◌, ap, arith}
 use Rattle.std.proofs.lemmas.Bool.{not-false}
 use Rattle.std.proofs.lemmas.Bool.Decides.{nat_tests}
 use Rattle.node_lock.specs.declared.run.Run.{Run}
 use Rattle.node_lock.specs.contracts.run.RunPartialEq as eq
 use Rattle.node_threads.specs.Nodes.{NodeEnds}
 use Rattle.node_threads.proofs.ended.take_out.Goals as goal
-
-abbrev run_of : ℕ → ℕ → ℕ → ℕ → Run
-run_of node nodes slots capacity = record { node = node; nodes = nodes; slots = slots; capacity = capacity }
 
 -- `==` on runs says that they are one
 run_same : (a b : Run) → eq.TheImpl.eq-value.it a b ≡ true → a ≡ b
@@ -16,7 +13,7 @@ run_same a b t =
     let nodes : a.nodes ≡ b.nodes = grind (arith, nat_tests) in
     let slots : a.slots ≡ b.slots = grind (arith, nat_tests) in
     let capacity : a.capacity ≡ b.capacity = grind (arith, nat_tests) in
-    λ i. run_of (node i) (nodes i) (slots i) (capacity i)
+    λ i. record { node = node i; nodes = nodes i; slots = slots i; capacity = capacity i }
 
 pub returns : goal.returns
 returns c =

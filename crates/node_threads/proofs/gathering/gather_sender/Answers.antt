@@ -20,7 +20,7 @@ loop-receiver-preserved c =
           let said = w.in_ok-link.ensures in
           rw (w.left-is, w.links-is) (gathers s r c.args.left.now.items left w.next_ends.new.left.items c.args.links.now.items links w.push_reserved.new.self.items p t link
           (w.push_reserved.ensures.items ∙ ap (λ (xs : List LinkEnd). xs ++ link ∷ []) w.reserve.ensures.items) took w.if-receiver-sender.true
-          (record { paired = said.paired.0 refl; sender = said.nodes.0; receiver = said.nodes.1; put = said.messages.0; taken = said.messages.1 }) c.loop-receiver.invariant)
+          (λ from to put taken. record { put_end = p; take_end = t; is_put = put; is_take = taken; paired = said.paired.0 refl; sender = said.nodes.0; receiver = said.nodes.1; put = said.messages.0; taken = said.messages.1 }) c.loop-receiver.invariant)
       | else-receiver-sender w ↦ rw (w.left-is, w.links-is) (gathers_past s r c.args.left.now.items left c.args.links.now.items links w.if-receiver-sender.false c.loop-receiver.invariant)
     ]
 

@@ -1,6 +1,6 @@
 use Rattle.std.proofs.Common.{[], List, length, sym, ap, ◌∙◌}
 use Rattle.std.proofs.lemmas.List.{length-replicate}
-use Rattle.runs.proofs.Opened.{length_openings}
+use Rattle.runs.proofs.PublicLaws.{length_openings}
 use Rattle.trace_check.specs.Claims.{Claim}
 use Rattle.run_trace.proofs.Judgings.{told_is_run}
 use Rattle.run_trace.proofs.Tracings.{begins}

@@ -1,6 +1,6 @@
 use Rattle.std.proofs.Common.{rules, arith, inl, inr}
-use Rattle.sector_disk.proofs.Runs.{run_widen}
-use Rattle.slot_gate.proofs.Slots.{slot_same}
+use Rattle.sector_disk.proofs.PublicLaws.{run_widen}
+use Rattle.slot_gate.proofs.PublicLaws.{slot_same}
 use Rattle.safe_cell.proofs.ReadOnly.{run_on}
 use Rattle.safe_cell.proofs.formatting.erase.Goals as goal
 

@@ -1,5 +1,5 @@
 use Rattle.std.proofs.Common.{◌∙◌, inl, ap, not, arith, IsTrue, IsOk}
-use Rattle.sector_disk.proofs.Runs.{run_widen}
+use Rattle.sector_disk.proofs.PublicLaws.{run_widen}
 use Rattle.safe_cell.specs.Cell.{AllHave}
 use Rattle.safe_cell.specs.Mounted.{AllStand}
 use Rattle.safe_cell.specs.Formatted.{formatted}

@@ -1,5 +1,5 @@
 use Rattle.std.proofs.Common.{◌+◌, ◌∙◌, subst, arith}
-use Rattle.slot_gate.proofs.Slots.{slot_kept}
+use Rattle.slot_gate.proofs.PublicLaws.{slot_kept}
 use Rattle.safe_cell.specs.Cell.{IsDamaged}
 use Rattle.safe_cell.proofs.ReadOnly.{reads_on}
 use Rattle.safe_cell.proofs.Tellings.{tells_fault, tells_damaged_first, tells_damaged_second, tells_values}

@@ -1,5 +1,5 @@
 use Rattle.std.proofs.Common.{inl, inr, ⊎_elim, sym, subst, ap, ◌∙◌, IsTrue, Some, is_ok}
-use Rattle.sector_disk.proofs.Runs.{run_widen}
+use Rattle.sector_disk.proofs.PublicLaws.{run_widen}
 use Rattle.slot_gate.specs.Slot.{InSlot}
 use Rattle.slot_gate.proofs.Calls.{run_on}
 use Rattle.slot_gate.proofs.Stored.{filled_run, filled_images, one_more}

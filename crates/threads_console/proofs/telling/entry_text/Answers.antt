@@ -1,6 +1,6 @@
 use Rattle.std.proofs.Common.{◌∙◌}
 use Rattle.run_trace.specs.Traced.{done}
-use Rattle.trace_text.proofs.Joined.{entry_written}
+use Rattle.trace_text.proofs.PublicLaws.{entry_written}
 use Rattle.threads_console.proofs.Tellings.{handled_told}
 use Rattle.threads_console.proofs.telling.entry_text.Goals as goal
 

@@ -2,7 +2,7 @@ use Rattle.std.proofs.Common.{ap, ◌∙◌}
 use Rattle.serde_json.specs.Written.{compact_text}
 use Rattle.node_lock.specs.Seen.{turn_seen}
 use Rattle.trace_text.specs.Written.{entry_data}
-use Rattle.trace_text.proofs.Joined.{entry_written}
+use Rattle.trace_text.proofs.PublicLaws.{entry_written}
 use Rattle.threads_console.proofs.telling.other_text.Goals as goal
 
 pub returns : goal.returns

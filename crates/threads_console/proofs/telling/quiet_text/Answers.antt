@@ -1,7 +1,7 @@
 use Rattle.std.proofs.Common.{[], ap, ◌∙◌}
 use Rattle.serde_json.specs.Written.{compact_text}
 use Rattle.trace_text.specs.Written.{entry_data}
-use Rattle.trace_text.proofs.Joined.{entry_written, no_messages}
+use Rattle.trace_text.proofs.PublicLaws.{entry_written, no_messages}
 use Rattle.threads_console.proofs.telling.quiet_text.Goals as goal
 
 pub returns : goal.returns

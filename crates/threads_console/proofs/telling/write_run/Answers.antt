@@ -1,7 +1,7 @@
 use Rattle.std.proofs.Common.{◌≡◌, ℕ, List, ◌++◌, false, length, ap, ◌∙◌, subst, sym}
 use Rattle.std.proofs.lemmas.List.{length-map}
 use Rattle.std.specs.Prelude.{IfOk}
-use Rattle.trace_text.proofs.Joined.{whole_text}
+use Rattle.trace_text.proofs.PublicLaws.{whole_text}
 use Rattle.threads_console.specs.Told.{histories_text, log_told, run_told}
 use Rattle.threads_console.proofs.telling.write_run.Goals as goal
 

@@ -1,4 +1,4 @@
-use Rattle.trace_check.proofs.Keyed.{on_ok}
+use Rattle.trace_check.proofs.PublicLaws.{on_ok}
 use Rattle.trace_draw.specs.Picture.{sign}
 use Rattle.trace_draw.proofs.Texts.{four}
 use Rattle.trace_draw.proofs.signs.push_sign.Goals as goal

@@ -1,4 +1,4 @@
-use Rattle.trace_check.proofs.Keyed.{on_ok}
+use Rattle.trace_check.proofs.PublicLaws.{on_ok}
 use Rattle.trace_draw.specs.Picture.{head}
 use Rattle.trace_draw.proofs.Texts.{five}
 use Rattle.trace_draw.proofs.svg.push_head.Goals as goal

@@ -1,6 +1,6 @@
 use Rattle.std.proofs.Common.{arith}
 use Rattle.wire_msg.specs.Spelling.{AreBytes}
-use Rattle.wire_msg.proofs.Bytes.{AreBytes-from_index}
+use Rattle.wire_msg.proofs.PublicLaws.{AreBytes-from_index}
 use Rattle.trace_text.proofs.Printing.{if_ok}
 use Rattle.trace_text.proofs.writing.write_bytes.Goals as goal
 

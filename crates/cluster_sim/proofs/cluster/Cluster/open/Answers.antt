@@ -1,7 +1,7 @@
 use Rattle.std.proofs.Common.{◌∙◌, List, ℕ, replicate, sym, ap, subst}
 use Rattle.runs.specs.Reporting.{TriedAt}
 use Rattle.cluster_sim.specs.Recorded.{AreCounted, ToldReport, report_in}
-use Rattle.runs.proofs.Opened.{length_openings}
+use Rattle.runs.proofs.PublicLaws.{length_openings}
 use Rattle.cluster_sim.proofs.Opening.{opened_counts, opened_recorded}
 use Rattle.cluster_sim.proofs.cluster.Cluster.open.Goals as goal
 

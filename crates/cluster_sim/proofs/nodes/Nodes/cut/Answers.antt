@@ -1,7 +1,7 @@
 use Rattle.std.proofs.Common.{false, refl, sym, ◌∙◌, ap}
-use Rattle.sim_net.specs.Network.{Roomy}
+use Rattle.sim_net.specs.Network.{Roomy, after_cut}
 use Rattle.schedule.specs.declared.act.Act.TheVariants as act
-use Rattle.runs.specs.Step.{Cuts, Stranger}
+use Rattle.runs.specs.Step.{Stranger}
 use Rattle.cluster_sim.proofs.Doings.{cut_by, denies, known_step}
 use Rattle.cluster_sim.proofs.nodes.Nodes.cut.Goals as goal
 
@@ -12,4 +12,4 @@ returns-clause-acted c = λ w stands.
 
 pub returns-then-not-has_both-clause-acted : goal.returns-then-not-has_both-clause-acted
 returns-then-not-has_both-clause-acted c = λ w stands.
-    denies w (act.Cut c.args.a c.args.b) Stranger c.args.self.now stands refl (known_step w c.args.a c.args.b c.args.self.now (Cuts c.args.a c.args.b) false stands (sym c.has_both.ensures ∙ c.if-not-has_both.true))
+    denies w (act.Cut c.args.a c.args.b) 0 Stranger c.args.self.now stands (known_step w c.args.a c.args.b c.args.self.now (after_cut w.net c.args.a c.args.b) false stands (sym c.has_both.ensures ∙ c.if-not-has_both.true))

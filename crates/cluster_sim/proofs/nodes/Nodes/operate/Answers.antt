@@ -2,9 +2,9 @@ use Rattle.std.proofs.Common.{◌≡◌, ℕ, ◌≤◌, length, nat_lt, slice_g
 use Rattle.std.specs.Prelude.{slice_set, Option}
 use Rattle.sector_disk.specs.Memory.{Memory}
 use Rattle.std.proofs.lemmas.Option.{slice_get_read}
-use Rattle.runs.specs.Acts.{At, is_compaction}
-use Rattle.runs.specs.Reporting.{node_or_first}
-use Rattle.runs.proofs.Runs.{get_set_same}
+use Rattle.runs.specs.Acts.{At}
+use Rattle.cluster_sim.specs.Names.{node_or_first}
+use Rattle.runs.proofs.PublicLaws.{get_set_same}
 use Rattle.cluster_sim.specs.Machine.{Machine, Makes, StandsFor, FaultsAt, bare, disk_of}
 use Rattle.cluster_sim.specs.Operated.{OperatedAs, OperatesDisk, disk_at}
 use Rattle.cluster_sim.proofs.Members.{denied_at, still_cluster, takes, faults_if}
@@ -16,8 +16,8 @@ returns-then-place-len-clause-acted c = λ w stands.
     let place = c.from-place.ensures ∙ c.number.ensures.value in
     let past : length c.self.inside.nodes.items ≤ c.args.id = grind (arith, place) in
     let beyond : length c.args.self.now.nodes ≤ c.args.id = subst (λ (m : Machine). length m.nodes ≤ c.args.id) c.self.view_is past in
-    performed {E = ℕ} (is_compaction c.args.act.now) _ w c.args.act.now (Ok _) c.args.self.now refl ((operates c.args.act.now c.args.id c.requires).is_step (length w.states) w)
-    (denied_at w c.args.id 0 (is_compaction c.args.act.now) (OperatedAs c.args.act.now) c.args.self.now stands beyond)
+    performed {E = ℕ} _ w c.args.act.now (Ok _) c.args.self.now ((operates c.args.act.now c.args.id c.requires).is_step (length w.states) w)
+    (denied_at w c.args.id 0 c.args.act.now (OperatedAs c.args.act.now) c.args.self.now stands beyond)
 
 pub invariant_of-self : goal.invariant_of-self
 invariant_of-self c =
@@ -30,9 +30,9 @@ returns-clause-acted c = λ w stands.
     let a = c.args.act.now in
     let is = operates a c.args.id c.requires in
     let at = slice_get_read c.self.inside.nodes.items c.len.result c.from-place.result c.index_mut.result.now (grind (arith)) (grind (arith)) c.index_mut.ensures.value in
-    performed {E = ℕ} (is_compaction a) (λ step. At (nat_lt c.args.id (length w.states)) c.args.id 0 (OperatedAs a) step) w a (Ok (bare c.operate.result)) _ refl (is.is_step (length w.states) w)
-    (subst (λ (k : ℕ). Makes (is_compaction a) (λ step. At (nat_lt k (length w.states)) k 0 (OperatedAs a) step) w (bare c.operate.result) (record { slots = was.slots; nodes = slice_set was.nodes.items c.from-place.result c.operate.new.node; net = was.net.network })) (c.from-place.ensures ∙ c.number.ensures.value)
-    (takes {E = ℕ} was.slots c.from-place.result 0 (is_compaction a) (OperatedAs a) was.nodes.items c.index_mut.result.now c.operate.new.node was.net.network was.net.network (Ok (bare c.operate.result)) w c.self.invariant at
+    performed {E = ℕ} (λ step. At (nat_lt c.args.id (length w.states)) c.args.id 0 (OperatedAs a) step) w a (Ok (bare c.operate.result)) _ (is.is_step (length w.states) w)
+    (subst (λ (k : ℕ). Makes a (λ step. At (nat_lt k (length w.states)) k 0 (OperatedAs a) step) w (bare c.operate.result) (record { slots = was.slots; nodes = slice_set was.nodes.items c.from-place.result c.operate.new.node; net = was.net.network })) (c.from-place.ensures ∙ c.number.ensures.value)
+    (takes {E = ℕ} was.slots c.from-place.result 0 a (OperatedAs a) was.nodes.items c.index_mut.result.now c.operate.new.node was.net.network was.net.network (Ok (bare c.operate.result)) w c.self.invariant at
     (subst (λ (m : Machine). StandsFor m w) (sym c.self.view_is) stands) (λ what of. quietly w c.from-place.result _ (is.brings what of)) (λ s. c.operate.ensures.came was.slots s)))
 
 pub returns-clause-faults : goal.returns-clause-faults

@@ -6,16 +6,16 @@ use Rattle.cluster_sim.specs.declared.outcome.Deed.{Deed}
 use Rattle.runs.specs.Acts.{At}
 use Rattle.durable_node.specs.Stepping.{CameOf}
 use Rattle.cluster_sim.specs.Machine.{Machine, IsUntouched, StandsFor, Makes, FaultsAt}
-use Rattle.runs.specs.Reporting.{node_or_first}
+use Rattle.cluster_sim.specs.Names.{node_or_first}
 use Rattle.cluster_sim.proofs.Members.{denied_at, still_cluster, takes, rests_if, untouched_if, faults_if}
 use Rattle.cluster_sim.proofs.Doings.{brought_came}
 use Rattle.cluster_sim.proofs.nodes.Nodes.take.Goals as goal
 
 pub returns-then-place-len-clause-acted : goal.returns-then-place-len-clause-acted
-returns-then-place-len-clause-acted c = λ w number stands brings goes.
+returns-then-place-len-clause-acted c = λ w number a stands brings goes.
     let place = c.from-place.ensures ∙ c.number.ensures.value in
     let past : length c.self.inside.nodes.items ≤ c.args.id = grind (arith, place) in
-    denied_at w c.args.id number false (CameOf c.args.event.now) c.args.self.now stands (subst (λ (m : Machine). length m.nodes ≤ c.args.id) c.self.view_is past)
+    denied_at w c.args.id number a (CameOf c.args.event.now) c.args.self.now stands (subst (λ (m : Machine). length m.nodes ≤ c.args.id) c.self.view_is past)
 
 pub invariant_of-self : goal.invariant_of-self
 invariant_of-self c =
@@ -23,16 +23,16 @@ invariant_of-self c =
     still_cluster c.self.inside.slots c.from-place.result c.self.inside.nodes.items c.index_mut.result.now c.handle.new.node c.self.invariant at c.handle.ensures.same
 
 pub returns-clause-acted : goal.returns-clause-acted
-returns-clause-acted c = λ w number stands brings goes.
+returns-clause-acted c = λ w number a stands brings goes.
     let was = c.self.inside in
     let id = c.from-place.ensures ∙ c.number.ensures.value in
     let at = slice_get_read c.self.inside.nodes.items c.len.result c.from-place.result c.index_mut.result.now (grind (arith)) (grind (arith)) c.index_mut.ensures.value in
     let p = c.from-place.result in
-    subst (λ (k : ℕ). IfOk c.handle.result (λ (d : Deed). Makes false (λ step. At (nat_lt k (length w.states)) k number (CameOf c.args.event.now) step) w d
+    subst (λ (k : ℕ). IfOk c.handle.result (λ (d : Deed). Makes a (λ step. At (nat_lt k (length w.states)) k number (CameOf c.args.event.now) step) w d
     (record { slots = was.slots; nodes = slice_set was.nodes.items p c.handle.new.node; net = c.handle.new.net.network }))) id
-    (takes was.slots p number false (CameOf c.args.event.now) was.nodes.items c.index_mut.result.now c.handle.new.node was.net.network c.handle.new.net.network c.handle.result w c.self.invariant at
+    (takes was.slots p number a (CameOf c.args.event.now) was.nodes.items c.index_mut.result.now c.handle.new.node was.net.network c.handle.new.net.network c.handle.result w c.self.invariant at
     (subst (λ (m : Machine). StandsFor m w) (sym c.self.view_is) stands) (brought_came w p number c.args.event.now brings (subst (λ (k : ℕ). AreAddressed k (brought (Some c.args.event.now))) (sym id) goes))
-    (λ s. c.handle.ensures.came was.slots s c.self.invariant.most_slots (c.self.invariant.members p c.index_mut.result.now at).size))
+    (λ s. c.handle.ensures.came was.slots s a c.self.invariant.most_slots (c.self.invariant.members p c.index_mut.result.now at).size))
 
 pub returns-clause-memory : goal.returns-clause-memory
 returns-clause-memory c = λ w stands.

@@ -6,4 +6,4 @@ returns-then-self-clause-after g c = λ honest all ok. (c.compact.ensures.after 
 
 pub returns-clause-images : goal.returns-clause-images
 returns-clause-images g c = λ honest all.
-    still_since c.args.self.now (g.D.SectorDisk.state c.args.disk.now) honest (g.met.D.SectorDisk.laws c.args.disk.now honest) all
+    still_since c.args.self.now _ honest (g.met.D.SectorDisk.laws c.args.disk.now honest) all

@@ -1,7 +1,7 @@
 use Rattle.std.proofs.Common.{◌≡◌, ◌++◌, ℕ, List, decimal, sym, ap₂, ◌∙◌}
 use Rattle.std.proofs.lemmas.List.{take-append-drop}
 use Rattle.json.proofs.Printed.Decimals.{IsNumber-decimal}
-use Rattle.line_words.proofs.Decimals.{only}
+use Rattle.line_words.proofs.PublicLaws.{only}
 use Rattle.trace_text.proofs.Scanned.{number_found}
 use Rattle.trace_text.proofs.scanner.Scanner.number.Goals as goal
 

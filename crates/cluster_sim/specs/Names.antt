@@ -1,0 +1,27 @@
+-- The node that an act is told of, as code finds it.
+use Rattle.std.specs.Prelude.{ℕ, nat_lt, if◌then◌else◌, List, slice_get}
+use Rattle.wire_msg.specs.Envelope.{Envelope}
+use Rattle.schedule.specs.declared.act.Act.{Act}
+use Rattle.schedule.specs.declared.act.Act.TheVariants as act
+use Rattle.runs.specs.Acts.{receiver_or_first}
+
+-- node 0 in place of a node outside the cluster
+abbrev pub node_or_first : ℕ → ℕ → ℕ
+node_or_first nodes n = if nat_lt n nodes then n else 0
+
+-- where these were sent: that of the act, or the receiver of the message, or node 0
+abbrev pub node_named : ℕ → List Envelope → Act → ℕ
+node_named nodes sent (act.Check n) = node_or_first nodes n
+node_named nodes sent (act.Merge n) = node_or_first nodes n
+node_named nodes sent (act.Accept n) = node_or_first nodes n
+node_named nodes sent (act.Ready n) = node_or_first nodes n
+node_named nodes sent (act.Coord n) = node_or_first nodes n
+node_named nodes sent (act.Dispatch n) = node_or_first nodes n
+node_named nodes sent (act.Deliver k) = receiver_or_first nodes (slice_get sent k)
+node_named nodes sent (act.Submit n work) = node_or_first nodes n
+node_named nodes sent (act.Finish n origin id) = node_or_first nodes n
+node_named nodes sent (act.Arm n calls) = node_or_first nodes n
+node_named nodes sent (act.Crash n fill) = node_or_first nodes n
+node_named nodes sent (act.Recover n) = node_or_first nodes n
+node_named nodes sent (act.Compact n) = node_or_first nodes n
+node_named nodes sent a = 0

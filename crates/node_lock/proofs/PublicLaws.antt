@@ -1,0 +1,8 @@
+-- What proofs of other crates may cite of this one: its other lemmas are its own.
+
+-- An event that was kept is that event again, and stays so whatever is kept after it.
+pub use Rattle.node_lock.proofs.Events.{get_again, get_same}
+-- A turn keeps what is always true.
+pub use Rattle.node_lock.proofs.Keeping.{from_nothing}
+-- What is written down of a turn is what came of it.
+pub use Rattle.node_lock.proofs.Telling.{none_of_order, none_of_tick}

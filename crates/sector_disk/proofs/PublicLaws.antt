@@ -1,0 +1,8 @@
+-- What proofs of other crates may cite of this one: its other lemmas are its own.
+
+-- Bytes that are all zeros.
+pub use Rattle.sector_disk.proofs.Blanks.{blank}
+-- A disk in memory after a crash, for the layers that go on with it.
+pub use Rattle.sector_disk.proofs.Crashed.{only_image}
+-- How a run of device calls starts, goes on and is put together.
+pub use Rattle.sector_disk.proofs.Runs.{each_of_two, quiet_run, run_of_two, run_widen, same_image, same_trans, same_widen, write_run}

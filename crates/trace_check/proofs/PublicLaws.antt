@@ -1,0 +1,10 @@
+-- What proofs of other crates may cite of this one: its other lemmas are its own.
+
+-- A check goes on: a node is stopped, waits, or takes its next entry.
+pub use Rattle.trace_check.proofs.Desks.{twin_in}
+-- The messages that were sent, once one more is put in.
+pub use Rattle.trace_check.proofs.Keyed.{on_ok}
+-- What one turn changes, and that verdicts decide.
+pub use Rattle.trace_check.proofs.Turning.{turns}
+-- What the calls of a check make of where it stands.
+pub use Rattle.trace_check.proofs.Turns.{none_past}
