@@ -1,6 +1,5 @@
 -- A cluster of which one node took a step, or the network alone, or nothing.
-use Rattle.std.proofs.Common.{◌≡◌, ◌≢◌, ℕ, ◌<◌, ◌≤◌, Bool, true, false, List, length, slice_get, nat_lt, refl, sym, ◌∙◌, ap, subst, arith, Option, Some, Result, Ok, Err}
-use Rattle.std.specs.Prelude.{◌==◌, slice_set, IfOk, OnErr}
+use Rattle.std.proofs.Common.{◌≡◌, ◌≢◌, ℕ, ◌<◌, ◌≤◌, Bool, true, false, List, length, slice_get, nat_lt, refl, sym, ◌∙◌, ap, subst, subst₂, arith, Some, Result, Ok, Err, ◌==◌, slice_set, IfOk, OnErr}
 use Rattle.std.proofs.lemmas.List.{length-set}
 use Rattle.std.proofs.lemmas.Option.{slice_get_within}
 use Rattle.sector_disk.specs.Memory.{Memory, state_of}
@@ -11,19 +10,18 @@ use Rattle.histories.specs.declared.what.What.{What}
 use Rattle.histories.specs.What.{event_of, brought, AreAddressed}
 use Rattle.histories.specs.After.{after, sent_at, found_at}
 use Rattle.durable_node.proofs.PublicLaws.{is_some}
-use Rattle.cluster_sim.specs.declared.outcome.Outcome.TheVariants as outcome
-use Rattle.cluster_sim.specs.declared.outcome.Refusal.TheVariants as refusal
+use Rattle.runs.specs.declared.outcome.Outcome.TheVariants as outcome
+use Rattle.runs.specs.declared.outcome.Refusal.TheVariants as refusal
 use Rattle.runs.specs.World.{World, node_in}
-use Rattle.runs.specs.Step.{Takes, Denies, Stranger}
+use Rattle.runs.specs.Step.{Takes, Denies}
 use Rattle.runs.specs.Run.{IsBrought}
 use Rattle.runs.specs.Acts.{At, what_outcome}
 use Rattle.schedule.specs.declared.act.Act.{Act}
-use Rattle.cluster_sim.specs.Told.{told}
-use Rattle.cluster_sim.specs.Machine.{Machine, IsMember, IsCluster, IsUntouched, IsUntouchedNode, StandsFor, IsSame, Comes, DeedOf, Makes, bare, IsCounted, disk_of, FaultsAt}
-use Rattle.cluster_sim.specs.declared.outcome.Deed.{Deed}
-use Rattle.cluster_sim.proofs.Coming.{untouched_stands}
+use Rattle.cluster_sim.specs.Machine.{Machine, IsMember, IsCluster, IsUntouched, IsUntouchedNode, StandsFor, IsSame, Comes, DeedOf, Makes, bare, IsCounted, FaultsAt}
+use Rattle.cluster_sim.specs.declared.deed.Deed.{Deed}
 use Rattle.runs.proofs.PublicLaws.{at_place, get_set_same, get_set_other, node_there}
 use Rattle.histories.proofs.PublicLaws.{eq_nat}
+use Rattle.cluster_sim.proofs.Doings.{denied}
 use Rattle.std.proofs.lemmas.Bool.Decides.{nat_tests}
 use Rattle.cluster_sim.specs.Names.{node_or_first}
 
@@ -87,21 +85,17 @@ takes slots n number a P nodes old new net net' (Ok deed) w cluster at stands br
     let was_at = here.1 in
     let it : node_in w.states n ≡ was = node_there w.states n was was_at in
     let came : Comes slots n count a P was deed new net net' =
-    subst (λ (k : ℕ). Comes slots n k a P was deed new net net') (member.nodes_is ∙ stands.count)
-    (subst (λ (k : ℕ). Comes slots k old.nodes a P was deed new net net') member.id_is (comes was (stands.each n old was at was_at))) in
+    subst₂ (λ (k l : ℕ). Comes slots k l a P was deed new net net') member.id_is (member.nodes_is ∙ stands.count) (comes was (stands.each n old was at was_at)) in
     record {
       step = Takes n number came.what;
       is = subst (λ (b : Bool). At b n number P (Takes n number came.what)) (sym (true_within n count within)) (came.what, refl, came.is);
       allowed = (was, was_at, came.possible, (brings came.what came.is).0, (brings came.what came.is).1);
       of_slots = rw it came.of_slots;
-      is_told = came.is_told ∙ (λ i. told (what_outcome n count (length (stands.net i).sent) (sym it i) came.what a));
+      is_told = came.is_told ∙ (λ i. what_outcome n count (length (stands.net i).sent) (sym it i) came.what a);
       shows = λ node s at_n was_n. ap (λ (x : Node Memory). x.found) (sym (is_some new node (sym (get_set_same nodes n old new at) ∙ at_n))) ∙ came.found
           ∙ ap (λ (x : NodeState). found_at x came.what) (is_some was s (sym was_at ∙ was_n));
       tells = λ s at_s. subst (λ (x : NodeState). DeedOf n count x came.what deed) (is_some was s (sym was_at ∙ at_s)) came.tells;
-      stands = subst (λ (x : NodeState). StandsFor (record { slots = slots; nodes = slice_set nodes n new; net = net' }) (record {
-        states = slice_set w.states n (after n count x came.what);
-        net = after_all_sent w.net (sent_at n count x came.what);
-      })) (sym it) (moves slots n nodes old new net net' _ w was (after n count was came.what) at stands was_at came.stands
+      stands = rw it (moves slots n nodes old new net net' _ w was (after n count was came.what) at stands was_at came.stands
           (came.sent ∙ ap (λ (before : Network). after_all_sent before (sent_at n count was came.what)) stands.net));
     }
 takes slots n number a P nodes old new net net' (Err e) w cluster at stands brings comes = tt
@@ -116,7 +110,7 @@ rests_if slots n nodes old new net net' (Err e) w at stands keeps same_net = rec
   count = length-set nodes n new ∙ stands.count;
   net = same_net ∙ stands.net;
   each = λ k node t at_k was_k. at_each (λ (j : ℕ) (x : Node Memory). (t : NodeState) → slice_get w.states j ≡ Some t → Stands state_of x t) nodes n old new at
-      (λ t' was_n. (let is = stands.each n old t' at was_n in untouched_stands old new t' (keeps t' is) is))
+      (λ t' was_n. (let is = stands.each n old t' at was_n in subst (λ (x : Node Memory). Stands state_of x t') (sym (keeps t' is)) (record { state = is.state; doubt = is.doubt; up = is.up; disk = is.disk })))
       (λ j x ne at_j t' was_j. stands.each j x t' at_j was_j) k node at_k t was_k;
 }
 
@@ -138,16 +132,10 @@ untouched_if slots n nodes old new net net' (Err e) w at stands keeps same_net =
 -- a node outside the cluster
 pub denied_at : (w : World) (id number : ℕ) (a : Act) (P : What → Type 0) (machine : Machine) → StandsFor machine w → length machine.nodes ≤ id
     → Makes a (λ step. At (nat_lt id (length w.states)) id number P step) w (bare (outcome.Refused refusal.Stranger)) machine
-denied_at w id number a P machine stands beyond = record {
-  step = Denies 0 Stranger;
-  is = (let many = stands.count in let stranger : nat_lt id (length w.states) ≡ false = grind (arith, nat_tests) in subst (λ (b : Bool). At b id number P (Denies 0 Stranger)) (sym stranger) refl);
-  allowed = tt;
-  of_slots = tt;
-  is_told = refl;
-  shows = tt;
-  tells = (refl, refl);
-  stands = stands;
-}
+denied_at w id number a P machine stands beyond =
+    let many = stands.count in
+    let stranger : nat_lt id (length w.states) ≡ false = grind (arith, nat_tests) in
+    denied w a 0 refusal.Stranger _ machine stands (subst (λ (b : Bool). At b id number P (Denies 0 refusal.Stranger)) (sym stranger) refl)
 
 -- ---- the failures of its disk
 
@@ -156,11 +144,5 @@ pub faults_if : {E : Type 0} (slots n : ℕ) (nodes : List (Node Memory)) (old n
     → IfOk result (λ (d : Deed). FaultsAt (node_or_first (length now.nodes) n) now (record { slots = slots; nodes = slice_set nodes n new; net = net' }) d.outcome)
 faults_if slots n nodes old new net net' (Ok d) now view at counted =
     let known : node_or_first (length nodes) n ≡ n = rw (true_within n (length nodes) (slice_get_within nodes n old at)) refl in
-    subst (λ (m : Machine). FaultsAt (node_or_first (length m.nodes) n) m (record { slots = slots; nodes = slice_set nodes n new; net = net' }) d.outcome) view
-    (subst (λ (k : ℕ). FaultsAt k (record { slots = slots; nodes = nodes; net = net }) (record { slots = slots; nodes = slice_set nodes n new; net = net' }) d.outcome) (sym known)
-    (record {
-      here = subst (λ (x : Option (Node Memory)). IsCounted (disk_of x) (disk_of (slice_get (slice_set nodes n new) n)) d.outcome) (sym at)
-          (subst (λ (x : Option (Node Memory)). IsCounted old.disk (disk_of x) d.outcome) (sym (get_set_same nodes n old new at)) counted);
-      elsewhere = λ k other. get_set_other nodes k n new other;
-    }))
+    rw (← view, known) (record { here = rw (at, get_set_same nodes n old new at) counted; elsewhere = λ k other. get_set_other nodes k n new other })
 faults_if slots n nodes old new net net' (Err e) now view at counted = tt

@@ -1,18 +1,17 @@
 -- A step of an act is told of the node that the act names.
-use Rattle.std.proofs.Common.{◌≡◌, ℕ, Bool, true, false, nat_lt, slice_get, Option, refl, sym, ◌∙◌, ap, Result, Ok, Err}
-use Rattle.std.specs.Prelude.{if◌then◌else◌, ◌&&◌, MatchResult}
+use Rattle.std.proofs.Common.{◌≡◌, ℕ, Bool, true, false, nat_lt, slice_get, Option, refl, sym, ◌∙◌, ap, Result, Ok, Err, if◌then◌else◌, ◌&&◌, MatchResult}
 use Rattle.wire_msg.specs.Envelope.{Envelope}
 use Rattle.node_core.specs.declared.event.Event.TheVariants as on
 use Rattle.histories.specs.declared.what.What.{What}
-use Rattle.histories.specs.declared.what.What.TheVariants.{Rests, Crashed}
-use Rattle.histories.specs.declared.what.Rest.TheVariants.{Nothing}
 use Rattle.schedule.specs.declared.act.Act.{Act}
 use Rattle.schedule.specs.declared.act.Act.TheVariants as act
 use Rattle.sim_net.specs.declared.fault.NetFault.{NetFault}
 use Rattle.sim_net.specs.Network.{Network, found, delivery, after_lost, after_cut, after_mend}
 use Rattle.runs.specs.World.{World}
-use Rattle.runs.specs.Step.{Step, Changes, Denies, OfNet, Stranger}
-use Rattle.runs.specs.Acts.{At, Brings, IsCompaction, IsOf, IsStepOf, receiver_or_first}
+use Rattle.runs.specs.declared.outcome.Refusal.TheVariants.{Net as OfNet, Stranger}
+use Rattle.runs.specs.Step.{Step, Changes, Denies}
+use Rattle.runs.specs.Acts.{At, Brings, IsStepOf, receiver_or_first}
+use Rattle.histories.specs.What.{IsOf}
 use Rattle.runs.specs.Reporting.{node_of}
 use Rattle.cluster_sim.specs.Names.{node_named}
 use Rattle.runs.proofs.PublicLaws.{comes_sent}
@@ -39,15 +38,4 @@ step_named nodes w (act.Deliver k) step of = named_by_message nodes k w.net (del
 step_named nodes w (act.Lose k) step of = named_at_loss (after_lost w.net k) (found w.net k) step of
 step_named nodes w (act.Cut x y) step of = named_at_link (nat_lt x nodes && nat_lt y nodes) (after_cut w.net x y) step of
 step_named nodes w (act.Mend x y) step of = named_at_link (nat_lt x nodes && nat_lt y nodes) (after_mend w.net x y) step of
-step_named nodes w (act.Arm n calls) step of = named_at (nat_lt n nodes) n 0 (λ (x : What). x ≡ Rests Nothing) step of
-step_named nodes w (act.Crash n fill) step of = named_at (nat_lt n nodes) n 0 (λ (x : What). x ≡ Crashed) step of
-step_named nodes w (act.Compact n) step of = named_at (nat_lt n nodes) n 0 IsCompaction step of
-step_named nodes w (act.Check n) step of = named_at (nat_lt n nodes) n 0 (IsOf _) step of
-step_named nodes w (act.Merge n) step of = named_at (nat_lt n nodes) n 0 (IsOf _) step of
-step_named nodes w (act.Accept n) step of = named_at (nat_lt n nodes) n 0 (IsOf _) step of
-step_named nodes w (act.Ready n) step of = named_at (nat_lt n nodes) n 0 (IsOf _) step of
-step_named nodes w (act.Coord n) step of = named_at (nat_lt n nodes) n 0 (IsOf _) step of
-step_named nodes w (act.Dispatch n) step of = named_at (nat_lt n nodes) n 0 (IsOf _) step of
-step_named nodes w (act.Submit n work) step of = named_at (nat_lt n nodes) n 0 (IsOf _) step of
-step_named nodes w (act.Finish n origin id) step of = named_at (nat_lt n nodes) n 0 (IsOf _) step of
-step_named nodes w (act.Recover n) step of = named_at (nat_lt n nodes) n 0 (IsOf _) step of
+step_named nodes w _ step of = named_at _ _ 0 _ step of

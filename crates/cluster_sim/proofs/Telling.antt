@@ -1,9 +1,10 @@
 -- What an act tried, mounted and gave is what its node tells of it.
-use Rattle.std.proofs.Common.{◌≡◌, ℕ, ◌+◌, ◌≤◌, ◌&&◌, nat_lt, Bool, false, List, [], slice_get, refl, ◌∙◌, ap, subst, arith, Option, Some, None, option_map, Result, Ok, Err}
+use Rattle.std.proofs.Common.{◌≡◌, ℕ, ◌+◌, ◌≤◌, ◌&&◌, nat_lt, Bool, false, List, [], slice_get, refl, ◌∙◌, ap, subst, arith, Option, Some, None, option_map, Result, Ok, Err, map, length, option_to_list}
 use Rattle.group_task.specs.Group.{Group}
-use Rattle.job_model.specs.Command.{Command, Raise}
+use Rattle.job_model.specs.declared.node_command.NodeCommand.{NodeCommand as Command}
+use Rattle.job_model.specs.declared.node_command.NodeCommand.TheVariants.{Raise}
 use Rattle.job_model.specs.Durable.{Durable}
-use Rattle.histories.specs.NodeState.{NodeState, wants_at, settled, answer_if_wanted}
+use Rattle.histories.specs.NodeState.{NodeState, wants_at, settled}
 use Rattle.histories.specs.declared.what.What.{What}
 use Rattle.histories.specs.declared.what.What.TheVariants.{Did, Faulted, Rests, Crashed, Recovered}
 use Rattle.histories.specs.Fates.{attempt_of, command_with, work_of}
@@ -13,10 +14,11 @@ use Rattle.histories.specs.After.{found_at}
 use Rattle.job_model.specs.Answer.{answer_of}
 use Rattle.durable_node.specs.Stepping.{answer_at, command_at}
 use Rattle.durable_node.proofs.PublicLaws.{is_some}
-use Rattle.cluster_sim.specs.declared.outcome.Deed.{Deed}
+use Rattle.cluster_sim.specs.declared.deed.Deed.{Deed}
 use Rattle.runs.specs.World.{World}
 use Rattle.runs.specs.Step.{Step, Takes}
-use Rattle.runs.specs.Acts.{Brings, IsCompaction, IsOf, IsStepOf}
+use Rattle.histories.specs.What.{IsOf}
+use Rattle.runs.specs.Acts.{Brings, IsCompaction, IsStepOf}
 use Rattle.schedule.specs.declared.act.Act.{Act}
 use Rattle.schedule.specs.declared.act.Act.TheVariants as act
 use Rattle.sim_net.specs.declared.fault.NetFault.{NetFault}
@@ -27,8 +29,8 @@ use Rattle.node_core.specs.declared.event.Event.TheVariants as on
 use Rattle.job_model.specs.declared.work.Work.{Work}
 use Rattle.histories.specs.declared.what.Rest.TheVariants.{Nothing}
 use Rattle.runs.proofs.PublicLaws.{groups_by, with_node, taken_there, loses_none, link_none}
-use Rattle.std.specs.Prelude.{map, length, option_to_list}
-use Rattle.runs.specs.Reporting.{TriedAt, MountedAt, Report, own_commands, tries, commands_at, mountings_at}
+use Rattle.runs.specs.Reporting.{MountedAt, Report, own_commands, tries, commands_at, mountings_at}
+use Rattle.runs.specs.declared.tried.TriedAt.{TriedAt}
 use Rattle.cluster_sim.specs.Machine.{DeedOf, is_mounting}
 use Rattle.cluster_sim.specs.Recorded.{command_in, work_in, tried_as, tried_at, mounted_at, mounted_now, given_in, listed}
 
@@ -41,7 +43,7 @@ pub record PartsTold (n count : ℕ) (commands : List TriedAt) (mounts : List Mo
 
 did_parts : (n count : ℕ) (d : Durable) (wants : Option Command)
     → PartsTold n count (with_node n (map (λ (c : Command). record { command = c; acked = Some (answer_of d c) }) (option_to_list wants))) []
-    (groups_by (with_node n (map (λ (c : Command). record { command = c; acked = Some (answer_of d c) }) (option_to_list wants)))) wants (answer_if_wanted d wants) false None
+    (groups_by (with_node n (map (λ (c : Command). record { command = c; acked = Some (answer_of d c) }) (option_to_list wants)))) wants (option_map (answer_of d) wants) false None
 did_parts n count d (Some Raise) = record { tried = refl; mountings = refl; given = refl; raises = λ k raise is. (let same : d.counter + 1 ≡ k = is_some (d.counter + 1) k is in omega (arith, same)) }
 did_parts n count d _ = record { tried = refl; mountings = refl; given = refl; raises = λ k raise is. absurd (let bad = raise in cc) }
 
@@ -71,8 +73,8 @@ abbrev Whole : ℕ → ℕ → NodeState → Option Work → What → Type 0
 Whole n nodes s work what = command_with work (option_map attempt_of (command_at n nodes s what)) ≡ command_at n nodes s what
 
 event_whole : (n nodes : ℕ) (s : NodeState) (event : Event) (what : What) → IsOf event what → Whole n nodes s (work_of event) what
-event_whole n nodes s event (Did e) of = subst (λ (v : Event). Whole n nodes s (work_of v) (Did e)) of (wanted_whole n s.durable.pending e s.state)
-event_whole n nodes s event (Faulted e) of = subst (λ (v : Event). Whole n nodes s (work_of v) (Faulted e)) of (wanted_whole n s.durable.pending e s.state)
+event_whole n nodes s event (Did e) of = subst (λ (v : Event). Whole n nodes s (work_of v) (Did e)) (let same : e ≡ event = cc of in same) (wanted_whole n s.durable.pending e s.state)
+event_whole n nodes s event (Faulted e) of = subst (λ (v : Event). Whole n nodes s (work_of v) (Faulted e)) (let same : e ≡ event = cc of in same) (wanted_whole n s.durable.pending e s.state)
 event_whole n nodes s event _ of = refl
 
 compaction_whole : (n nodes : ℕ) (s : NodeState) (what : What) → IsCompaction what → Whole n nodes s None what
@@ -93,7 +95,6 @@ act_whole n nodes number w (act.Mend x y) what s of = absurd (link_none (nat_lt 
 act_whole n nodes number w (act.Arm m calls) what s of = rw (taken_there (nat_lt m nodes) m 0 (λ (x : What). x ≡ Rests Nothing) n number what of).1 refl
 act_whole n nodes number w (act.Crash m fill) what s of = rw (taken_there (nat_lt m nodes) m 0 (λ (x : What). x ≡ Crashed) n number what of).1 refl
 act_whole n nodes number w (act.Compact m) what s of = compaction_whole n nodes s what (taken_there (nat_lt m nodes) m 0 IsCompaction n number what of).1
-act_whole n nodes number w (act.Check m) what s of = event_whole n nodes s _ what (taken_there (nat_lt m nodes) _ 0 (IsOf _) n number what of).1
 act_whole n nodes number w _ what s of = event_whole n nodes s _ what (taken_there _ _ 0 (IsOf _) n number what of).1
 
 -- what a step adds to a report is what its node n tells

@@ -6,16 +6,8 @@ use Rattle.node_core.specs.declared.event.Event.{Event}
 use Rattle.node_core.specs.declared.event.Event.TheVariants as on
 
 abbrev pub IsDelivery : Event → Type 0
-IsDelivery on.CheckTimer = ⊥
-IsDelivery on.MergeTimer = ⊥
-IsDelivery on.AcceptTimer = ⊥
-IsDelivery on.ReadyTimer = ⊥
-IsDelivery on.CoordTimer = ⊥
-IsDelivery on.DispatchTimer = ⊥
 IsDelivery (on.Deliver m) = ⊤
-IsDelivery (on.Submit work) = ⊥
-IsDelivery (on.Finish origin id) = ⊥
-IsDelivery on.Recover = ⊥
+IsDelivery event = ⊥
 
 -- it is the event of the message that comes, at its receiver
 pub record Delivers (comes : Result Envelope NetFault) (receiver : ℕ) (event : Event) : Type 0 where

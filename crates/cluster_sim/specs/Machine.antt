@@ -12,17 +12,16 @@ use Rattle.histories.specs.declared.what.What.TheVariants.{Did, Refused, Faulted
 use Rattle.histories.specs.After.{after, sent_at, found_at}
 use Rattle.histories.specs.Possible.{IsPossible, IsOfSlots}
 use Rattle.schedule.specs.declared.act.Act.{Act}
-use Rattle.cluster_sim.specs.declared.outcome.Deed.{Deed}
+use Rattle.cluster_sim.specs.declared.deed.Deed.{Deed}
 use Rattle.durable_node.specs.Stepping.{answer_at, command_at}
 use Rattle.histories.specs.Fates.{attempt_of}
-use Rattle.cluster_sim.specs.declared.outcome.Outcome.{Outcome}
-use Rattle.cluster_sim.specs.declared.outcome.Outcome.TheVariants as outcome
+use Rattle.runs.specs.declared.outcome.Outcome.{Outcome}
+use Rattle.runs.specs.declared.outcome.Outcome.TheVariants as outcome
 use Rattle.runs.specs.World.{World}
 use Rattle.runs.specs.Step.{Step, Takes, world_after}
 use Rattle.runs.specs.Run.{IsAllowed}
 use Rattle.runs.specs.Acts.{StepOfSlots, what_outcome, act_outcome}
 use Rattle.runs.specs.Growth.{IsNext}
-use Rattle.cluster_sim.specs.Told.{told}
 
 -- the slots of a disk's area, the nodes by their ids, and the network
 pub record Machine : Type 0 where
@@ -90,7 +89,7 @@ pub record Comes (slots id nodes : ℕ) (a : Act) (P : What → Type 0) (s : Nod
   pub is : P what
   pub possible : IsPossible id nodes s what
   pub of_slots : IsOfSlots slots id nodes s what
-  pub is_told : deed.outcome ≡ told (what_outcome id nodes (length net.sent) s what a)
+  pub is_told : deed.outcome ≡ what_outcome id nodes (length net.sent) s what a
   pub tells : DeedOf id nodes s what deed
   pub sent : net' ≡ after_all_sent net (sent_at id nodes s what)
   pub found : new.found ≡ found_at s what
@@ -131,7 +130,7 @@ Shows w step machine = Unit {0}
 pub record Acted (w : World) (act : Act) (outcome : Outcome) (new : Machine) : Type 0 where
   pub step : Step
   pub next : IsNext (length w.states) new.slots w act step
-  pub is_told : outcome ≡ told (act_outcome (length w.states) w act step)
+  pub is_told : outcome ≡ act_outcome (length w.states) w act step
   pub shows : Shows w step new
   pub stands : StandsFor new (world_after (length w.states) w step)
 
@@ -146,7 +145,7 @@ pub record Makes (a : Act) (Q : Step → Type 0) (w : World) (deed : Deed) (new 
   pub is : Q step
   pub allowed : IsAllowed (length w.states) w step
   pub of_slots : StepOfSlots new.slots (length w.states) w step
-  pub is_told : deed.outcome ≡ told (act_outcome (length w.states) w a step)
+  pub is_told : deed.outcome ≡ act_outcome (length w.states) w a step
   pub shows : Shows w step new
   pub tells : Tells w step deed
   pub stands : StandsFor new (world_after (length w.states) w step)

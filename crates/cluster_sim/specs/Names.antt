@@ -11,12 +11,7 @@ node_or_first nodes n = if nat_lt n nodes then n else 0
 
 -- where these were sent: that of the act, or the receiver of the message, or node 0
 abbrev pub node_named : ℕ → List Envelope → Act → ℕ
-node_named nodes sent (act.Check n) = node_or_first nodes n
-node_named nodes sent (act.Merge n) = node_or_first nodes n
-node_named nodes sent (act.Accept n) = node_or_first nodes n
-node_named nodes sent (act.Ready n) = node_or_first nodes n
-node_named nodes sent (act.Coord n) = node_or_first nodes n
-node_named nodes sent (act.Dispatch n) = node_or_first nodes n
+node_named nodes sent (act.Timer n timer) = node_or_first nodes n
 node_named nodes sent (act.Deliver k) = receiver_or_first nodes (slice_get sent k)
 node_named nodes sent (act.Submit n work) = node_or_first nodes n
 node_named nodes sent (act.Finish n origin id) = node_or_first nodes n

@@ -1,11 +1,19 @@
--- What an act of the operator does to the disk of the node that it names.
-use Rattle.std.specs.Prelude.{ℕ, ◌≡◌, List, slice_get, Option, Some, None}
-use Rattle.sector_disk.specs.Memory.{Memory, all_synced}
+-- What an act of the operator does to the node that it names, and to its disk.
+use Rattle.std.specs.Prelude.{ℕ, ◌≡◌, ◌≢◌, List, slice_get, Option, Some, None}
+use Rattle.sector_disk.specs.Memory.{Memory, all_synced, state_of}
 use Rattle.sector_disk.specs.Crash.{IsCrashed}
 use Rattle.durable_node.specs.Arming.{armed_disk}
+use Rattle.durable_node.specs.Compacting.{IsFallenNode, IsMovedNode, StaysKept}
+use Rattle.durable_node.specs.Node.{Node}
+use Rattle.durable_node.specs.Refusing.{compaction_refusal}
 use Rattle.histories.specs.declared.what.What.{What}
 use Rattle.histories.specs.declared.what.What.TheVariants.{Rests, Crashed}
 use Rattle.histories.specs.declared.what.Rest.TheVariants.{Nothing}
+use Rattle.node_core.specs.declared.fault.Refusal.{Refusal as NodeRefusal}
+use Rattle.runs.specs.declared.outcome.Outcome.{Outcome}
+use Rattle.runs.specs.declared.outcome.Outcome.TheVariants as outcome
+use Rattle.runs.specs.declared.outcome.Refusal.{Refusal}
+use Rattle.runs.specs.declared.outcome.Refusal.TheVariants.{Node as OfNode}
 use Rattle.runs.specs.Acts.{IsCompaction}
 use Rattle.schedule.specs.declared.act.Act.{Act}
 use Rattle.schedule.specs.declared.act.Act.TheVariants as act
@@ -18,11 +26,29 @@ disk_at machine n = disk_of (slice_get machine.nodes n)
 abbrev pub IsLeftWith : List ℕ → Option Memory → Option Memory → Type 0
 IsLeftWith fill old new = (was now : Memory) → old ≡ Some was → new ≡ Some now → IsCrashed was fill now.contents × (now ≡ all_synced now.contents was.failures)
 
--- it is armed with so many calls, or a crash leaves what it leaves with these bytes
-abbrev pub Operates : Act → Machine → Machine → Type 0
-Operates (act.Arm n calls) old new = disk_at new n ≡ armed_disk calls (disk_at old n)
-Operates (act.Crash n fill) old new = IsLeftWith fill (disk_at old n) (disk_at new n)
-Operates a old new = Unit {0}
+-- an act is refused by its node for this reason, or isn't refused
+abbrev pub IsRefusedAs : Option NodeRefusal → Outcome → Type 0
+IsRefusedAs (Some why) o = o ≡ outcome.Refused (OfNode why)
+IsRefusedAs None o = (why : Refusal) → o ≢ outcome.Refused why
+
+-- what a compaction that ended so leaves: the jobs are in the other area, nothing has changed, or the node is down
+abbrev pub IsLeftBy : Outcome → Node Memory → Node Memory → Type 0
+IsLeftBy (outcome.Done answer first many) was now = IsMovedNode was now
+IsLeftBy (outcome.Refused why) was now = now ≡ record was { found = None }
+IsLeftBy outcome.Faulted was now = IsFallenNode was now
+
+-- a compaction ended so: it is refused as the node's area tells, and meanwhile the disk of a node that is up stands for what it kept
+pub record IsCompacted (was now : Node Memory) (o : Outcome) : Type 0 where
+  pub refused : IsRefusedAs (compaction_refusal was.area) o
+  pub left : IsLeftBy o was now
+  pub kept : StaysKept state_of was now
+
+-- it is armed with so many calls, a crash leaves what it leaves with these bytes, or it is compacted
+abbrev pub Operates : Act → Machine → Machine → Outcome → Type 0
+Operates (act.Arm n calls) old new o = disk_at new n ≡ armed_disk calls (disk_at old n)
+Operates (act.Crash n fill) old new o = IsLeftWith fill (disk_at old n) (disk_at new n)
+Operates (act.Compact n) old new o = (was now : Node Memory) → slice_get old.nodes n ≡ Some was → slice_get new.nodes n ≡ Some now → IsCompacted was now o
+Operates a old new o = Unit {0}
 
 -- ---- at the node alone
 
@@ -40,8 +66,9 @@ OperatedAs (act.Crash n fill) what = what ≡ Crashed
 OperatedAs (act.Compact n) what = IsCompaction what
 OperatedAs a what = ⊥
 
--- what it does to the disk there
-abbrev pub OperatesDisk : Act → Option Memory → Option Memory → Type 0
-OperatesDisk (act.Arm n calls) old new = new ≡ armed_disk calls old
-OperatesDisk (act.Crash n fill) old new = IsLeftWith fill old new
-OperatesDisk a old new = Unit {0}
+-- what it does there
+abbrev pub OperatesNode : Act → Node Memory → Node Memory → Outcome → Type 0
+OperatesNode (act.Arm n calls) was now o = now.disk ≡ armed_disk calls was.disk
+OperatesNode (act.Crash n fill) was now o = IsLeftWith fill was.disk now.disk
+OperatesNode (act.Compact n) was now o = IsCompacted was now o
+OperatesNode a was now o = Unit {0}

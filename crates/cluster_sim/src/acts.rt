@@ -1,9 +1,8 @@
 // The events that acts are, and bring.
-ghost use Rattle.std.specs.Prelude.{◌≡◌, None, Some, Err, Ok, IfSome, IsNone, IfOk, IfErr, false};
+ghost use Rattle.std.specs.Prelude.{◌≡◌, None, Some, Err, Ok, IfSome, IsNone, IfOk, IfErr};
 ghost use Rattle.sim_net.specs.Network.{delivery};
 ghost use Rattle.runs.specs.Events.{event_at};
 ghost use Rattle.cluster_sim.specs.Deliveries.{IsDelivery, Delivers};
-ghost use Rattle.cluster_sim.specs.Signals.{AreSignals, is_signal};
 
 use group_task::NodeId;
 use node_core::Event;
@@ -11,66 +10,34 @@ use schedule::Act;
 use sim_net::{Net, NetFault};
 use wire_msg::Message;
 
-/// The events of acts that name nothing but their node. Each is made once, since an event is long.
-#[derive(Drop)]
-pub(crate) struct Signals {
-    pub check: Event,
-    pub merge: Event,
-    pub accept: Event,
-    pub ready: Event,
-    pub coord: Event,
-    pub dispatch: Event,
-    pub recover: Event,
-}
-
-impl Signals {
-    pub(crate) fn new() -> Signals
-        ensures { AreSignals result }
-    {
-        Signals {
-            check: Event::CheckTimer,
-            merge: Event::MergeTimer,
-            accept: Event::AcceptTimer,
-            ready: Event::ReadyTimer,
-            coord: Event::CoordTimer,
-            dispatch: Event::DispatchTimer,
-            recover: Event::Recover,
-        }
-    }
-
-    /// The event that an act is, and the node that it comes to. None where the act is no signal.
-    pub(crate) fn event_at(&self, act: &Act) -> Option<(NodeId, &Event)>
-        requires { AreSignals self.now }
-        ensures some { IfSome result (λ comes. event_at act.now ≡ Some (comes.0, comes.1.now)) }
-        ensures none { IsNone result → is_signal act.now ≡ false }
-    {
-        match act {
-            Act::Check(id) => Some((*id, &self.check)),
-            Act::Merge(id) => Some((*id, &self.merge)),
-            Act::Accept(id) => Some((*id, &self.accept)),
-            Act::Ready(id) => Some((*id, &self.ready)),
-            Act::Coord(id) => Some((*id, &self.coord)),
-            Act::Dispatch(id) => Some((*id, &self.dispatch)),
-            Act::Recover(id) => Some((*id, &self.recover)),
-            _ => None,
-        }
-    }
-}
-
-/// Makes the event of a job that an act is, in the place of another one, and answers the node that it comes to. It stands apart, since
-/// each call of a function pays for the size of its locals, and here an event is one.
+/// Makes the event that an act is, in the place of another one, and answers the node that it comes to. An event is long: so where a timer
+/// follows another, only the timer is written. It stands apart, since each call of a function pays for the size of its locals.
 #[inline(never)]
-pub(crate) fn job_event_at(act: &Act, event: &mut Event) -> Option<NodeId>
+pub(crate) fn event_at(act: &Act, event: &mut Event) -> Option<NodeId>
     ensures some { IfSome result (λ id. event_at act.now ≡ Some (id, event.new)) }
-    ensures none { IsNone result → is_signal act.now ≡ false → event_at act.now ≡ None }
+    ensures none { IsNone result → event_at act.now ≡ None }
 {
     match act {
+        Act::Timer(id, timer) => {
+            if let Event::Timer(last) = event {
+                *last = *timer;
+            } else {
+                *event = Event::Timer(*timer);
+            }
+            Some(*id)
+        }
         Act::Submit(id, job) => {
             *event = Event::Submit(job.work());
             Some(*id)
         }
         Act::Finish(id, origin, job) => {
             *event = Event::Finish(*origin, *job);
+            Some(*id)
+        }
+        Act::Recover(id) => {
+            if !matches!(event, Event::Recover) {
+                *event = Event::Recover;
+            }
             Some(*id)
         }
         _ => None,

@@ -3,19 +3,21 @@ ghost use Rattle.std.specs.Prelude.{◌≡◌, ◌≤◌, ◌<◌, ◌+◌, [], 
 ghost use Rattle.group_task.specs.declared.node.TheConstants.{NODES};
 ghost use Rattle.cluster_sim.specs.Machine.{FaultsAt, IsUntouched};
 ghost use Rattle.cluster_sim.specs.Operated.{Operates};
-ghost use Rattle.cluster_sim.specs.Recorded.{report_in, Tells, GoesOn, HasRun, IsPromised, IsRecorded, ToldMoment};
+ghost use Rattle.cluster_sim.specs.Recorded.{report_in, recorded, Tells, GoesOn, HasRun, IsRecorded};
 ghost use Rattle.runs.specs.Growth.{acts_in};
 ghost use Rattle.cluster_sim.specs.Names.{node_named};
-ghost use Rattle.runs.specs.Reporting.{Report as RunReport, report_of};
+ghost use Rattle.runs.specs.Headline.{Headline};
+ghost use Rattle.runs.specs.Reporting.{report_of};
+ghost use Rattle.cluster_sim.specs.declared.report.Moment.{Moment as KeptMoment};
 ghost use Rattle.runs.specs.World.{World, start};
 
 use crate::naming::node_named;
-use crate::outcome::Outcome;
 use crate::recording::{ones, opened};
 use crate::report::Report;
 use crate::simulation::Simulation;
 use durable_node::DurableNode;
 use group_task::NodeId;
+use runs::Outcome;
 use schedule::Act;
 use sector_disk::MemDisk;
 use sim_net::Net;
@@ -35,13 +37,13 @@ pub struct Cluster {
 }
 
 impl Model for Cluster {
-    ghost use Rattle.cluster_sim.specs.Recorded.{Recorded, IsRecorded, report_in};
+    ghost use Rattle.cluster_sim.specs.Recorded.{Recorded, IsRecorded, recorded};
 
     ghost Value = { Recorded };
 
-    ghost view = { λ a. record { machine = a.simulation; report = report_in a.report } };
+    ghost view = { λ a. recorded a.simulation a.report };
 
-    ghost invariant = { λ a. IsRecorded a.simulation (report_in a.report) a.counts.items };
+    ghost invariant = { λ a. IsRecorded (recorded a.simulation a.report) a.counts.items };
 }
 
 impl Cluster {
@@ -55,7 +57,8 @@ impl Cluster {
         requires most_slots { slots ≤ 4096 }
         ensures slots { IfOk result (λ cluster. cluster.machine.slots ≡ slots) }
         ensures nodes { IfOk result (λ cluster. length cluster.machine.nodes ≡ nodes) }
-        ensures opens { IfOk result (λ cluster. Tells cluster (start nodes) (report_of nodes [] [])) }
+        ensures opens { IfOk result (λ cluster. Tells cluster (start nodes)) }
+        ensures report { IfOk result (λ cluster. cluster.report ≡ report_of nodes [] []) }
     {
         let simulation = Simulation::open(alloc, nodes, slots)?;
         let report = opened(alloc, &simulation)?;
@@ -73,10 +76,10 @@ impl Cluster {
     /// changed at all, but that a node may not tell any more what it mounted last.
     pub fn step(&mut self, act: Act) -> Result<Outcome, AllocError>
         ensures slots { self.new.machine.slots ≡ self.old.machine.slots }
-        ensures goes_on { (w : World) (r : RunReport) → Tells self.old w r → IfOk result (λ outcome. GoesOn w r act outcome self.new) }
+        ensures goes_on { (w : World) → Tells self.old w → IfOk result (λ outcome. GoesOn w act outcome self.old self.new) }
         ensures faults { IfOk result (FaultsAt (node_named (length self.old.machine.nodes) self.old.machine.net.sent act) self.old.machine self.new.machine) }
-        ensures disk { OnOk result (Operates act self.old.machine self.new.machine) }
-        ensures memory { (w : World) (r : RunReport) → Tells self.old w r → OnErr result (Tells self.new w r) }
+        ensures disk { IfOk result (Operates act self.old.machine self.new.machine) }
+        ensures memory { (w : World) → Tells self.old w → OnErr result (Tells self.new w) }
         ensures untouched { OnErr result (IsUntouched self.old.machine self.new.machine × (self.new.report ≡ self.old.report)) }
     {
         advance(
@@ -91,7 +94,7 @@ impl Cluster {
     /// All of these acts, one after another.
     fn step_all(&mut self, acts: Vec<Act>) -> Result<(), AllocError>
         ensures slots { self.new.machine.slots ≡ self.old.machine.slots }
-        ensures run { (nodes : ℕ) (r : RunReport) → (w : World) → length w.states ≡ nodes → Tells self.old w r → OnOk result (HasRun nodes (acts_in r ++ acts.items) self.new) }
+        ensures run { (nodes : ℕ) (w : World) → length w.states ≡ nodes → Tells self.old w → OnOk result (HasRun nodes (acts_in self.old.report ++ acts.items) self.new) }
     {
         for act in acts {
             if self.step(act).is_err() {
@@ -103,7 +106,7 @@ impl Cluster {
 
     /// The report, and the network with all that was ever sent.
     fn into_parts(self) -> (Report, Net)
-        ensures report { report_in result.0 ≡ self.report }
+        ensures report { report_in result.0 self.machine.net.sent ≡ self.report }
         ensures net { result.1.network ≡ self.machine.net }
     {
         let Cluster {
@@ -116,10 +119,10 @@ impl Cluster {
 
     /// What came of all acts so far, from the opening on.
     pub fn report(&self) -> &Report
-        ensures told { report_in result.now ≡ self.now.report }
+        ensures told { report_in result.now self.now.machine.net.sent ≡ self.now.report }
         // The nodes and the network are what the run left of which it is the report.
-        ensures run { HasRun (length self.now.machine.nodes) (map (λ (m : ToldMoment). m.act) self.now.report.moments) self.now }
-        ensures keeps { IsPromised (length self.now.machine.nodes) self.now.machine.slots (map (λ (m : ToldMoment). m.act) self.now.report.moments) (report_in result.now) self.now.machine.net.sent }
+        ensures run { HasRun (length self.now.machine.nodes) (acts_in self.now.report) self.now }
+        ensures keeps { Headline (length self.now.machine.nodes) self.now.machine.slots (acts_in self.now.report) self.now.report }
     {
         &self.report
     }
@@ -156,16 +159,15 @@ fn advance(
     counts: &mut Vec<u64>,
     act: Act,
 ) -> Result<Outcome, AllocError>
-    requires recorded { IsRecorded simulation.old (report_in report.old) counts.old.items }
-    ensures recorded { IsRecorded simulation.new (report_in report.new) counts.new.items }
+    requires recorded { IsRecorded (recorded simulation.old report.old) counts.old.items }
+    ensures recorded { IsRecorded (recorded simulation.new report.new) counts.new.items }
     ensures slots { simulation.new.slots ≡ simulation.old.slots }
-    ensures goes_on { (w : World) (r : RunReport) → Tells (record { machine = simulation.old; report = report_in report.old }) w r
-        → IfOk result (λ outcome. GoesOn w r act outcome (record { machine = simulation.new; report = report_in report.new })) }
+    ensures goes_on { (w : World) → Tells (recorded simulation.old report.old) w
+        → IfOk result (λ outcome. GoesOn w act outcome (recorded simulation.old report.old) (recorded simulation.new report.new)) }
     ensures faults { IfOk result (FaultsAt (node_named (length simulation.old.nodes) simulation.old.net.sent act) simulation.old simulation.new) }
-    ensures disk { OnOk result (Operates act simulation.old simulation.new) }
-    ensures memory { (w : World) (r : RunReport) → Tells (record { machine = simulation.old; report = report_in report.old }) w r
-        → OnErr result (Tells (record { machine = simulation.new; report = report_in report.new }) w r) }
-    ensures untouched { OnErr result (IsUntouched simulation.old simulation.new × (report_in report.new ≡ report_in report.old)) }
+    ensures disk { IfOk result (Operates act simulation.old simulation.new) }
+    ensures memory { (w : World) → Tells (recorded simulation.old report.old) w → OnErr result (Tells (recorded simulation.new report.new) w) }
+    ensures untouched { OnErr result (IsUntouched simulation.old simulation.new × ((recorded simulation.new report.new).report ≡ (recorded simulation.old report.old).report)) }
 {
     let id = node_named(simulation.count(), simulation.net(), &act);
     let room = report.reserve(alloc, simulation.node(id), simulation.slots())?;
@@ -193,7 +195,9 @@ pub fn run(
     requires most { nodes ≤ NODES }
     requires least_slots { 4 ≤ slots }
     requires most_slots { slots ≤ 4096 }
-    ensures { IfOk result (λ ran. IsPromised nodes slots acts.items (report_in ran.0) ran.1.network.sent) }
+    ensures keeps { IfOk result (λ ran. Headline nodes slots acts.items (report_in ran.0 ran.1.network.sent)) }
+    // One moment for each act.
+    ensures acts { IfOk result (λ ran. map (λ (m : KeptMoment). m.act) ran.0.moments.items ≡ acts.items) }
 {
     let mut cluster = Cluster::open(alloc, nodes, slots)?;
     cluster.step_all(acts)?;

@@ -5,15 +5,15 @@
 
 mod acts;
 mod cluster;
+mod deed;
 mod member;
 mod naming;
 mod nodes;
-mod outcome;
 mod recording;
 mod report;
 mod simulation;
 
 pub use cluster::{Cluster, run};
-pub use outcome::{Outcome, Refusal};
-pub use report::{Marked, Moment, Mounted, Report};
+pub use report::{Moment, Mounted, Report};
+pub use runs::{Outcome, Refusal, TriedAt};
 pub use simulation::Simulation;

@@ -10,17 +10,17 @@ ghost use Rattle.histories.specs.Fates.{what_of};
 ghost use Rattle.histories.specs.declared.what.What.TheVariants.{Rests, Crashed};
 ghost use Rattle.histories.specs.declared.what.Rest.TheVariants.{Nothing};
 ghost use Rattle.cluster_sim.specs.Machine.{IsOfSize, IsSame, IsCounted, IsUntouchedNode, Comes, IsSettled, bare, is_mounting};
-ghost use Rattle.cluster_sim.specs.Operated.{IsLeftWith, OperatedAs, OperatesDisk, operated_at};
+ghost use Rattle.cluster_sim.specs.Operated.{IsCompacted, IsLeftWith, OperatedAs, OperatesNode, operated_at};
 ghost use Rattle.schedule.specs.declared.act.Act.{Act as AnyAct};
 ghost use Rattle.schedule.specs.declared.act.Act.TheVariants as acts;
 ghost use Rattle.runs.specs.Acts.{IsCompaction};
-ghost use Rattle.cluster_sim.specs.Told.{IsCompactionTold, came_told};
-ghost use Rattle.durable_node.specs.Faults.{fault_of};
+ghost use Rattle.cluster_sim.specs.Told.{came_told, compaction_told};
 
-use crate::outcome::{Deed, Outcome, Refusal};
+use crate::deed::Deed;
 use durable_node::{Came, DurableNode, NodeFault};
 use histories::Fate;
-use node_core::Event;
+use node_core::{Event, Refusal as NodeRefusal};
+use runs::{Outcome, Refusal};
 use schedule::{Act, Fill};
 use sector_disk::MemDisk;
 use sim_net::Net;
@@ -82,16 +82,17 @@ fn is_mounting(fate: Fate) -> bool
 
 /// What is told of what came of an event, where the first message that it sends has this number.
 fn outcome_of(came: &Came, first: u64) -> Outcome
-    ensures { result ≡ came_told (fault_of came.now.fate) first came.now }
+    ensures { result ≡ came_told came.now.fate first came.now }
 {
-    match came.fault() {
-        None => Outcome::Done {
+    match came.fate {
+        Fate::Done | Fate::Recovered(_) => Outcome::Done {
             answer: came.answer,
             first,
             many: came.sent.len() as u64,
         },
-        Some(NodeFault::Device) => Outcome::Faulted,
-        Some(fault) => Outcome::Refused(Refusal::Node(fault)),
+        Fate::Refused(why) => Outcome::Refused(Refusal::Node(why)),
+        Fate::RaiseRefused(_) => Outcome::Refused(Refusal::Node(NodeRefusal::Exhausted)),
+        Fate::Faulted | Fate::MountFailed | Fate::RaiseFailed(_) => Outcome::Faulted,
     }
 }
 
@@ -113,7 +114,7 @@ pub(crate) fn operate(node: &mut DurableNode<MemDisk>, net: &Net, act: &Act) -> 
     ensures came { (slots : ℕ) (s : NodeState) → Stands state_of node.old s
         → Comes slots node.old.id node.old.nodes act.now (OperatedAs act.now) s (bare result) node.new net.now.network net.now.network }
     ensures counted { IsCounted node.old.disk node.new.disk result }
-    ensures disk { OperatesDisk act.now node.old.disk node.new.disk }
+    ensures disk { OperatesNode act.now node.old node.new result }
 {
     match act {
         Act::Arm(_, calls) => arm(node, net, *calls),
@@ -153,6 +154,7 @@ fn compact(node: &mut DurableNode<MemDisk>, net: &Net) -> Outcome
     ensures came { (slots n : ℕ) (s : NodeState) → Stands state_of node.old s
         → Comes slots node.old.id node.old.nodes (acts.Compact n) IsCompaction s (bare result) node.new net.now.network net.now.network }
     ensures counted { IsCounted node.old.disk node.new.disk result }
+    ensures compacted { IsCompacted node.old node.new result }
 {
     let answer = node.compact();
     compaction_told(net, answer)
@@ -160,12 +162,13 @@ fn compact(node: &mut DurableNode<MemDisk>, net: &Net) -> Outcome
 
 /// What is told of a compaction.
 fn compaction_told(net: &Net, answer: Result<(), NodeFault>) -> Outcome
-    ensures { IsCompactionTold (length net.now.network.sent) answer result }
+    ensures { result ≡ compaction_told (length net.now.network.sent) answer }
 {
     match answer {
         Ok(()) => nothing_sent(net),
         Err(NodeFault::Device) => Outcome::Faulted,
-        Err(fault) => Outcome::Refused(Refusal::Node(fault)),
+        Err(NodeFault::Core(fault)) => Outcome::Refused(Refusal::Node(NodeRefusal::Core(fault))),
+        Err(_) => Outcome::Refused(Refusal::Node(NodeRefusal::Worn)),
     }
 }
 

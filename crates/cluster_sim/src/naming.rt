@@ -41,12 +41,7 @@ pub(crate) fn node_named(nodes: u8, net: &Net, act: &Act) -> NodeId
             Some(ends) => node_or_first(nodes, ends.1),
             None => NodeId::numbered(0),
         },
-        Act::Check(id)
-        | Act::Merge(id)
-        | Act::Accept(id)
-        | Act::Ready(id)
-        | Act::Coord(id)
-        | Act::Dispatch(id)
+        Act::Timer(id, _)
         | Act::Submit(id, _)
         | Act::Finish(id, _, _)
         | Act::Arm(id, _)

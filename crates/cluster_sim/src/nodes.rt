@@ -13,11 +13,12 @@ ghost use Rattle.cluster_sim.specs.Names.{node_named, node_or_first};
 ghost use Rattle.runs.specs.Run.{IsBrought};
 ghost use Rattle.runs.specs.World.{World, start};
 
+use crate::deed::Deed;
 use crate::member::{handle, nothing_sent, operate};
-use crate::outcome::{Deed, Outcome, Refusal};
 use durable_node::{DurableNode, formatted_disk};
 use group_task::NodeId;
 use node_core::Event;
+use runs::{Outcome, Refusal};
 use schedule::Act;
 use sector_disk::MemDisk;
 use sim_net::Net;
@@ -175,7 +176,7 @@ impl Nodes {
         ensures slots { self.new.slots ≡ self.old.slots }
         ensures acted { (w : World) → StandsFor self.old w → Performed w act.now (bare result) self.new }
         ensures faults { FaultsAt (node_named (length self.old.nodes) self.old.net.sent act.now) self.old self.new result }
-        ensures disk { Operates act.now self.old self.new }
+        ensures disk { Operates act.now self.old self.new result }
     {
         let place = usize::from(id.number());
         if place >= self.nodes.len() {
@@ -191,7 +192,7 @@ impl Nodes {
         ensures slots { self.new.slots ≡ self.old.slots }
         ensures acted { (w : World) → StandsFor self.old w → Performed w act.now (bare result) self.new }
         ensures faults { FaultsAt (node_named (length self.old.nodes) self.old.net.sent act.now) self.old self.new result }
-        ensures disk { Operates act.now self.old self.new }
+        ensures disk { Operates act.now self.old self.new result }
     {
         match act {
             Act::Lose(number) => self.lose(*number),

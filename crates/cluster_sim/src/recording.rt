@@ -1,23 +1,24 @@
 // How a report grows by one act. All memory is taken before the act is done.
-ghost use Rattle.std.specs.Prelude.{◌≡◌, ◌≤◌, ◌<◌, ◌+◌, ◌++◌, [], ℕ, true, length, replicate, slice_get, option_map, IfOk, IfSome, OnOk, Option, Some, vec_len, vec_capacity};
+ghost use Rattle.std.specs.Prelude.{◌≡◌, ◌≤◌, ◌<◌, ◌+◌, ◌++◌, [], ℕ, true, length, replicate, slice_get, option_map, IfOk, IfSome, OnOk, List, Option, Some, vec_len, vec_capacity};
 ghost use Rattle.job_model.specs.Durable.{Durable};
+ghost use Rattle.wire_msg.specs.Envelope.{Envelope};
 ghost use Rattle.histories.specs.Fates.{command_with};
-ghost use Rattle.histories.specs.What.{command_of};
 ghost use Rattle.node_core.specs.State.{is_down, state_of};
 ghost use Rattle.cluster_sim.specs.Machine.{StandsFor};
 ghost use Rattle.runs.specs.Reporting.{report_of};
 ghost use Rattle.runs.specs.World.{start};
-ghost use Rattle.cluster_sim.specs.Recorded.{report_in, tried_of, mounted_of, HasRoom, command_in, listed, with_deed, with_opening, given_in, mounted_at, pending_room, told_report, tried_as, tried_at, work_in};
+ghost use Rattle.cluster_sim.specs.Recorded.{report_in, mounted_of, HasRoom, command_in, listed, with_deed, with_opening, given_in, mounted_at, pending_room, tried_as, tried_at, work_in};
 
+use crate::deed::Deed;
 use crate::naming::hand_room;
-use crate::outcome::Deed;
-use crate::report::{Marked, Moment, Mounted, Report};
+use crate::report::{Moment, Mounted, Report};
 use crate::simulation::Simulation;
 use durable_node::DurableNode;
 use group_task::{GroupNo, NodeId};
-use histories::{Attempt, Command};
+use histories::{Attempt, Command, Tried};
 use job_model::{Job, Work};
 use node_core::{Phase, Vector};
+use runs::TriedAt;
 use schedule::Act;
 use sector_disk::MemDisk;
 use std::alloc::{AllocError, Global};
@@ -32,7 +33,7 @@ pub(crate) struct Room {
 impl Report {
     /// A report of nothing.
     pub(crate) fn new(alloc: Global) -> Report
-        ensures { report_in result ≡ record { opening = []; moments = []; groups = []; commands = []; mounted = [] } }
+        ensures { (sent : List Envelope) → report_in result sent ≡ record { opening = []; moments = []; groups = []; commands = []; mounted = [] } }
     {
         Report {
             opening: Vec::new(alloc),
@@ -50,7 +51,7 @@ impl Report {
         node: &DurableNode<MemDisk>,
         slots: u64,
     ) -> Result<Room, AllocError>
-        ensures told { report_in self.new ≡ report_in self.old }
+        ensures told { (sent : List Envelope) → report_in self.new sent ≡ report_in self.old sent }
         ensures room { OnOk result (HasRoom self.new) }
         ensures hand { IfOk result (λ room. length node.now.state.hand + pending_room slots (is_down node.now.state.phase) node.now.kept + 1 ≤ room.vector.hand.room) }
         ensures jobs { IfOk result (λ room. is_down node.now.state.phase ≡ true → slots ≤ vec_capacity room.pending) }
@@ -90,7 +91,7 @@ impl Report {
         requires empty { room.pending.items ≡ [] }
         requires jobs { (found : Durable) → deed.mounted ≡ true → node.now.found ≡ Some found → length found.pending ≤ vec_capacity room.pending }
         requires count { (count : ℕ) → deed.tried ≡ Some Attempt.Raise → deed.acked ≡ Some count → 1 ≤ count }
-        ensures { report_in self.new ≡ with_deed id before act deed node.now (report_in self.old) }
+        ensures { (sent : List Envelope) → report_in self.new sent ≡ with_deed sent id before act deed node.now (report_in self.old sent) }
     {
         let Room {
             vector: mut copy,
@@ -103,7 +104,7 @@ impl Report {
         };
         let group = given_by(id, deed.tried, deed.acked);
         let command: Option<Command> = command_in(&act, deed.tried);
-        let tried = tried_by(id, command, deed.acked);
+        let tried: Option<Tried> = tried_by(command, deed.acked);
         copy.set(node.vector());
         copy.fit();
         self.moments.push_reserved(Moment {
@@ -113,7 +114,7 @@ impl Report {
             vector: copy,
         });
         push_some(&mut self.groups, group);
-        push_some(&mut self.commands, tried);
+        push_some(&mut self.commands, tried_at(id, tried));
         push_some(&mut self.mounted, mounted);
     }
 
@@ -124,14 +125,16 @@ impl Report {
         id: NodeId,
         vector: &Vector,
     ) -> Result<(), AllocError>
-        ensures { OnOk result (report_in self.new ≡ with_opening id (state_of vector.now) (report_in self.old)) }
+        ensures { OnOk result ((sent : List Envelope) → report_in self.new sent ≡ with_opening id (state_of vector.now) (report_in self.old sent)) }
     {
         self.opening.push(copied(alloc, vector)?)?;
         self.groups.push(GroupNo::numbered(id, 1))?;
-        self.commands.push(Marked {
+        self.commands.push(TriedAt {
             node: id,
-            command: Command::Raise,
-            acked: Some(1),
+            tried: Tried {
+                command: Command::Raise,
+                acked: Some(1),
+            },
         })?;
         self.mounted.push(Mounted {
             node: id,
@@ -156,20 +159,24 @@ fn given_by(id: NodeId, tried: Option<Attempt>, acked: Option<u64>) -> Option<Gr
 }
 
 /// The command that was tried.
-fn tried_by(id: NodeId, command: Option<Command>, acked: Option<u64>) -> Option<Marked>
-    ensures { option_map tried_of result ≡ tried_at id (tried_as (option_map command_of command) acked) }
+fn tried_by(command: Option<Command>, acked: Option<u64>) -> Option<Tried>
+    ensures { result ≡ tried_as command acked }
 {
     let command = command?;
-    Some(Marked {
-        node: id,
-        command,
-        acked,
-    })
+    Some(Tried { command, acked })
+}
+
+/// The command that a node tried.
+fn tried_at(id: NodeId, tried: Option<Tried>) -> Option<TriedAt>
+    ensures { result ≡ tried_at id tried }
+{
+    let tried = tried?;
+    Some(TriedAt { node: id, tried })
 }
 
 /// The whole command that was tried in an act.
 fn command_in(act: &Act, tried: Option<Attempt>) -> Option<Command>
-    ensures { option_map command_of result ≡ command_in act.now tried }
+    ensures { result ≡ command_in act.now tried }
 {
     tried?.command(work_in(act))
 }
@@ -240,7 +247,7 @@ fn copy_jobs(jobs: &mut Vec<Job>, more: &[Job])
 
 /// The report of a cluster that just opened.
 pub(crate) fn opened(alloc: Global, simulation: &Simulation) -> Result<Report, AllocError>
-    ensures { (nodes : ℕ) → StandsFor simulation.now (start nodes) → IfOk result (λ report. report_in report ≡ told_report (report_of nodes [] [])) }
+    ensures { (nodes : ℕ) → StandsFor simulation.now (start nodes) → IfOk result (λ report. (sent : List Envelope) → report_in report sent ≡ report_of nodes [] []) }
 {
     let mut report = Report::new(alloc);
     for number in 0..simulation.count() {

@@ -1,9 +1,8 @@
 // What is told of a run of a cluster.
-use crate::outcome::Outcome;
 use group_task::{GroupNo, NodeId};
-use histories::Command;
 use job_model::Job;
 use node_core::Vector;
+use runs::{Outcome, TriedAt};
 use schedule::Act;
 
 /// What came of the acts of a cluster, from its opening on.
@@ -16,7 +15,7 @@ pub struct Report {
     /// The groups that nodes started, each once its count was on their disk. Those of the openings come first.
     pub groups: Vec<GroupNo>,
     /// The commands that nodes tried on their disks. The raises of the openings come first.
-    pub commands: Vec<Marked>,
+    pub commands: Vec<TriedAt>,
     /// The mountings that succeeded. Those of the openings come first.
     pub mounted: Vec<Mounted>,
 }
@@ -32,16 +31,6 @@ pub struct Moment {
     pub outcome: Outcome,
     /// What that node knows after the act.
     pub vector: Vector,
-}
-
-/// A command that a node tried on its disk.
-#[derive(Clone, Copy, Debug, PartialEq, Eq)]
-pub struct Marked {
-    pub node: NodeId,
-    pub command: Command,
-    /// The new count, the new id, or the id that is done. None where the device failed: whether the disk keeps the command is
-    /// open until it is mounted.
-    pub acked: Option<u64>,
 }
 
 /// What a node found when it mounted its disk.

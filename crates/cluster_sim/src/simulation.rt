@@ -1,5 +1,5 @@
 // A simulated cluster, act by act.
-ghost use Rattle.std.specs.Prelude.{◌≡◌, ◌≤◌, ◌<◌, length, slice_get, Some, IfOk, OnOk, OnErr};
+ghost use Rattle.std.specs.Prelude.{◌≡◌, ◌≤◌, ◌<◌, length, slice_get, Some, IfOk, OnErr};
 ghost use Rattle.group_task.specs.declared.node.TheConstants.{NODES};
 ghost use Rattle.schedule.specs.declared.act.Act.TheVariants as acts;
 ghost use Rattle.cluster_sim.specs.Machine.{IsUntouched, StandsFor, Acted, Performed, FaultsAt};
@@ -8,12 +8,13 @@ ghost use Rattle.cluster_sim.specs.Names.{node_named};
 ghost use Rattle.runs.specs.Acts.{receiver_or_first};
 ghost use Rattle.runs.specs.World.{World, start};
 
-use crate::acts::{Signals, job_event_at, read_delivery, some_delivery};
+use crate::acts::{event_at, read_delivery, some_delivery};
+use crate::deed::Deed;
 use crate::nodes::Nodes;
-use crate::outcome::{Deed, Outcome, Refusal};
 use durable_node::DurableNode;
 use group_task::NodeId;
 use node_core::Event;
+use runs::{Outcome, Refusal};
 use schedule::Act;
 use sector_disk::MemDisk;
 use sim_net::Net;
@@ -24,22 +25,20 @@ use std::marker::Model;
 #[derive(Drop)]
 pub struct Simulation {
     nodes: Nodes,
-    // Events are long: so each message that comes is read in the one of a delivery, and each job in another.
-    signals: Signals,
+    // Events are long: so each message that comes is read in the place of the last one, and each other event is made in that of the last.
     delivery: Event,
-    job: Event,
+    event: Event,
 }
 
 impl Model for Simulation {
     ghost use Rattle.cluster_sim.specs.Deliveries.{IsDelivery};
     ghost use Rattle.cluster_sim.specs.Machine.{Machine};
-    ghost use Rattle.cluster_sim.specs.Signals.{AreSignals};
 
     ghost Value = { Machine };
 
     ghost view = { λ a. a.nodes };
 
-    ghost invariant = { λ a. AreSignals a.signals × IsDelivery a.delivery };
+    ghost invariant = { λ a. IsDelivery a.delivery };
 }
 
 impl Simulation {
@@ -56,9 +55,8 @@ impl Simulation {
     {
         Ok(Simulation {
             nodes: Nodes::open(alloc, nodes, slots)?,
-            signals: Signals::new(),
             delivery: some_delivery(),
-            job: Event::Recover,
+            event: Event::Recover,
         })
     }
 
@@ -71,7 +69,7 @@ impl Simulation {
         ensures memory { (w : World) → StandsFor self.old w → OnErr result (StandsFor self.new w) }
         ensures untouched { (w : World) → StandsFor self.old w → OnErr result (IsUntouched self.old self.new) }
         ensures faults { IfOk result (FaultsAt (node_named (length self.old.nodes) self.old.net.sent act.now) self.old self.new) }
-        ensures disk { OnOk result (Operates act.now self.old self.new) }
+        ensures disk { IfOk result (Operates act.now self.old self.new) }
     {
         match self.perform(act) {
             Ok(deed) => Ok(deed.outcome),
@@ -86,16 +84,13 @@ impl Simulation {
         ensures memory { (w : World) → StandsFor self.old w → OnErr result (StandsFor self.new w) }
         ensures untouched { (w : World) → StandsFor self.old w → OnErr result (IsUntouched self.old self.new) }
         ensures faults { IfOk result (λ deed. FaultsAt (node_named (length self.old.nodes) self.old.net.sent act.now) self.old self.new deed.outcome) }
-        ensures disk { OnOk result (Operates act.now self.old self.new) }
+        ensures disk { IfOk result (λ deed. Operates act.now self.old self.new deed.outcome) }
     {
         if let Act::Deliver(number) = act {
             return self.deliver(*number);
         }
-        if let Some(comes) = self.signals.event_at(act) {
-            return self.nodes.take(comes.0, comes.1);
-        }
-        if let Some(id) = job_event_at(act, &mut self.job) {
-            return self.nodes.take(id, &self.job);
+        if let Some(id) = event_at(act, &mut self.event) {
+            return self.nodes.take(id, &self.event);
         }
         Ok(Deed {
             outcome: self.nodes.apply(act),

@@ -4,11 +4,11 @@ use std::alloc::{AllocError, Global};
 use std::process::Abort;
 use wire_msg::*;
 
-const MESSAGES: usize = 20;
+pub(crate) const MESSAGES: usize = 20;
 
 /// One message of each kind, and both answers of a coordinator, in the order of the kinds; and then some that name node 64,
 /// and some Work with a priority.
-fn message(place: usize) -> Option<Message> {
+pub(crate) fn message(place: usize) -> Option<Message> {
     let [zero, one, two] = [
         NodeId::numbered(0),
         NodeId::numbered(1),

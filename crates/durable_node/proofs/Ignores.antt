@@ -1,7 +1,7 @@
 -- What a node that is down does with an event that doesn't make it mount its disk.
 use Rattle.std.proofs.Common.{◌≡◌, ◌≢◌, ◌≤◌, ℕ, arith, length, [], Option, None, Result, Ok, Err, sym, ◌∙◌, ap, subst, refl, IfOk, IfErr, IsErrOf}
 use Rattle.sector_disk.specs.Disk.{DiskState}
-use Rattle.job_model.specs.Command.{Command}
+use Rattle.job_model.specs.declared.node_command.NodeCommand.{NodeCommand as Command}
 use Rattle.job_model.specs.Fold.{after_wanted}
 use Rattle.node_core.specs.declared.durable.Durable.{Durable as Wanted}
 use Rattle.node_core.specs.declared.event.Event.{Event}
@@ -11,14 +11,12 @@ use Rattle.node_core.specs.declared.fault.CoreFault.TheVariants.{NoMemory}
 use Rattle.node_core.specs.Core.{Core}
 use Rattle.node_core.specs.Refusals.{refusal_of}
 use Rattle.node_core.specs.Start.{down}
-use Rattle.node_core.specs.State.{State}
 use Rattle.node_store.specs.Store.{slots_for}
 use Rattle.histories.specs.NodeState.{NodeState}
 use Rattle.histories.specs.declared.what.What.TheVariants.{Did}
 use Rattle.histories.specs.declared.fate.Fate.{Fate}
 use Rattle.histories.specs.Fates.{what_of}
 use Rattle.histories.specs.After.{after}
-use Rattle.histories.specs.Possible.{IsForNode}
 use Rattle.histories.proofs.PublicLaws.{tried_none, StaysDown, at_down}
 use Rattle.histories.specs.declared.fate.Fate.TheVariants as fate
 use Rattle.node_core.specs.declared.fault.Refusal.TheVariants as refusal
@@ -31,11 +29,6 @@ use Rattle.durable_node.specs.Faults.{fault_of, told, told_as}
 use Rattle.durable_node.specs.declared.fault.NodeFault.TheVariants as node
 use Rattle.durable_node.proofs.Parts.{does, not_up}
 
--- each event but Recover is one for the node
-for_other : (s : State) (event : Event) → event ≢ Recover → IsForNode s event
-for_other s Recover other = absurd (other refl)
-for_other s event other = tt
-
 module _ {Disk : Type 0} (disks : Disk → DiskState) (id nodes : ℕ) (core core' : Core) (disk : NodeDisk Disk) (doubt : Option (Wanted × ℕ)) (was : Option ℕ) (event : Event) where
   still : (s : NodeState) → core.state ≡ down id → core'.state ≡ core.state → Stands disks (node_with id nodes core disk doubt was) s → Stands disks (node_with id nodes core' disk doubt None) s
   still s is same stands = record { state = same ∙ stands.state; doubt = stands.doubt; up = λ up. absurd (not_up id core'.state (same ∙ is) up); disk = stands.disk }
@@ -45,18 +38,18 @@ module _ {Disk : Type 0} (disks : Disk → DiskState) (id nodes : ℕ) (core cor
       → Does slots id nodes s event came None (what_of event end) × Stands disks (node_with id nodes core' disk doubt None) (after id nodes s (what_of event end))
   by_fate slots s is same other stands came fate.Done done tried =
       let at : s.state ≡ down id = sym stands.state ∙ is in
-      let stays : StaysDown id nodes s event = at_down id nodes s event at (for_other s.state event other) (rw stands.state at done.0) in
+      let stays : StaysDown id nodes s event = at_down id nodes s event at (λ is. absurd (other is)) (rw stands.state at done.0) in
       let kept : s ≡ after id nodes s (Did event) = (λ i. record {
         state = (at ∙ sym stays.state) i;
         durable = ap (λ (w : Option Command). after_wanted s.durable w) (sym stays.wants) i;
         doubt = s.doubt;
       }) in (
-        does refl (for_other s.state event other, record { by_core = rw stands.state at done.0; not_spent = rw stays.wants (λ spent. spent) })
+        does refl (λ is. absurd (other is), record { by_core = rw stands.state at done.0; not_spent = rw stays.wants (λ spent. spent) })
             (rw stays.wants (λ full. full)) (rw stays.wants (tried_none event came.tried tried)) (rw stays.wants done.1.1) (done.1.0 ∙ sym stays.sent) refl,
         subst (λ (t : NodeState). Stands disks (node_with id nodes core' disk doubt None) t) kept (still s is same stands),
       )
   by_fate slots s is same other stands came (fate.Refused (refusal.Core why)) done tried =
-      (does refl (for_other s.state event other, rw stands.state at done.0) tt (tried_none event came.tried tried) done.1.1 done.1.0 refl, still s is same stands)
+      (does refl (λ is. absurd (other is), rw stands.state at done.0) tt (tried_none event came.tried tried) done.1.1 done.1.0 refl, still s is same stands)
   by_fate slots s is same other stands came end done tried = absurd done
 
   pub ignores : core.state ≡ down id → core'.state ≡ core.state → event ≢ Recover → (result : Result Came NodeFault)

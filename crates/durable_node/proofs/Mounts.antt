@@ -1,16 +1,16 @@
 -- What calls of a store leave of what its disk stands for.
-use Rattle.std.proofs.Common.{◌≡◌, ◌+◌, ◌*◌, ◌≤◌, inl, ⊎_elim, ℕ, true, false, Bool, Option, Some, None, sym, ◌∙◌, ap, subst, refl, arith, IsTrue, IsFalse}
+use Rattle.std.proofs.Common.{◌≡◌, ◌+◌, ◌*◌, ◌≤◌, inl, ⊎_elim, ℕ, true, false, Bool, Option, Some, None, sym, ◌∙◌, ap, refl, arith, IsSome, IsTrue, IsFalse}
 use Rattle.sector_disk.specs.Disk.{Image, DiskState, IsImage, Laws, SameBut, nothing}
 use Rattle.sector_disk.specs.Run.{Run, Each}
 use Rattle.safe_cell.specs.Cell.{cell_at}
-use Rattle.job_model.specs.Command.{Command}
+use Rattle.job_model.specs.declared.node_command.NodeCommand.{NodeCommand as Command}
 use Rattle.job_model.specs.Durable.{Durable}
 use Rattle.job_journal.specs.Journal.{jobs_by, jobs_in, IsSound, ImagesSince}
 use Rattle.job_journal.proofs.PublicLaws.{SameFrom, cell_same_from, found_same_from}
 use Rattle.node_store.specs.Store.{StoreState, durable_by, durable_of, stands_for, slots_for, AllStandFor, Lasts, BeforeOrAfter as StoreBeforeOrAfter}
 use Rattle.node_store.proofs.PublicLaws.{sound_kept}
 use Rattle.histories.specs.NodeState.{NodeState, settled}
-use Rattle.histories.specs.Possible.{IsWanted, IsSettling}
+use Rattle.histories.specs.Possible.{IsSettling}
 use Rattle.durable_node.specs.Carrying.{BeforeOrAfter, KeepsSound, Writes}
 use Rattle.durable_node.specs.Node.{IsLeft}
 use Rattle.durable_node.proofs.Parts.{is_some}
@@ -63,12 +63,12 @@ pub stands_all : (disk : DiskState) (s : NodeState) → s.doubt ≡ None → IsL
 stands_all disk s none left honest image is = (let found = left.images honest image is in of_choice found.0 found.1 found.2)
   where
     of_choice : (kept : Bool) → IsSettling kept s.doubt → stands_for (slots_for disk.sectors) image ≡ Some (settled kept s) → stands_for (slots_for disk.sectors) image ≡ Some s.durable
-    of_choice true wanted h = absurd (subst (λ (c : Option Command). IsWanted c) none wanted)
+    of_choice true wanted h = (let some : IsSome s.doubt = wanted refl in absurd cc (none, some))
     of_choice false wanted h = h
 
 -- after a command was carried out
 pub left_by : (disk : DiskState) (s : NodeState) → 24 ≤ disk.sectors → (IsTrue disk.honest → AllStandFor (slots_for disk.sectors) s.durable disk) → IsSound (slots_for disk.sectors) disk → IsLeft disk s
-left_by disk s sectors all sound = record { sectors = sectors; images = λ honest image is. (false, tt, all honest image is); sound = sound }
+left_by disk s sectors all sound = record { sectors = sectors; images = λ honest image is. (false, λ kept. absurd cc, all honest image is); sound = sound }
 
 -- what a call left of a store
 module _ {Disk : Type 0} (disks : Disk → DiskState) (old new : StoreState Disk) (failed : Type 0) (keeps : KeepsSound disks old new failed) (at : old.journal.slots ≡ slots_for (disks old.disk).sectors) where
@@ -83,10 +83,10 @@ module _ {Disk : Type 0} (disks : Disk → DiskState) (old new : StoreState Disk
         left_by (disks new.disk) s (omega (arith, enough, keeps.counts.sectors)) (λ honest. rw slots_kept at (all (rw keeps.counts.honest at honest))) (rw slots_kept at keeps.sound)
 
     -- where the device failed in a command
-    pub left_cut : IsWanted s.doubt → (IsTrue (disks old.disk).honest → Each (disks old.disk) (disks new.disk) (BeforeOrAfter old.journal.slots s.durable s.doubt)) → IsLeft (disks new.disk) s
+    pub left_cut : IsSome s.doubt → (IsTrue (disks old.disk).honest → Each (disks old.disk) (disks new.disk) (BeforeOrAfter old.journal.slots s.durable s.doubt)) → IsLeft (disks new.disk) s
     left_cut wanted each = record {
       sectors = omega (arith, enough, keeps.counts.sectors);
       images = λ honest image is. (let was = rw keeps.counts.honest at honest in
-          ⊎_elim (λ before. (false, tt, before)) (λ after. (true, wanted, after)) (rw slots_kept at (each was image ((keeps.run was).ends image is))));
+          ⊎_elim (λ before. (false, λ kept. absurd cc, before)) (λ after. (true, λ kept. wanted, after)) (rw slots_kept at (each was image ((keeps.run was).ends image is))));
       sound = rw slots_kept at keeps.sound;
     }

@@ -29,7 +29,7 @@ new_node id nodes disk = record { id = id; nodes = nodes; state = down id; disk 
 -- no command was in doubt
 none_kept : (slots id nodes : ℕ) (new : Node Memory) (came : Came) (end : Fate) (kept : Bool) → end ≡ fate.Recovered kept → Does slots id nodes (fresh id) Recover came new.found (what_of Recover end)
     → Stands state_of new (after id nodes (fresh id) (what_of Recover end)) → Stands state_of (record new { found = None }) (opening id)
-none_kept slots id nodes new came (fate.Recovered true) kept is does stands = absurd does.possible.1
+none_kept slots id nodes new came (fate.Recovered true) kept is does stands = (let none : false ≡ true = does.possible.1 refl in absurd cc)
 none_kept slots id nodes new came (fate.Recovered false) kept is does stands = assumption stands
 none_kept slots id nodes new came end kept is does stands = absurd cc
 

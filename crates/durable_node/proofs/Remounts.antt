@@ -2,7 +2,7 @@
 use Rattle.std.proofs.Common.{◌≡◌, ◌≢◌, ◌+◌, ◌≤◌, ◌⊎◌, inl, inr, ⊎_elim, ℕ, Bool, [], Option, Some, None, option_map, Result, Ok, Err, sym, ◌∙◌, ap, subst, refl, IsTrue, IsOk, IfOk, IfErr}
 use Rattle.sector_disk.specs.Disk.{Image, DiskState, Counts, IsImage, nothing}
 use Rattle.sector_disk.specs.Run.{Run, Each}
-use Rattle.job_model.specs.Command.{Raise}
+use Rattle.job_model.specs.declared.node_command.NodeCommand.TheVariants.{Raise}
 use Rattle.job_model.specs.Durable.{Durable}
 use Rattle.job_model.specs.Fold.{after_command}
 use Rattle.node_core.specs.declared.durable.Durable.{Durable as Wanted}
@@ -126,7 +126,7 @@ module _ {Disk : Type 0} (disks : Disk → DiskState) (id nodes : ℕ) (core cor
         let count = ap (λ (d : Durable). d.counter) is in
         rw risen.0 (
           does refl (down_phase id s.state (sym stood ∙ fallen), settling, rw count at risen.1.fits) tt (tried_raise Recover came.tried tried) risen.2.1 risen.2.0 found,
-          stands_down disks _ new end.disk id (risen.1.state ∙ fallen) refl (left_cut disks mid end failed keeps at left.sectors new tt
+          stands_down disks _ new end.disk id (risen.1.state ∙ fallen) refl (left_cut disks mid end failed keeps at left.sectors new refl
               (λ h. subst (λ (d : Durable). Each (disks mid.disk) (disks end.disk) (BeforeOrAfter mid.journal.slots d (Some Raise))) is (writes.images h all))) (risen.1.state ∙ fallen) (rw count at risen.1.doubt),
         )
     by_kept (fate.RaiseRefused k) risen tried writes = rw risen.0 (

@@ -1,11 +1,10 @@
 -- What a node that is up does with an event.
 use Rattle.std.proofs.Common.{◌≡◌, ◌≢◌, ◌⊎◌, inl, inr, ℕ, false, Option, Some, None, option_map, Result, Ok, Err, sym, ◌∙◌, ap, subst, refl, IsTrue, IsOk, IfOk}
 use Rattle.sector_disk.specs.Disk.{DiskState}
-use Rattle.job_model.specs.Command.{Command}
+use Rattle.job_model.specs.declared.node_command.NodeCommand.{NodeCommand as Command}
 use Rattle.job_model.specs.Durable.{Durable}
 use Rattle.node_core.specs.declared.durable.Durable.{Durable as Wanted}
 use Rattle.node_core.specs.declared.event.Event.{Event}
-use Rattle.node_core.specs.declared.event.Event.TheVariants.{Recover}
 use Rattle.node_core.specs.Core.{Core}
 use Rattle.node_core.specs.State.{State, is_down}
 use Rattle.node_core.specs.Wants.{wants_of}
@@ -17,7 +16,6 @@ use Rattle.histories.specs.declared.fate.Fate.{Fate}
 use Rattle.histories.specs.Fates.{attempt_of, what_of}
 use Rattle.histories.proofs.PublicLaws.{tried_none, tried_wanted, stays_up}
 use Rattle.histories.specs.After.{after}
-use Rattle.histories.specs.Possible.{IsForNode}
 use Rattle.histories.specs.declared.fate.Fate.TheVariants as fate
 use Rattle.durable_node.specs.declared.fault.NodeFault.{NodeFault}
 use Rattle.durable_node.specs.declared.came.Came.{Came}
@@ -29,11 +27,6 @@ use Rattle.durable_node.specs.Faults.{fault_of, told, told_as}
 use Rattle.durable_node.specs.declared.fault.NodeFault.TheVariants as node
 use Rattle.durable_node.proofs.Parts.{does, is_some, stands_at, stands_down}
 use Rattle.durable_node.proofs.Mounts.{left_cut, left_done, stands_all}
-
--- where a node is up, each event is one for it
-for_node : (s : State) (event : Event) → is_down s.phase ≡ false → IsForNode s event
-for_node s Recover up = up
-for_node s event up = tt
 
 pub is_device : (fault : NodeFault) → (fault ≡ node.Device) ⊎ (fault ≢ node.Device)
 is_device node.Device = inl refl
@@ -64,18 +57,18 @@ module _ {Disk : Type 0} (disks : Disk → DiskState) (id nodes : ℕ) (core cor
         let end = after id nodes (up_at core store) (Did event) in
         let it = is.0.handled in
         let shown : is_down core'.state.phase ≡ false → _ = λ now. (rw now (ap (λ (d : Durable). Some d) it.kept), refl) in (
-          does refl (for_node core.state event up, it.taken) is.0.fits (tried_wanted id (durable_of store).pending event core.state came.tried tried) is.0.answer (ap (λ (e : Effect). e.sent) (sym it.effect)) refl,
+          does refl (λ is. up, it.taken) is.0.fits (tried_wanted id (durable_of store).pending event core.state came.tried tried) is.0.answer (ap (λ (e : Effect). e.sent) (sym it.effect)) refl,
           stands_at disks _ end store'.disk refl (left_done disks store store' failed keeps at left.sectors end (λ honest. rw it.kept at (writes.after honest (stood honest) refl)))
               (ap (λ (e : Effect). e.state) (sym it.effect)) (is.2 ∙ none) shown,
         )
     by_fate (fate.Refused why) is tried writes = (
-      does refl (for_node core.state event up, is.0.refused) is.0.of_slots (tried_none event came.tried tried) is.1.1 is.1.0 refl,
+      does refl (λ is. up, is.0.refused) is.0.of_slots (tried_none event came.tried tried) is.1.1 is.1.0 refl,
       stands_at disks _ (up_at core store) store.disk (ap (λ (st : StoreState Disk). Some st.disk) is.2.same_store) left is.2.same_state (is.2.same_doubt ∙ none)
           (λ now. (rw now (ap (λ (st : StoreState Disk). Some (durable_of st)) is.2.same_store), refl)),
     )
     by_fate fate.Faulted is tried writes =
         let end = after id nodes (up_at core store) (Faulted event) in (
-          does refl ((for_node core.state event up, is.0.taken), is.0.wanted) is.0.fits (tried_wanted id (durable_of store).pending event core.state came.tried tried) is.1.1 is.1.0 refl,
+          does refl ((λ is. up, is.0.taken), is.0.wanted) is.0.fits (tried_wanted id (durable_of store).pending event core.state came.tried tried) is.1.1 is.1.0 refl,
           stands_down disks _ end store'.disk id is.2 refl (left_cut disks store store' failed keeps at left.sectors end is.0.wanted (λ honest. writes.images honest (stood honest))) is.2 is.3,
         )
     by_fate end is tried writes = absurd is

@@ -1,7 +1,8 @@
 -- Whether the command in doubt is in what a mounting found.
 use Rattle.std.proofs.Common.{◌≡◌, ◌+◌, ◌||◌, ℕ, Bool, true, false, not, cond, eqb, List, [], ◌∷◌, Option, Some, None, refl, sym, ap, subst, ◌∙◌, arith, ◌==◌}
 use Rattle.std.proofs.lemmas.Bool.Decides.{nat_tests}
-use Rattle.job_model.specs.Command.{Command, Raise, Put, Done}
+use Rattle.job_model.specs.declared.node_command.NodeCommand.{NodeCommand as Command}
+use Rattle.job_model.specs.declared.node_command.NodeCommand.TheVariants.{Raise, Put, Done}
 use Rattle.job_model.specs.Durable.{Durable}
 use Rattle.job_model.specs.Fold.{is_pending, without_job}
 use Rattle.job_model.specs.declared.job.Job.{Job}
@@ -44,8 +45,8 @@ module _ (state : State) (e d : Durable) where
 
   -- the flag is the one that was found
   same : (c : Command) (flag kept : Bool) → flag ≡ kept → d ≡ settled kept (at (Some c)) → Settles (Some c) flag
-  same c flag true is found = subst (λ (b : Bool). Settles (Some c) b) (sym is) (tt, found)
-  same c flag false is found = subst (λ (b : Bool). Settles (Some c) b) (sym is) (tt, found)
+  same c flag true is found = subst (λ (b : Bool). Settles (Some c) b) (sym is) (λ kept. refl, found)
+  same c flag false is found = subst (λ (b : Bool). Settles (Some c) b) (sym is) (λ kept. refl, found)
 
   done_so : (id : ℕ) (flag b : Bool) → flag ≡ not (is_pending d.pending id) → is_pending e.pending id ≡ b → d ≡ e → Settles (Some (Done id)) flag
   done_so id flag true is pending found = same (Done id) flag false (is ∙ ap not (ap (λ (x : Durable). is_pending x.pending id) found ∙ pending)) found
@@ -54,8 +55,8 @@ module _ (state : State) (e d : Durable) where
       (found ∙ (λ i. record { counter = e.counter; next = e.next; pending = sym (without_none e.pending id pending) i }))
 
   by_doubt : (doubt : Option Command) (flag kept : Bool) → IsKeptIn (told_doubt e doubt) d flag → IsSettling kept doubt → d ≡ settled kept (at doubt) → Settles doubt flag
-  by_doubt None flag true is settling found = absurd settling
-  by_doubt None flag false is settling found = subst (λ (b : Bool). Settles None b) (sym is) (tt, found)
+  by_doubt None flag true is settling found = (let none : false ≡ true = settling refl in absurd cc)
+  by_doubt None flag false is settling found = subst (λ (b : Bool). Settles None b) (sym is) (λ kept. absurd cc, found)
   by_doubt (Some Raise) flag true is settling found = same Raise flag true (is ∙ went_on d.counter e.counter (ap (λ (x : Durable). x.counter) found)) found
   by_doubt (Some Raise) flag false is settling found = same Raise flag false (is ∙ stayed d.counter e.counter (ap (λ (x : Durable). x.counter) found)) found
   by_doubt (Some (Put work)) flag true is settling found = same (Put work) flag true (is ∙ went_on d.next e.next (ap (λ (x : Durable). x.next) found)) found

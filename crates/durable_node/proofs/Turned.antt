@@ -1,6 +1,6 @@
 -- How a refusal is told.
 use Rattle.std.proofs.Common.{◌≡◌, ℕ, inl, inr, ap, ◌∙◌, Option, Some, None, Err}
-use Rattle.job_model.specs.Command.{Command}
+use Rattle.job_model.specs.declared.node_command.NodeCommand.{NodeCommand as Command}
 use Rattle.job_model.specs.Durable.{Durable}
 use Rattle.job_model.specs.Table.{Table}
 use Rattle.node_core.specs.declared.event.Event.{Event}

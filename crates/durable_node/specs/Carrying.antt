@@ -1,16 +1,16 @@
 -- What the store makes of the command that an event wants, and what a call leaves of it.
-use Rattle.std.specs.Prelude.{ℕ, ◌≡◌, ◌⊎◌, Option, Some, IsTrue, IsFalse}
+use Rattle.std.specs.Prelude.{ℕ, ◌≡◌, ◌⊎◌, Option, Some, IsSome, IsTrue, IsFalse, option_map}
 use Rattle.sector_disk.specs.Disk.{DiskState, Image, Counts}
 use Rattle.sector_disk.specs.Run.{Run, Each}
-use Rattle.job_model.specs.Command.{Command}
+use Rattle.job_model.specs.Answer.{answer_of}
+use Rattle.job_model.specs.declared.node_command.NodeCommand.{NodeCommand as Command}
 use Rattle.job_model.specs.Durable.{Durable}
 use Rattle.job_model.specs.Fold.{after_wanted}
 use Rattle.job_journal.specs.Journal.{IsSound}
 use Rattle.node_core.specs.declared.fault.Refusal.{Refusal}
-use Rattle.node_core.specs.NodeStep.{CantTake, IsSpent, FitsSlots, Handled, Refused}
+use Rattle.node_core.specs.NodeStep.{CantTake, IsSpent, IsFull}
 use Rattle.node_store.specs.Store.{StoreState, durable_of, stands_for, AllStandFor, InStore}
-use Rattle.histories.specs.NodeState.{answer_if_wanted}
-use Rattle.histories.specs.Possible.{IsWanted}
+use Rattle.histories.specs.Possible.{FitsSlots}
 use Rattle.durable_node.specs.declared.fault.NodeFault.{NodeFault}
 use Rattle.durable_node.specs.Faults.{shown}
 
@@ -42,19 +42,19 @@ pub record Writes {Disk : Type 0} (disks : Disk → DiskState) (old new : StoreS
 -- the store may take the command
 pub record MayTake (slots : ℕ) (d : Durable) (wants : Option Command) : Type 0 where
   pub not_spent : IsSpent d wants → ⊥
-  pub fits : FitsSlots slots d wants Handled
+  pub fits : IsFull slots d wants → ⊥
 
 -- the store took the command, keeps what it makes, and answers it
 pub record Carried {Disk : Type 0} (old new : StoreState Disk) (wants : Option Command) (given : Option ℕ) : Type 0 where
   pub may : MayTake old.journal.slots (durable_of old) wants
-  pub answer : given ≡ answer_if_wanted (durable_of old) wants
+  pub answer : given ≡ option_map (answer_of (durable_of old)) wants
   pub kept : durable_of new ≡ after_wanted (durable_of old) wants
   pub whole : IsFalse new.broken
 
 -- the device failed in a command that the store took, and what the store shows is from before it
 pub record IsCut {Disk : Type 0} (old new : StoreState Disk) (wants : Option Command) : Type 0 where
   pub may : MayTake old.journal.slots (durable_of old) wants
-  pub wanted : IsWanted wants
+  pub wanted : IsSome wants
   pub kept : durable_of new ≡ durable_of old
 
 -- the store can't take the command, and this is how it is told
@@ -62,4 +62,4 @@ pub record CantCarry (slots : ℕ) (d : Durable) (wants : Option Command) (fault
   pub why : Refusal
   pub is_shown : fault ≡ shown why
   pub cant : CantTake d wants why
-  pub of_slots : FitsSlots slots d wants (Refused why)
+  pub of_slots : FitsSlots slots d wants why

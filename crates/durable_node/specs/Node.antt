@@ -1,7 +1,8 @@
 -- What contracts see of a node over a disk, and what it stands for.
 use Rattle.std.specs.Prelude.{ℕ, ◌≡◌, ◌<◌, ◌≤◌, Bool, true, false, IsTrue, IsFalse, IsSome, IsSomeAnd, Option, Some, None}
 use Rattle.sector_disk.specs.Disk.{Image, DiskState, IsImage}
-use Rattle.job_model.specs.Command.{Command, Raise, Put, Done}
+use Rattle.job_model.specs.declared.node_command.NodeCommand.{NodeCommand as Command}
+use Rattle.job_model.specs.declared.node_command.NodeCommand.TheVariants.{Raise, Put, Done}
 use Rattle.job_model.specs.Durable.{Durable}
 use Rattle.node_core.specs.declared.durable.Durable.{Durable as Wanted}
 use Rattle.node_core.specs.declared.durable.Durable.TheVariants as wanted

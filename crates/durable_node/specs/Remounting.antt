@@ -1,6 +1,7 @@
 -- What the raise of a recovery that mounts its disk does.
 use Rattle.std.specs.Prelude.{ℕ, ◌≡◌, ◌⊎◌, ◌+◌, ◌-◌, ◌^◌, ◌<◌, ◌==◌, not, Bool, false, IsFalse, [], Option, Some, None, Result, Ok, Err}
-use Rattle.job_model.specs.Command.{Command, Raise}
+use Rattle.job_model.specs.declared.node_command.NodeCommand.{NodeCommand as Command}
+use Rattle.job_model.specs.declared.node_command.NodeCommand.TheVariants.{Raise}
 use Rattle.job_model.specs.Durable.{Durable}
 use Rattle.job_model.specs.Fold.{after_command, is_pending}
 use Rattle.node_core.specs.declared.durable.Durable.{Durable as Wanted}

@@ -1,6 +1,7 @@
 -- What a call of a node does, and how it is told.
-use Rattle.std.specs.Prelude.{ℕ, ◌≡◌, ◌+◌, Bool, true, false, IsTrue, IsFalse, IsSome, IsErrOf, [], Option, Some, None, Result}
+use Rattle.std.specs.Prelude.{ℕ, ◌≡◌, ◌+◌, Bool, true, false, IsTrue, IsFalse, IsSome, IsErrOf, [], Option, Some, None, option_map, Result}
 use Rattle.sector_disk.specs.Disk.{DiskState, Counts}
+use Rattle.job_model.specs.Answer.{answer_of}
 use Rattle.job_model.specs.Durable.{Durable}
 use Rattle.node_core.specs.declared.durable.Durable.{Durable as Wanted}
 use Rattle.node_core.specs.declared.event.Event.{Event}
@@ -8,24 +9,26 @@ use Rattle.node_core.specs.declared.event.Event.TheVariants as on
 use Rattle.node_core.specs.Core.{Core}
 use Rattle.node_core.specs.Start.{down}
 use Rattle.node_core.specs.State.{State, is_down}
-use Rattle.node_core.specs.NodeStep.{IsTaken, IsHandled, IsRefused, FitsSlots, Handled, Refused as Denied}
+use Rattle.node_core.specs.NodeStep.{IsFull, IsTaken, IsHandled, IsRefused}
 use Rattle.node_core.specs.Wants.{wants_of}
 use Rattle.node_core.specs.Most.{most_of}
 use Rattle.node_store.specs.Store.{StoreState, durable_of, slots_for}
 use Rattle.durable_node.specs.declared.fault.NodeFault.{NodeFault}
 use Rattle.durable_node.specs.declared.fault.NodeFault.TheVariants as node
 use Rattle.durable_node.specs.declared.came.Came.{Came}
-use Rattle.histories.specs.NodeState.{NodeState, wants_at, settled, answer_if_wanted}
+use Rattle.histories.specs.NodeState.{NodeState, wants_at, settled}
+use Rattle.histories.specs.What.{event_of}
 use Rattle.histories.specs.declared.what.What.{What}
-use Rattle.histories.specs.declared.what.What.TheVariants.{Did, Refused, Faulted, Rests, Crashed, Recovered, MountFailed, RaiseFailed, RaiseRefused}
+use Rattle.histories.specs.declared.what.What.TheVariants.{Did, Faulted, Recovered, RaiseFailed}
 use Rattle.histories.specs.After.{after, sent_at, found_at}
-use Rattle.histories.specs.Possible.{IsPossible, IsOfSlots, IsWanted}
+use Rattle.histories.specs.Possible.{IsPossible, IsOfSlots, FitsSlots}
 use Rattle.histories.specs.Fates.{IsTriedAt, what_of}
 use Rattle.histories.specs.declared.fate.Fate.{Fate}
 use Rattle.histories.specs.declared.fate.Fate.TheVariants as fate
 use Rattle.node_core.specs.declared.fault.Refusal.{Refusal}
 use Rattle.node_core.specs.declared.fault.Refusal.TheVariants as refusal
-use Rattle.job_model.specs.Command.{Command, Raise}
+use Rattle.job_model.specs.declared.node_command.NodeCommand.{NodeCommand as Command}
+use Rattle.job_model.specs.declared.node_command.NodeCommand.TheVariants.{Raise}
 use Rattle.node_core.specs.declared.fault.CoreFault.{CoreFault}
 use Rattle.node_core.specs.declared.fault.CoreFault.TheVariants.{NoMemory}
 use Rattle.durable_node.specs.Node.{Node, Stands, told_doubt}
@@ -40,19 +43,19 @@ is_recover event = false
 -- the event was handled, and its command is on the disk
 pub record IsDone (slots nodes self : ℕ) (s : State) (d : Durable) (event : Event) (s' : State) (d' : Durable) (came : Came) : Type 0 where
   pub handled : IsHandled nodes self s d event s' d' came.sent.items
-  pub fits : FitsSlots slots d (wants_of self d.pending event s) Handled
-  pub answer : came.answer ≡ answer_if_wanted d (wants_of self d.pending event s)
+  pub fits : IsFull slots d (wants_of self d.pending event s) → ⊥
+  pub answer : came.answer ≡ option_map (answer_of d) (wants_of self d.pending event s)
 
 -- the device failed in the event's command
 pub record IsFailed (slots nodes self : ℕ) (s : State) (d : Durable) (event : Event) : Type 0 where
   pub taken : IsTaken nodes self s d event
-  pub fits : FitsSlots slots d (wants_of self d.pending event s) Handled
-  pub wanted : IsWanted (wants_of self d.pending event s)
+  pub fits : IsFull slots d (wants_of self d.pending event s) → ⊥
+  pub wanted : IsSome (wants_of self d.pending event s)
 
 -- the event was refused, for this reason
 pub record IsTurnedAway (slots nodes self : ℕ) (s : State) (d : Durable) (event : Event) (why : Refusal) : Type 0 where
   pub refused : IsRefused nodes self s d event why
-  pub of_slots : FitsSlots slots d (wants_of self d.pending event s) (Denied why)
+  pub of_slots : FitsSlots slots d (wants_of self d.pending event s) why
 
 -- nothing is sent or answered
 abbrev pub IsSilent : Came → Type 0
@@ -93,15 +96,7 @@ IsIgnored why came other = ⊥
 
 -- it came of this event, or of the mounting that the event Recover makes where the node is down
 abbrev pub CameOf : Event → What → Type 0
-CameOf event (Did e) = e ≡ event
-CameOf event (Refused e fault) = e ≡ event
-CameOf event (Faulted e) = e ≡ event
-CameOf event (Rests rest) = ⊥
-CameOf event Crashed = ⊥
-CameOf event (Recovered kept) = event ≡ on.Recover
-CameOf event MountFailed = event ≡ on.Recover
-CameOf event (RaiseFailed kept) = event ≡ on.Recover
-CameOf event (RaiseRefused kept) = event ≡ on.Recover
+CameOf event what = event_of what ≡ Some event
 
 -- the command that was tried on the disk, if there was one
 abbrev pub command_at : ℕ → ℕ → NodeState → What → Option Command
@@ -113,7 +108,7 @@ command_at self nodes s what = None
 
 -- the answer to the command that was carried out, if there was one
 abbrev pub answer_at : ℕ → ℕ → NodeState → What → Option ℕ
-answer_at self nodes s (Did event) = answer_if_wanted s.durable (wants_at self nodes s event)
+answer_at self nodes s (Did event) = option_map (answer_of s.durable) (wants_at self nodes s event)
 answer_at self nodes s (Recovered kept) = Some ((settled kept s).counter + 1)
 answer_at self nodes s what = None
 

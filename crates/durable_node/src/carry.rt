@@ -1,5 +1,5 @@
 ghost use Rattle.std.specs.Prelude.{◌≡◌, ◌≢◌, ◌<◌, ◌^◌, ℕ, true, IsOk, IfOk, IfErr, IsErrOf, Some, Ok, Err};
-ghost use Rattle.job_model.specs.Command.{Done};
+ghost use Rattle.job_model.specs.declared.node_command.NodeCommand.TheVariants.{Done};
 ghost use Rattle.job_model.specs.Fold.{is_pending};
 ghost use Rattle.node_core.specs.Planned.{lent_by};
 ghost use Rattle.node_store.specs.Store.{durable_of};

@@ -1,5 +1,5 @@
 ghost use Rattle.std.specs.Prelude.{◌≡◌, ◌≢◌, IsOk, IfOk, IfErr, IsErrOf, Ok, Err, Some, None, option_map, true, []};
-ghost use Rattle.job_model.specs.Command.{Raise};
+ghost use Rattle.job_model.specs.declared.node_command.NodeCommand.TheVariants.{Raise};
 ghost use Rattle.node_core.specs.declared.event.Event.TheVariants.{Recover};
 ghost use Rattle.node_core.specs.State.{is_down};
 ghost use Rattle.node_store.specs.Store.{durable_of};

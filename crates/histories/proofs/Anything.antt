@@ -3,17 +3,15 @@ use Rattle.std.proofs.Common.{ℕ, List, [], ◌∷◌, Option, Some, None, IfSo
 use Rattle.group_task.specs.Group.{Group}
 use Rattle.group_task.specs.Assignment.{Assignment}
 use Rattle.job_model.specs.declared.job.Job.{Job}
-use Rattle.job_model.specs.Command.{Command}
+use Rattle.job_model.specs.declared.node_command.NodeCommand.{NodeCommand as Command}
 use Rattle.job_model.specs.Durable.{Durable}
 use Rattle.job_model.specs.Fold.{after_wanted}
 use Rattle.wire_msg.specs.Envelope.{Envelope}
 use Rattle.wire_msg.specs.declared.body.Body.{Body}
 use Rattle.wire_msg.specs.declared.body.Body.TheVariants.{Work as WorkMessage}
-use Rattle.node_core.specs.declared.phase.Phase.{Phase}
-use Rattle.node_core.specs.declared.phase.Phase.TheVariants.{Down}
 use Rattle.node_core.specs.State.{State}
-use Rattle.node_core.specs.Messages.{group_in}
-use Rattle.histories.specs.Named.{BodyHolds, AllHold, TaskHolds, PlaceHolds}
+use Rattle.wire_msg.specs.Kinds.{group_in}
+use Rattle.histories.specs.Named.{AllHold}
 use Rattle.histories.proofs.Moves.{WorkIn, AllWork, JobsHold, GivenHold, Knows, KnowsJobs}
 
 abbrev pub AnyGroup : Group → Type 0
@@ -22,20 +20,13 @@ AnyGroup group = Unit {0}
 abbrev pub AnyWork : ℕ → ℕ → ℕ → Type 0
 AnyWork origin id queue = Unit {0}
 
-any_task : (t : Option Assignment) → TaskHolds AnyGroup t
+any_task : (t : Option Assignment) → IfSome t (λ (x : Assignment). AnyGroup x.group)
 any_task None = tt
 any_task (Some t) = tt
-
-any_place : (p : Phase) (g : Group) (t : Option Assignment) → PlaceHolds AnyGroup p g t
-any_place Down g t = tt
-any_place p g t = (tt, any_task t)
 
 any_named : (named : Option Group) → IfSome named AnyGroup
 any_named None = tt
 any_named (Some group) = tt
-
-any_body : (b : Body) → BodyHolds AnyGroup b
-any_body b = any_named (group_in b)
 
 any_work : (sender : ℕ) (b : Body) → WorkIn AnyWork sender b
 any_work sender (WorkMessage group id work) = tt
@@ -43,7 +34,7 @@ any_work sender b = tt
 
 any_came : (ms : List Envelope) → AllHold AnyGroup ms
 any_came [] = tt
-any_came (m ∷ ms) = (any_body m.body, any_came ms)
+any_came (m ∷ ms) = (any_named (group_in m.body), any_came ms)
 
 pub all_any_work : (ms : List Envelope) → AllWork AnyWork ms
 all_any_work [] = tt
@@ -58,7 +49,7 @@ any_pending self [] = tt
 any_pending self (job ∷ jobs) = (tt, any_pending self jobs)
 
 pub knows_any : (self : ℕ) (s : State) (given : List ℕ) (came : List Envelope) → Knows AnyGroup self s given came
-knows_any self s given came = record { place = any_place s.phase s.group s.task; fresh = any_given self given; heard = any_came came }
+knows_any self s given came = record { place = λ up. (tt, any_task s.task); fresh = any_given self given; heard = any_came came }
 
 pub knows_any_jobs : (self : ℕ) (d : Durable) (wants : Option Command) → KnowsJobs AnyWork self d wants
 knows_any_jobs self d wants = record { before = any_pending self d.pending; after = any_pending self (after_wanted d wants).pending }

@@ -26,18 +26,18 @@ entry_does P J Q self nodes s (Did event) may =
       says = λ k now next. row.says k (record { before = now; after = next });
     }
 entry_does P J Q self nodes s (Refused event fault) may = record { made = []; moves = stays refl refl refl refl refl refl; names = λ k. k.place; holds = λ now next w h. h; says = λ k now next. tt }
-entry_does P J Q self nodes s (Faulted event) may = record { made = []; moves = falls refl refl refl; names = λ k. tt; holds = λ now next w h. tt; says = λ k now next. tt }
+entry_does P J Q self nodes s (Faulted event) may = record { made = []; moves = falls refl refl refl; names = λ k up. absurd (up refl); holds = λ now next w h. tt; says = λ k now next. tt }
 entry_does P J Q self nodes s (Rests rest) may = record { made = []; moves = stays refl refl refl refl refl refl; names = λ k. k.place; holds = λ now next w h. h; says = λ k now next. tt }
-entry_does P J Q self nodes s Crashed may = record { made = []; moves = falls refl refl refl; names = λ k. tt; holds = λ now next w h. tt; says = λ k now next. tt }
+entry_does P J Q self nodes s Crashed may = record { made = []; moves = falls refl refl refl; names = λ k up. absurd (up refl); holds = λ now next w h. tt; says = λ k now next. tt }
 entry_does P J Q self nodes s (Recovered kept) may = record {
   made = [];
   moves = starts_alone ((settled kept s).counter + 1) refl refl refl;
-  names = λ k. (k.fresh.0, k.fresh.0);
+  names = λ k up. (k.fresh.0, k.fresh.0);
   holds = λ now next w h. tt;
   says = λ k now next. tt;
 }
 entry_does P J Q self nodes s MountFailed may = record { made = []; moves = stays refl refl refl refl refl refl; names = λ k. k.place; holds = λ now next w h. h; says = λ k now next. tt }
-entry_does P J Q self nodes s (RaiseFailed kept) may = record { made = []; moves = falls refl refl refl; names = λ k. tt; holds = λ now next w h. tt; says = λ k now next. tt }
+entry_does P J Q self nodes s (RaiseFailed kept) may = record { made = []; moves = falls refl refl refl; names = λ k up. absurd (up refl); holds = λ now next w h. tt; says = λ k now next. tt }
 entry_does P J Q self nodes s (RaiseRefused kept) may = record { made = []; moves = stays refl refl refl refl refl refl; names = λ k. k.place; holds = λ now next w h. h; says = λ k now next. tt }
 
 -- ---- what isn't refused

@@ -1,6 +1,6 @@
 -- What is kept step by step is kept, and so are the commands and mountings of every history.
-use Rattle.std.proofs.Common.{◌≡◌, ◌⊎◌, ℕ, zero, suc, ◌+◌, ◌<◌, ◌≤◌, ◌^◌, Bool, true, false, List, [], ◌∷◌, ◌++◌, length, take, slice_get, refl, sym, ◌∙◌, ap, subst, inl, inr, arith, Option, Some, None, add-zero}
-use Rattle.job_model.specs.Command.{Command}
+use Rattle.std.proofs.Common.{◌≡◌, ◌⊎◌, ℕ, zero, suc, ◌+◌, ◌<◌, ◌≤◌, ◌^◌, Bool, true, false, List, [], ◌∷◌, ◌++◌, length, take, slice_get, refl, sym, ◌∙◌, ap, subst, inl, inr, arith, Option, Some, None, IsSome, add-zero}
+use Rattle.job_model.specs.declared.node_command.NodeCommand.{NodeCommand as Command}
 use Rattle.job_model.specs.Durable.{Durable, formatted}
 use Rattle.job_model.specs.Fold.{after_command, after_commands, after_wanted}
 use Rattle.job_model.specs.Answer.{answer_of}
@@ -11,9 +11,10 @@ use Rattle.histories.specs.declared.what.What.{What}
 use Rattle.histories.specs.declared.what.What.TheVariants.{Did, Refused, Faulted, Rests, Crashed, Recovered, MountFailed, RaiseFailed, RaiseRefused}
 use Rattle.histories.specs.What.{Entry}
 use Rattle.histories.specs.After.{after}
-use Rattle.histories.specs.Possible.{IsWanted, Takes, IsSettling, IsPossible}
+use Rattle.histories.specs.Possible.{Takes, IsSettling, IsPossible}
 use Rattle.histories.specs.History.{Follows}
-use Rattle.histories.specs.Kept.{CountsOnce, Tried, Mounting, counted, stands_after}
+use Rattle.histories.specs.Kept.{CountsOnce, Mounting, counted, stands_after}
+use Rattle.histories.specs.declared.tried.Tried.{Tried}
 use Rattle.histories.specs.Marks.{Mark, Acknowledged, Unanswered, Mounted, commands_of, mountings_of, MayFind, IsNone, KeptFrom, StepByStep, EachKept, marks_at, marks_from, marks_of, tried_marks, failed_marks}
 use Rattle.histories.proofs.Downs.{at_down}
 use Rattle.histories.proofs.Counts.{highest, settled_highest, highest_after}
@@ -167,7 +168,7 @@ doubt_after self nodes s (RaiseFailed kept) may h = inr refl
 doubt_after self nodes s (RaiseRefused kept) may h = h
 
 may_find : (kept : Bool) (s : NodeState) (doubt : Option Command) → s.doubt ≡ doubt → IsSettling kept doubt → MayFind s.durable doubt (settled kept s)
-may_find true s None is h = absurd h
+may_find true s None is h = absurd (let none : false ≡ true = h refl in cc)
 may_find true s (Some c) is h = rw is (inr refl)
 may_find false s None is h = refl
 may_find false s (Some c) is h = inl refl
@@ -179,9 +180,9 @@ tried_kept d None doubt n rest free kept = rw add-zero at kept
 tried_kept d (Some c) None n rest free kept = (tt, refl, kept)
 tried_kept d (Some c) (Some x) n rest free kept = elim free [ inl none ↦ absurd none | inr e ↦ absurd cc ]
 
-failed_kept : (d : Durable) (wants doubt : Option Command) (n : ℕ) (rest : List Mark) → IsNone doubt ⊎ (wants ≡ None) → IsWanted wants
+failed_kept : (d : Durable) (wants doubt : Option Command) (n : ℕ) (rest : List Mark) → IsNone doubt ⊎ (wants ≡ None) → IsSome wants
     → KeptFrom d wants (n + length (commands_of (failed_marks wants))) rest → KeptFrom d doubt n (failed_marks wants ++ rest)
-failed_kept d None doubt n rest free wanted kept = absurd wanted
+failed_kept d None doubt n rest free wanted kept = absurd cc
 failed_kept d (Some c) None n rest free wanted kept = (tt, kept)
 failed_kept d (Some c) (Some x) n rest free wanted kept = elim free [ inl none ↦ absurd none | inr e ↦ absurd cc ]
 

@@ -1,10 +1,10 @@
 -- What an event may do to a node: to its place in a group, to its work in hand, and what it may say.
-use Rattle.std.proofs.Common.{◌≡◌, ◌≢◌, ◌⊎◌, ℕ, true, List, [], ◌∷◌, Option, Some}
+use Rattle.std.proofs.Common.{◌≡◌, ◌≢◌, ◌⊎◌, ℕ, true, List, [], ◌∷◌, Option, Some, IfSome}
 use Rattle.group_task.specs.Group.{Group}
 use Rattle.group_task.specs.Assignment.{Assignment, owner_of}
 use Rattle.group_task.specs.Ids.{has}
 use Rattle.job_model.specs.declared.job.Job.{Job}
-use Rattle.job_model.specs.Command.{Command}
+use Rattle.job_model.specs.declared.node_command.NodeCommand.{NodeCommand as Command}
 use Rattle.job_model.specs.Durable.{Durable}
 use Rattle.job_model.specs.Fold.{after_wanted}
 use Rattle.wire_msg.specs.Envelope.{Envelope}
@@ -19,12 +19,13 @@ use Rattle.node_core.specs.State.{State}
 use Rattle.node_core.specs.Effect.{Effect}
 use Rattle.node_core.specs.Words.{own_group, task_of, members_of}
 use Rattle.node_core.specs.Start.{alone}
+use Rattle.wire_msg.specs.Kinds.{group_in}
 use Rattle.histories.specs.Lists.{IsAmong, Each}
 use Rattle.histories.specs.NodeState.{NodeState}
 use Rattle.histories.specs.declared.what.What.{What}
 use Rattle.histories.specs.What.{event_of, brought}
 use Rattle.histories.specs.After.{raised, after, sent_at, given_at}
-use Rattle.histories.specs.Named.{BodyHolds, AllHold, StateHolds}
+use Rattle.histories.specs.Named.{AllHold, StateHolds}
 
 -- what happens to a node's place in a group: `given` are the counts that it gives, `made` the tasks that it makes
 pub data GroupMove (self : ℕ) (old : State) (came : List Envelope) (given : List ℕ) (made : List Assignment) (new : State) : Type 0 where
@@ -42,7 +43,7 @@ abbrev pub SaysIn : (Group → Type 0) → (ℕ → ℕ → ℕ → Type 0) → 
 SaysIn P J self made event sender receiver (Ready task) = (sender ≡ self) × IsAmong task made × P task.group
 SaysIn P J self made event sender receiver (WorkMessage group id work) = P group × J sender id work.queue
 SaysIn P J self made event sender receiver (DoneMessage id) = event ≡ Some (Finish receiver id)
-SaysIn P J self made event sender receiver body = BodyHolds P body
+SaysIn P J self made event sender receiver body = IfSome (group_in body) P
 
 abbrev pub Says : (Group → Type 0) → (ℕ → ℕ → ℕ → Type 0) → ℕ → List Assignment → Option Event → Envelope → Type 0
 Says P J self made event m = SaysIn P J self made event m.sender m.receiver m.body

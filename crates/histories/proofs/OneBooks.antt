@@ -7,7 +7,7 @@ use Rattle.group_task.proofs.PublicLaws.{with_has_same}
 use Rattle.wire_msg.specs.Envelope.{Envelope}
 use Rattle.wire_msg.specs.declared.body.Body.TheVariants.{Ready}
 use Rattle.node_core.specs.declared.phase.Phase.{Phase}
-use Rattle.node_core.specs.declared.phase.Phase.TheVariants.{Down, Election, Reorganization, Normal}
+use Rattle.node_core.specs.declared.phase.Phase.TheVariants.{Reorganization, Normal}
 use Rattle.node_core.specs.State.{State}
 use Rattle.node_core.specs.Words.{own_group, task_of}
 use Rattle.histories.specs.Lists.{IsAmong}
@@ -16,10 +16,10 @@ use Rattle.histories.specs.What.{Entry}
 use Rattle.histories.specs.History.{brought_in, sent_in, Follows, counts_given}
 use Rattle.histories.specs.Rising.{Rises, EachRises}
 use Rattle.histories.specs.Bundle.{Bundle}
-use Rattle.histories.specs.Book.{members_in, IsTaskOf, AgreesIn, OneBook, OneCoordinator, OneTask, IsInGroup}
+use Rattle.histories.specs.Book.{members_in, IsTaskOf, AgreesAt, OneBook, OneCoordinator, OneTask}
 use Rattle.histories.proofs.Tests.{same_group_self}
 use Rattle.histories.proofs.Among.{sent_by_one, each_at}
-use Rattle.histories.proofs.Lives.{Ordered, Placed, Life, life, Tells}
+use Rattle.histories.proofs.Lives.{Ordered, Placed, PlacedAt, Life, life, Tells}
 
 -- a history was told the task by the creator of its group
 pub record WasTold (h : List Entry) (t : Assignment) : Type 0 where
@@ -141,35 +141,33 @@ told_in_book hs bundle rises n h at t told =
     let page = the_page hs bundle rises sent.node sent.history sent.at in
     page.in_book t (each_at (Tells sent.node page.lived.all) (sent_in sent.history) told.by page.lived.tells sent.sent t told.says).1
 
-placed_agrees : (book : List Assignment) (n : ℕ) (phase : Phase) (v : State) (all : List Assignment) (Told : Assignment → Type 0)
+placed_agrees : (book : List Assignment) (n : ℕ) (v : State) (all : List Assignment) (Told : Assignment → Type 0)
     → ((t : Assignment) → IsAmong t all → members_in book t.group ≡ Some t.members) → ((t : Assignment) → Told t → members_in book t.group ≡ Some t.members)
-    → Placed n phase v.coordinator v.group v.task all Told → AgreesIn phase book n v
-placed_agrees book n Down v all Told made told h = tt
-placed_agrees book n Election v all Told made told h = tt
-placed_agrees book n Reorganization v all Told made told h = h
-placed_agrees book n Normal v all Told made told h =
-    let members : members_in book h.1.held.group ≡ Some h.1.held.members = elim h.1.known [ inl i ↦ made h.1.held i | inr w ↦ told h.1.held w ] in
-    (h.0, rw h.1.is_held (h.1.in_group, subst (λ (g : Group). members_in book g ≡ Some h.1.held.members) h.1.in_group members, h.1.is_member))
+    → PlacedAt n v all Told → AgreesAt book n v
+placed_agrees book n v all Told made told h = (
+  λ in_it. elim in_it [ inl is ↦ placed Reorganization is | inr is ↦ (placed Normal is).0 ],
+  λ is.
+      let task = (placed Normal is).1 in
+      let members : members_in book task.held.group ≡ Some task.held.members = elim task.known [ inl i ↦ made task.held i | inr w ↦ told task.held w ] in
+      rw task.is_held (task.in_group, subst (λ (g : Group). members_in book g ≡ Some task.held.members) task.in_group members, task.is_member),
+)
+  where
+    placed : (phase : Phase) → v.phase ≡ phase → Placed n phase v.coordinator v.group v.task all Told
+    placed phase is = subst (λ (p : Phase). Placed n p v.coordinator v.group v.task all Told) is h
 
 pub one_book : OneBook
 one_book hs bundle rises = (
   book_of hs bundle rises,
   λ n v moment.
       let page = the_page hs bundle rises n moment.0 moment.1 in
-      placed_agrees (book_of hs bundle rises) n v.phase v page.lived.all (WasTold moment.0) page.in_book (told_in_book hs bundle rises n moment.0 moment.1)
+      placed_agrees (book_of hs bundle rises) n v page.lived.all (WasTold moment.0) page.in_book (told_in_book hs bundle rises n moment.0 moment.1)
       (page.lived.moments v moment.2),
 )
-
-pub agreed_coordinator : (phase : Phase) (book : List Assignment) (n : ℕ) (v : State) → IsInGroup phase → AgreesIn phase book n v → v.coordinator ≡ v.group.creator
-agreed_coordinator Down book n v h a = absurd h
-agreed_coordinator Election book n v h a = absurd h
-agreed_coordinator Reorganization book n v h a = a
-agreed_coordinator Normal book n v h a = a.0
 
 pub one_coordinator : OneCoordinator
 one_coordinator hs bundle rises n m v w at_v at_w in_v in_w same =
     let agrees = (one_book hs bundle rises).1 in
-    agreed_coordinator v.phase _ n v in_v (agrees n v at_v) ∙ (ap (λ (g : Group). g.creator) same ∙ sym (agreed_coordinator w.phase _ m w in_w (agrees m w at_w)))
+    (agrees n v at_v).0 in_v ∙ (ap (λ (g : Group). g.creator) same ∙ sym ((agrees m w at_w).0 in_w))
 
 -- two tasks of one group in one book
 pub same_task : (book : List Assignment) (n m : ℕ) (group : Group) (t u : Option Assignment) → IsTaskOf book n group t → IsTaskOf book m group u → t ≡ u
@@ -184,6 +182,4 @@ pub one_task : OneTask
 one_task hs bundle rises n m v w at_v at_w in_v in_w same =
     let book = (one_book hs bundle rises).0 in
     let agrees = (one_book hs bundle rises).1 in
-    let a = subst (λ (p : Phase). AgreesIn p book n v) in_v (agrees n v at_v) in
-    let b = subst (λ (p : Phase). AgreesIn p book m w) in_w (agrees m w at_w) in
-    same_task book n m w.group v.task w.task (subst (λ (g : Group). IsTaskOf book n g v.task) same a.1) b.1
+    same_task book n m w.group v.task w.task (subst (λ (g : Group). IsTaskOf book n g v.task) same ((agrees n v at_v).1 in_v)) ((agrees m w at_w).1 in_w)

@@ -2,7 +2,8 @@
 use Rattle.std.proofs.Common.{◌≡◌, ◌⊎◌, ℕ, ◌+◌, Bool, true, false, ◌&&◌, ◌||◌, List, [], ◌∷◌, ◌++◌, length, slice_get, refl, sym, ◌∙◌, ap, subst, inl, inr, Option, Some, None}
 use Rattle.std.specs.Prelude.{◌==◌}
 use Rattle.group_task.specs.Assignment.{Assignment, owner_of}
-use Rattle.job_model.specs.Command.{Command, Raise, Done}
+use Rattle.job_model.specs.declared.node_command.NodeCommand.{NodeCommand as Command}
+use Rattle.job_model.specs.declared.node_command.NodeCommand.TheVariants.{Raise, Done}
 use Rattle.job_model.specs.Durable.{Durable}
 use Rattle.wire_msg.specs.Envelope.{Envelope}
 use Rattle.wire_msg.specs.declared.body.Body.{Body}
@@ -22,7 +23,7 @@ use Rattle.histories.specs.What.{Entry, event_of, brought}
 use Rattle.histories.specs.After.{after, sent_at, given_at}
 use Rattle.histories.specs.Possible.{Takes, IsPossible}
 use Rattle.histories.specs.History.{Follows, brought_in, sent_in, vectors}
-use Rattle.histories.specs.Kept.{Tried}
+use Rattle.histories.specs.declared.tried.Tried.{Tried}
 use Rattle.histories.specs.Marks.{Mark, Acknowledged, Unanswered, Mounted, commands_of, tried_marks, failed_marks, marks_at, marks_from}
 use Rattle.histories.specs.Owners.{acted, acted_in, FinishedBy, OwnerFinishes, OneWorker}
 use Rattle.histories.proofs.Tests.{eq_nat, and_left, and_right}

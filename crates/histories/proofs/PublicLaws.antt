@@ -21,7 +21,7 @@ pub use Rattle.histories.proofs.Kepts.{DoubtIsDown, doubt_after, each_kept}
 -- What an event may do to a node: to its place in a group, to its work in hand, and what it may say.
 pub use Rattle.histories.proofs.Moves.{GivenHold, Knows, Says, SaysIn}
 -- The tasks that all nodes made are one book, which agrees with all moments.
-pub use Rattle.histories.proofs.OneBooks.{agreed_coordinator, one_book, one_coordinator, one_task, same_task}
+pub use Rattle.histories.proofs.OneBooks.{one_book, one_coordinator, one_task, same_task}
 -- Each message that a node sends has the node as its sender.
 pub use Rattle.histories.proofs.OwnMessages.{senders}
 -- Each job that is done was finished by an owner of its queue.

@@ -11,17 +11,19 @@ use Rattle.wire_msg.specs.declared.body.Body.{Body}
 use Rattle.wire_msg.specs.declared.body.Body.TheVariants as says
 use Rattle.node_core.specs.declared.event.Event.{Event}
 use Rattle.node_core.specs.declared.event.Event.TheVariants as on
+use Rattle.node_core.specs.declared.timer.Timer.{Timer}
+use Rattle.node_core.specs.declared.timer.Timer.TheVariants as timer
 use Rattle.node_core.specs.declared.in_hand.InHand.{InHand}
 use Rattle.node_core.specs.declared.phase.Phase.TheVariants.{Reorganization, Normal}
 use Rattle.node_core.specs.State.{State, is_down, is_election, is_reorganization, is_normal}
-use Rattle.node_core.specs.Start.{down}
-use Rattle.node_core.specs.Effect.{Effect, nothing}
+use Rattle.node_core.specs.Start.{alone, down}
+use Rattle.node_core.specs.Effect.{Effect, quietly}
 use Rattle.node_core.specs.Words.{letter, to_each, is_empty, leads, members_of, owner, holds, own_group, task_of}
 use Rattle.node_core.specs.Priorities.{by_priority}
-use Rattle.node_core.specs.Timers.{recovery, check_timer, merges, offer, merge_timer, accept_timer, awaits_ready, ready_timer, follows, coord_timer, in_own_hand, order, is_own, dispatch_timer}
-use Rattle.node_core.specs.Messages.{asked_coordinator, answered_coordinator, asked_there, was_probed, answered_there, takes_invitation, passed_on, invited, accepted, is_told, told_ready, acknowledged, got_work}
+use Rattle.node_core.specs.Timers.{timed, merges, awaits_ready, follows, is_own}
+use Rattle.node_core.specs.Messages.{delivered, was_probed, takes_invitation, passed_on, is_told}
 use Rattle.node_core.specs.Operator.{submit, finish}
-use Rattle.node_core.specs.Effects.{delivered, effect_of}
+use Rattle.node_core.specs.Effects.{effect_of}
 use Rattle.node_core.specs.Refusals.{ids_in, refusal_of}
 use Rattle.histories.specs.Lists.{Each}
 use Rattle.histories.specs.Possible.{IsForNode}
@@ -103,14 +105,14 @@ either_up false = refl
 -- ---- the rows
 
 module _ (C U : ℕ → Type 0) (R : ℕ → Body → Type 0) (nodes self : ℕ) (w : Writes C U R nodes self) (s : State) (h : Names C U s) where
-  same : Reaches C U R self s (nothing s)
+  same : Reaches C U R self s (quietly s)
   same = record { up = λ u. u; state = h; sent = tt }
 
   by : (b : Bool) (x y : Effect) → (b ≡ true → Reaches C U R self s x) → (b ≡ false → Reaches C U R self s y) → Reaches C U R self s (if b then x else y)
   by true x y t f = t refl
   by false x y t f = f refl
 
-  when : (b : Bool) (x : Effect) → (b ≡ true → Reaches C U R self s x) → Reaches C U R self s (if b then x else nothing s)
+  when : (b : Bool) (x : Effect) → (b ≡ true → Reaches C U R self s x) → Reaches C U R self s (if b then x else quietly s)
   when true x t = t refl
   when false x t = same
 
@@ -124,17 +126,8 @@ module _ (C U : ℕ → Type 0) (R : ℕ → Body → Type 0) (nodes self : ℕ)
   owner_known : (queue : ℕ) → C (owner s queue)
   owner_known queue = read_each C (members_of s.task) (queue % length (members_of s.task)) w.first h.members
 
-  recovers : (answer : ℕ) → Reaches C U R self s (recovery self answer s)
-  unfolding recovery
+  recovers : (answer : ℕ) → Reaches C U R self s (quietly (alone self answer))
   recovers answer = record { up = λ u. refl; state = record { coordinator = w.own; up = tt; found = tt; members = (w.own, tt); hand = tt }; sent = tt }
-
-  offers : (answer : ℕ) → Reaches C U R self s (offer self answer s)
-  unfolding offer
-  offers answer = record {
-    up = λ u. refl;
-    state = record { coordinator = w.own; up = tt; found = tt; members = tt; hand = tt };
-    sent = to_those (says.Invitation (own_group self answer)) (λ id u. w.called id (own_group self answer) u) (either_of s.up s.found) (either_each U s.up s.found h.up h.found);
-  }
 
   passes : (group : Group) → Each (Goes R self) (to_each self (passed_on self group s) (says.Invitation group))
   passes group = by_lead (s.coordinator == self)
@@ -147,7 +140,7 @@ module _ (C U : ℕ → Type 0) (R : ℕ → Body → Type 0) (nodes self : ℕ)
   tells from task known t = (goes from (says.ReadyAck s.group) known (not_true _ (and_right _ _ (and_left _ _ (and_left _ _ t)))), tt)
 
   body_reaches : (from : ℕ) (body : Body) (answer : ℕ) → Comes C U R from body → Reaches C U R self s (delivered self from body answer s)
-  unfolding asked_coordinator answered_coordinator asked_there answered_there invited accepted told_ready acknowledged got_work
+  unfolding delivered
   body_reaches from says.AreYouCoordinator answer c = by (is_down s.phase) _ _ (λ t. same) (λ f. record { up = λ u. u; state = h; sent = ((refl, c.asks (leads self s)), tt) })
   body_reaches from (says.Coordinator agreed) answer c = when (agreed && merges self s) _ (λ t. record {
     up = λ u. u;
@@ -196,9 +189,33 @@ module _ (C U : ℕ → Type 0) (R : ℕ → Body → Type 0) (nodes self : ℕ)
       })
   body_reaches from (says.Done id) answer c = same
 
-  dispatches : (pending : List Job) → Reaches C U R self s (dispatch_timer self pending s)
-  unfolding dispatch_timer
-  dispatches pending = when (is_normal s.phase) _ (λ t. record {
+  timer_reaches : (pending : List Job) (timer : Timer) (answer : ℕ) → Reaches C U R self s (timed nodes self pending timer answer s)
+  unfolding timed
+  timer_reaches pending timer.Check answer = when (leads self s) _ (λ t. record {
+    up = λ u. u;
+    state = record { coordinator = h.coordinator; up = h.up; found = tt; members = h.members; hand = h.hand };
+    sent = each_chosen C (Goes R self) (λ (id : ℕ). letter self id says.AreYouCoordinator) (λ (id : ℕ). not (id == self)) (ids_below nodes)
+        (λ id is known. goes id says.AreYouCoordinator known (not_true _ is)) w.all;
+  })
+  timer_reaches pending timer.Merge answer = when (merges self s) _ (λ t. by (is_empty s.found) _ _
+      (λ e. record { up = λ u. u; state = record { coordinator = h.coordinator; up = h.up; found = h.found; members = h.members; hand = h.hand }; sent = tt })
+      (λ f. record {
+        up = λ u. refl;
+        state = record { coordinator = w.own; up = tt; found = tt; members = tt; hand = tt };
+        sent = to_those (says.Invitation (own_group self answer)) (λ id u. w.called id (own_group self answer) u) (either_of s.up s.found) (either_each U s.up s.found h.up h.found);
+      }))
+  timer_reaches pending timer.Accept answer = when (is_election s.phase && s.coordinator == self) _ (λ t. record {
+    up = λ u. either_up (is_empty s.up);
+    state = record { coordinator = h.coordinator; up = h.up; found = h.found; members = with_each C s.up self w.own (each_more U C s.up w.within h.up); hand = h.hand };
+    sent = to_those (says.Ready (task_of s.group (with_id s.up self))) (λ id u. w.told id (task_of s.group (with_id s.up self)) u) s.up h.up;
+  })
+  timer_reaches pending timer.Ready answer = when (awaits_ready self s) _ (λ t. recovers answer)
+  timer_reaches pending timer.Coord answer = when (follows self s) _ (λ t. by s.probing _ _ (λ p. recovers answer) (λ f. record {
+    up = λ u. u;
+    state = record { coordinator = h.coordinator; up = h.up; found = h.found; members = h.members; hand = h.hand };
+    sent = (goes s.coordinator (says.AreYouThere s.group) h.coordinator (not_true _ (and_right _ _ t)), tt);
+  }))
+  timer_reaches pending timer.Dispatch answer = when (is_normal s.phase) _ (λ t. record {
     up = λ u. u;
     state = record {
       coordinator = h.coordinator;
@@ -206,9 +223,9 @@ module _ (C U : ℕ → Type 0) (R : ℕ → Body → Type 0) (nodes self : ℕ)
       found = h.found;
       members = h.members;
       hand = each_append (λ (job : InHand). C job.origin) s.hand _ h.hand
-          (each_map (λ (job : InHand). C job.origin) (in_own_hand self) (filter (λ job. is_own self s job && not (holds s.hand self job.id)) (by_priority pending)) (λ job. w.own));
+          (each_map (λ (job : InHand). C job.origin) (λ (job : Job). record { origin = self; id = job.id; work = job.work }) (filter (λ job. is_own self s job && not (holds s.hand self job.id)) (by_priority pending)) (λ job. w.own));
     };
-    sent = each_chosen (λ (job : Job). Unit {0}) (Goes R self) (order self s) (λ (job : Job). not (is_own self s job)) (by_priority pending)
+    sent = each_chosen (λ (job : Job). Unit {0}) (Goes R self) (λ (job : Job). letter self (owner s job.work.queue) (says.Work s.group job.id job.work)) (λ (job : Job). not (is_own self s job)) (by_priority pending)
         (λ job is u. goes (owner s job.work.queue) (says.Work s.group job.id job.work) (owner_known job.work.queue) (not_true _ is))
         (each_of (λ (job : Job). Unit {0}) (by_priority pending) (λ job i. tt));
   })
@@ -218,28 +235,8 @@ module _ (C U : ℕ → Type 0) (R : ℕ → Body → Type 0) (nodes self : ℕ)
   ends origin id known false is = (goes origin (says.Done id) known is, tt)
 
   pub event_reaches : (pending : List Job) (event : Event) (answer : ℕ) → Brings C U R event → Reaches C U R self s (effect_of nodes self pending event answer s)
-  unfolding check_timer merge_timer accept_timer ready_timer coord_timer submit finish
-  event_reaches pending on.CheckTimer answer c = when (leads self s) _ (λ t. record {
-    up = λ u. u;
-    state = record { coordinator = h.coordinator; up = h.up; found = tt; members = h.members; hand = h.hand };
-    sent = each_chosen C (Goes R self) (λ (id : ℕ). letter self id says.AreYouCoordinator) (λ (id : ℕ). not (id == self)) (ids_below nodes)
-        (λ id is known. goes id says.AreYouCoordinator known (not_true _ is)) w.all;
-  })
-  event_reaches pending on.MergeTimer answer c = when (merges self s) _ (λ t. by (is_empty s.found) _ _
-      (λ e. record { up = λ u. u; state = record { coordinator = h.coordinator; up = h.up; found = h.found; members = h.members; hand = h.hand }; sent = tt })
-      (λ f. offers answer))
-  event_reaches pending on.AcceptTimer answer c = when (is_election s.phase && s.coordinator == self) _ (λ t. record {
-    up = λ u. either_up (is_empty s.up);
-    state = record { coordinator = h.coordinator; up = h.up; found = h.found; members = with_each C s.up self w.own (each_more U C s.up w.within h.up); hand = h.hand };
-    sent = to_those (says.Ready (task_of s.group (with_id s.up self))) (λ id u. w.told id (task_of s.group (with_id s.up self)) u) s.up h.up;
-  })
-  event_reaches pending on.ReadyTimer answer c = when (awaits_ready self s) _ (λ t. recovers answer)
-  event_reaches pending on.CoordTimer answer c = when (follows self s) _ (λ t. by s.probing _ _ (λ p. recovers answer) (λ f. record {
-    up = λ u. u;
-    state = record { coordinator = h.coordinator; up = h.up; found = h.found; members = h.members; hand = h.hand };
-    sent = (goes s.coordinator (says.AreYouThere s.group) h.coordinator (not_true _ (and_right _ _ t)), tt);
-  }))
-  event_reaches pending on.DispatchTimer answer c = dispatches pending
+  unfolding submit finish
+  event_reaches pending (on.Timer timer) answer c = timer_reaches pending timer answer
   event_reaches pending (on.Deliver m) answer c = body_reaches m.sender m.body answer c
   event_reaches pending (on.Submit work) answer c = by (owner s work.queue == self) _ _
       (λ t. record {
@@ -295,26 +292,29 @@ any_reaches nodes self pending event answer s = event_reaches Any Any AnySaid no
 
 -- ---- a node that is down
 
-agreed_down : (self from : ℕ) (agreed : Bool) → answered_coordinator self from agreed (down self) ≡ nothing (down self)
-unfolding answered_coordinator
-agreed_down self from true = refl
-agreed_down self from false = refl
+agreed_down : (self : ℕ) (agreed : Bool) (x : Effect) → (if agreed && false then x else quietly (down self)) ≡ quietly (down self)
+agreed_down self true x = refl
+agreed_down self false x = refl
 
-told_down : (self from : ℕ) (task : Assignment) (b : Bool) (x y : Effect) → (if b && false then x else (if b && false then y else nothing (down self))) ≡ nothing (down self)
+told_down : (self from : ℕ) (task : Assignment) (b : Bool) (x y : Effect) → (if b && false then x else (if b && false then y else quietly (down self))) ≡ quietly (down self)
 told_down self from task true x y = refl
 told_down self from task false x y = refl
 
-body_down : (self from : ℕ) (body : Body) (answer : ℕ) → delivered self from body answer (down self) ≡ nothing (down self)
-unfolding asked_coordinator asked_there answered_there invited accepted told_ready acknowledged got_work
-body_down self from (says.Coordinator agreed) answer = agreed_down self from agreed
+body_down : (self from : ℕ) (body : Body) (answer : ℕ) → delivered self from body answer (down self) ≡ quietly (down self)
+unfolding delivered
+body_down self from (says.Coordinator agreed) answer = agreed_down self agreed _
 body_down self from (says.Ready task) answer = told_down self from task (is_told self from task (down self)) _ _
 body_down self from body answer = refl
 
+timed_down : (self nodes : ℕ) (pending : List Job) (timer : Timer) (answer : ℕ) → timed nodes self pending timer answer (down self) ≡ quietly (down self)
+unfolding timed
+timed_down self nodes pending timer.Check answer = refl
+timed_down self nodes pending timer answer = refl
+
 pub stays_down : (self nodes : ℕ) (pending : List Job) (event : Event) (answer : ℕ) → IsForNode (down self) event → refusal_of nodes self event (down self) ≡ None
-    → effect_of nodes self pending event answer (down self) ≡ nothing (down self)
-unfolding check_timer merge_timer accept_timer ready_timer coord_timer dispatch_timer
+    → effect_of nodes self pending event answer (down self) ≡ quietly (down self)
+stays_down self nodes pending (on.Timer timer) answer up h = timed_down self nodes pending timer answer
 stays_down self nodes pending (on.Deliver m) answer up h = body_down self m.sender m.body answer
 stays_down self nodes pending (on.Submit work) answer up h = absurd cc
 stays_down self nodes pending (on.Finish origin id) answer up h = absurd cc
-stays_down self nodes pending on.Recover answer up h = absurd cc
-stays_down self nodes pending event answer up h = refl
+stays_down self nodes pending on.Recover answer up h = absurd (let risen : true ≡ false = up refl in cc)

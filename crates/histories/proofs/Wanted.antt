@@ -1,18 +1,20 @@
 -- One pass over the commands that events want: a job is ended by a Finish of the node's own or by a Done that is delivered, and
 -- no job but a pending one.
 use Rattle.std.proofs.Common.{◌≡◌, ◌⊎◌, ◌∙◌, ℕ, Bool, true, false, not, ◌&&◌, List, refl, sym, subst, inl, inr, Option, Some, None}
-use Rattle.std.specs.Prelude.{◌==◌}
+use Rattle.std.specs.Prelude.{if◌then◌else◌, ◌==◌}
 use Rattle.job_model.specs.declared.job.Job.{Job}
 use Rattle.job_model.specs.declared.work.Work.{Work}
-use Rattle.job_model.specs.Command.{Command, Raise, Put, Done}
+use Rattle.job_model.specs.declared.node_command.NodeCommand.{NodeCommand as Command}
+use Rattle.job_model.specs.declared.node_command.NodeCommand.TheVariants.{Raise, Put, Done}
 use Rattle.job_model.specs.Fold.{is_pending}
 use Rattle.wire_msg.specs.Envelope.{Envelope}
 use Rattle.wire_msg.specs.declared.body.Body.{Body}
 use Rattle.wire_msg.specs.declared.body.Body.TheVariants.{Here, Done as DoneMessage}
 use Rattle.node_core.specs.declared.event.Event.{Event}
-use Rattle.node_core.specs.declared.event.Event.TheVariants.{MergeTimer, ReadyTimer, CoordTimer, Deliver, Submit, Finish, Recover}
+use Rattle.node_core.specs.declared.event.Event.TheVariants.{Timer, Deliver, Submit, Finish, Recover}
+use Rattle.node_core.specs.declared.timer.Timer.TheVariants as timer
 use Rattle.node_core.specs.State.{State, is_down}
-use Rattle.node_core.specs.Wants.{raise_if, done_if, delivered_wants, wants_of}
+use Rattle.node_core.specs.Wants.{delivered_wants, wants_of}
 use Rattle.histories.proofs.Tests.{and_left, and_right, eq_nat}
 
 -- why a job is done: by a Finish of the node's own, or by a Done that is delivered
@@ -26,11 +28,11 @@ pub data MayWant (self : ℕ) (pending : List Job) (event : Event) (wants : Opti
   puts : (work : Work) → event ≡ Submit work → wants ≡ Some (Put work) → MayWant self pending event wants
   ends : (id : ℕ) → is_pending pending id ≡ true → Cause self event id → wants ≡ Some (Done id) → MayWant self pending event wants
 
-by_raise : (self : ℕ) (pending : List Job) (event : Event) (b : Bool) → MayWant self pending event (raise_if b)
+by_raise : (self : ℕ) (pending : List Job) (event : Event) (b : Bool) → MayWant self pending event (if b then Some Raise else None)
 by_raise self pending event true = raises refl
 by_raise self pending event false = wants_none refl
 
-by_end : (self : ℕ) (pending : List Job) (event : Event) (b : Bool) (id : ℕ) → (b ≡ true → is_pending pending id ≡ true) → (b ≡ true → Cause self event id) → MayWant self pending event (done_if b id)
+by_end : (self : ℕ) (pending : List Job) (event : Event) (b : Bool) (id : ℕ) → (b ≡ true → is_pending pending id ≡ true) → (b ≡ true → Cause self event id) → MayWant self pending event (if b then Some (Done id) else None)
 by_end self pending event true id is why = ends id (is refl) (why refl) refl
 by_end self pending event false id is why = wants_none refl
 
@@ -40,9 +42,9 @@ body_wants self pending m (DoneMessage id) s is = by_end self pending (Deliver m
 body_wants self pending m body s is = wants_none refl
 
 pub may_want : (self : ℕ) (pending : List Job) (event : Event) (s : State) → MayWant self pending event (wants_of self pending event s)
-may_want self pending MergeTimer s = by_raise self pending MergeTimer _
-may_want self pending ReadyTimer s = by_raise self pending ReadyTimer _
-may_want self pending CoordTimer s = by_raise self pending CoordTimer _
+may_want self pending (Timer timer.Merge) s = by_raise self pending (Timer timer.Merge) _
+may_want self pending (Timer timer.Ready) s = by_raise self pending (Timer timer.Ready) _
+may_want self pending (Timer timer.Coord) s = by_raise self pending (Timer timer.Coord) _
 may_want self pending (Deliver m) s = body_wants self pending m m.body s refl
 may_want self pending (Submit work) s = puts work refl refl
 may_want self pending (Finish origin id) s = by_end self pending (Finish origin id) (origin == self && is_pending pending id) id (λ t. and_right _ _ t)

@@ -1,6 +1,7 @@
 -- What an entry makes of a node with its disk, what it sends, the count that it gives, and what it mounts.
 use Rattle.std.specs.Prelude.{ℕ, ◌+◌, List, [], ◌∷◌, Option, Some, None}
-use Rattle.job_model.specs.Command.{Command, Raise}
+use Rattle.job_model.specs.declared.node_command.NodeCommand.{NodeCommand as Command}
+use Rattle.job_model.specs.declared.node_command.NodeCommand.TheVariants.{Raise}
 use Rattle.job_model.specs.Durable.{Durable}
 use Rattle.job_model.specs.Fold.{after_command, after_wanted}
 use Rattle.wire_msg.specs.Envelope.{Envelope}

@@ -1,6 +1,6 @@
 -- The book of groups: which members each group has, for all nodes and all time. It is a list of tasks, of which the
 -- first for a group counts; nobody stores it, and no code computes it.
-use Rattle.std.specs.Prelude.{ℕ, ◌≡◌, true, List, [], ◌∷◌, if◌then◌else◌, Option, Some, None}
+use Rattle.std.specs.Prelude.{ℕ, ◌≡◌, ◌⊎◌, true, List, [], ◌∷◌, if◌then◌else◌, Option, Some, None, IsSomeAnd}
 use Rattle.group_task.specs.Group.{Group, same_group}
 use Rattle.group_task.specs.Assignment.{Assignment}
 use Rattle.group_task.specs.Ids.{has}
@@ -19,19 +19,15 @@ members_in (t ∷ ts) group = if same_group t.group group then Some t.members el
 
 -- the task is that of the group, with the members that the book has, and the node among them
 abbrev pub IsTaskOf : List Assignment → ℕ → Group → Option Assignment → Type 0
-IsTaskOf book node group None = ⊥
-IsTaskOf book node group (Some t) = (t.group ≡ group) × (members_in book group ≡ Some t.members) × (has t.members node ≡ true)
+IsTaskOf book node group task = IsSomeAnd task (λ t. (t.group ≡ group) × (members_in book group ≡ Some t.members) × (has t.members node ≡ true))
 
--- the book agrees with the state of a node in this phase: in a group, its creator is the coordinator, and a node that
--- works has the task that the book has
-abbrev pub AgreesIn : Phase → List Assignment → ℕ → State → Type 0
-AgreesIn Reorganization book node v = v.coordinator ≡ v.group.creator
-AgreesIn Normal book node v = (v.coordinator ≡ v.group.creator) × IsTaskOf book node v.group v.task
-AgreesIn phase book node v = Unit {0}
+-- in a group, on its way into it or working in it
+abbrev pub IsInGroup : Phase → Type 0
+IsInGroup phase = (phase ≡ Reorganization) ⊎ (phase ≡ Normal)
 
--- and so for its state
+-- the book agrees with the state of a node: in a group, its creator is the coordinator, and a node that works has the task that the book has
 abbrev pub AgreesAt : List Assignment → ℕ → State → Type 0
-AgreesAt book node v = AgreesIn v.phase book node v
+AgreesAt book node v = (IsInGroup v.phase → v.coordinator ≡ v.group.creator) × (v.phase ≡ Normal → IsTaskOf book node v.group v.task)
 
 -- the book agrees with all moments, the openings among them
 abbrev pub Agrees : List Assignment → List (List Entry) → Type 0
@@ -40,12 +36,6 @@ Agrees book histories = (n : ℕ) (v : State) → IsMoment histories n v → Agr
 -- in every bundle in which each node is rising, one book agrees with the openings and all moments
 abbrev pub OneBook : Type 0
 OneBook = (histories : List (List Entry)) → Bundle histories → EachRises histories → (book : List Assignment) × Agrees book histories
-
--- in a group, on its way into it or working in it
-abbrev pub IsInGroup : Phase → Type 0
-IsInGroup Reorganization = Unit {0}
-IsInGroup Normal = Unit {0}
-IsInGroup phase = ⊥
 
 -- any two moments in one group have one coordinator
 abbrev pub OneCoordinator : Type 0

@@ -1,7 +1,8 @@
 -- What came of an event, and which command was tried at it, as they are told without the event.
 use Rattle.std.specs.Prelude.{◌≡◌, Option, Some, None, option_map}
 use Rattle.job_model.specs.declared.work.Work.{Work}
-use Rattle.job_model.specs.Command.{Command, Raise, Put, Done}
+use Rattle.job_model.specs.declared.node_command.NodeCommand.{NodeCommand as Command}
+use Rattle.job_model.specs.declared.node_command.NodeCommand.TheVariants.{Raise, Put, Done}
 use Rattle.node_core.specs.declared.event.Event.{Event}
 use Rattle.node_core.specs.declared.event.Event.TheVariants.{Submit}
 use Rattle.histories.specs.declared.what.What.{What}

@@ -1,14 +1,11 @@
 -- What the mountings of a node find: the fold of its commands, but for some that weren't acknowledged.
 use Rattle.std.specs.Prelude.{ℕ, ◌+◌, ◌≤◌, ◌≡◌, ◌≢◌, ◌⊎◌, Bool, true, false, List, [], ◌∷◌, length, take, slice_get, Option, Some, None}
-use Rattle.job_model.specs.Command.{Command, Raise}
+use Rattle.job_model.specs.declared.node_command.NodeCommand.{NodeCommand as Command}
+use Rattle.job_model.specs.declared.node_command.NodeCommand.TheVariants.{Raise}
 use Rattle.job_model.specs.Durable.{Durable, formatted}
 use Rattle.job_model.specs.Fold.{after_commands}
 use Rattle.job_model.specs.Answer.{answer_of}
-
--- a command that was tried on the device, with the answer if it was acknowledged
-pub record Tried : Type 0 where
-  pub command : Command
-  pub acked : Option ℕ
+use Rattle.histories.specs.declared.tried.Tried.{Tried}
 
 -- what a mounting found: so many commands came before it
 pub record Mounting : Type 0 where
@@ -17,11 +14,9 @@ pub record Mounting : Type 0 where
 
 -- the commands that count, by a flag for each
 abbrev pub counted : List Bool → List Tried → List Command
-counted [] ts = []
-counted (true ∷ cs) [] = []
 counted (true ∷ cs) (t ∷ ts) = t.command ∷ counted cs ts
-counted (false ∷ cs) [] = []
 counted (false ∷ cs) (t ∷ ts) = counted cs ts
+counted cs ts = []
 
 -- the fold of the first n commands, but for those that don't count
 abbrev pub stands_after : List Bool → List Tried → ℕ → Durable

@@ -1,6 +1,7 @@
 -- The commands and mountings of a node in one list, in the order in which they came, and what each may find.
 use Rattle.std.specs.Prelude.{ℕ, ◌+◌, ◌≡◌, ◌⊎◌, List, [], ◌∷◌, ◌++◌, length, Option, Some, None}
-use Rattle.job_model.specs.Command.{Command, Raise}
+use Rattle.job_model.specs.declared.node_command.NodeCommand.{NodeCommand as Command}
+use Rattle.job_model.specs.declared.node_command.NodeCommand.TheVariants.{Raise}
 use Rattle.job_model.specs.Durable.{Durable, formatted}
 use Rattle.job_model.specs.Fold.{after_command}
 use Rattle.job_model.specs.Answer.{answer_of}
@@ -11,7 +12,8 @@ use Rattle.histories.specs.What.{Entry}
 use Rattle.histories.specs.After.{after}
 use Rattle.histories.specs.History.{Follows}
 use Rattle.histories.specs.Counts.{IsShort}
-use Rattle.histories.specs.Kept.{Tried, Mounting, Kept}
+use Rattle.histories.specs.Kept.{Mounting, Kept}
+use Rattle.histories.specs.declared.tried.Tried.{Tried}
 
 -- a command that was tried on the device, with the answer if it was acknowledged, or a mounting that succeeded
 pub data Mark : Type 0 where

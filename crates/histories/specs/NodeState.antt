@@ -1,9 +1,9 @@
 -- A node with its disk, as its history leaves it.
 use Rattle.std.specs.Prelude.{ℕ, Bool, true, false, [], Option, Some, None}
-use Rattle.job_model.specs.Command.{Command}
+use Rattle.job_model.specs.declared.node_command.NodeCommand.{NodeCommand as Command}
 use Rattle.job_model.specs.Durable.{Durable}
 use Rattle.job_model.specs.Fold.{after_wanted}
-use Rattle.job_model.specs.Answer.{answer_of, answer_to}
+use Rattle.job_model.specs.Answer.{answer_to}
 use Rattle.node_core.specs.declared.event.Event.{Event}
 use Rattle.node_core.specs.State.{State}
 use Rattle.node_core.specs.Start.{alone}
@@ -25,11 +25,6 @@ opening self = record { state = alone self 1; durable = record { counter = 1; ne
 -- the command that an event wants
 abbrev pub wants_at : ℕ → ℕ → NodeState → Event → Option Command
 wants_at self nodes s event = wants_of self s.durable.pending event s.state
-
--- the answer to the command that an event wants, if it wants one
-abbrev pub answer_if_wanted : Durable → Option Command → Option ℕ
-answer_if_wanted d None = None
-answer_if_wanted d (Some c) = Some (answer_of d c)
 
 -- what an event makes, once its command is taken
 abbrev pub effect_at : ℕ → ℕ → NodeState → Event → Effect

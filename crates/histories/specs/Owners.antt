@@ -1,6 +1,6 @@
 -- A job is done after an owner of its queue finished it.
 use Rattle.std.specs.Prelude.{ℕ, ◌≡◌, List, [], ◌∷◌, ◌++◌, length, slice_get, Some}
-use Rattle.job_model.specs.Command.{Done}
+use Rattle.job_model.specs.declared.node_command.NodeCommand.TheVariants.{Done}
 use Rattle.node_core.specs.declared.phase.Phase.TheVariants.{Normal}
 use Rattle.node_core.specs.declared.in_hand.InHand.{InHand}
 use Rattle.node_core.specs.declared.event.Event.{Event}
@@ -13,7 +13,7 @@ use Rattle.histories.specs.declared.what.What.TheVariants.{Did, Faulted}
 use Rattle.histories.specs.What.{Entry}
 use Rattle.histories.specs.Bundle.{Bundle}
 use Rattle.histories.specs.Moments.{IsMoment}
-use Rattle.histories.specs.Kept.{Tried}
+use Rattle.histories.specs.declared.tried.Tried.{Tried}
 use Rattle.histories.specs.Marks.{commands_of, marks_of}
 
 -- the event of an entry, where it wasn't refused

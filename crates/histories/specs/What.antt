@@ -2,31 +2,28 @@
 use Rattle.std.specs.Prelude.{ℕ, ◌≡◌, List, [], ◌∷◌, Option, Some, None}
 use Rattle.wire_msg.specs.Envelope.{Envelope}
 use Rattle.node_core.specs.declared.event.Event.{Event}
-use Rattle.node_core.specs.declared.event.Event.TheVariants.{Deliver}
-use Rattle.job_model.specs.Command.{Command, Raise, Put, Done}
-use Rattle.histories.specs.declared.what.Command.{Command as KeptCommand}
-use Rattle.histories.specs.declared.what.Command.TheVariants as kept
+use Rattle.node_core.specs.declared.event.Event.TheVariants.{Deliver, Recover}
 use Rattle.histories.specs.declared.what.What.{What}
-use Rattle.histories.specs.declared.what.What.TheVariants.{Did, Refused, Faulted}
+use Rattle.histories.specs.declared.what.What.TheVariants.{Did, Refused, Faulted, Rests, Crashed}
 use Rattle.histories.specs.Lists.{Each}
-
--- the command that a value of the code names
-abbrev pub command_of : KeptCommand → Command
-command_of kept.Raise = Raise
-command_of (kept.Put work) = Put work
-command_of (kept.Done id) = Done id
 
 -- one entry of a node's history: what came of an event, and the messages that were handed out
 pub record Entry : Type 0 where
   pub what : What
   pub sent : List Envelope
 
--- the event that was handled, refused or faulted: a recovery that mounts is none of the node's events
+-- the event that it came of: a node that is down mounts its disk at a Recover
 abbrev pub event_of : What → Option Event
 event_of (Did event) = Some event
 event_of (Refused event fault) = Some event
 event_of (Faulted event) = Some event
-event_of what = None
+event_of (Rests rest) = None
+event_of Crashed = None
+event_of mounting = Some Recover
+
+-- it came of this event
+abbrev pub IsOf : Event → What → Type 0
+IsOf event what = event_of what ≡ Some event
 
 -- the message that an event brings
 abbrev pub brought : Option Event → List Envelope

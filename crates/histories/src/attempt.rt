@@ -1,10 +1,8 @@
 // Which command was tried, told without the work of a job.
-ghost use Rattle.std.specs.Prelude.{◌≡◌, Some, option_map};
+ghost use Rattle.std.specs.Prelude.{◌≡◌, Some};
 ghost use Rattle.histories.specs.Fates.{command_with, work_of};
-ghost use Rattle.histories.specs.What.{command_of};
 
-use crate::what::Command;
-use job_model::Work;
+use job_model::{NodeCommand as Command, Work};
 use node_core::Event;
 
 /// Which command was tried at an event, for who has the event: a [`Command`] holds the work of a job.
@@ -21,7 +19,7 @@ pub enum Attempt {
 impl Attempt {
     /// The whole command, by the work that the event submits ([`submitted`]). None for a Put where there is no work.
     pub fn command(self, work: Option<Work>) -> Option<Command>
-        ensures { option_map command_of result ≡ command_with work (Some self) }
+        ensures { result ≡ command_with work (Some self) }
     {
         match self {
             Attempt::Raise => Some(Command::Raise),

@@ -9,13 +9,16 @@
 mod attempt;
 mod fate;
 mod laws;
+mod tried;
 mod what;
 
 pub use attempt::{Attempt, submitted};
 pub use fate::Fate;
+pub use job_model::NodeCommand as Command;
 pub use laws::{
     counts_rise, few_counts, goes_on, kept, one_book, one_coordinator_and_task, owner_finishes,
     senders,
 };
 pub use node_core::Refusal;
-pub use what::{Command, Rest, What};
+pub use tried::Tried;
+pub use what::{Rest, What};

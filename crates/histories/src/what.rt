@@ -1,5 +1,4 @@
 // What comes of the events of a node with its disk.
-use job_model::Work;
 use node_core::{Event, Refusal};
 
 /// What came of an event, of a crash or of a recovery.
@@ -37,15 +36,4 @@ pub enum Rest {
     CompactDown,
     /// A compaction was refused, since the journal has changed its area as often as it can.
     CompactWorn,
-}
-
-/// What a node asks of its disk.
-#[derive(Clone, Copy, Debug, PartialEq, Eq)]
-pub enum Command {
-    /// The counter of groups rises by one.
-    Raise,
-    /// A job becomes pending.
-    Put(Work),
-    /// The job of this id, which is pending, is done.
-    Done(u64),
 }

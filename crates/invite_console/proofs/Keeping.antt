@@ -8,9 +8,9 @@ use Rattle.sim_net.specs.Network.{Network}
 use Rattle.node_core.specs.State.{is_down}
 use Rattle.histories.specs.NodeState.{NodeState}
 use Rattle.schedule.specs.declared.act.Act.{Act}
-use Rattle.cluster_sim.specs.declared.outcome.Outcome.{Outcome}
+use Rattle.runs.specs.declared.outcome.Outcome.{Outcome}
 use Rattle.cluster_sim.specs.Machine.{Machine, Acted, StandsFor}
-use Rattle.cluster_sim.proofs.PublicLaws.{step_adds}
+use Rattle.runs.proofs.PublicLaws.{step_adds}
 use Rattle.runs.specs.World.{World, start}
 use Rattle.runs.specs.Step.{step_sent}
 use Rattle.runs.specs.Growth.{RunsGrow, RunsOpen}

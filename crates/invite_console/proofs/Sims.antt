@@ -12,19 +12,17 @@ use Rattle.histories.specs.declared.what.What.TheVariants.{Rests, Crashed}
 use Rattle.histories.specs.declared.what.Rest.TheVariants.{Nothing, Compacted, CompactDown, CompactWorn}
 use Rattle.schedule.specs.declared.act.Act.{Act}
 use Rattle.schedule.specs.declared.act.Act.TheVariants as an
-use Rattle.cluster_sim.specs.declared.outcome.Outcome.{Outcome}
-use Rattle.cluster_sim.specs.declared.outcome.Outcome.TheVariants as outcome
-use Rattle.cluster_sim.specs.declared.outcome.Outcome.TheVariants.{Done}
+use Rattle.runs.specs.declared.outcome.Outcome.{Outcome}
+use Rattle.runs.specs.declared.outcome.Outcome.TheVariants as outcome
+use Rattle.runs.specs.declared.outcome.Outcome.TheVariants.{Done}
 use Rattle.runs.specs.World.{World, node_in, start}
-use Rattle.runs.proofs.PublicLaws.{step_length, length_openings}
-use Rattle.cluster_sim.proofs.PublicLaws.{step_adds}
-use Rattle.runs.specs.Step.{Step, Takes, Changes, Denies, OfNet, Stranger, step_sent, world_after}
+use Rattle.runs.proofs.PublicLaws.{step_adds, step_length, length_openings}
+use Rattle.runs.specs.Step.{Step, Takes, Changes, Denies, step_sent, world_after}
 use Rattle.runs.specs.Acts.{what_outcome, act_outcome}
 use Rattle.runs.specs.Run.{IsAllowed}
 use Rattle.histories.specs.After.{sent_at}
 use Rattle.runs.specs.Reporting.{Moment, grown, moment_of, report_of}
 use Rattle.runs.specs.Growth.{IsNext, RunsGrow, RunsOpen}
-use Rattle.cluster_sim.specs.Told.{told}
 use Rattle.cluster_sim.specs.Machine.{Machine, Acted, StandsFor}
 use Rattle.invite_console.specs.declared.telling.Telling.{Telling}
 use Rattle.invite_console.specs.Acts.{act_line, answer_text, moment_line, sent_text}
@@ -41,7 +39,7 @@ messages_part names outcome.Faulted sent = []
 
 -- An act that was done tells how many messages had been sent before it, and another one sends none.
 told_said : (names : Bool) (n nodes first : ℕ) (s : NodeState) (what : What) (a : Act)
-    → messages_part names (told (what_outcome n nodes first s what a)) (sent_at n nodes s what) ≡ sent_text names first (sent_at n nodes s what)
+    → messages_part names (what_outcome n nodes first s what a) (sent_at n nodes s what) ≡ sent_text names first (sent_at n nodes s what)
 told_said names n nodes first s (Rests Nothing) a = refl
 told_said names n nodes first s (Rests Compacted) a = refl
 told_said names n nodes first s (Rests CompactDown) a = refl
@@ -51,11 +49,10 @@ told_said names n nodes first s Crashed _ = refl
 told_said names n nodes first s _ a = refl
 
 step_said : (names : Bool) (nodes : ℕ) (w : World) (a : Act) (step : Step)
-    → messages_part names (told (act_outcome nodes w a step)) (step_sent nodes w step) ≡ sent_text names (length w.net.sent) (step_sent nodes w step)
+    → messages_part names (act_outcome nodes w a step) (step_sent nodes w step) ≡ sent_text names (length w.net.sent) (step_sent nodes w step)
 step_said names nodes w a (Takes n number what) = told_said names n nodes (length w.net.sent) (node_in w.states n) what a
 step_said names nodes w a (Changes net) = refl
-step_said names nodes w a (Denies n (OfNet fault)) = refl
-step_said names nodes w a (Denies n Stranger) = refl
+step_said names nodes w a (Denies n why) = refl
 
 -- the messages of a step are the last ones
 pub last_sent : (nodes : ℕ) (w : World) (step : Step) → IsAllowed nodes w step → drop (length w.net.sent) (world_after nodes w step).net.sent ≡ step_sent nodes w step
@@ -65,11 +62,11 @@ last_sent nodes w step allowed =
 -- ---- one act further
 
 -- the line of the act, as its moment has it
-told_line : (names : Bool) (nodes k : ℕ) (w : World) (a : Act) (step : Step) (new : Machine) (outcome : Outcome) → IsAllowed nodes w step → outcome ≡ told (act_outcome nodes w a step) → StandsFor new (world_after nodes w step)
+told_line : (names : Bool) (nodes k : ℕ) (w : World) (a : Act) (step : Step) (new : Machine) (outcome : Outcome) → IsAllowed nodes w step → outcome ≡ act_outcome nodes w a step → StandsFor new (world_after nodes w step)
     → act_line names k a outcome (drop (length w.net.sent) new.net.sent) ≡ moment_line names k (moment_of nodes w a step)
 told_line names nodes k w a step new outcome allowed is_told stands =
     ap (λ (o : Outcome). act_line names k a o (drop (length w.net.sent) new.net.sent)) is_told
-    ∙ ap (λ (sent : List Envelope). act_line names k a (told (act_outcome nodes w a step)) sent) (ap (λ (net : Network). drop (length w.net.sent) net.sent) stands.net ∙ last_sent nodes w step allowed)
+    ∙ ap (λ (sent : List Envelope). act_line names k a (act_outcome nodes w a step) sent) (ap (λ (net : Network). drop (length w.net.sent) net.sent) stands.net ∙ last_sent nodes w step allowed)
 
 numbered : (acts : List Act) (ms : List Moment) → map (λ (m : Moment). m.act) ms ≡ acts → length acts ≡ length ms
 numbered acts ms same = ap length (sym same) ∙ length-map ms (λ (m : Moment). m.act)
@@ -77,7 +74,7 @@ numbered acts ms same = ap length (sym same) ∙ length-map ms (λ (m : Moment).
 -- the line that was added is that of one moment more
 line_further : (names : Bool) (nodes : ℕ) (w : World) (ms : List Moment) (old new : Machine) (acts : List Act) (a : Act) (outcome : Outcome) (step : Step) (found behind : List ℕ)
     → IsAllowed nodes w step → map (λ (m : Moment). m.act) ms ≡ acts → old.net ≡ w.net
-    → outcome ≡ told (act_outcome nodes w a step) → StandsFor new (world_after nodes w step)
+    → outcome ≡ act_outcome nodes w a step → StandsFor new (world_after nodes w step)
     → behind ≡ found ++ act_line names (length acts) a outcome (drop (length old.net.sent) new.net.sent)
     → behind ≡ found ++ moment_line names (length ms) (moment_of nodes w a step)
 line_further names nodes w ms old new acts a outcome step found behind allowed acts_are net is_told stands added =
@@ -97,7 +94,7 @@ further grow telling nodes slots old new acts a outcome text found behind so act
     let next : IsNext nodes slots w a act.step =
     subst (λ (n : ℕ). IsNext n slots w a act.step) so.count (subst (λ (k : ℕ). IsNext (length w.states) k w a act.step) (same ∙ so.slots_are) act.next) in
     let stands : StandsFor new (world_after nodes w act.step) = subst (λ (n : ℕ). StandsFor new (world_after n w act.step)) so.count act.stands in
-    let is_told : outcome ≡ told (act_outcome nodes w a act.step) = act.is_told ∙ ap (λ (n : ℕ). told (act_outcome n w a act.step)) so.count in
+    let is_told : outcome ≡ act_outcome nodes w a act.step = act.is_told ∙ ap (λ (n : ℕ). act_outcome n w a act.step) so.count in
     record {
       world = world_after nodes w act.step;
       report = grown nodes w a act.step so.report;

@@ -5,17 +5,16 @@ use Rattle.wire_msg.specs.Envelope.{Envelope}
 use Rattle.wire_msg.specs.Spelling.{spelling}
 use Rattle.node_core.specs.declared.fault.CoreFault.{CoreFault}
 use Rattle.node_core.specs.declared.fault.CoreFault.TheVariants as core
-use Rattle.durable_node.specs.declared.fault.NodeFault.{NodeFault}
-use Rattle.durable_node.specs.declared.fault.NodeFault.TheVariants as node
+use Rattle.node_core.specs.declared.fault.Refusal.{Refusal as NodeRefusal}
+use Rattle.node_core.specs.declared.fault.Refusal.TheVariants as node
 use Rattle.sim_net.specs.declared.fault.NetFault.{NetFault}
 use Rattle.sim_net.specs.declared.fault.NetFault.TheVariants as net
 use Rattle.schedule.specs.declared.act.Act.{Act}
 use Rattle.schedule.specs.declared.act.Act.TheVariants as act
-use Rattle.cluster_sim.specs.declared.outcome.Outcome.{Outcome}
-use Rattle.cluster_sim.specs.declared.outcome.Outcome.TheVariants.{Done, Refused, Faulted}
-use Rattle.cluster_sim.specs.declared.outcome.Refusal.{Refusal}
-use Rattle.cluster_sim.specs.declared.outcome.Refusal.TheVariants.{Node, Net, Stranger}
-use Rattle.cluster_sim.specs.Told.{told}
+use Rattle.runs.specs.declared.outcome.Outcome.{Outcome}
+use Rattle.runs.specs.declared.outcome.Outcome.TheVariants.{Done, Refused, Faulted}
+use Rattle.runs.specs.declared.outcome.Refusal.{Refusal}
+use Rattle.runs.specs.declared.outcome.Refusal.TheVariants.{Node, Net, Stranger}
 use Rattle.runs.specs.Reporting.{Moment}
 use Rattle.invite_console.specs.Show.{message_text as text_shown}
 
@@ -37,15 +36,12 @@ core_name core.NotNormal = codes "NotNormal"
 core_name core.UnknownJob = codes "UnknownJob"
 core_name core.NoMemory = codes "no memory"
 
--- why a node refused
-abbrev pub fault_name : NodeFault → List ℕ
+-- why a node refused: a reader sees no areas
+abbrev pub fault_name : NodeRefusal → List ℕ
 fault_name (node.Core fault) = core_name fault
 fault_name node.Full = codes "Full"
 fault_name node.Exhausted = codes "Exhausted"
-fault_name node.Device = codes "Device"
-fault_name node.NotFormatted = codes "NotFormatted"
-fault_name (node.Damaged sector) = codes "Damaged " ++ decimal sector
-fault_name node.TooSmall = codes "TooSmall"
+fault_name node.Worn = codes "Exhausted"
 
 abbrev pub net_name : NetFault → List ℕ
 net_name net.NoSuch = codes "NoSuch"
@@ -64,22 +60,8 @@ id_text (Some id) = codes " id " ++ decimal id
 
 -- the id of a submitted job, which no other act tells
 abbrev pub answer_text : Act → Option ℕ → List ℕ
-answer_text (act.Check n) answer = []
-answer_text (act.Merge n) answer = []
-answer_text (act.Accept n) answer = []
-answer_text (act.Ready n) answer = []
-answer_text (act.Coord n) answer = []
-answer_text (act.Dispatch n) answer = []
-answer_text (act.Deliver k) answer = []
-answer_text (act.Lose k) answer = []
-answer_text (act.Cut a b) answer = []
-answer_text (act.Mend a b) answer = []
 answer_text (act.Submit n work) answer = id_text answer
-answer_text (act.Finish n origin id) answer = []
-answer_text (act.Arm n calls) answer = []
-answer_text (act.Crash n fill) answer = []
-answer_text (act.Recover n) answer = []
-answer_text (act.Compact n) answer = []
+answer_text a answer = []
 
 -- what came of an act, and the messages that were sent in it
 abbrev pub outcome_text : Bool → Act → Outcome → List Envelope → List ℕ
@@ -93,4 +75,4 @@ act_line names number a outcome sent = decimal number ++ codes " " ++ outcome_te
 
 -- the line of a moment
 abbrev pub moment_line : Bool → ℕ → Moment → List ℕ
-moment_line names number m = act_line names number m.act (told m.outcome) m.sent
+moment_line names number m = act_line names number m.act m.outcome m.sent

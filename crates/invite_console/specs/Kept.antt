@@ -2,8 +2,8 @@
 use Rattle.std.specs.Prelude.{◌≡◌, ◌≤◌, ℕ, zero, suc, ◌-◌, List, [], ◌++◌, length, take, drop, slice_get, Bool, Option, Some, None, codes, decimal}
 use Rattle.wire_msg.specs.Envelope.{Envelope}
 use Rattle.schedule.specs.declared.act.Act.{Act}
-use Rattle.cluster_sim.specs.declared.outcome.Outcome.{Outcome}
-use Rattle.cluster_sim.specs.declared.outcome.Outcome.TheVariants.{Done, Refused, Faulted}
+use Rattle.runs.specs.declared.outcome.Outcome.{Outcome}
+use Rattle.runs.specs.declared.outcome.Outcome.TheVariants.{Done, Refused, Faulted}
 use Rattle.cluster_sim.specs.Machine.{Machine}
 use Rattle.invite_console.specs.declared.running.Kept.{Kept}
 use Rattle.invite_console.specs.declared.telling.Telling.{Telling}

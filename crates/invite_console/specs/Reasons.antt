@@ -5,8 +5,9 @@ use Rattle.line_words.specs.Words.{first_word, words_of}
 use Rattle.line_words.specs.Lines.{line_numbered, lines_of}
 use Rattle.schedule.specs.declared.flaw.Flaw.{Flaw}
 use Rattle.schedule.specs.declared.flaw.Flaw.TheVariants.{Nothing, Cluster, NoAct, Fields, Misplaced}
-use Rattle.schedule.specs.Flaws.{flaw_of, form_of}
+use Rattle.schedule.specs.Flaws.{flaw_of}
 use Rattle.schedule.specs.Text.{plan_of}
+use Rattle.schedule.specs.Verbs.{form_of}
 use Rattle.console_text.specs.Ends.{Outcome}
 use Rattle.console_text.specs.Reasons.{line_flaw, line_head, word_shown}
 use Rattle.invite_console.specs.Answer.{answers_to}

@@ -7,9 +7,8 @@ ghost use Rattle.invite_console.specs.Kept.{act_head, outcome_head};
 use crate::showing::push_shown;
 use cluster_sim::{Outcome, Refusal};
 use console_text::{push_hex, push_number, push_text};
-use durable_node::NodeFault;
 use message_list::MessageList;
-use node_core::CoreFault;
+use node_core::{CoreFault, Refusal as NodeRefusal};
 use schedule::Act;
 use sim_net::NetFault;
 use std::alloc::AllocError;
@@ -61,23 +60,19 @@ fn push_refusal(text: &mut Vec<u8>, why: Refusal) -> Result<(), AllocError>
     ensures { OnOk result (text.new.items ≡ text.old.items ++ refusal_name why) }
 {
     match why {
-        Refusal::Node(fault) => push_fault(text, fault),
+        Refusal::Node(why) => push_fault(text, why),
         Refusal::Net(fault) => push_text(text, net_word(fault)),
         Refusal::Stranger => push_text(text, "Stranger"),
     }
 }
 
-fn push_fault(text: &mut Vec<u8>, fault: NodeFault) -> Result<(), AllocError>
-    ensures { OnOk result (text.new.items ≡ text.old.items ++ fault_name fault) }
+fn push_fault(text: &mut Vec<u8>, why: NodeRefusal) -> Result<(), AllocError>
+    ensures { OnOk result (text.new.items ≡ text.old.items ++ fault_name why) }
 {
-    match fault {
-        NodeFault::Core(fault) => push_core_fault(text, fault),
-        NodeFault::Full => push_text(text, "Full"),
-        NodeFault::Exhausted => push_text(text, "Exhausted"),
-        NodeFault::Device => push_text(text, "Device"),
-        NodeFault::NotFormatted => push_text(text, "NotFormatted"),
-        NodeFault::Damaged(sector) => push_named_number(text, "Damaged ", sector),
-        NodeFault::TooSmall => push_text(text, "TooSmall"),
+    match why {
+        NodeRefusal::Core(fault) => push_core_fault(text, fault),
+        NodeRefusal::Full => push_text(text, "Full"),
+        NodeRefusal::Exhausted | NodeRefusal::Worn => push_text(text, "Exhausted"),
     }
 }
 

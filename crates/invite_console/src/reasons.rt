@@ -39,7 +39,8 @@ fn push_flaw(text: &mut Vec<u8>, line: &[u8], flaw: Flaw) -> Result<(), AllocErr
         Flaw::NoAct => push_unknown(text, "no such act: ", first_word(line)),
         Flaw::Fields(verb) => {
             push_text(text, "not of the form ")?;
-            push_text(text, verb.form())
+            push_text(text, verb.word())?;
+            push_text(text, verb.fields())
         }
         Flaw::Misplaced => push_text(
             text,

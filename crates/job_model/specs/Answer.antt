@@ -1,6 +1,7 @@
 -- What the disk answers when it has taken a command.
 use Rattle.std.specs.Prelude.{ℕ, ◌+◌, Option, Some, None}
-use Rattle.job_model.specs.Command.{Command, Raise, Put, Done}
+use Rattle.job_model.specs.declared.node_command.NodeCommand.{NodeCommand as Command}
+use Rattle.job_model.specs.declared.node_command.NodeCommand.TheVariants.{Raise, Put, Done}
 use Rattle.job_model.specs.Durable.{Durable}
 
 -- the new count, the id of the new job, or the id of the job that is done

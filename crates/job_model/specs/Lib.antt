@@ -1,5 +1,4 @@
 pub mod Padded
-pub mod Command
 pub mod Durable
 pub mod Fold
 pub mod Order

@@ -3,7 +3,8 @@ use Rattle.std.specs.Prelude.{ℕ, ◌≡◌, ◌<◌, ◌≤◌, ◌-◌, ◌*�
 use Rattle.job_model.specs.declared.job.Job.{Job}
 use Rattle.job_model.specs.declared.command.Command.{Command as Given}
 use Rattle.job_model.specs.declared.command.Command.TheVariants.{Put as GivenPut, Done as GivenDone}
-use Rattle.job_model.specs.Command.{Command, Put, Done}
+use Rattle.job_model.specs.declared.node_command.NodeCommand.{NodeCommand as Command}
+use Rattle.job_model.specs.declared.node_command.NodeCommand.TheVariants.{Put, Done}
 use Rattle.job_model.specs.Durable.{Durable}
 use Rattle.job_model.specs.Fold.{is_pending}
 use Rattle.job_model.specs.Order.{IsInOrder}

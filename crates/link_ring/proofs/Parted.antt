@@ -1,10 +1,12 @@
 -- Messages in two rings: what is added to both, and what more is seen in them.
-use Rattle.std.proofs.Common.{◌≡◌, ℕ, ◌+◌, List, [], ◌∷◌, ◌++◌, Option, Some, None, IfSome, IfNone, length, arith, refl, sym, ap, ◌∙◌, map, append_assoc, append-nil}
+use Rattle.std.proofs.Common.{◌≡◌, ℕ, List, [], ◌∷◌, ◌++◌, Option, Some, None, IfSome, IfNone, option_map, length, arith, refl, sym, ap, ◌∙◌, map, append_assoc, append-nil}
 use Rattle.std.proofs.lemmas.List.{map-append}
 use mathlib.Core.List.{IsPrefix}
 use Rattle.link_ring.proofs.Fronts.{front_of_front}
 use Rattle.wire_msg.specs.Envelope.{Envelope}
 use Rattle.wire_msg.specs.declared.body.Body.{Body}
+use Rattle.wire_msg.specs.Kinds.{Shape, short_in, said, IsShort}
+use Rattle.wire_msg.specs.declared.short.Short.{Short}
 use Rattle.link_ring.specs.Parts.{Part, Popped, bodies_of, cons_if, head_by, long_body, part_of, rest_by, short_body, whole}
 
 -- one message more
@@ -89,3 +91,7 @@ first_since (Some m) ps qs bs ms p q = front_of_front (whole ps bs) (whole qs bs
 pub none_since : (o : Option Envelope) (ps qs : List Part) (bs : List Body) (ms : List Envelope) → IsPrefix ps qs → IfNone o ((whole qs bs ≡ []) × (ms ≡ [])) → IfNone o ((whole ps bs ≡ []) × (ms ≡ []))
 none_since None ps qs bs ms p none = let it = whole_more ps qs bs bs p ([], append-nil bs) in (front_of_none (whole ps bs) it.0 (it.1 ∙ none.0), none.1)
 none_since (Some m) ps qs bs ms p none = tt
+
+-- the body of a short form is a short one
+pub said_short : (s : Short) → IsShort s → short_body (said s) ≡ Some (said s)
+said_short s short = ap (λ (shape : Shape). option_map said (short_in shape)) short.again

@@ -1,10 +1,8 @@
 -- A message as the two rings of a link hold it: its nodes and a short body in the one, a long body in the other.
-use Rattle.std.specs.Prelude.{ℕ, ◌≡◌, Option, Some, None, List, [], ◌∷◌, ◌++◌}
+use Rattle.std.specs.Prelude.{ℕ, ◌≡◌, Option, Some, None, option_map, List, [], ◌∷◌, ◌++◌}
 use Rattle.wire_msg.specs.Envelope.{Envelope}
 use Rattle.wire_msg.specs.declared.body.Body.{Body}
-use Rattle.wire_msg.specs.declared.body.Body.TheVariants as says
-use Rattle.link_ring.specs.declared.parcel.Carried.{Carried}
-use Rattle.link_ring.specs.declared.parcel.Carried.TheVariants as carried
+use Rattle.wire_msg.specs.Kinds.{short_of, said}
 
 -- what a slot tells: none for a body that stands in the other ring
 pub record Part : Type 0 where
@@ -12,29 +10,9 @@ pub record Part : Type 0 where
   pub receiver : ℕ
   pub body : Option Body
 
-abbrev pub body_in : Carried → Option Body
-body_in carried.AreYouCoordinator = Some says.AreYouCoordinator
-body_in (carried.Coordinator answer) = Some (says.Coordinator answer)
-body_in (carried.AreYouThere group) = Some (says.AreYouThere group)
-body_in (carried.Here answer group) = Some (says.Here group answer)
-body_in (carried.Invitation group) = Some (says.Invitation group)
-body_in (carried.Accept group) = Some (says.Accept group)
-body_in (carried.ReadyAck group) = Some (says.ReadyAck group)
-body_in (carried.Done id) = Some (says.Done id)
-body_in carried.Beside = None
-
 -- a body, unless it is a long one
 abbrev pub short_body : Body → Option Body
-short_body says.AreYouCoordinator = Some says.AreYouCoordinator
-short_body (says.Coordinator answer) = Some (says.Coordinator answer)
-short_body (says.AreYouThere group) = Some (says.AreYouThere group)
-short_body (says.Here group answer) = Some (says.Here group answer)
-short_body (says.Invitation group) = Some (says.Invitation group)
-short_body (says.Accept group) = Some (says.Accept group)
-short_body (says.Ready task) = None
-short_body (says.ReadyAck group) = Some (says.ReadyAck group)
-short_body (says.Work group id work) = None
-short_body (says.Done id) = Some (says.Done id)
+short_body body = option_map said (short_of body)
 
 -- what the other ring holds of a body
 abbrev pub beside : Option Body → Body → List Body

@@ -4,10 +4,10 @@
 //! So many steps of one kind; it prints how many messages were sent or taken:
 //!
 //! - `ask STEPS`: AreYouCoordinator is delivered.
-//! - `check STEPS`: CheckTimer at a node that is Normal and alone: 63 questions.
+//! - `check STEPS`: the timer Check at a node that is Normal and alone: 63 questions.
 //! - `invite STEPS`: an Invitation is delivered to a node that is Normal and alone.
-//! - `dispatch STEPS`: DispatchTimer at the coordinator of a group of 64, with 4,096 jobs pending. It owns one queue of sixteen.
-//! - `hand STEPS`: DispatchTimer at a node that is alone, with 2,048 jobs pending, all of them in hand.
+//! - `dispatch STEPS`: the timer Dispatch at the coordinator of a group of 64, with 4,096 jobs pending. It owns one queue of sixteen.
+//! - `hand STEPS`: the timer Dispatch at a node that is alone, with 2,048 jobs pending, all of them in hand.
 //! - `link STEPS`: a message is put on a link and taken from it.
 //! - `ring STEPS`: the same by the two calls of `rtrb` and one push on a list, which a link stands on.
 //!

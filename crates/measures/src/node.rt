@@ -1,7 +1,7 @@
 // A core with its counter and its table of jobs.
 ghost use Rattle.std.specs.Prelude.{◌≡◌, ◌<◌, ◌≤◌, Some};
 ghost use Rattle.group_task.specs.declared.node.TheConstants.{NODES};
-ghost use Rattle.job_model.specs.Command.{Raise};
+ghost use Rattle.job_model.specs.declared.node_command.NodeCommand.TheVariants.{Raise};
 ghost use Rattle.node_core.specs.Planned.{wanted_by};
 
 use group_task::NodeId;

@@ -2,7 +2,7 @@
 use crate::node::Node;
 use group_task::{GroupNo, NodeId};
 use job_model::{Payload, QUEUES, Queue, Work};
-use node_core::{Event, NodeCore};
+use node_core::{Event, NodeCore, Timer};
 use std::alloc::Global;
 use wire_msg::{Body, Message};
 
@@ -19,16 +19,16 @@ pub fn steps(alloc: Global, kind: &str, steps: u64) -> Result<u64, &'static str>
 fn measure(alloc: Global, node: &mut Node, kind: &str, steps: u64) -> Result<u64, &'static str> {
     match kind {
         "ask" => hear_often(node, &letter(1, Body::AreYouCoordinator)?, steps),
-        "check" => repeat(node, &Event::CheckTimer, steps),
+        "check" => repeat(node, &Event::Timer(Timer::Check), steps),
         "invite" => invite(alloc, node, steps),
         "dispatch" => {
             gather(node)?;
             submit(node, 4_096)?;
-            repeat(node, &Event::DispatchTimer, steps)
+            repeat(node, &Event::Timer(Timer::Dispatch), steps)
         }
         "hand" => {
             submit(node, 2_048)?;
-            repeat(node, &Event::DispatchTimer, steps)
+            repeat(node, &Event::Timer(Timer::Dispatch), steps)
         }
         _ => Err("no such measure"),
     }
@@ -73,12 +73,12 @@ fn invite(alloc: Global, node: &mut Node, steps: u64) -> Result<u64, &'static st
 
 /// All nodes come into the node's group.
 fn gather(node: &mut Node) -> Result<(), &'static str> {
-    node.step(&Event::CheckTimer)?;
+    node.step(&Event::Timer(Timer::Check))?;
     hear_all(node, Body::Coordinator(true))?;
-    node.step(&Event::MergeTimer)?;
+    node.step(&Event::Timer(Timer::Merge))?;
     let group = node.core.vector().standing.group;
     hear_all(node, Body::Accept(group))?;
-    node.step(&Event::AcceptTimer)?;
+    node.step(&Event::Timer(Timer::Accept))?;
     hear_all(node, Body::ReadyAck(group))
 }
 

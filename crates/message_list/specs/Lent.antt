@@ -1,36 +1,29 @@
 -- Messages as they are lent, told apart by the numbers that they say.
-use Rattle.std.specs.Prelude.{◌≡◌, ℕ, ◌+◌, ◌*◌, ◌^◌, Bool, List, [], ◌∷◌, length, All, IsTrue, nat_eq, slice_index_or}
+use Rattle.std.specs.Prelude.{◌≡◌, ℕ, ◌+◌, ◌*◌, ◌^◌, Bool, List, ◌∷◌, length, All, IsTrue, nat_eq, slice_index_or}
 use Rattle.std.specs.Hash as fed
 use Rattle.std.specs.Cmp.Lexicographic.{pointwise, bytes_decides}
 use Rattle.std.specs.Ordering.{on}
 use Rattle.std.proofs.Common.{ap}
 use Rattle.wire_msg.specs.Envelope.{Envelope}
 use Rattle.wire_msg.specs.Spelling.{truth}
-use Rattle.wire_msg.specs.declared.body.Body.{Body}
-use Rattle.wire_msg.specs.declared.body.Body.TheVariants as says
+use Rattle.wire_msg.specs.Kinds.{Shape, Brief, Tells, Gives, shape_of, number_of}
+use Rattle.wire_msg.specs.declared.body.Body.TheVariants.{AreYouCoordinator}
 use Rattle.message_list.specs.declared.opened.Opened.{Opened}
-use Rattle.message_list.specs.Letters.{body_of, message_of, HasNumber, HasPayload}
+use Rattle.message_list.specs.Letters.{shape_kept, message_of, HasBody, HasPayload}
 
 -- the message at a place of a list
 abbrev pub message_at : List Envelope → ℕ → Envelope
-message_at messages place = slice_index_or messages place (record { sender = 0; receiver = 1; body = says.AreYouCoordinator })
+message_at messages place = slice_index_or messages place (record { sender = 0; receiver = 1; body = AreYouCoordinator })
 
--- the kind of a body, a node and a number that it names, or 0, and what else it says
-abbrev pub numbers_in : Body → List ℕ
-numbers_in says.AreYouCoordinator = 0 ∷ 0 ∷ 0 ∷ []
-numbers_in (says.Coordinator answer) = 1 ∷ 0 ∷ 0 ∷ truth answer
-numbers_in (says.AreYouThere g) = 2 ∷ g.creator ∷ g.count ∷ []
-numbers_in (says.Here g answer) = 3 ∷ g.creator ∷ g.count ∷ truth answer
-numbers_in (says.Invitation g) = 4 ∷ g.creator ∷ g.count ∷ []
-numbers_in (says.Accept g) = 5 ∷ g.creator ∷ g.count ∷ []
-numbers_in (says.Ready t) = 6 ∷ t.group.creator ∷ t.group.count ∷ t.members
-numbers_in (says.ReadyAck g) = 7 ∷ g.creator ∷ g.count ∷ []
-numbers_in (says.Work g id w) = 8 ∷ g.creator ∷ id ∷ g.count ∷ w.queue ∷ w.priority ∷ w.payload
-numbers_in (says.Done id) = 9 ∷ 0 ∷ id ∷ []
+-- the number of the kind, a node and a number that are named, or 0, and what else is said
+abbrev pub numbers_in : Shape → List ℕ
+numbers_in (Brief s) = number_of s.kind ∷ s.creator ∷ s.number ∷ truth s.answer
+numbers_in (Tells t) = 7 ∷ t.group.creator ∷ t.group.count ∷ t.members
+numbers_in (Gives g id w) = 9 ∷ g.creator ∷ id ∷ g.count ∷ w.queue ∷ w.priority ∷ w.payload
 
 -- all that a message says
 abbrev pub numbers_of : Envelope → List ℕ
-numbers_of m = m.sender ∷ m.receiver ∷ numbers_in m.body
+numbers_of m = m.sender ∷ m.receiver ∷ numbers_in (shape_of m.body)
 
 -- whether two messages are one
 abbrev pub same_message : Envelope → Envelope → Bool
@@ -53,13 +46,13 @@ same_mark m n same = ap (λ (numbers : List ℕ). fed.u128 (mark numbers)) ((byt
 
 -- ---- a letter, lent with what is kept beside it
 
-abbrev pub body_opened : Opened → Body
-body_opened o = body_of o.tasks.now o.works.now o.payloads.now o.letter.now
+abbrev pub shape_opened : Opened → Shape
+shape_opened o = shape_kept o.tasks.now o.works.now o.payloads.now o.letter.now
 
 abbrev pub message_opened : Opened → Envelope
 message_opened o = message_of o.tasks.now o.works.now o.payloads.now o.letter.now
 
 -- it can be read
 pub record IsOpened (o : Opened) : Type 0 where
-  pub number : HasNumber (length o.tasks.now) (length o.works.now) o.letter.now.kind o.letter.now.number
+  pub body : HasBody (length o.tasks.now) (length o.works.now) o.letter.now.kind o.letter.now
   pub payloads : All (HasPayload (length o.payloads.now)) o.works.now

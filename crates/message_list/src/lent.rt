@@ -33,7 +33,6 @@ impl<'a> PartialEq for LentMessage<'a> {
 
     ghost laws = { partial_equiv_from_equiv (on_equiv numbers_of nat_list_eq_equiv) };
 
-    #[tactic(auto, using(crate::proofs::Numbers::as_same))]
     fn eq(&self, other: &LentMessage<'a>) -> bool {
         is_same(
             &self.list.opened(self.place),

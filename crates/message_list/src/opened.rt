@@ -2,9 +2,10 @@
 
 ghost use Rattle.std.specs.Prelude.{◌≡◌, ◌↔◌, IsTrue, length};
 ghost use Rattle.message_list.specs.Letters.{HasPayload, work_said};
-ghost use Rattle.message_list.specs.Lent.{body_opened, message_opened, mark_by, mark_of, IsOpened};
+ghost use Rattle.wire_msg.specs.Kinds.{body_of};
+ghost use Rattle.message_list.specs.Lent.{shape_opened, message_opened, mark_by, mark_of, IsOpened};
 
-use crate::letter::{KeptWork, Kind, Letter};
+use crate::letter::{KeptWork, Letter, LetterKind};
 use group_task::Task;
 
 /// A letter, lent with what is kept beside it.
@@ -27,28 +28,36 @@ pub fn is_same(one: &Opened<'_>, other: &Opened<'_>) -> bool
         && is_same_body(one, other)
 }
 
-/// Whether they say the same.
+/// Whether they have one body.
 fn is_same_body(one: &Opened<'_>, other: &Opened<'_>) -> bool
     requires one { IsOpened one.now }
     requires other { IsOpened other.now }
-    ensures { IsTrue result ↔ (body_opened one.now ≡ body_opened other.now) }
+    ensures { IsTrue result ↔ (body_of (shape_opened one.now) ≡ body_of (shape_opened other.now)) }
+{
+    has_same_shape(one, other)
+}
+
+/// Whether they say the same.
+fn has_same_shape(one: &Opened<'_>, other: &Opened<'_>) -> bool
+    requires one { IsOpened one.now }
+    requires other { IsOpened other.now }
+    ensures { IsTrue result ↔ (shape_opened one.now ≡ shape_opened other.now) }
 {
     let (a, b) = (one.letter, other.letter);
     if a.kind != b.kind {
         return false;
     }
     match a.kind {
-        Kind::AreYouCoordinator | Kind::Coordinator(_) => true,
-        Kind::AreYouThere | Kind::Here(_) | Kind::Invitation | Kind::Accept | Kind::ReadyAck =>
-            a.creator == b.creator && a.number == b.number,
-        Kind::Ready => one.tasks[a.number as usize] == other.tasks[b.number as usize],
-        Kind::Work => is_same_work(
+        LetterKind::Short(_) => a.answer == b.answer
+            && a.creator == b.creator
+            && a.number == b.number,
+        LetterKind::Ready => one.tasks[a.number as usize] == other.tasks[b.number as usize],
+        LetterKind::Work => is_same_work(
             one.payloads,
             &one.works[a.number as usize],
             other.payloads,
             &other.works[b.number as usize],
         ),
-        Kind::Done => a.number == b.number,
     }
 }
 
@@ -72,24 +81,17 @@ pub fn mark(one: &Opened<'_>) -> u128
     ensures { result ≡ mark_of (message_opened one.now) }
 {
     let letter = one.letter;
-    let (node, number) = (letter.creator.number(), letter.number);
+    let number = letter.number;
     match letter.kind {
-        Kind::AreYouCoordinator => mark_by(letter, 0, 0, 0),
-        Kind::Coordinator(_) => mark_by(letter, 1, 0, 0),
-        Kind::AreYouThere => mark_by(letter, 2, node, number),
-        Kind::Here(_) => mark_by(letter, 3, node, number),
-        Kind::Invitation => mark_by(letter, 4, node, number),
-        Kind::Accept => mark_by(letter, 5, node, number),
-        Kind::Ready => {
+        LetterKind::Short(kind) => mark_by(letter, kind.number(), letter.creator.number(), number),
+        LetterKind::Ready => {
             let group = one.tasks[number as usize].group();
-            mark_by(letter, 6, group.creator().number(), group.count())
+            mark_by(letter, 7, group.creator().number(), group.count())
         }
-        Kind::ReadyAck => mark_by(letter, 7, node, number),
-        Kind::Work => {
+        LetterKind::Work => {
             let work = &one.works[number as usize];
-            mark_by(letter, 8, work.group.creator().number(), work.id)
+            mark_by(letter, 9, work.group.creator().number(), work.id)
         }
-        Kind::Done => mark_by(letter, 9, 0, number),
     }
 }
 

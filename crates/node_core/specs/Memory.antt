@@ -6,6 +6,7 @@ use Rattle.wire_msg.specs.declared.body.Body.{Body}
 use Rattle.wire_msg.specs.declared.body.Body.TheVariants as says
 use Rattle.node_core.specs.declared.event.Event.{Event}
 use Rattle.node_core.specs.declared.event.Event.TheVariants as on
+use Rattle.node_core.specs.declared.timer.Timer.TheVariants as timer
 use Rattle.node_core.specs.declared.fault.CoreFault.{CoreFault}
 use Rattle.node_core.specs.declared.fault.CoreFault.TheVariants.{NoMemory}
 use Rattle.node_core.specs.declared.plan.Plan.{Plan}
@@ -30,12 +31,12 @@ delivered_takes self from (says.Done id) s = false
 delivered_takes self from body s = not (is_down s.phase)
 
 abbrev pub takes_memory : ℕ → Event → State → Bool
-takes_memory self on.CheckTimer s = leads self s
-takes_memory self on.MergeTimer s = merges self s
-takes_memory self on.AcceptTimer s = is_election s.phase && s.coordinator == self
-takes_memory self on.ReadyTimer s = false
-takes_memory self on.CoordTimer s = follows self s && not s.probing
-takes_memory self on.DispatchTimer s = is_normal s.phase
+takes_memory self (on.Timer timer.Check) s = leads self s
+takes_memory self (on.Timer timer.Merge) s = merges self s
+takes_memory self (on.Timer timer.Accept) s = is_election s.phase && s.coordinator == self
+takes_memory self (on.Timer timer.Ready) s = false
+takes_memory self (on.Timer timer.Coord) s = follows self s && not s.probing
+takes_memory self (on.Timer timer.Dispatch) s = is_normal s.phase
 takes_memory self (on.Deliver m) s = delivered_takes self m.sender m.body s
 takes_memory self on.Recover s = false
 takes_memory self event s = true

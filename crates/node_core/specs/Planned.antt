@@ -1,7 +1,8 @@
 -- What a plan will make of the state of a node.
 use Rattle.std.specs.Prelude.{ℕ, ◌≡◌, ◌==◌, ◌≤◌, List, [], ◌∷◌, ◌++◌, length, if◌then◌else◌, Option, Some, None, vec_capacity, vec_len}
 use Rattle.group_task.specs.Others.{AreOthers}
-use Rattle.job_model.specs.Command.{Command, Raise, Put, Done}
+use Rattle.job_model.specs.declared.node_command.NodeCommand.{NodeCommand as Command}
+use Rattle.job_model.specs.declared.node_command.NodeCommand.TheVariants.{Raise, Put, Done}
 use Rattle.wire_msg.specs.Envelope.{Envelope}
 use Rattle.wire_msg.specs.declared.body.Body.TheVariants.{Invitation, Work}
 use Rattle.node_core.specs.declared.durable.Durable.{Durable}
@@ -18,9 +19,9 @@ use Rattle.node_core.specs.declared.seat.Seat.{Seat}
 use Rattle.node_core.specs.declared.phase.Phase.TheVariants.{Election}
 use Rattle.node_core.specs.State.{State, with_standing}
 use Rattle.node_core.specs.Effect.{Effect, quietly}
-use Rattle.node_core.specs.Words.{letter, to_each, own_group, regrouped, without_held}
+use Rattle.node_core.specs.Words.{letter, to_each, own_group, stopped, without_held}
 use Rattle.node_core.specs.Noted.{noted}
-use Rattle.node_core.specs.Timers.{recovery}
+use Rattle.node_core.specs.Start.{alone}
 use Rattle.node_core.specs.Consistent.{IsConsistent}
 use Rattle.node_core.specs.Seat.{state_at}
 
@@ -36,10 +37,10 @@ carried self (Stay job) answer s ready = ready
 carried self (Mark note) answer s ready = record ready { state = noted note s }
 carried self (Settle change) answer s ready = record ready { state = with_standing change.value.standing (hand_after change.value.hand s.hand) }
 carried self (Invite receivers) answer s ready = record {
-  state = record (regrouped self answer s) { phase = Election };
+  state = record (stopped s) { coordinator = self; group = own_group self answer; up = []; phase = Election };
   sent = to_each self receivers (Invitation (own_group self answer));
 }
-carried self Recover answer s ready = recovery self answer s
+carried self Recover answer s ready = quietly (alone self answer)
 carried self (Place to work) answer s ready =
     if to == self
     then quietly (record s { hand = s.hand ++ (record { origin = self; id = answer; work = work.value }) ∷ [] })

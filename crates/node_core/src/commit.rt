@@ -1,8 +1,8 @@
 ghost use Rattle.std.specs.Prelude.{◌≡◌, ◌≢◌, ◌≤◌, ◌<◌, ◌+◌, length, None, false, [], ◌∷◌, ◌++◌, ℕ, vec_capacity};
 ghost use Rattle.group_task.specs.Ids.{has};
 ghost use Rattle.node_core.specs.State.{state_of, with_standing};
-ghost use Rattle.node_core.specs.Words.{own_group, regrouped, letter, to_each};
-ghost use Rattle.node_core.specs.Timers.{recovery};
+ghost use Rattle.node_core.specs.Words.{own_group, stopped, letter, to_each};
+ghost use Rattle.node_core.specs.Start.{alone};
 ghost use Rattle.node_core.specs.Consistent.{IsConsistent};
 ghost use Rattle.node_core.specs.Planned.{hand_gain, hand_after};
 
@@ -32,7 +32,7 @@ pub fn settle(vector: &mut Vector, change: Box<Change>)
 /// Stops work, and starts this group.
 pub fn regroup(vector: &mut Vector, id: NodeId, group: GroupNo)
     requires { group ≡ own_group id group.count }
-    ensures { state_of vector.new ≡ regrouped id group.count (state_of vector.old) }
+    ensures { state_of vector.new ≡ record (stopped (state_of vector.old)) { coordinator = id; group = own_group id group.count; up = [] } }
 {
     vector.hand.clear();
     let standing = &mut vector.standing;
@@ -47,10 +47,10 @@ pub fn regroup(vector: &mut Vector, id: NodeId, group: GroupNo)
 }
 
 /// Starts this group, alone in it.
-#[tactic(auto, using(group_task::proofs::PublicLaws::none_others, group_task::proofs::PublicLaws::with_has_same), unfolding(crate::specs::Timers::recovery))]
+#[tactic(auto, using(group_task::proofs::PublicLaws::none_others, group_task::proofs::PublicLaws::with_has_same))]
 pub fn recover(vector: &mut Vector, id: NodeId, group: GroupNo)
     requires own { group ≡ own_group id group.count }
-    ensures { record { state = state_of vector.new; sent = [] } ≡ recovery id group.count (state_of vector.old) }
+    ensures { state_of vector.new ≡ alone id group.count }
 {
     regroup(vector, id, group);
     vector.standing.task = Some(share(group, Members::new().with(id)));

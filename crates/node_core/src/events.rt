@@ -1,8 +1,10 @@
 ghost use Rattle.std.specs.Prelude.{◌≡◌, [], ◌≢◌, ◌<◌, ◌≤◌, nat_lt, true, None, Some, IfOk, IfErr, IfSome};
 ghost use Rattle.std.specs.List.{list_all};
 ghost use Rattle.node_core.specs.Seat.{state_at};
-ghost use Rattle.node_core.specs.declared.event.Event.TheVariants.{Deliver};
-ghost use Rattle.node_core.specs.Effects.{effect_of, delivered};
+ghost use Rattle.node_core.specs.declared.event.Event.TheVariants as on;
+ghost use Rattle.node_core.specs.Timers.{timed};
+ghost use Rattle.node_core.specs.Messages.{delivered};
+ghost use Rattle.node_core.specs.Effects.{effect_of};
 ghost use Rattle.node_core.specs.Wants.{wants_of, delivered_wants};
 ghost use Rattle.node_core.specs.Refusals.{refusal_of, ids_in};
 ghost use Rattle.node_core.specs.Planned.{IsPlanOf, plan_sends};
@@ -15,6 +17,7 @@ use crate::known::is_known;
 use crate::phase::Phase;
 use crate::plan::Plan;
 use crate::seat::Seat;
+use crate::timer::Timer;
 use crate::{dispatch, messages, operator, timers};
 use group_task::NodeId;
 use job_model::JobTable;
@@ -39,12 +42,7 @@ pub fn plan_event(
     ensures spares { SparesMemory (takes_memory seat.now.id event.now (state_at seat.now)) result }
 {
     match event {
-        Event::CheckTimer => Ok(timers::check_timer(alloc, seat)?),
-        Event::MergeTimer => Ok(timers::merge_timer(alloc, seat)?),
-        Event::AcceptTimer => Ok(timers::accept_timer(alloc, seat)?),
-        Event::ReadyTimer => Ok(timers::ready_timer(alloc, seat)),
-        Event::CoordTimer => Ok(timers::coord_timer(alloc, seat)?),
-        Event::DispatchTimer => Ok(dispatch::dispatch_timer(alloc, seat, table)?),
+        Event::Timer(timer) => Ok(plan_timer(alloc, seat, *timer, table)?),
         Event::Recover => Ok(operator::recovery(Vec::new(alloc), seat)),
         Event::Deliver(message) => plan_delivery(alloc, Vec::new(alloc), seat, message, table),
         Event::Submit(work) => {
@@ -71,6 +69,29 @@ pub fn plan_event(
     }
 }
 
+/// What a timer makes of a node.
+fn plan_timer(
+    alloc: Global,
+    seat: &Seat<'_>,
+    timer: Timer,
+    table: &JobTable,
+) -> Result<Plan, AllocError>
+    ensures row { IfOk result (λ plan. IsPlanOf seat.now plan
+        (wants_of seat.now.id table.now.pending (on.Timer timer) (state_at seat.now))
+        (λ answer. timed seat.now.nodes seat.now.id table.now.pending timer answer (state_at seat.now))) }
+    ensures few { IfOk result (λ plan. plan_sends seat.now.id plan ≤ most_of seat.now.nodes table.now.pending) }
+    ensures memory { Spares (takes_memory seat.now.id (on.Timer timer) (state_at seat.now)) result }
+{
+    match timer {
+        Timer::Check => timers::check_timer(alloc, seat),
+        Timer::Merge => timers::merge_timer(alloc, seat),
+        Timer::Accept => timers::accept_timer(alloc, seat),
+        Timer::Ready => Ok(timers::ready_timer(alloc, seat)),
+        Timer::Coord => timers::coord_timer(alloc, seat),
+        Timer::Dispatch => dispatch::dispatch_timer(alloc, seat, table),
+    }
+}
+
 /// What a message makes of a node: its row, where it is for this node and names none outside the cluster.
 pub fn plan_delivery(
     alloc: Global,
@@ -81,14 +102,14 @@ pub fn plan_delivery(
 ) -> Result<Plan, CoreFault>
     requires room { room.items ≡ [] }
     ensures plan { IfOk result (λ plan. IsPlanOf seat.now plan
-        (wants_of seat.now.id table.now.pending (Deliver message.now) (state_at seat.now))
-        (λ answer. effect_of seat.now.nodes seat.now.id table.now.pending (Deliver message.now) answer (state_at seat.now))) }
+        (wants_of seat.now.id table.now.pending (on.Deliver message.now) (state_at seat.now))
+        (λ answer. effect_of seat.now.nodes seat.now.id table.now.pending (on.Deliver message.now) answer (state_at seat.now))) }
     ensures few { IfOk result (λ plan. plan_sends seat.now.id plan < seat.now.nodes) }
-    ensures done { IfOk result (λ _. refusal_of seat.now.nodes seat.now.id (Deliver message.now) (state_at seat.now) ≡ None) }
-    ensures refused { IfSome (refusal_of seat.now.nodes seat.now.id (Deliver message.now) (state_at seat.now)) (λ fault. result ≡ Err fault) }
+    ensures done { IfOk result (λ _. refusal_of seat.now.nodes seat.now.id (on.Deliver message.now) (state_at seat.now) ≡ None) }
+    ensures refused { IfSome (refusal_of seat.now.nodes seat.now.id (on.Deliver message.now) (state_at seat.now)) (λ fault. result ≡ Err fault) }
     ensures memory { IfErr result (λ fault. fault ≢ CoreFault.NoMemory
-        → refusal_of seat.now.nodes seat.now.id (Deliver message.now) (state_at seat.now) ≡ Some fault) }
-    ensures spares { SparesMemory (takes_memory seat.now.id (Deliver message.now) (state_at seat.now)) result }
+        → refusal_of seat.now.nodes seat.now.id (on.Deliver message.now) (state_at seat.now) ≡ Some fault) }
+    ensures spares { SparesMemory (takes_memory seat.now.id (on.Deliver message.now) (state_at seat.now)) result }
 {
     if !is_known(seat, message) {
         return Err(CoreFault::Stranger);

@@ -18,16 +18,12 @@ pub fn is_known(seat: &Seat<'_>, message: &Message) -> bool
 fn names_known(nodes: u8, body: &Body) -> bool
     ensures { result ≡ list_all (λ id. nat_lt id nodes) (ids_in body.now) }
 {
-    match body {
-        Body::AreYouThere(group)
-        | Body::Here(group, _)
-        | Body::Invitation(group)
-        | Body::Accept(group)
-        | Body::ReadyAck(group) => group.creator().number() < nodes,
-        Body::Work { group, .. } => group.creator().number() < nodes,
-        Body::Ready(task) => task.group().creator().number() < nodes
-            && all_known(nodes, task.members()),
-        Body::AreYouCoordinator | Body::Coordinator(_) | Body::Done(_) => true,
+    if let Body::Ready(task) = body {
+        return task.group().creator().number() < nodes && all_known(nodes, task.members());
+    }
+    match body.group() {
+        Some(group) => group.creator().number() < nodes,
+        None => true,
     }
 }
 

@@ -1,14 +1,12 @@
-ghost use Rattle.std.specs.Prelude.{◌≡◌, ◌≢◌, ◌<◌, ◌&&◌, [], not, false, None, IfOk, IsTrue};
+ghost use Rattle.std.specs.Prelude.{ℕ, ◌≡◌, ◌≢◌, ◌<◌, ◌&&◌, [], not, if◌then◌else◌, false, Some, None, IfOk, IsTrue};
 ghost use Rattle.group_task.specs.Ids.{has};
 ghost use Rattle.group_task.specs.Others.{AreOthers};
 ghost use Rattle.job_model.specs.Fold.{is_pending};
 ghost use Rattle.node_core.specs.Seat.{state_at};
 ghost use Rattle.node_core.specs.State.{is_down};
-ghost use Rattle.node_core.specs.Effect.{nothing};
 ghost use Rattle.wire_msg.specs.declared.body.Body.TheVariants as says;
-ghost use Rattle.node_core.specs.Messages.{asked_coordinator, answered_coordinator, invited, takes_invitation, passed_on, accepted};
-ghost use Rattle.node_core.specs.Messages.{told_ready, is_told, acknowledged, asked_there, answered_there, was_probed, got_work};
-ghost use Rattle.node_core.specs.Wants.{raise_if, done_if};
+ghost use Rattle.job_model.specs.declared.node_command.NodeCommand.TheVariants.{Raise, Done};
+ghost use Rattle.node_core.specs.Messages.{delivered, was_probed, takes_invitation, passed_on, is_told};
 ghost use Rattle.node_core.specs.Planned.{IsPlanOf, plan_sends, gain_of};
 ghost use Rattle.node_core.specs.Memory.{delivered_takes, Spares};
 ghost use Rattle.node_core.specs.Within.{AreWithin};
@@ -30,7 +28,7 @@ use std::alloc::{AllocError, Global};
 use wire_msg::{Body, Message};
 
 /// AreYouCoordinator: every node that is up answers.
-#[tactic(auto, unfolding(crate::specs::Messages::asked_coordinator))]
+#[tactic(auto, unfolding(crate::specs::Messages::delivered))]
 pub fn asked_coordinator(
     room: Vec<Message>,
     seat: &Seat<'_>,
@@ -40,7 +38,7 @@ pub fn asked_coordinator(
     requires other { seat.now.id ≢ from }
     requires known { from < seat.now.nodes }
     ensures row { IfOk result (λ plan. IsPlanOf seat.now plan None
-        (λ _. asked_coordinator seat.now.id from (state_at seat.now))) }
+        (λ answer. delivered seat.now.id from says.AreYouCoordinator answer (state_at seat.now))) }
     ensures few { IfOk result (λ plan. plan_sends seat.now.id plan < seat.now.nodes) }
     ensures memory { Spares (delivered_takes seat.now.id from (says.AreYouCoordinator) (state_at seat.now)) result }
 {
@@ -53,12 +51,12 @@ pub fn asked_coordinator(
 }
 
 /// Coordinator: a coordinator that checks notes the others.
-#[tactic(auto, unfolding(crate::specs::Messages::answered_coordinator))]
+#[tactic(auto, unfolding(crate::specs::Messages::delivered))]
 pub fn answered_coordinator(room: Vec<Message>, seat: &Seat<'_>, from: NodeId, agreed: bool) -> Plan
     requires room { room.items ≡ [] }
     requires other { seat.now.id ≢ from }
     requires known { from < seat.now.nodes }
-    ensures row { IsPlanOf seat.now result None (λ _. answered_coordinator seat.now.id from agreed (state_at seat.now)) }
+    ensures row { IsPlanOf seat.now result None (λ answer. delivered seat.now.id from (says.Coordinator agreed) answer (state_at seat.now)) }
     ensures none { plan_sends seat.now.id result ≡ 0 }
     ensures gain { gain_of result.act ≡ 0 }
 {
@@ -71,7 +69,7 @@ pub fn answered_coordinator(room: Vec<Message>, seat: &Seat<'_>, from: NodeId, a
 }
 
 /// Invitation: a Normal node stops its work and joins, and a coordinator passes the invitation on to its members.
-#[tactic(auto, using(crate::proofs::Sets::other_sets), unfolding(crate::specs::Messages::invited))]
+#[tactic(auto, using(crate::proofs::Sets::other_sets), unfolding(crate::specs::Messages::delivered))]
 pub fn invited(
     alloc: Global,
     room: Vec<Message>,
@@ -80,8 +78,8 @@ pub fn invited(
 ) -> Result<Plan, AllocError>
     requires room { room.items ≡ [] }
     requires known { group.creator < seat.now.nodes }
-    ensures row { IfOk result (λ plan. IsPlanOf seat.now plan None
-        (λ _. invited seat.now.id group (state_at seat.now))) }
+    ensures row { (from : ℕ) → IfOk result (λ plan. IsPlanOf seat.now plan None
+        (λ answer. delivered seat.now.id from (says.Invitation group) answer (state_at seat.now))) }
     ensures few { IfOk result (λ plan. plan_sends seat.now.id plan < seat.now.nodes) }
     ensures memory { Spares (takes_invitation seat.now.id group (state_at seat.now)) result }
 {
@@ -128,12 +126,12 @@ fn passed_on(seat: &Seat<'_>, group: GroupNo) -> Members
 }
 
 /// Accept: the coordinator of a new group notes who joined.
-#[tactic(auto, unfolding(crate::specs::Messages::accepted))]
+#[tactic(auto, unfolding(crate::specs::Messages::delivered))]
 pub fn accepted(room: Vec<Message>, seat: &Seat<'_>, from: NodeId, group: GroupNo) -> Plan
     requires room { room.items ≡ [] }
     requires other { seat.now.id ≢ from }
     requires known { from < seat.now.nodes }
-    ensures row { IsPlanOf seat.now result None (λ _. accepted seat.now.id from group (state_at seat.now)) }
+    ensures row { IsPlanOf seat.now result None (λ answer. delivered seat.now.id from (says.Accept group) answer (state_at seat.now)) }
     ensures none { plan_sends seat.now.id result ≡ 0 }
     ensures gain { gain_of result.act ≡ 0 }
 {
@@ -149,7 +147,7 @@ pub fn accepted(room: Vec<Message>, seat: &Seat<'_>, from: NodeId, group: GroupN
 }
 
 /// Ready: a member takes the task from its coordinator, and says so each time that it is told.
-#[tactic(auto, unfolding(crate::specs::Messages::told_ready))]
+#[tactic(auto, unfolding(crate::specs::Messages::delivered))]
 pub fn told_ready(
     room: Vec<Message>,
     seat: &Seat<'_>,
@@ -161,7 +159,7 @@ pub fn told_ready(
     requires known { from < seat.now.nodes }
     requires members { AreWithin seat.now.nodes task.members }
     ensures row { IfOk result (λ plan. IsPlanOf seat.now plan None
-        (λ _. told_ready seat.now.id from task (state_at seat.now))) }
+        (λ answer. delivered seat.now.id from (says.Ready task) answer (state_at seat.now))) }
     ensures few { IfOk result (λ plan. plan_sends seat.now.id plan < seat.now.nodes) }
     ensures memory { Spares (delivered_takes seat.now.id from (says.Ready task) (state_at seat.now)) result }
 {
@@ -199,10 +197,10 @@ fn is_told(seat: &Seat<'_>, from: NodeId, task: Task) -> bool
 }
 
 /// ReadyAck: the coordinator is Normal once all members are ready.
-#[tactic(auto, unfolding(crate::specs::Messages::acknowledged))]
+#[tactic(auto, unfolding(crate::specs::Messages::delivered))]
 pub fn acknowledged(room: Vec<Message>, seat: &Seat<'_>, from: NodeId, group: GroupNo) -> Plan
     requires room { room.items ≡ [] }
-    ensures row { IsPlanOf seat.now result None (λ _. acknowledged seat.now.id from group (state_at seat.now)) }
+    ensures row { IsPlanOf seat.now result None (λ answer. delivered seat.now.id from (says.ReadyAck group) answer (state_at seat.now)) }
     ensures none { plan_sends seat.now.id result ≡ 0 }
     ensures gain { gain_of result.act ≡ 0 }
 {
@@ -215,7 +213,7 @@ pub fn acknowledged(room: Vec<Message>, seat: &Seat<'_>, from: NodeId, group: Gr
 }
 
 /// AreYouThere: a node that is up says whether it coordinates that group, with the asking node among its members.
-#[tactic(auto, unfolding(crate::specs::Messages::asked_there))]
+#[tactic(auto, unfolding(crate::specs::Messages::delivered))]
 pub fn asked_there(
     room: Vec<Message>,
     seat: &Seat<'_>,
@@ -226,7 +224,7 @@ pub fn asked_there(
     requires other { seat.now.id ≢ from }
     requires known { from < seat.now.nodes }
     ensures row { IfOk result (λ plan. IsPlanOf seat.now plan None
-        (λ _. asked_there seat.now.id from group (state_at seat.now))) }
+        (λ answer. delivered seat.now.id from (says.AreYouThere group) answer (state_at seat.now))) }
     ensures few { IfOk result (λ plan. plan_sends seat.now.id plan < seat.now.nodes) }
     ensures memory { Spares (delivered_takes seat.now.id from (says.AreYouThere group) (state_at seat.now)) result }
 {
@@ -243,7 +241,7 @@ pub fn asked_there(
 }
 
 /// Here: a member whose coordinator is there waits on, and one whose coordinator is not recovers.
-#[tactic(auto, unfolding(crate::specs::Messages::answered_there))]
+#[tactic(auto, unfolding(crate::specs::Messages::delivered))]
 pub fn answered_there(
     alloc: Global,
     room: Vec<Message>,
@@ -254,8 +252,8 @@ pub fn answered_there(
 ) -> Result<Plan, AllocError>
     requires room { room.items ≡ [] }
     ensures row { IfOk result (λ plan. IsPlanOf seat.now plan
-        (raise_if (was_probed from group (state_at seat.now) && not agreed))
-        (λ answer. answered_there seat.now.id from group agreed answer (state_at seat.now))) }
+        (if was_probed from group (state_at seat.now) && not agreed then Some Raise else None)
+        (λ answer. delivered seat.now.id from (says.Here group agreed) answer (state_at seat.now))) }
     ensures none { IfOk result (λ plan. plan_sends seat.now.id plan ≡ 0) }
     ensures memory { Spares (delivered_takes seat.now.id from (says.Here group agreed) (state_at seat.now)) result }
 {
@@ -275,7 +273,7 @@ pub fn answered_there(
 }
 
 /// Work: a member takes a job of its group in hand, if the job's queue is its own.
-#[tactic(auto, using(crate::proofs::Sets::more_from, crate::proofs::Sets::one_from), unfolding(crate::specs::Messages::got_work))]
+#[tactic(auto, using(crate::proofs::Sets::more_from, crate::proofs::Sets::one_from), unfolding(crate::specs::Messages::delivered))]
 pub fn got_work(
     alloc: Global,
     room: Vec<Message>,
@@ -288,7 +286,7 @@ pub fn got_work(
     requires room { room.items ≡ [] }
     requires known { from < seat.now.nodes }
     ensures row { IfOk result (λ plan. IsPlanOf seat.now plan None
-        (λ _. got_work seat.now.id from group job work.now (state_at seat.now))) }
+        (λ answer. delivered seat.now.id from (says.Work group job work.now) answer (state_at seat.now))) }
     ensures none { IfOk result (λ plan. plan_sends seat.now.id plan ≡ 0) }
     ensures memory { Spares (delivered_takes seat.now.id from (says.Work group job work.now) (state_at seat.now)) result }
 {
@@ -316,11 +314,12 @@ pub fn got_work(
 }
 
 /// Done: the node that keeps a job marks it as done. The vector stays.
+#[tactic(auto, unfolding(crate::specs::Messages::delivered))]
 pub fn told_done(room: Vec<Message>, seat: &Seat<'_>, job: u64, table: &JobTable) -> Plan
     requires room { room.items ≡ [] }
-    ensures row { IsPlanOf seat.now result
-        (done_if (not (is_down seat.now.vector.now.standing.phase) && is_pending table.now.pending job) job)
-        (λ _. nothing (state_at seat.now)) }
+    ensures row { (from : ℕ) → IsPlanOf seat.now result
+        (if not (is_down seat.now.vector.now.standing.phase) && is_pending table.now.pending job then Some (Done job) else None)
+        (λ answer. delivered seat.now.id from (says.Done job) answer (state_at seat.now)) }
     ensures none { plan_sends seat.now.id result ≡ 0 }
     ensures gain { gain_of result.act ≡ 0 }
 {

@@ -1,5 +1,5 @@
 ghost use Rattle.std.specs.Prelude.{◌≡◌, ◌≢◌, ◌+◌, ◌≤◌, ◌<◌, ◌↔◌, List, length, IfOk, IfErr, IfSome, IsNone, OnErr, OnOk, Err, Some, None, true, []};
-ghost use Rattle.job_model.specs.Command.{Raise};
+ghost use Rattle.job_model.specs.declared.node_command.NodeCommand.TheVariants.{Raise};
 ghost use Rattle.job_model.specs.declared.job.Job.{Job};
 ghost use Rattle.group_task.specs.declared.node.TheConstants.{NODES};
 ghost use Rattle.node_core.specs.declared.event.Event.{Event};
@@ -68,7 +68,6 @@ impl Model for NodeCore {
 #[tactic(auto, using(crate::proofs::Sets::other_sets))]
 impl NodeCore {
     /// A node that is Normal in its own group of this count.
-    #[tactic(auto, using(crate::proofs::Sets::other_sets), unfolding(crate::specs::Timers::recovery))]
     pub fn new(alloc: Global, id: NodeId, nodes: u8, count: u64) -> NodeCore
         requires within { id < nodes }
         requires nodes { nodes ≤ NODES }
@@ -209,7 +208,7 @@ impl NodeCore {
 
     /// Carries out the plan that was made last, and answers the messages to be sent, in their order. The answer is that of
     /// the command: the new count of a Raise, the new id of a Put, else any number.
-    #[tactic(auto, using(crate::proofs::Sets::other_sets, crate::proofs::Sets::more_from, crate::proofs::Sets::one_from), unfolding(crate::specs::Timers::recovery))]
+    #[tactic(auto, using(crate::proofs::Sets::other_sets, crate::proofs::Sets::more_from, crate::proofs::Sets::one_from))]
     #[inline(always)]
     pub fn commit_step(&mut self, plan: Plan, answer: u64) -> Vec<Message>
         requires last { CanCarry self.old plan }

@@ -1,12 +1,12 @@
-ghost use Rattle.std.specs.Prelude.{◌≡◌, [], ◌<◌, ◌==◌, ◌&&◌, true, Some, IfOk};
-ghost use Rattle.job_model.specs.Command.{Raise, Put};
+ghost use Rattle.std.specs.Prelude.{◌≡◌, [], ◌<◌, ◌==◌, ◌&&◌, if◌then◌else◌, true, Some, None, IfOk};
+ghost use Rattle.job_model.specs.declared.node_command.NodeCommand.TheVariants.{Raise, Put, Done};
 ghost use Rattle.job_model.specs.Fold.{is_pending};
 ghost use Rattle.node_core.specs.Seat.{state_at};
 ghost use Rattle.node_core.specs.State.{is_normal};
 ghost use Rattle.node_core.specs.Words.{holds};
-ghost use Rattle.node_core.specs.Timers.{recovery};
+ghost use Rattle.node_core.specs.Effect.{quietly};
+ghost use Rattle.node_core.specs.Start.{alone};
 ghost use Rattle.node_core.specs.Operator.{submit, finish};
-ghost use Rattle.node_core.specs.Wants.{done_if};
 ghost use Rattle.node_core.specs.Planned.{IsPlanOf, plan_sends, gain_of};
 
 use crate::guards::owner_in;
@@ -18,11 +18,10 @@ use std::alloc::{AllocError, Global};
 use wire_msg::{Body, Message};
 
 /// The node recovers: it is alone in a new group.
-#[tactic(auto, unfolding(crate::specs::Timers::recovery))]
 pub fn recovery(room: Vec<Message>, seat: &Seat<'_>) -> Plan
     requires room { room.items ≡ [] }
     ensures row { IsPlanOf seat.now result (Some Raise)
-        (λ answer. recovery seat.now.id answer (state_at seat.now)) }
+        (λ answer. quietly (alone seat.now.id answer)) }
     ensures none { plan_sends seat.now.id result ≡ 0 }
     ensures gain { gain_of result.act ≡ 0 }
 {
@@ -59,7 +58,7 @@ pub fn finish(
 ) -> Result<Plan, AllocError>
     requires held { holds seat.now.vector.now.hand.jobs origin job ≡ true }
     ensures row { IfOk result (λ plan. IsPlanOf seat.now plan
-        (done_if (origin == seat.now.id && is_pending table.now.pending job) job)
+        (if origin == seat.now.id && is_pending table.now.pending job then Some (Done job) else None)
         (λ _. finish seat.now.id origin job (state_at seat.now))) }
     ensures few { IfOk result (λ plan. plan_sends seat.now.id plan < seat.now.nodes) }
 {

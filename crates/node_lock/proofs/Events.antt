@@ -38,12 +38,7 @@ part_again {A} xs ys = ap (λ (zs : List A). take (length ys) zs) (drop-append_s
 -- ---- more is kept, and an event is what it was
 
 event_same : (ms more : List Envelope) (p bytes : List ℕ) (e : KeptEvent) → EventStands (length ms) (length p) e → event_said (ms ++ more) (p ++ bytes) e ≡ event_said ms p e
-event_same ms more p bytes kept.CheckTimer h = refl
-event_same ms more p bytes kept.MergeTimer h = refl
-event_same ms more p bytes kept.AcceptTimer h = refl
-event_same ms more p bytes kept.ReadyTimer h = refl
-event_same ms more p bytes kept.CoordTimer h = refl
-event_same ms more p bytes kept.DispatchTimer h = refl
+event_same ms more p bytes (kept.Timer timer) h = refl
 event_same ms more p bytes (kept.Deliver place) h = ap (λ (o : Option Envelope). delivered o) (get_same ms more place h)
 event_same ms more p bytes (kept.Submit start len queue priority) h = ap (λ (xs : List ℕ). on.Submit (record { queue = queue; priority = priority; payload = xs })) (part_same p bytes start len h.0)
 event_same ms more p bytes (kept.Finish origin id) h = refl
@@ -58,12 +53,7 @@ events_same ms more p bytes (e ∷ es) h =
 -- ---- an event that was kept last is read back
 
 event_again : (ms : List Envelope) (p : List ℕ) (e : Event) → event_said (ms ++ brought (Some e)) (p ++ payload_of e) (kept_event (length ms) (length p) e) ≡ e
-event_again ms p on.CheckTimer = refl
-event_again ms p on.MergeTimer = refl
-event_again ms p on.AcceptTimer = refl
-event_again ms p on.ReadyTimer = refl
-event_again ms p on.CoordTimer = refl
-event_again ms p on.DispatchTimer = refl
+event_again ms p (on.Timer timer) = refl
 event_again ms p (on.Deliver m) = ap (λ (o : Option Envelope). delivered o) (get_again ms m)
 event_again ms p (on.Submit work) = ap (λ (xs : List ℕ). on.Submit (record work { payload = xs })) (part_again p work.payload)
 event_again ms p (on.Finish origin id) = refl
@@ -81,24 +71,14 @@ events_more es ms p e h =
 -- ---- what is kept can be read
 
 event_longer : (m m' p p' : ℕ) → m ≤ m' → p ≤ p' → (e : KeptEvent) → EventStands m p e → EventStands m' p' e
-event_longer m m' p p' a b kept.CheckTimer h = tt
-event_longer m m' p p' a b kept.MergeTimer h = tt
-event_longer m m' p p' a b kept.AcceptTimer h = tt
-event_longer m m' p p' a b kept.ReadyTimer h = tt
-event_longer m m' p p' a b kept.CoordTimer h = tt
-event_longer m m' p p' a b kept.DispatchTimer h = tt
+event_longer m m' p p' a b (kept.Timer timer) h = tt
 event_longer m m' p p' a b (kept.Deliver place) h = omega (arith, a, h)
 event_longer m m' p p' a b (kept.Submit start len queue priority) h = (let within = h.0 in omega (arith, b, within), h.1)
 event_longer m m' p p' a b (kept.Finish origin id) h = tt
 event_longer m m' p p' a b kept.Recover h = tt
 
 event_stands : (ms : List Envelope) (p : List ℕ) (e : Event) → length (payload_of e) ≤ PAYLOAD_CAPACITY → EventStands (length (ms ++ brought (Some e))) (length (p ++ payload_of e)) (kept_event (length ms) (length p) e)
-event_stands ms p on.CheckTimer few = tt
-event_stands ms p on.MergeTimer few = tt
-event_stands ms p on.AcceptTimer few = tt
-event_stands ms p on.ReadyTimer few = tt
-event_stands ms p on.CoordTimer few = tt
-event_stands ms p on.DispatchTimer few = tt
+event_stands ms p (on.Timer timer) few = tt
 event_stands ms p (on.Deliver m) few = omega (arith, length-append ms (m ∷ []))
 event_stands ms p (on.Submit work) few = (omega (arith, length-append p work.payload), few)
 event_stands ms p (on.Finish origin id) few = tt

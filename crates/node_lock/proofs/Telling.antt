@@ -4,6 +4,7 @@ use Rattle.wire_msg.specs.Envelope.{Envelope}
 use Rattle.sector_disk.specs.Memory.{Memory, state_of}
 use Rattle.node_core.specs.declared.event.Event.{Event}
 use Rattle.node_core.specs.declared.event.Event.TheVariants as on
+use Rattle.node_core.specs.declared.timer.Timer.{Timer}
 use Rattle.histories.specs.declared.what.What.{What}
 use Rattle.histories.specs.declared.what.What.TheVariants as what
 use Rattle.histories.specs.declared.what.Rest.TheVariants.{Nothing}
@@ -15,11 +16,9 @@ use Rattle.durable_node.specs.declared.fault.NodeFault.{NodeFault}
 use Rattle.durable_node.specs.declared.fault.NodeFault.TheVariants as fault
 use Rattle.durable_node.specs.Node.{Node, Stands}
 use Rattle.durable_node.specs.Stepping.{CameOf, IsUnmountable, Stuck}
-use Rattle.node_lock.specs.declared.order.Timer.{Timer}
-use Rattle.node_lock.specs.declared.order.Timer.TheVariants as timer
 use Rattle.node_lock.specs.declared.order.Order.{Order}
 use Rattle.node_lock.specs.declared.order.Order.TheVariants as order
-use Rattle.node_lock.specs.Asking.{Asked, Hand, Rest, Arm, Crash, event_for, asked_in, asked_by}
+use Rattle.node_lock.specs.Asking.{Asked, Hand, Rest, Arm, Crash, asked_in, asked_by}
 use Rattle.node_lock.specs.Doing.{Did, Gives, StandsForSome, TurnDid}
 use Rattle.node_lock.specs.History.{listed}
 
@@ -60,15 +59,7 @@ turn_comes old new (Crash fill) w sent did s stands =
 -- ---- what a turn was brought
 
 brought_by : (m : Envelope) (w : What) → CameOf (on.Deliver m) w → brought (event_of w) ≡ m ∷ []
-brought_by m (what.Did e) is = ap (λ (x : Event). brought (Some x)) is
-brought_by m (what.Refused e why) is = ap (λ (x : Event). brought (Some x)) is
-brought_by m (what.Faulted e) is = ap (λ (x : Event). brought (Some x)) is
-brought_by m (what.Rests rest) is = absurd is
-brought_by m what.Crashed is = absurd is
-brought_by m (what.Recovered kept) is = absurd (let bad = is in cc)
-brought_by m what.MountFailed is = absurd (let bad = is in cc)
-brought_by m (what.RaiseFailed kept) is = absurd (let bad = is in cc)
-brought_by m (what.RaiseRefused kept) is = absurd (let bad = is in cc)
+brought_by m w is = ap brought is
 
 -- a poll brings what it found
 pub brought_found : (found : Option Envelope) (w : What) → Gives (asked_by found) w → brought (event_of w) ≡ listed found
@@ -77,27 +68,11 @@ brought_found None w is = ap (λ (x : What). brought (event_of x)) is
 
 -- an event that brings nothing
 none_by : (event : Event) (w : What) → brought (Some event) ≡ [] → CameOf event w → brought (event_of w) ≡ []
-none_by event (what.Did e) none is = ap (λ (x : Event). brought (Some x)) is ∙ none
-none_by event (what.Refused e why) none is = ap (λ (x : Event). brought (Some x)) is ∙ none
-none_by event (what.Faulted e) none is = ap (λ (x : Event). brought (Some x)) is ∙ none
-none_by event (what.Rests rest) none is = absurd is
-none_by event what.Crashed none is = absurd is
-none_by event (what.Recovered kept) none is = refl
-none_by event what.MountFailed none is = refl
-none_by event (what.RaiseFailed kept) none is = refl
-none_by event (what.RaiseRefused kept) none is = refl
-
-none_of_timer : (t : Timer) → brought (Some (event_for t)) ≡ []
-none_of_timer timer.Check = refl
-none_of_timer timer.Merge = refl
-none_of_timer timer.Accept = refl
-none_of_timer timer.Ready = refl
-none_of_timer timer.Coord = refl
-none_of_timer timer.Dispatch = refl
+none_by event w none is = ap brought is ∙ none
 
 -- timers and orders bring no message
-pub none_of_tick : (t : Timer) (w : What) → Gives (Hand (event_for t)) w → brought (event_of w) ≡ []
-none_of_tick t w is = none_by (event_for t) w (none_of_timer t) is
+pub none_of_tick : (t : Timer) (w : What) → Gives (Hand (on.Timer t)) w → brought (event_of w) ≡ []
+none_of_tick t w is = none_by (on.Timer t) w refl is
 
 pub none_of_order : (o : Order) (w : What) → Gives (asked_in o) w → brought (event_of w) ≡ []
 none_of_order (order.Submit work) w is = none_by (on.Submit work) w refl is

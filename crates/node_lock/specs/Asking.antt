@@ -3,8 +3,7 @@ use Rattle.std.specs.Prelude.{ℕ, ◌≡◌, List, slice_get, Option, Some, Non
 use Rattle.wire_msg.specs.Envelope.{Envelope}
 use Rattle.node_core.specs.declared.event.Event.{Event}
 use Rattle.node_core.specs.declared.event.Event.TheVariants as on
-use Rattle.node_lock.specs.declared.order.Timer.{Timer}
-use Rattle.node_lock.specs.declared.order.Timer.TheVariants as timer
+use Rattle.node_core.specs.declared.timer.Timer.{Timer}
 use Rattle.node_lock.specs.declared.order.Order.{Order}
 use Rattle.node_lock.specs.declared.order.Order.TheVariants as order
 use Rattle.node_lock.specs.declared.worker.Worker.{Worker}
@@ -18,15 +17,6 @@ pub data Asked : Type 0 where
   Rest : Asked
   Arm : (calls : ℕ) → Asked
   Crash : (fill : List ℕ) → Asked
-
--- the event of a timer
-abbrev pub event_for : Timer → Event
-event_for timer.Check = on.CheckTimer
-event_for timer.Merge = on.MergeTimer
-event_for timer.Accept = on.AcceptTimer
-event_for timer.Ready = on.ReadyTimer
-event_for timer.Coord = on.CoordTimer
-event_for timer.Dispatch = on.DispatchTimer
 
 -- what the operator's order asks
 abbrev pub asked_in : Order → Asked
@@ -44,5 +34,5 @@ asked_by None = Rest
 -- the worker's plan asks this at this turn
 abbrev pub IsAsked : Planned → Worker → ℕ → Asked → Type 0
 IsAsked p Intake i asked = ((j : ℕ) × (slice_get p.intake i ≡ Some j)) × ((found : Option Envelope) × (asked ≡ asked_by found))
-IsAsked p Clock i asked = (t : Timer) × (slice_get p.clock i ≡ Some t) × (asked ≡ Hand (event_for t))
+IsAsked p Clock i asked = (t : Timer) × (slice_get p.clock i ≡ Some t) × (asked ≡ Hand (on.Timer t))
 IsAsked p Operator i asked = (o : Order) × (slice_get p.operator i ≡ Some o) × (asked ≡ asked_in o)

@@ -15,42 +15,24 @@ pub record EventsKept : Type 0 where
 -- ---- what is kept of an event, where so many messages and bytes of payloads are kept before it
 
 abbrev pub kept_event : ℕ → ℕ → Event → KeptEvent
-kept_event messages payloads on.CheckTimer = kept.CheckTimer
-kept_event messages payloads on.MergeTimer = kept.MergeTimer
-kept_event messages payloads on.AcceptTimer = kept.AcceptTimer
-kept_event messages payloads on.ReadyTimer = kept.ReadyTimer
-kept_event messages payloads on.CoordTimer = kept.CoordTimer
-kept_event messages payloads on.DispatchTimer = kept.DispatchTimer
+kept_event messages payloads (on.Timer timer) = kept.Timer timer
 kept_event messages payloads (on.Deliver m) = kept.Deliver messages
 kept_event messages payloads (on.Submit work) = kept.Submit payloads (length work.payload) work.queue work.priority
 kept_event messages payloads (on.Finish origin id) = kept.Finish origin id
 kept_event messages payloads on.Recover = kept.Recover
 
 abbrev pub payload_of : Event → List ℕ
-payload_of on.CheckTimer = []
-payload_of on.MergeTimer = []
-payload_of on.AcceptTimer = []
-payload_of on.ReadyTimer = []
-payload_of on.CoordTimer = []
-payload_of on.DispatchTimer = []
-payload_of (on.Deliver m) = []
 payload_of (on.Submit work) = work.payload
-payload_of (on.Finish origin id) = []
-payload_of on.Recover = []
+payload_of event = []
 
 -- ---- what it says
 
 abbrev pub delivered : Option Envelope → Event
-delivered None = on.CheckTimer
+delivered None = on.Recover
 delivered (Some m) = on.Deliver m
 
 abbrev pub event_said : List Envelope → List ℕ → KeptEvent → Event
-event_said messages payloads kept.CheckTimer = on.CheckTimer
-event_said messages payloads kept.MergeTimer = on.MergeTimer
-event_said messages payloads kept.AcceptTimer = on.AcceptTimer
-event_said messages payloads kept.ReadyTimer = on.ReadyTimer
-event_said messages payloads kept.CoordTimer = on.CoordTimer
-event_said messages payloads kept.DispatchTimer = on.DispatchTimer
+event_said messages payloads (kept.Timer timer) = on.Timer timer
 event_said messages payloads (kept.Deliver place) = delivered (slice_get messages place)
 event_said messages payloads (kept.Submit start len queue priority) = on.Submit (record { queue = queue; priority = priority; payload = take len (drop start payloads) })
 event_said messages payloads (kept.Finish origin id) = on.Finish origin id
@@ -59,13 +41,6 @@ event_said messages payloads kept.Recover = on.Recover
 -- ---- what can be read back, from so many messages and bytes of payloads
 
 abbrev pub EventStands : ℕ → ℕ → KeptEvent → Type 0
-EventStands messages payloads kept.CheckTimer = ⊤
-EventStands messages payloads kept.MergeTimer = ⊤
-EventStands messages payloads kept.AcceptTimer = ⊤
-EventStands messages payloads kept.ReadyTimer = ⊤
-EventStands messages payloads kept.CoordTimer = ⊤
-EventStands messages payloads kept.DispatchTimer = ⊤
 EventStands messages payloads (kept.Deliver place) = place < messages
 EventStands messages payloads (kept.Submit start len queue priority) = (start + len ≤ payloads) × (len ≤ PAYLOAD_CAPACITY)
-EventStands messages payloads (kept.Finish origin id) = ⊤
-EventStands messages payloads kept.Recover = ⊤
+EventStands messages payloads event = ⊤

@@ -1,6 +1,6 @@
 -- What contracts see of the plans of a node's workers, and of the turns that were taken.
 use Rattle.std.specs.Prelude.{ℕ, ◌+◌, List, length}
-use Rattle.node_lock.specs.declared.order.Timer.{Timer}
+use Rattle.node_core.specs.declared.timer.Timer.{Timer}
 use Rattle.node_lock.specs.declared.order.Order.{Order}
 use Rattle.node_lock.specs.declared.worker.Turns.{Turns}
 use Rattle.node_lock.specs.declared.worker.Worker.{Worker}

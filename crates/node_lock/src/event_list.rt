@@ -9,19 +9,14 @@ ghost use Rattle.node_lock.specs.Events.{kept_event, payload_of, event_said, Eve
 use group_task::NodeId;
 use job_model::{PAYLOAD_CAPACITY, Payload, Queue, Work};
 use message_list::MessageList;
-use node_core::Event;
+use node_core::{Event, Timer};
 use std::alloc::{AllocError, Global};
 use std::marker::Model;
 
 /// An event as it is kept.
 #[derive(Clone, Copy)]
 pub enum KeptEvent {
-    CheckTimer,
-    MergeTimer,
-    AcceptTimer,
-    ReadyTimer,
-    CoordTimer,
-    DispatchTimer,
+    Timer(Timer),
     /// The message stands at this place of its list.
     Deliver(usize),
     /// The payload begins at this place of all payloads, and has so many bytes; a queue and a priority.
@@ -138,12 +133,7 @@ fn keep_event(messages: &mut MessageList, payloads: &mut Vec<u8>, event: &Event)
     ensures capacity { vec_capacity payloads.old ≤ vec_capacity payloads.new }
 {
     match event {
-        Event::CheckTimer => KeptEvent::CheckTimer,
-        Event::MergeTimer => KeptEvent::MergeTimer,
-        Event::AcceptTimer => KeptEvent::AcceptTimer,
-        Event::ReadyTimer => KeptEvent::ReadyTimer,
-        Event::CoordTimer => KeptEvent::CoordTimer,
-        Event::DispatchTimer => KeptEvent::DispatchTimer,
+        Event::Timer(timer) => KeptEvent::Timer(*timer),
         Event::Deliver(message) => {
             let place = messages.len();
             messages.push(message);
@@ -166,12 +156,7 @@ fn event_said(messages: &MessageList, payloads: &[u8], event: KeptEvent) -> Even
     ensures { result ≡ event_said messages.now.messages payloads.now event }
 {
     match event {
-        KeptEvent::CheckTimer => Event::CheckTimer,
-        KeptEvent::MergeTimer => Event::MergeTimer,
-        KeptEvent::AcceptTimer => Event::AcceptTimer,
-        KeptEvent::ReadyTimer => Event::ReadyTimer,
-        KeptEvent::CoordTimer => Event::CoordTimer,
-        KeptEvent::DispatchTimer => Event::DispatchTimer,
+        KeptEvent::Timer(timer) => Event::Timer(timer),
         KeptEvent::Deliver(place) => match messages.get(place) {
             Some(message) => Event::Deliver(message),
             None => unreachable!(),

@@ -11,11 +11,12 @@ ghost use Rattle.node_lock.specs.declared.worker.Worker.TheVariants.{Intake, Clo
 use crate::history::History;
 use crate::plans::Plans;
 use crate::run::Run;
-use crate::turn::{clear, event_for, fetch, hand, operate, receive};
+use crate::turn::{clear, fetch, hand, operate, receive};
 use crate::worker::{Turns, Worker};
 use durable_node::DurableNode;
 use group_task::NodeId;
 use link_ring::{PutEnd, TakeEnd};
+use node_core::Event;
 use sector_disk::MemDisk;
 use std::alloc::{AllocError, Global};
 use std::marker::Model;
@@ -158,7 +159,7 @@ impl Held {
         ensures memory { IfErr result (λ f. (f ≡ NoMemory) × Unserved self.old self.new) }
     {
         let index = self.turns.clock;
-        let event = event_for(self.plans.clock()[index]);
+        let event = Event::Timer(self.plans.clock()[index]);
         hand(
             &mut self.node,
             &mut self.puts,

@@ -24,7 +24,7 @@ pub use history::{Entry, History, Sent};
 pub use laws::limits;
 pub use line::Quiet;
 pub use lock::{Gate, NodeLock, TurnFault};
-pub use order::{Fill, Order, Timer};
+pub use order::{Fill, Order};
 pub use plans::Plans;
 pub use run::Run;
 pub use worker::{Turns, Worker};

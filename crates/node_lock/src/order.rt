@@ -7,34 +7,6 @@ use job_model::NewJob;
 use std::alloc::{AllocError, Global};
 use std::marker::Model;
 
-/// A timer that fires.
-#[derive(Clone, Copy, PartialEq, Eq, Debug)]
-pub enum Timer {
-    Check,
-    Merge,
-    Accept,
-    Ready,
-    Coord,
-    Dispatch,
-}
-
-impl Timer {
-    /// Whether both are the same timer.
-    pub fn is_same(self, other: Timer) -> bool
-        ensures { IsTrue result ↔ (self ≡ other) }
-    {
-        match (self, other) {
-            (Timer::Check, Timer::Check)
-            | (Timer::Merge, Timer::Merge)
-            | (Timer::Accept, Timer::Accept)
-            | (Timer::Ready, Timer::Ready)
-            | (Timer::Coord, Timer::Coord)
-            | (Timer::Dispatch, Timer::Dispatch) => true,
-            _ => false,
-        }
-    }
-}
-
 /// What a crash leaves in the sectors that weren't synced, in their order.
 #[derive(Drop)]
 pub struct Fill {

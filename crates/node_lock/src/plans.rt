@@ -2,8 +2,9 @@
 
 ghost use Rattle.std.specs.Prelude.{◌≡◌, ◌↔◌, IfOk, IsTrue};
 
-use crate::order::{Order, Timer};
+use crate::order::Order;
 use group_task::NodeId;
+use node_core::Timer;
 use std::alloc::{AllocError, Global};
 use std::marker::Model;
 
@@ -92,15 +93,7 @@ fn same_nodes(some: &[NodeId], others: &[NodeId]) -> bool
 fn same_timers(some: &[Timer], others: &[Timer]) -> bool
     ensures { IsTrue result ↔ (some.now ≡ others.now) }
 {
-    if some.len() != others.len() {
-        return false;
-    }
-    for place in 0..some.len() {
-        if !some[place].is_same(others[place]) {
-            return false;
-        }
-    }
-    true
+    some == others
 }
 
 /// Whether both lists have the same orders.

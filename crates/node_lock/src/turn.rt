@@ -4,7 +4,7 @@ ghost use Rattle.histories.specs.What.{Entry};
 ghost use Rattle.durable_node.specs.Stepping.{most_by};
 ghost use Rattle.node_lock.specs.declared.held.HeldFault.TheVariants.{NoMemory};
 ghost use Rattle.node_lock.specs.declared.worker.Worker.TheVariants.{Intake, Operator};
-ghost use Rattle.node_lock.specs.Asking.{Hand, event_for, asked_in, asked_by};
+ghost use Rattle.node_lock.specs.Asking.{Hand, asked_in, asked_by};
 ghost use Rattle.node_lock.specs.Doing.{StandsForSome};
 ghost use Rattle.node_lock.specs.Kept.{what_quiet};
 ghost use Rattle.node_lock.specs.declared.line.Quiet.TheVariants.{Rested};
@@ -16,7 +16,7 @@ use crate::held::HeldFault;
 use crate::history::History;
 use crate::line::Quiet;
 use crate::links::{reserve_puts, send_all};
-use crate::order::{Order, Timer};
+use crate::order::Order;
 use crate::perform::perform;
 use crate::worker::Worker;
 use durable_node::DurableNode;
@@ -63,20 +63,6 @@ fn make_room(
     let most = node.most();
     history.reserve(most)?;
     reserve_puts(puts, most)
-}
-
-/// The event of a timer.
-pub(crate) fn event_for(timer: Timer) -> Event
-    ensures { result ≡ event_for timer }
-{
-    match timer {
-        Timer::Check => Event::CheckTimer,
-        Timer::Merge => Event::MergeTimer,
-        Timer::Accept => Event::AcceptTimer,
-        Timer::Ready => Event::ReadyTimer,
-        Timer::Coord => Event::CoordTimer,
-        Timer::Dispatch => Event::DispatchTimer,
-    }
 }
 
 /// A turn that hands no event to the node and leaves it as it is.

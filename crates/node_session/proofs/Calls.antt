@@ -6,12 +6,12 @@ use Rattle.node_core.specs.declared.event.Event.{Event}
 use Rattle.node_store.specs.Store.{slots_for}
 use Rattle.durable_node.specs.Node.{Node, Stands}
 use Rattle.histories.specs.NodeState.{NodeState}
+use Rattle.node_session.proofs.Happens.{caused}
 use Rattle.node_session.specs.declared.ended.Ended.{Ended}
-use Rattle.histories.specs.declared.what.What.TheVariants.{Did, Refused, Faulted, Rests, Crashed, Recovered, MountFailed, RaiseFailed, RaiseRefused}
-use Rattle.node_session.specs.Turns.{Turn, Goes, Unmounted, Begins, after_turn, end_of, IsTimer, IsTimely, IsGoing, MayComeOf}
+use Rattle.node_session.specs.Turns.{Turn, after_turn, end_of, IsFired, IsTimely, IsGoing, MayComeOf}
 use Rattle.pace.specs.Waiting.{Waits}
 use Rattle.node_session.specs.Chains.{AreGoing, AreTimely, IsOne, after_turns, last_end, waits_turn, waits_turns}
-use Rattle.node_session.specs.Text.{fired_line, fired_told, turn_text, turns_text, untold}
+use Rattle.node_session.specs.Text.{fired_by, fired_line, fired_told, turn_text, turns_text, untold}
 use Rattle.node_session.specs.Serving.{Progress, IsNodeOf, Turns, Calls}
 
 -- ---- one more turn behind others
@@ -50,17 +50,7 @@ text_more tell self nodes s (u ∷ ts) t =
 
 -- what is told before a call names the event that it is of
 fired_so : (self nodes slots : ℕ) (s : NodeState) (event : Event) (turn : Turn) → MayComeOf self nodes event slots s turn → fired_line event ≡ fired_told turn
-fired_so self nodes slots s event (Goes (Did e)) may = ap fired_line (sym may.0)
-fired_so self nodes slots s event (Goes (Refused e fault)) may = ap fired_line (sym may.0)
-fired_so self nodes slots s event (Goes (Faulted e)) may = ap fired_line (sym may.0)
-fired_so self nodes slots s event (Goes (Rests rest)) may = absurd may.0
-fired_so self nodes slots s event (Goes Crashed) may = absurd may.0
-fired_so self nodes slots s event (Goes (Recovered kept)) may = ap fired_line may.0
-fired_so self nodes slots s event (Goes MountFailed) may = ap fired_line may.0
-fired_so self nodes slots s event (Goes (RaiseFailed kept)) may = ap fired_line may.0
-fired_so self nodes slots s event (Goes (RaiseRefused kept)) may = ap fired_line may.0
-fired_so self nodes slots s event (Unmounted fault) may = ap fired_line may.0
-fired_so self nodes slots s event (Begins found what) may = ap fired_line may.0
+fired_so self nodes slots s event turn may = ap fired_by (caused self nodes slots s event turn may)
 
 -- ---- the node stays the same
 
@@ -106,10 +96,10 @@ both_texts : (a b c x y : List ℕ) → b ≡ a ++ x → c ≡ b ++ y → c ≡ 
 both_texts a b c x y first second = second ∙ (ap (λ (t : List ℕ). t ++ y) first ∙ append_assoc a x y)
 
 -- one more, behind the line that names its event
-pub call_more : {Disk : Type 0} (disks : Disk → DiskState) (old mid new : Progress Disk) (event : Event) (told : List ℕ) (before between ended : Ended) → IsTimer event → told ≡ mid.text ++ fired_line event
+pub call_more : {Disk : Type 0} (disks : Disk → DiskState) (old mid new : Progress Disk) (event : Event) (told : List ℕ) (before between ended : Ended) → IsFired event → told ≡ mid.text ++ fired_line event
     → Calls disks old mid fired_told (AreTimely old.node.id old.node.nodes) before between → Turns disks (record mid { text = told }) new (MayComeOf mid.node.id mid.node.nodes event) ended
     → Calls disks old new fired_told (AreTimely old.node.id old.node.nodes) before ended
-call_more {Disk} disks old mid new event told before between ended timer tells a b = record {
+call_more {Disk} disks old mid new event told before between ended fired tells a b = record {
   node = node_then disks old.node mid.node new.node a.node b.node;
   same = b.same ∙ ap (λ (p : Progress Disk). record p { node = new.node; text = new.text; waits = new.waits }) a.same;
   called = λ was s is stands. (let x = a.called was s is stands in
@@ -129,7 +119,7 @@ call_more {Disk} disks old mid new event told before between ended timer tells a
       (tells ∙ ap (λ (l : List ℕ). mid.text ++ l) (fired_so old.node.id old.node.nodes (slots_for (disks was).sectors) t event y.turn may)) turn in
       record {
         turns = x.turns ++ y.turn ∷ [];
-        may = timely_more old.node.id old.node.nodes (slots_for (disks was).sectors) s x.turns y.turn x.may (record { event = event; timer = timer; may = may });
+        may = timely_more old.node.id old.node.nodes (slots_for (disks was).sectors) s x.turns y.turn x.may (record { event = event; fired = fired; may = may });
         honest = λ honest. going_more x.turns y.turn (x.honest honest) (y.honest (d.honest ∙ honest));
         stands = subst (λ (u : NodeState). Stands disks new.node u) (sym (after_more old.node.id old.node.nodes s x.turns y.turn))
             (subst (λ (n : ℕ). Stands disks new.node (after_turn old.node.id n t y.turn)) nodes
@@ -144,12 +134,12 @@ call_more {Disk} disks old mid new event told before between ended timer tells a
 }
 
 -- as the code does it: what is due is looked at, which changes nothing, it is named, and made
-pub due_more : {Disk : Type 0} (disks : Disk → DiskState) (old mid due here new : Progress Disk) (event : Event) (before between ended : Ended) → IsTimer event → due ≡ mid
+pub due_more : {Disk : Type 0} (disks : Disk → DiskState) (old mid due here new : Progress Disk) (event : Event) (before between ended : Ended) → IsFired event → due ≡ mid
     → here ≡ record due { text = due.text ++ fired_line event }
     → Calls disks old mid fired_told (AreTimely old.node.id old.node.nodes) before between → Turns disks here new (MayComeOf here.node.id here.node.nodes event) ended
     → Calls disks old new fired_told (AreTimely old.node.id old.node.nodes) before ended
-due_more {Disk} disks old mid due here new event before between ended timer is named a b =
-    call_more disks old mid new event (mid.text ++ fired_line event) before between ended timer refl a
+due_more {Disk} disks old mid due here new event before between ended fired is named a b =
+    call_more disks old mid new event (mid.text ++ fired_line event) before between ended fired refl a
     (subst (λ (p : Progress Disk). Turns disks p new (MayComeOf p.node.id p.node.nodes event) ended)
     (named ∙ ap (λ (p : Progress Disk). record p { text = p.text ++ fired_line event }) is) b)
 

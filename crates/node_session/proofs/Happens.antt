@@ -26,13 +26,13 @@ use Rattle.histories.specs.declared.fate.Fate.TheVariants as fate
 use Rattle.histories.specs.After.{after, sent_at}
 use Rattle.histories.specs.Possible.{IsOfSlots}
 use Rattle.durable_node.specs.Compacting.{Compacts, CompactTold, RestTold}
-use Rattle.durable_node.specs.Stepping.{CameOf, CountsOf, Does, IsMounting, Steps, Stuck, is_recover}
+use Rattle.durable_node.specs.Stepping.{CountsOf, Does, IsMounting, Steps, Stuck, is_recover}
 use Rattle.durable_node.specs.Faults.{fault_of, told, told_as}
 use Rattle.node_core.specs.declared.fault.CoreFault.TheVariants.{NoMemory}
 use Rattle.durable_node.specs.Remounting.{Remounted}
 use Rattle.node_session.specs.declared.ended.Ended.{Ended}
 use Rattle.node_session.specs.declared.ended.Ended.TheVariants as end
-use Rattle.node_session.specs.Turns.{Turn, Goes, Unmounted, Begins, IsOf, MayComeOf, MayCompact, IsGoing, IsOfCompaction, after_turn, cause, compaction_end, end_at, end_of, ended_by, sent_by, sent_in}
+use Rattle.node_session.specs.Turns.{Turn, Goes, Unmounted, Begins, MayComeOf, MayCompact, IsGoing, IsOfCompaction, after_turn, cause, compaction_end, end_at, end_of, ended_by, sent_by, sent_in}
 use Rattle.pace.specs.Waiting.{Waits, waits_behind}
 use Rattle.node_session.specs.Changes.{Sight, changes, gone_told, is_finish, sight_of}
 use Rattle.node_session.specs.Text.{call_text, send_lines}
@@ -48,17 +48,6 @@ record Happens {Disk : Type 0} (disks : Disk → DiskState) (slots : ℕ) (old n
   pub sent : sent_by result ≡ sent_in old.id old.nodes s turn
 
 -- ---- the history goes on
-
-is_of : (event : Event) (what : What) → CameOf event what → IsOf event what
-is_of event (Did e) of = of
-is_of event (Refused e fault) of = of
-is_of event (Faulted e) of = of
-is_of event (Rests rest) of = absurd of
-is_of event Crashed of = absurd of
-is_of event (Recovered kept) of = of
-is_of event MountFailed of = of
-is_of event (RaiseFailed kept) of = of
-is_of event (RaiseRefused kept) of = of
 
 ends : (slots self nodes : ℕ) (s : NodeState) (event : Event) (came : Came) (found : Option Durable) (fate : Fate) → Does slots self nodes s event came found (what_of event fate)
     → (ended_by (told_as came (fault_of fate)) ≡ end_at self nodes s (what_of event fate)) × (sent_by (told_as came (fault_of fate)) ≡ sent_at self nodes s (what_of event fate))
@@ -90,7 +79,7 @@ goes_on disks old new event (Ok came) was s steps stuck memory is stands honest 
     let told_so = ends (slots_for (disks was).sectors) old.id old.nodes s event came new.found came.fate does in
     record {
       turn = Goes (what_of event came.fate);
-      may = (is_of event (what_of event came.fate) does.of, does.possible, does.of_slots);
+      may = (does.of, does.possible, does.of_slots);
       going = λ _. tt;
       stands = step.1;
       ended = told_so.0;
@@ -115,7 +104,7 @@ begins : {Disk : Type 0} (disks : Disk → DiskState) (slots : ℕ) (old new : N
 begins disks slots old new (Ok came) None s mounted fallen down stands left = absurd mounted
 begins disks slots old new (Ok came) (Some found) s mounted fallen down stands left = record {
   turn = Begins found (Recovered false);
-  may = (refl, ap (λ (v : State). is_down v.phase) (sym stands.state) ∙ down, tt, (refl, tt, mounted.5));
+  may = (refl, ap (λ (v : State). is_down v.phase) (sym stands.state) ∙ down, tt, (refl, λ kept. absurd cc, mounted.5));
   going = λ honest. absurd cc;
   stands = record { state = mounted.1; doubt = mounted.2; up = λ _. (mounted.0, refl); disk = left _ };
   ended = ap end.Done mounted.4;
@@ -145,7 +134,7 @@ begins {Disk} disks slots old new (Err fault) (Some found) s mounted fallen down
     by_cases : ((fault ≡ node.Device) × (new.doubt ≡ Some (wanted.Raise, found.counter)) × (found.counter + 1 < 2 ^ 64)) ⊎ ((fault ≡ node.Exhausted) × (found.counter ≡ 2 ^ 64 - 1) × (new.doubt ≡ old.doubt)) → Happens disks slots old new false s on.Recover (Err fault)
     by_cases (inl failed) = record {
       turn = Begins found (RaiseFailed false);
-      may = (refl, was_down, tt, (refl, tt, failed.2));
+      may = (refl, was_down, tt, (refl, λ kept. absurd cc, failed.2));
       going = λ honest. absurd cc;
       stands = record { state = mounted.0 ∙ fallen down; doubt = failed.1; up = λ up. absurd cc; disk = left _ };
       ended = ap end.Denied failed.0;
@@ -153,7 +142,7 @@ begins {Disk} disks slots old new (Err fault) (Some found) s mounted fallen down
     }
     by_cases (inr spent) = record {
       turn = Begins found (RaiseRefused false);
-      may = (refl, was_down, tt, (refl, tt, spent.1));
+      may = (refl, was_down, tt, (refl, λ kept. absurd cc, spent.1));
       going = λ honest. absurd cc;
       stands = record { state = mounted.0 ∙ stands.state; doubt = spent.2 ∙ stands.doubt; up = λ up. absurd cc; disk = left s };
       ended = ap end.Denied spent.0;
@@ -206,39 +195,11 @@ same_node disks old new result id nodes counts = record {
 
 -- ---- what is told of it
 
--- a recovery tells what no event would
-quiet_end : (event : Event) (sent : List Envelope) (x y : State) (ended : Ended) → event ≡ on.Recover → call_text (Some event) sent x y ended ≡ call_text None sent x y ended
-quiet_end event sent x y (end.Done None) recover = rw recover refl
-quiet_end event sent x y (end.Done (Some id)) recover = rw recover refl
-quiet_end event sent x y (end.Denied fault) recover = rw recover refl
-
-caused : (self nodes slots : ℕ) (s : NodeState) (event : Event) (turn : Turn) (sent : List Envelope) (x y : State) (ended : Ended) → MayComeOf self nodes event slots s turn
-    → call_text (Some event) sent x y ended ≡ call_text (cause turn) sent x y ended
-caused self nodes slots s event (Goes (Did e)) sent x y ended may = ap (λ (v : Event). call_text (Some v) sent x y ended) (sym may.0)
-caused self nodes slots s event (Goes (Refused e fault)) sent x y ended may = ap (λ (v : Event). call_text (Some v) sent x y ended) (sym may.0)
-caused self nodes slots s event (Goes (Faulted e)) sent x y ended may = ap (λ (v : Event). call_text (Some v) sent x y ended) (sym may.0)
-caused self nodes slots s event (Goes (Rests rest)) sent x y ended may = absurd may.0
-caused self nodes slots s event (Goes Crashed) sent x y ended may = absurd may.0
-caused self nodes slots s event (Goes (Recovered kept)) sent x y ended may = quiet_end event sent x y ended may.0
-caused self nodes slots s event (Goes MountFailed) sent x y ended may = quiet_end event sent x y ended may.0
-caused self nodes slots s event (Goes (RaiseFailed kept)) sent x y ended may = quiet_end event sent x y ended may.0
-caused self nodes slots s event (Goes (RaiseRefused kept)) sent x y ended may = quiet_end event sent x y ended may.0
-caused self nodes slots s event (Unmounted fault) sent x y ended may = quiet_end event sent x y ended may.0
-caused self nodes slots s event (Begins found what) sent x y ended may = quiet_end event sent x y ended may.0
-
-caused_waits : (self nodes slots : ℕ) (s : NodeState) (event : Event) (turn : Turn) (sent : List Envelope) (v : State) (w : Waits) → MayComeOf self nodes event slots s turn
-    → waits_behind (Some event) sent v w ≡ waits_behind (cause turn) sent v w
-caused_waits self nodes slots s event (Goes (Did e)) sent v w may = ap (λ (x : Event). waits_behind (Some x) sent v w) (sym may.0)
-caused_waits self nodes slots s event (Goes (Refused e fault)) sent v w may = ap (λ (x : Event). waits_behind (Some x) sent v w) (sym may.0)
-caused_waits self nodes slots s event (Goes (Faulted e)) sent v w may = ap (λ (x : Event). waits_behind (Some x) sent v w) (sym may.0)
-caused_waits self nodes slots s event (Goes (Rests rest)) sent v w may = absurd may.0
-caused_waits self nodes slots s event (Goes Crashed) sent v w may = absurd may.0
-caused_waits self nodes slots s event (Goes (Recovered kept)) sent v w may = ap (λ (x : Event). waits_behind (Some x) sent v w) may.0
-caused_waits self nodes slots s event (Goes MountFailed) sent v w may = ap (λ (x : Event). waits_behind (Some x) sent v w) may.0
-caused_waits self nodes slots s event (Goes (RaiseFailed kept)) sent v w may = ap (λ (x : Event). waits_behind (Some x) sent v w) may.0
-caused_waits self nodes slots s event (Goes (RaiseRefused kept)) sent v w may = ap (λ (x : Event). waits_behind (Some x) sent v w) may.0
-caused_waits self nodes slots s event (Unmounted fault) sent v w may = ap (λ (x : Event). waits_behind (Some x) sent v w) may.0
-caused_waits self nodes slots s event (Begins found what) sent v w may = ap (λ (x : Event). waits_behind (Some x) sent v w) may.0
+-- a call that may come of an event is of that event
+pub caused : (self nodes slots : ℕ) (s : NodeState) (event : Event) (turn : Turn) → MayComeOf self nodes event slots s turn → Some event ≡ cause turn
+caused self nodes slots s event (Goes what) may = sym may.0
+caused self nodes slots s event (Unmounted fault) may = ap (λ (x : Event). Some x) may.0
+caused self nodes slots s event (Begins found what) may = ap (λ (x : Event). Some x) may.0
 
 three_texts : (a b c d x y z : List ℕ) → b ≡ a ++ x → c ≡ b ++ y → d ≡ c ++ z → d ≡ a ++ (x ++ (y ++ z))
 three_texts a b c d x y z first second third =
@@ -267,12 +228,12 @@ event_turns {Disk} disks old node' event reply waits sent changed text id nodes 
         honest = h.going;
         stands = h.stands;
         ended_so = h.ended;
-        text = all ∙ (ap (λ (u : List ℕ). old.text ++ u) (caused self count (slots_for (disks was).sectors) s event h.turn (sent_by (told reply)) old.node.state node'.state (ended_by (told reply)) h.may)
+        text = all ∙ (ap (λ (o : Option Event). old.text ++ call_text o (sent_by (told reply)) old.node.state node'.state (ended_by (told reply))) (caused self count (slots_for (disks was).sectors) s event h.turn h.may)
             ∙ (ap (λ (v : State). old.text ++ call_text (cause h.turn) (sent_by (told reply)) v node'.state (ended_by (told reply))) stands.state
             ∙ (ap (λ (v : State). old.text ++ call_text (cause h.turn) (sent_by (told reply)) s.state v (ended_by (told reply))) h.stands.state
             ∙ (ap (λ (ms : List Envelope). old.text ++ call_text (cause h.turn) ms s.state t.state (ended_by (told reply))) h.sent
             ∙ ap (λ (e : Ended). old.text ++ call_text (cause h.turn) (sent_in self count s h.turn) s.state t.state e) h.ended))));
-        waits = waited ∙ (caused_waits self count (slots_for (disks was).sectors) s event h.turn (sent_by (told reply)) node'.state old.waits h.may
+        waits = waited ∙ (ap (λ (o : Option Event). waits_behind o (sent_by (told reply)) node'.state old.waits) (caused self count (slots_for (disks was).sectors) s event h.turn h.may)
             ∙ (ap (λ (v : State). waits_behind (cause h.turn) (sent_by (told reply)) v old.waits) h.stands.state
             ∙ ap (λ (ms : List Envelope). waits_behind (cause h.turn) ms t.state old.waits) h.sent));
       });

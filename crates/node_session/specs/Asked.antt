@@ -2,29 +2,30 @@
 use Rattle.std.specs.Prelude.{ℕ, List, [], ◌∷◌, bytes_eq, codes, if◌then◌else◌, Option, Some, None, option_and_then}
 use Rattle.wire_msg.specs.Envelope.{Envelope}
 use Rattle.wire_msg.specs.Reading.{message_of}
-use Rattle.node_core.specs.declared.event.Event.{Event}
 use Rattle.node_core.specs.declared.event.Event.TheVariants as on
+use Rattle.node_core.specs.declared.timer.Timer.{Timer}
+use Rattle.node_core.specs.TimerWords.{timer_named}
 use Rattle.line_words.specs.Words.{number_of, words_of}
 use Rattle.line_words.specs.Lines.{bytes_of}
 use Rattle.schedule.specs.Fields.{node_of, queue_of, priority_of, payload_of}
-use Rattle.node_session.specs.Words.{alone_events, event_word}
+use Rattle.node_session.specs.Words.{event_word}
 use Rattle.node_session.specs.declared.asked.Asked.{Asked}
 use Rattle.node_session.specs.declared.asked.Asked.TheVariants as ask
 
--- the event of these that the word names
-abbrev pub event_asked : List Event → List ℕ → Asked
-event_asked [] word = ask.Bad
-event_asked (event ∷ events) word = if bytes_eq word (event_word event) then ask.Event event else event_asked events word
+abbrev pub timed : Option Timer → Asked
+timed None = ask.Bad
+timed (Some timer) = ask.Event (on.Timer timer)
 
-abbrev pub timer_asked : List ℕ → Asked
-timer_asked word = event_asked alone_events word
+abbrev pub timing : List ℕ → Asked
+timing word = timed (timer_named word)
 
 -- a word by itself
 abbrev pub alone_asked : List ℕ → Asked
 alone_asked word =
     if bytes_eq word (codes "state") then ask.State else
     if bytes_eq word (codes "jobs") then ask.Jobs else
-    if bytes_eq word (codes "compact") then ask.Compact else timer_asked word
+    if bytes_eq word (codes "compact") then ask.Compact else
+    if bytes_eq word (event_word on.Recover) then ask.Event on.Recover else timing word
 
 abbrev pub delivered : Option Envelope → Asked
 delivered None = ask.Bad

@@ -76,9 +76,8 @@ turn_text self nodes s turn = call_text (cause turn) (sent_in self nodes s turn)
 abbrev pub fired_line : Event → List ℕ
 fired_line event = codes "fired " ++ event_word event ++ codes "\n"
 
--- a recovery alone has no other cause
 abbrev pub fired_by : Option Event → List ℕ
-fired_by None = fired_line on.Recover
+fired_by None = []
 fired_by (Some event) = fired_line event
 
 -- the event that a tick or a loss made, before what came of it

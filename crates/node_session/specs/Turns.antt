@@ -1,5 +1,5 @@
 -- What comes of one call of the node, over any disk.
-use Rattle.std.specs.Prelude.{ℕ, ◌≡◌, [], List, true, None, Option, Result, Ok, Err}
+use Rattle.std.specs.Prelude.{ℕ, ◌≡◌, [], List, true, None, Some, Option, Result, Ok, Err}
 use Rattle.job_model.specs.Durable.{Durable}
 use Rattle.wire_msg.specs.Envelope.{Envelope}
 use Rattle.node_core.specs.declared.event.Event.{Event}
@@ -12,7 +12,7 @@ use Rattle.histories.specs.declared.what.What.{What}
 use Rattle.histories.specs.declared.what.What.TheVariants.{Did, Refused, Faulted, Rests, Crashed, Recovered, MountFailed, RaiseFailed, RaiseRefused}
 use Rattle.histories.specs.declared.what.Rest.{Rest}
 use Rattle.histories.specs.declared.what.Rest.TheVariants.{Nothing, Compacted, CompactDown, CompactWorn}
-use Rattle.histories.specs.What.{event_of}
+use Rattle.histories.specs.What.{event_of, IsOf}
 use Rattle.histories.specs.After.{after, sent_at}
 use Rattle.histories.specs.Possible.{IsPossible, IsOfSlots}
 use Rattle.durable_node.specs.declared.fault.NodeFault.{NodeFault}
@@ -60,11 +60,11 @@ sent_in self nodes s (Goes what) = sent_at self nodes s what
 sent_in self nodes s (Unmounted fault) = []
 sent_in self nodes s (Begins found what) = []
 
--- the event that was handled, refused or faulted
+-- the event that a call is of
 abbrev pub cause : Turn → Option Event
 cause (Goes what) = event_of what
-cause (Unmounted fault) = None
-cause (Begins found what) = None
+cause (Unmounted fault) = Some on.Recover
+cause (Begins found what) = Some on.Recover
 
 -- ---- how it ends
 
@@ -91,18 +91,6 @@ end_of self nodes s (Unmounted fault) = end.Denied fault
 end_of self nodes s (Begins found what) = end_at self nodes (begun self found) what
 
 -- ---- what may come
-
--- it came of this event
-abbrev pub IsOf : Event → What → Type 0
-IsOf event (Did e) = e ≡ event
-IsOf event (Refused e fault) = e ≡ event
-IsOf event (Faulted e) = e ≡ event
-IsOf event (Rests rest) = ⊥
-IsOf event Crashed = ⊥
-IsOf event (Recovered kept) = event ≡ on.Recover
-IsOf event MountFailed = event ≡ on.Recover
-IsOf event (RaiseFailed kept) = event ≡ on.Recover
-IsOf event (RaiseRefused kept) = event ≡ on.Recover
 
 -- a history may begin with it
 abbrev pub MayBegin : What → Type 0
@@ -147,17 +135,16 @@ MayCompact self nodes slots s (Goes what) = IsOfCompaction what × IsPossible se
 MayCompact self nodes slots s (Unmounted fault) = ⊥
 MayCompact self nodes slots s (Begins found what) = ⊥
 
--- an event that a policy of timers makes
-abbrev pub IsTimer : Event → Type 0
-IsTimer (on.Deliver m) = ⊥
-IsTimer (on.Submit work) = ⊥
-IsTimer (on.Finish origin id) = ⊥
-IsTimer event = Unit {0}
+-- an event that a tick or a loss makes
+abbrev pub IsFired : Event → Type 0
+IsFired (on.Timer timer) = Unit {0}
+IsFired on.Recover = Unit {0}
+IsFired event = ⊥
 
 -- it came of such an event
 pub record IsTimely (self nodes slots : ℕ) (s : NodeState) (turn : Turn) : Type 0 where
   pub event : Event
-  pub timer : IsTimer event
+  pub fired : IsFired event
   pub may : MayComeOf self nodes event slots s turn
 
 -- no history began

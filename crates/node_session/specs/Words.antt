@@ -5,6 +5,7 @@ use Rattle.node_core.specs.declared.event.Event.{Event}
 use Rattle.node_core.specs.declared.event.Event.TheVariants as on
 use Rattle.node_core.specs.declared.phase.Phase.{Phase}
 use Rattle.node_core.specs.declared.phase.Phase.TheVariants.{Down, Election, Reorganization, Normal}
+use Rattle.node_core.specs.TimerWords.{word_of}
 
 abbrev pub truth_text : Bool → List ℕ
 truth_text true = codes "yes"
@@ -31,17 +32,8 @@ phase_text Normal = codes "Normal"
 
 -- the word of an event, as a request has it
 abbrev pub event_word : Event → List ℕ
-event_word on.CheckTimer = codes "check"
-event_word on.MergeTimer = codes "merge"
-event_word on.AcceptTimer = codes "accept"
-event_word on.ReadyTimer = codes "ready"
-event_word on.CoordTimer = codes "coord"
-event_word on.DispatchTimer = codes "dispatch"
+event_word (on.Timer timer) = word_of timer
 event_word (on.Deliver m) = codes "deliver"
 event_word (on.Submit work) = codes "submit"
 event_word (on.Finish origin id) = codes "finish"
 event_word on.Recover = codes "recover"
-
--- the events that a word by itself names
-abbrev pub alone_events : List Event
-alone_events = on.CheckTimer ∷ on.MergeTimer ∷ on.AcceptTimer ∷ on.ReadyTimer ∷ on.CoordTimer ∷ on.DispatchTimer ∷ on.Recover ∷ []

@@ -3,12 +3,12 @@ ghost use Rattle.std.specs.Prelude.{◌≡◌, IfOk, bytes_eq};
 ghost use Rattle.line_words.specs.Words.{words_of};
 ghost use Rattle.schedule.specs.Fields.{node_of, queue_of, priority_of, payload_of};
 ghost use Rattle.wire_msg.specs.Reading.{message_of};
-ghost use Rattle.node_session.specs.Asked.{alone_asked, asked_of, asked_words, completion, delivered, delivery, loss, one_field, submission, three_fields, ticking, timer_asked, two_fields};
+ghost use Rattle.node_session.specs.Asked.{alone_asked, asked_of, asked_words, completion, delivered, delivery, loss, one_field, submission, three_fields, ticking, timing, two_fields};
 
 use group_task::NodeId;
 use job_model::{Payload, Queue, Work};
 use line_words::{bytes, cut_word, number};
-use node_core::Event;
+use node_core::{Event, Timer};
 use std::alloc::{AllocError, Global};
 use wire_msg::decode;
 
@@ -78,31 +78,19 @@ fn alone(word: &[u8]) -> Asked
         Asked::Jobs
     } else if is(word, "compact") {
         Asked::Compact
-    } else {
-        timer(word)
-    }
-}
-
-/// The events that a word by itself names.
-fn timer(word: &[u8]) -> Asked
-    ensures { result ≡ timer_asked word.now }
-{
-    if is(word, "check") {
-        Asked::Event(Event::CheckTimer)
-    } else if is(word, "merge") {
-        Asked::Event(Event::MergeTimer)
-    } else if is(word, "accept") {
-        Asked::Event(Event::AcceptTimer)
-    } else if is(word, "ready") {
-        Asked::Event(Event::ReadyTimer)
-    } else if is(word, "coord") {
-        Asked::Event(Event::CoordTimer)
-    } else if is(word, "dispatch") {
-        Asked::Event(Event::DispatchTimer)
     } else if is(word, "recover") {
         Asked::Event(Event::Recover)
     } else {
-        Asked::Bad
+        timing(word)
+    }
+}
+
+fn timing(word: &[u8]) -> Asked
+    ensures { result ≡ timing word.now }
+{
+    match Timer::from_word(word) {
+        Some(timer) => Asked::Event(Event::Timer(timer)),
+        None => Asked::Bad,
     }
 }
 

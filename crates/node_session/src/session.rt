@@ -14,7 +14,7 @@ ghost use Rattle.durable_node.specs.Faults.{told};
 ghost use Rattle.node_core.specs.State.{state_of};
 ghost use Rattle.pace.specs.Waiting.{sent_again, waits_behind, waits_on};
 ghost use Rattle.node_session.specs.Text.{fired_line, fired_told, send_lines};
-ghost use Rattle.node_session.specs.Turns.{compaction_end, ended_by, sent_by, IsTimely, IsTimer, MayComeOf, MayCompact};
+ghost use Rattle.node_session.specs.Turns.{compaction_end, ended_by, sent_by, IsFired, IsTimely, MayComeOf, MayCompact};
 
 use crate::asked::{Asked, read_line};
 use crate::closing::{push_bad, push_closing, push_event_closing, push_ok};
@@ -27,7 +27,7 @@ use crate::unread::Unread;
 use durable_node::{Came, DurableNode, NodeFault};
 use group_task::{GroupNo, NodeId};
 use line_words::cut_line;
-use node_core::{CoreFault, Event, Phase, Vector};
+use node_core::{CoreFault, Event, Phase, Timer, Vector};
 use pace::{Pace, Setting, Sight, Waiting};
 use sector_disk::SectorDisk;
 use std::alloc::{AllocError, Global};
@@ -291,7 +291,7 @@ impl<D: SectorDisk + Drop> Session<D> {
     /// The event that is due at this time.
     fn due(&mut self, now: u64) -> Option<Event>
         ensures same { self.new ≡ self.old }
-        ensures timer { IfSome result IsTimer }
+        ensures fired { IfSome result IsFired }
     {
         let sight = Sight::of(
             self.id,
@@ -452,14 +452,14 @@ fn merge_wait(id: NodeId, vector: &Vector) -> Option<u64> {
 
 /// What a node makes of it that the transport gave another node up.
 fn loss_of(id: NodeId, vector: &Vector, lost: NodeId) -> Option<Event>
-    ensures { IfSome result IsTimer }
+    ensures { IfSome result IsFired }
 {
     let standing = &vector.standing;
     if lost.is(id) || matches!(standing.phase, Phase::Down | Phase::Election) {
         return None;
     }
     if standing.coordinator.is(lost) {
-        return Some(Event::CoordTimer);
+        return Some(Event::Timer(Timer::Coord));
     }
     if standing.coordinator.is(id) && vector.members().contains(lost) {
         return Some(Event::Recover);

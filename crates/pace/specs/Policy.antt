@@ -6,12 +6,13 @@ use Rattle.node_core.specs.declared.event.Event.{Event}
 use Rattle.node_core.specs.declared.event.Event.TheVariants as on
 use Rattle.node_core.specs.declared.phase.Phase.{Phase}
 use Rattle.node_core.specs.declared.phase.Phase.TheVariants.{Normal}
+use Rattle.node_core.specs.declared.timer.Timer.TheVariants as timer
 use Rattle.pace.specs.declared.setting.Setting.{Setting}
-use Rattle.pace.specs.declared.timer.Timer.{Timer}
-use Rattle.pace.specs.declared.timer.Timer.TheVariants.{Check}
+use Rattle.pace.specs.declared.wait.Wait.{Wait}
+use Rattle.pace.specs.declared.wait.Wait.TheVariants.{Check}
 use Rattle.pace.specs.declared.deadline.Deadline.{Deadline}
 use Rattle.pace.specs.declared.sight.Sight.{Sight}
-use Rattle.pace.specs.Timers.{timer_of, event_of, due, longer_pause}
+use Rattle.pace.specs.Timers.{wait_of, timer_of, due, longer_pause}
 
 -- the policy of a node: the deadline that is set, how many checks were fired and how many of them before each node was last
 -- heard, when work was last dispatched and how long after it the next is due
@@ -45,18 +46,18 @@ is_silent p id = not (id == p.id) && nat_le p.setting.silent_checks (p.checks - 
 abbrev pub has_silent : Policy → List ℕ → Bool
 has_silent p members = list_any (is_silent p) members
 
--- what is fired when a timer runs out: a coordinator gives its group up in place of one more check, where a member is silent
-abbrev pub event_at : Policy → List ℕ → Timer → Event
-event_at p members Check = if has_silent p members then on.Recover else on.CheckTimer
-event_at p members timer = event_of timer
+-- what is fired when a wait is over: its timer, but a coordinator gives its group up in place of one more check, where a member is silent
+abbrev pub event_at : Policy → List ℕ → Wait → Event
+event_at p members Check = if has_silent p members then on.Recover else on.Timer (timer_of Check)
+event_at p members wait = on.Timer (timer_of wait)
 
--- this deadline is set, and is the one of the timer that runs where this is seen
+-- this deadline is set, and is the one of what is waited for where this is seen
 pub record Runs (p : Policy) (s : Sight) (d : Deadline) : Type 0 where
   pub is_set : p.deadline ≡ Some d
-  pub timer : timer_of s ≡ Some d.timer
+  pub wait : wait_of s ≡ Some d.wait
   pub group : d.group ≡ s.group
 
--- the deadline of the timer that runs has come
+-- the deadline of what is waited for has come
 pub record HasCome (p : Policy) (now : ℕ) (s : Sight) (d : Deadline) : Type 0 where
   pub runs : Runs p s d
   pub come : due p.setting s.merge_wait d ≤ now
@@ -68,16 +69,16 @@ IsWorkDueIn p now phase = (phase ≡ Normal) × (p.dispatched + p.pause ≤ now)
 abbrev pub IsWorkDue : Policy → ℕ → Sight → Type 0
 IsWorkDue p now s = IsWorkDueIn p now s.phase
 
--- what may be fired: what the timer asks for that ran out, or the dispatch of work that is due
+-- what may be fired: what a wait that is over asks for, or the dispatch of work that is due
 abbrev pub MayFire : Policy → ℕ → Sight → Event → Type 0
-MayFire p now s event = ((d : Deadline) × HasCome p now s d × (event ≡ event_at p s.members d.timer)) ⊎ ((event ≡ on.DispatchTimer) × IsWorkDue p now s)
+MayFire p now s event = ((d : Deadline) × HasCome p now s d × (event ≡ event_at p s.members d.wait)) ⊎ ((event ≡ on.Timer timer.Dispatch) × IsWorkDue p now s)
 
 -- each check is counted, and nothing else
 pub record Counts (fired : Option Event) (old new : ℕ) : Type 0 where
-  pub check : fired ≡ Some on.CheckTimer → new ≡ min (old + 1) (2 ^ 64 - 1)
-  pub other : fired ≢ Some on.CheckTimer → new ≡ old
+  pub check : fired ≡ Some (on.Timer timer.Check) → new ≡ min (old + 1) (2 ^ 64 - 1)
+  pub other : fired ≢ Some (on.Timer timer.Check) → new ≡ old
 
 -- the next dispatch is due a longer pause after one
 pub record Dispatches (fired : Option Event) (now : ℕ) (old new : Policy) : Type 0 where
-  pub dispatch : fired ≡ Some on.DispatchTimer → (new.dispatched ≡ now) × (new.pause ≡ longer_pause old.setting old.pause)
-  pub other : fired ≢ Some on.DispatchTimer → (new.dispatched ≡ old.dispatched) × (new.pause ≡ old.pause)
+  pub dispatch : fired ≡ Some (on.Timer timer.Dispatch) → (new.dispatched ≡ now) × (new.pause ≡ longer_pause old.setting old.pause)
+  pub other : fired ≢ Some (on.Timer timer.Dispatch) → (new.dispatched ≡ old.dispatched) × (new.pause ≡ old.pause)

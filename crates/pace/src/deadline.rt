@@ -2,26 +2,26 @@ ghost use Rattle.std.specs.Prelude.{◌≡◌, ◌↔◌, ◌≤◌, ◌<◌, �
 ghost use Rattle.pace.specs.Timers.{due};
 
 use crate::setting::Setting;
-use crate::timer::Timer;
+use crate::wait::Wait;
 use group_task::GroupNo;
 
-/// When a timer runs out. It belongs to one group of the node: another group's timer is set anew.
+/// When a wait is over. It belongs to one group of the node: in another group a node waits anew.
 #[derive(Clone, Copy, Debug, PartialEq, Eq)]
 pub struct Deadline {
-    pub timer: Timer,
+    pub wait: Wait,
     pub group: GroupNo,
-    /// When it was set, in milliseconds.
+    /// When it began, in milliseconds.
     pub since: u64,
-    /// How long it runs, in milliseconds.
-    pub wait: u64,
+    /// How long it lasts, in milliseconds.
+    pub length: u64,
 }
 
 impl Deadline {
-    /// Whether it is the one of this timer, in this group.
-    pub fn is_of(&self, timer: Timer, group: GroupNo) -> bool
-        ensures { IsTrue result ↔ ((self.now.timer ≡ timer) × (self.now.group ≡ group)) }
+    /// Whether it is the one of this wait, in this group.
+    pub fn is_of(&self, wait: Wait, group: GroupNo) -> bool
+        ensures { IsTrue result ↔ ((self.now.wait ≡ wait) × (self.now.group ≡ group)) }
     {
-        self.timer == timer && self.group == group
+        self.wait == wait && self.group == group
     }
 
     /// Whether it has come. A merge is put off by a turn for each step of the node's wait. A deadline past the clock's end
@@ -29,12 +29,12 @@ impl Deadline {
     pub fn has_come(self, now: u64, setting: &Setting, merge_wait: Option<u64>) -> bool
         ensures { IsTrue result ↔ (due setting.now merge_wait self ≤ now) }
     {
-        let turns = match self.timer {
-            Timer::Merge => merge_wait.unwrap_or(0),
+        let turns = match self.wait {
+            Wait::Merge => merge_wait.unwrap_or(0),
             _ => 0,
         };
         let turn = u32::from(setting.turn) * u32::from(setting.unit);
-        u128::from(self.since) + u128::from(self.wait) + product(turns, turn) <= u128::from(now)
+        u128::from(self.since) + u128::from(self.length) + product(turns, turn) <= u128::from(now)
     }
 }
 

@@ -9,7 +9,7 @@ mod laws;
 mod pace;
 mod setting;
 mod sight;
-mod timer;
+mod wait;
 mod waiting;
 
 pub use deadline::Deadline;
@@ -17,5 +17,5 @@ pub use laws::fires_once;
 pub use pace::Pace;
 pub use setting::Setting;
 pub use sight::Sight;
-pub use timer::Timer;
+pub use wait::Wait;
 pub use waiting::Waiting;

@@ -1,9 +1,9 @@
 ghost use Rattle.std.specs.Prelude.{◌≡◌};
 ghost use Rattle.pace.specs.Timers.{measured, longer_pause};
 
-/// How long each timer runs, counted in round trips of the link.
+/// How long a node waits for what, counted in round trips of the link.
 ///
-/// A wait of 0 is one of a millisecond: no timer fires at the time at which it was set.
+/// A wait of 0 is one of a millisecond: no deadline comes at the time at which it was set.
 #[derive(Clone, Copy, Debug, PartialEq, Eq)]
 pub struct Setting {
     /// A round trip, in milliseconds. All that follows counts these.

@@ -1,9 +1,7 @@
 ghost use Rattle.std.specs.Prelude.{◌≡◌};
 ghost use Rattle.node_core.specs.State.{state_of};
-ghost use Rattle.pace.specs.Timers.{timer_of};
 ghost use Rattle.pace.specs.Sights.{sight_of};
 
-use crate::timer::Timer;
 use group_task::{GroupNo, Members, NodeId};
 use node_core::{Phase, Vector};
 
@@ -40,22 +38,6 @@ impl Sight {
             checking: standing.checking,
             probing: standing.probing,
             merge_wait,
-        }
-    }
-
-    /// The timer that runs at the node. None at a node that is Down: who restarts a node recovers it.
-    pub fn timer(&self) -> Option<Timer>
-        ensures { result ≡ timer_of self.now }
-    {
-        match self.phase {
-            Phase::Down => None,
-            Phase::Election => Some(Timer::Accept),
-            Phase::Reorganization if self.is_coordinator => Some(Timer::Ready),
-            Phase::Normal if self.is_coordinator && self.checking => Some(Timer::Merge),
-            Phase::Normal if self.is_coordinator => Some(Timer::Check),
-            Phase::Reorganization | Phase::Normal if self.probing => Some(Timer::Answer),
-            Phase::Reorganization => Some(Timer::Task),
-            Phase::Normal => Some(Timer::Coordinator),
         }
     }
 }

@@ -12,7 +12,7 @@ use Rattle.sim_net.specs.Network.{delivery, Network, after_all_sent}
 use Rattle.runs.specs.World.{World, node_in, start}
 use Rattle.runs.specs.Step.{Step, Takes, world_after}
 use Rattle.runs.specs.Run.{entry_at, history_in, histories_from, world_at, IsAllowed, histories_of}
-use Rattle.runs.specs.Acts.{At, Brings, IsStepOf, ActOutcome, what_outcome, IsRunOf, StepOfSlots, act_outcome}
+use Rattle.runs.specs.Acts.{At, Brings, IsStepOf, what_outcome, IsRunOf, StepOfSlots, act_outcome}
 use Rattle.run_trace.specs.declared.bringing.Brought.{Brought}
 use Rattle.run_trace.specs.declared.bringing.Brought.TheVariants.{Event, Recovery, Arming, Crash, Compaction}
 use Rattle.run_trace.specs.Bringing.{delivered, brought_by, CameOf}
@@ -22,7 +22,7 @@ use Rattle.node_core.specs.Start.{down}
 use Rattle.node_core.specs.State.{is_down, State}
 use Rattle.durable_node.specs.Node.{told_doubt, Node, Stands}
 use Rattle.durable_node.specs.Remounting.{IsKeptIn}
-use Rattle.durable_node.proofs.PublicLaws.{settled_so}
+use Rattle.durable_node.proofs.PublicLaws.{is_some, settled_so}
 use Rattle.histories.specs.NodeState.{NodeState, settled}
 use Rattle.histories.specs.declared.what.What.TheVariants.{Did, Refused, Faulted, Rests, Crashed, Recovered, MountFailed, RaiseFailed, RaiseRefused}
 use Rattle.histories.specs.declared.what.Rest.TheVariants as resting
@@ -30,7 +30,6 @@ use Rattle.trace_check.specs.declared.trace.Deed.TheVariants.{Nothing}
 use Rattle.histories.specs.What.{event_of, brought, Entry}
 use Rattle.histories.specs.After.{after, sent_at, found_at}
 use Rattle.histories.specs.Possible.{IsSettling, IsPossible, IsOfSlots}
-use Rattle.cluster_sim.specs.Told.{told}
 use Rattle.trace_check.specs.declared.trace.Deed.{Deed}
 use Rattle.run_trace.specs.declared.telling.Ended.{Ended}
 use Rattle.run_trace.specs.declared.telling.Rise.{Rise}
@@ -45,9 +44,6 @@ use Rattle.cluster_sim.specs.Machine.{Machine, StandsFor, Shows}
 use Rattle.trace_check.specs.Traces.{claim}
 use Rattle.node_core.specs.declared.event.Event.TheVariants as on
 use Rattle.schedule.specs.declared.act.Act.TheVariants as act
-
-pub some_is : {A : Type 0} (x y : A) → Some x ≡ Some y → x ≡ y
-some_is x y is = cc
 
 -- an act that brings such a thing
 abbrev pub bringing : Brought → Act
@@ -90,7 +86,7 @@ comes_at : (a : Act) (t : Bool) (m number : ℕ) (b : Brought) (n : ℕ) (c : Br
 comes_at a true m number b n c step plain told is at =
     let x : ℕ × Brought = (m, b) in
     let y : ℕ × Brought = (n, c) in
-    let same : x ≡ y = some_is x y is in
+    let same : x ≡ y = is_some x y is in
     subst (λ (p : ℕ × Brought). IsStepAt (At true m number (CameOf b)) a p.0 p.1 step) same
     (record { number = number; what = at.0; is = at.1; came = at.2; again = λ other came. (other, refl, came); plain = plain; told = told at.0 })
 comes_at a false m number b n c step plain told is at = absurd cc
@@ -101,12 +97,7 @@ delivers_at nodes net k (Ok m) n c step is brings = comes_at (act.Deliver k) (na
 delivers_at nodes net k (Err why) n c step is brings = absurd cc
 
 pub step_at : (nodes : ℕ) (w : World) (a : Act) (n : ℕ) (b : Brought) (step : Step) → brought_by nodes w.net a ≡ Some (n, b) → IsStepOf nodes w a step → IsStepAt (IsStepOf nodes w a) a n b step
-step_at nodes w (act.Check m) n b step is of = comes_at (act.Check m) (nat_lt m nodes) m 0 (Event on.CheckTimer) n b step (λ e. cc) (λ what self size first s. other_told self size first s _ what (λ k e. cc)) is of
-step_at nodes w (act.Merge m) n b step is of = comes_at (act.Merge m) (nat_lt m nodes) m 0 (Event on.MergeTimer) n b step (λ e. cc) (λ what self size first s. other_told self size first s _ what (λ k e. cc)) is of
-step_at nodes w (act.Accept m) n b step is of = comes_at (act.Accept m) (nat_lt m nodes) m 0 (Event on.AcceptTimer) n b step (λ e. cc) (λ what self size first s. other_told self size first s _ what (λ k e. cc)) is of
-step_at nodes w (act.Ready m) n b step is of = comes_at (act.Ready m) (nat_lt m nodes) m 0 (Event on.ReadyTimer) n b step (λ e. cc) (λ what self size first s. other_told self size first s _ what (λ k e. cc)) is of
-step_at nodes w (act.Coord m) n b step is of = comes_at (act.Coord m) (nat_lt m nodes) m 0 (Event on.CoordTimer) n b step (λ e. cc) (λ what self size first s. other_told self size first s _ what (λ k e. cc)) is of
-step_at nodes w (act.Dispatch m) n b step is of = comes_at (act.Dispatch m) (nat_lt m nodes) m 0 (Event on.DispatchTimer) n b step (λ e. cc) (λ what self size first s. other_told self size first s _ what (λ k e. cc)) is of
+step_at nodes w (act.Timer m timer) n b step is of = comes_at (act.Timer m timer) (nat_lt m nodes) m 0 (Event (on.Timer timer)) n b step (λ e. cc) (λ what self size first s. other_told self size first s _ what (λ k e. cc)) is of
 step_at nodes w (act.Deliver k) n b step is of = delivers_at nodes w.net k (delivery w.net k) n b step is of
 step_at nodes w (act.Lose k) n b step is of = absurd cc
 step_at nodes w (act.Cut x y) n b step is of = absurd cc
@@ -145,13 +136,10 @@ pub record IsRetold (slots n nodes : ℕ) (s : NodeState) (b : Brought) (what : 
   pub sends : sent_at n nodes s other ≡ sent_at n nodes s what
   pub told : deed_of other ≡ deed
 
-abbrev ended_by : ActOutcome → Ended
-ended_by o = ended (told o)
-
 module _ (slots n nodes first : ℕ) (s : NodeState) (rise : Rise) (doubt : Option (Wanted × ℕ)) (found : Option Durable) (in_doubt : doubt ≡ told_doubt s.durable s.doubt)
     (stood : IsRise (is_down s.state.phase) doubt found rise) where
   abbrev Retold : Brought → What → Type 0
-  Retold b what = IsRetold slots n nodes s b what (deed_told b rise (ended_by (what_outcome n nodes first s what (bringing b))))
+  Retold b what = IsRetold slots n nodes s b what (deed_told b rise (ended (what_outcome n nodes first s what (bringing b))))
 
   as_it_is : (b : Brought) (what : What) → b ≢ Event on.Recover → CameOf b what → IsPossible n nodes s what → IsOfSlots slots n nodes s what → found ≡ found_at s what → (found_at s what ≡ None) ⊎ (deed_of what ≡ Nothing) → Retold b what
   as_it_is b what plain came possible of_slots at none = record { other = what; came = came; possible = possible; of_slots = of_slots; brings = refl; leaves = refl; sends = refl; told = grind arith }
@@ -160,7 +148,7 @@ module _ (slots n nodes first : ℕ) (s : NodeState) (rise : Rise) (doubt : Opti
   mounted_at : (r : Rise) (kept : Bool) → IsRise (is_down s.state.phase) doubt found r → is_down s.state.phase ≡ true → IsSettling kept s.doubt → found ≡ Some (settled kept s)
       → (flag : Bool) × (r ≡ Mounted flag) × IsSettling flag s.doubt × (settled flag s ≡ settled kept s)
   mounted_at (Mounted flag) kept is down settling some =
-      let found_it = some_is is.1.0 (settled kept s) (sym is.1.1 ∙ some) in
+      let found_it = is_some is.1.0 (settled kept s) (sym is.1.1 ∙ some) in
       let so = settled_so s is.1.0 flag kept (subst (λ (o : Option (Wanted × ℕ)). IsKeptIn o is.1.0 flag) in_doubt is.1.2) settling found_it in
       (flag, refl, so.0, sym so.1 ∙ found_it)
   mounted_at r kept is down settling some = absurd (let bad : true ≡ false = grind arith in cc)
@@ -277,9 +265,9 @@ traced nodes slots before a n b rise e old new was now place sent trace trace' s
     let found = (subst (λ (x : Step). Shows w x new) at.is acted.shows) now s new_at there in
     let stood_s = subst (λ (x : State). IsRise (is_down x.phase) was.doubt now.found rise) node.state stood in
     let r = retold new.slots n size (length w.net.sent) s rise was.doubt now.found node.doubt stood_s b at.what at.plain at.came allowed.2 fits found in
-    let told_is : e ≡ ended (told (what_outcome n size (length w.net.sent) s at.what (bringing b))) =
-    (acts w so.stands).2 ∙ ap ended (acted.is_told ∙ ap (λ (x : Step). told (act_outcome size w a x)) at.is ∙ ap told (at.told n size (length w.net.sent) (node_in w.states n))
-    ∙ ap (λ (x : NodeState). told (what_outcome n size (length w.net.sent) x at.what (bringing b))) is_s) in
+    let told_is : e ≡ ended (what_outcome n size (length w.net.sent) s at.what (bringing b)) =
+    (acts w so.stands).2 ∙ ap ended (acted.is_told ∙ ap (λ (x : Step). act_outcome size w a x) at.is ∙ at.told n size (length w.net.sent) (node_in w.states n)
+    ∙ ap (λ (x : NodeState). what_outcome n size (length w.net.sent) x at.what (bringing b)) is_s) in
     let taken = Takes n at.number r.other in
     let same_world : world_after size w taken ≡ world_after size w step = rw there (λ i. record { states = slice_set w.states n (r.leaves i); net = after_all_sent w.net (r.sends i) }) in
     let stands : StandsFor new (world_after size w taken) = subst (λ (x : World). StandsFor new x) (sym same_world) (subst (λ (x : Step). StandsFor new (world_after size w x)) at.is acted.stands) in

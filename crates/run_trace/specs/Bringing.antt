@@ -9,7 +9,8 @@ use Rattle.schedule.specs.declared.act.Act.{Act}
 use Rattle.schedule.specs.declared.act.Act.TheVariants as act
 use Rattle.sim_net.specs.declared.fault.NetFault.{NetFault}
 use Rattle.sim_net.specs.Network.{Network, delivery}
-use Rattle.runs.specs.Acts.{IsOf, IsCompaction}
+use Rattle.histories.specs.What.{IsOf}
+use Rattle.runs.specs.Acts.{IsCompaction}
 use Rattle.run_trace.specs.declared.bringing.Brought.{Brought}
 use Rattle.run_trace.specs.declared.bringing.Brought.TheVariants.{Event, Recovery, Arming, Crash, Compaction}
 
@@ -20,12 +21,7 @@ delivered (Err why) = None
 
 -- the node that an act names, and what it brings there
 abbrev pub named_by : Network → Act → Option (ℕ × Brought)
-named_by net (act.Check n) = Some (n, Event on.CheckTimer)
-named_by net (act.Merge n) = Some (n, Event on.MergeTimer)
-named_by net (act.Accept n) = Some (n, Event on.AcceptTimer)
-named_by net (act.Ready n) = Some (n, Event on.ReadyTimer)
-named_by net (act.Coord n) = Some (n, Event on.CoordTimer)
-named_by net (act.Dispatch n) = Some (n, Event on.DispatchTimer)
+named_by net (act.Timer n timer) = Some (n, Event (on.Timer timer))
 named_by net (act.Deliver k) = delivered (delivery net k)
 named_by net (act.Lose k) = None
 named_by net (act.Cut a b) = None

@@ -26,12 +26,7 @@ pub(crate) fn brought_by(nodes: u8, net: &Net, act: &Act) -> Option<(NodeId, Bro
     ensures within { IfSome result (λ comes. comes.0 < nodes) }
 {
     let (id, brought) = match act {
-        Act::Check(id) => (*id, Brought::Event(Event::CheckTimer)),
-        Act::Merge(id) => (*id, Brought::Event(Event::MergeTimer)),
-        Act::Accept(id) => (*id, Brought::Event(Event::AcceptTimer)),
-        Act::Ready(id) => (*id, Brought::Event(Event::ReadyTimer)),
-        Act::Coord(id) => (*id, Brought::Event(Event::CoordTimer)),
-        Act::Dispatch(id) => (*id, Brought::Event(Event::DispatchTimer)),
+        Act::Timer(id, timer) => (*id, Brought::Event(Event::Timer(*timer))),
         Act::Deliver(number) => delivered(net, *number)?,
         Act::Submit(id, job) => (*id, Brought::Event(Event::Submit(job.work()))),
         Act::Finish(id, origin, job) => (*id, Brought::Event(Event::Finish(*origin, *job))),

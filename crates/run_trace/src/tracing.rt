@@ -14,10 +14,9 @@ ghost use Rattle.run_trace.specs.Traced.{HasWorld, IsSoFar, IsTraceOf};
 use crate::bringing::{Brought, brought_by};
 use crate::telling::{Ended, deed_told, rise_of, seen_at};
 use cluster_sim::{Outcome, Refusal, Simulation};
-use durable_node::NodeFault;
 use group_task::NodeId;
 use message_list::MessageList;
-use node_core::CoreFault;
+use node_core::{CoreFault, Refusal as NodeRefusal};
 use schedule::{Act, Schedule};
 use std::alloc::{AllocError, Global};
 use trace_check::{Deed, History, Trace};
@@ -126,7 +125,7 @@ fn step(cluster: &mut Simulation, act: &Act) -> Result<Ended, AllocError>
 {
     match cluster.step(act)? {
         Outcome::Done { .. } => Ok(Ended::Done),
-        Outcome::Refused(Refusal::Node(NodeFault::Core(CoreFault::NoMemory))) => Err(AllocError),
+        Outcome::Refused(Refusal::Node(NodeRefusal::Core(CoreFault::NoMemory))) => Err(AllocError),
         Outcome::Refused(_) => Ok(Ended::Refused),
         Outcome::Faulted => Ok(Ended::Faulted),
     }

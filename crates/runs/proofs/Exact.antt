@@ -10,22 +10,24 @@ use Rattle.schedule.specs.declared.act.Act.{Act}
 use Rattle.sim_net.specs.declared.fault.NetFault.{NetFault}
 use Rattle.sim_net.specs.Network.{Network, delivery}
 use Rattle.runs.specs.World.{World, node_in}
-use Rattle.runs.specs.Step.{Denial, Step, Takes as TakesStep, Changes, Denies, world_after}
+use Rattle.runs.specs.declared.outcome.Refusal.{Refusal as ActRefusal}
+use Rattle.runs.specs.Step.{Step, Takes as TakesStep, Changes, Denies, world_after}
 use Rattle.runs.specs.Run.{RunFrom, history_in}
-use Rattle.runs.specs.Acts.{IsOf, At, Brings, IsRunOf}
+use Rattle.runs.specs.Acts.{At, Brings, IsRunOf}
 use Rattle.runs.specs.Exact.{NoIdleDenial, OneOutcome, ActsRun, RunsOfSlots}
 use Rattle.histories.specs.declared.what.What.{What}
 use Rattle.histories.specs.After.{after, sent_at}
 use Rattle.histories.specs.Possible.{IsOfSlots}
 use Rattle.histories.specs.History.{FollowsSlots}
+use Rattle.histories.specs.What.{IsOf}
 use Rattle.histories.proofs.PublicLaws.{eq_nat}
 use Rattle.runs.proofs.Runs.{node_there, state_here, state_elsewhere}
 
-not_denied : (known : Bool) (n k : ℕ) (P : What → Type 0) (told : ℕ) (why : Denial) → known ≡ true → At known n k P (Denies told why) → ⊥
+not_denied : (known : Bool) (n k : ℕ) (P : What → Type 0) (told : ℕ) (why : ActRefusal) → known ≡ true → At known n k P (Denies told why) → ⊥
 not_denied true n k P told why is h = absurd cc (h.1)
 not_denied false n k P told why is h = absurd cc
 
-no_idle : (nodes : ℕ) (net : Network) (d : Result Envelope NetFault) (k : ℕ) (m : Envelope) (told : ℕ) (why : Denial) → d ≡ Ok m → m.receiver < nodes → Brings nodes net k d (Denies told why) → ⊥
+no_idle : (nodes : ℕ) (net : Network) (d : Result Envelope NetFault) (k : ℕ) (m : Envelope) (told : ℕ) (why : ActRefusal) → d ≡ Ok m → m.receiver < nodes → Brings nodes net k d (Denies told why) → ⊥
 no_idle nodes net (Ok x) k m told why is within h =
     let same : x ≡ m = cc is in
     let known : nat_lt x.receiver nodes ≡ true = rw same (grind (arith, nat_tests, within)) in

@@ -5,12 +5,13 @@ use Rattle.group_task.specs.Group.{Group}
 use Rattle.wire_msg.specs.Envelope.{Envelope}
 use Rattle.wire_msg.specs.declared.body.Body.TheVariants.{AreYouCoordinator, Coordinator, AreYouThere, Here, Invitation, Accept, Ready, ReadyAck}
 use Rattle.node_core.specs.declared.phase.Phase.TheVariants.{Election, Normal}
-use Rattle.node_core.specs.declared.event.Event.TheVariants.{CheckTimer, MergeTimer, AcceptTimer, CoordTimer, Deliver}
+use Rattle.node_core.specs.declared.event.Event.TheVariants.{Timer, Deliver}
+use Rattle.node_core.specs.declared.timer.Timer.TheVariants as timer
 use Rattle.node_core.specs.State.{State}
 use Rattle.node_core.specs.Start.{alone}
 use Rattle.node_core.specs.Words.{letter, own_group, task_of}
-use Rattle.node_core.specs.Timers.{check_timer, merge_timer, offer, accept_timer, coord_timer, recovery}
-use Rattle.node_core.specs.Messages.{asked_coordinator, answered_coordinator, asked_there, answered_there, invited, accepted, told_ready, acknowledged}
+use Rattle.node_core.specs.Timers.{timed}
+use Rattle.node_core.specs.Messages.{delivered}
 use Rattle.histories.specs.NodeState.{NodeState}
 use Rattle.histories.specs.declared.what.What.TheVariants.{Did}
 use Rattle.runs.specs.World.{World, start}
@@ -25,17 +26,17 @@ group = own_group 0 2
 
 -- check 0, the two questions and the two answers, merge 0
 abbrev merge_of_three : List Step
-merge_of_three = Takes 0 0 (Did CheckTimer) ∷ comes 0 (letter 0 1 AreYouCoordinator) ∷ comes 1 (letter 0 2 AreYouCoordinator)
-    ∷ comes 2 (letter 1 0 (Coordinator true)) ∷ comes 3 (letter 2 0 (Coordinator true)) ∷ Takes 0 0 (Did MergeTimer) ∷ []
+merge_of_three = Takes 0 0 (Did (Timer timer.Check)) ∷ comes 0 (letter 0 1 AreYouCoordinator) ∷ comes 1 (letter 0 2 AreYouCoordinator)
+    ∷ comes 2 (letter 1 0 (Coordinator true)) ∷ comes 3 (letter 2 0 (Coordinator true)) ∷ Takes 0 0 (Did (Timer timer.Merge)) ∷ []
 
 -- the invitation to node 1, its acceptance, accept 0, the task and its acknowledgement
 abbrev two_join : List Step
-two_join = comes 4 (letter 0 1 (Invitation group)) ∷ comes 6 (letter 1 0 (Accept group)) ∷ Takes 0 0 (Did AcceptTimer)
+two_join = comes 4 (letter 0 1 (Invitation group)) ∷ comes 6 (letter 1 0 (Accept group)) ∷ Takes 0 0 (Did (Timer timer.Accept))
     ∷ comes 7 (letter 0 1 (Ready (task_of group (0 ∷ 1 ∷ [])))) ∷ comes 8 (letter 1 0 (ReadyAck group)) ∷ []
 
 -- the invitation to node 2, its acceptance, coord 2, the question and the answer
 abbrev late_accept : List Step
-late_accept = comes 5 (letter 0 2 (Invitation group)) ∷ comes 9 (letter 2 0 (Accept group)) ∷ Takes 2 0 (Did CoordTimer)
+late_accept = comes 5 (letter 0 2 (Invitation group)) ∷ comes 9 (letter 2 0 (Accept group)) ∷ Takes 2 0 (Did (Timer timer.Coord))
     ∷ comes 10 (letter 2 0 (AreYouThere group)) ∷ comes 11 (letter 0 2 (Here group false)) ∷ []
 
 abbrev calling : State
@@ -61,33 +62,33 @@ abbrev last_three : List Envelope
 last_three = letter 2 0 (Accept group) ∷ letter 2 0 (AreYouThere group) ∷ letter 0 2 (Here group false) ∷ []
 
 pub merge_of_three_sent : (world_at 3 (start 3) merge_of_three).net.sent ≡ first_six
-unfolding check_timer merge_timer offer asked_coordinator answered_coordinator
+unfolding timed delivered
 merge_of_three_sent = refl
 
 pub merge_of_three_states : states_of (world_at 3 (start 3) merge_of_three) ≡ calling ∷ alone 1 1 ∷ alone 2 1 ∷ []
-unfolding check_timer merge_timer offer asked_coordinator answered_coordinator
+unfolding timed delivered
 merge_of_three_states = refl
 
 pub two_join_sent : (world_at 3 (start 3) (merge_of_three ++ two_join)).net.sent ≡ first_six ++ next_three
-unfolding check_timer merge_timer offer asked_coordinator answered_coordinator invited accepted accept_timer told_ready acknowledged
+unfolding timed delivered
 two_join_sent = refl
 
 pub two_join_states : states_of (world_at 3 (start 3) (merge_of_three ++ two_join)) ≡ working (1 ∷ []) ∷ working [] ∷ alone 2 1 ∷ []
-unfolding check_timer merge_timer offer asked_coordinator answered_coordinator invited accepted accept_timer told_ready acknowledged
+unfolding timed delivered
 two_join_states = refl
 
 pub two_join_counts : counts_of (world_at 3 (start 3) (merge_of_three ++ two_join)) ≡ 2 ∷ 1 ∷ 1 ∷ []
-unfolding check_timer merge_timer offer asked_coordinator answered_coordinator invited accepted accept_timer told_ready acknowledged
+unfolding timed delivered
 two_join_counts = refl
 
 pub late_accept_sent : (world_at 3 (start 3) (merge_of_three ++ two_join ++ late_accept)).net.sent ≡ first_six ++ next_three ++ last_three
-unfolding check_timer merge_timer offer asked_coordinator answered_coordinator invited accepted accept_timer told_ready acknowledged coord_timer recovery asked_there answered_there
+unfolding timed delivered
 late_accept_sent = refl
 
 pub late_accept_states : states_of (world_at 3 (start 3) (merge_of_three ++ two_join ++ late_accept)) ≡ working (1 ∷ []) ∷ working [] ∷ alone 2 2 ∷ []
-unfolding check_timer merge_timer offer asked_coordinator answered_coordinator invited accepted accept_timer told_ready acknowledged coord_timer recovery asked_there answered_there
+unfolding timed delivered
 late_accept_states = refl
 
 pub late_accept_counts : counts_of (world_at 3 (start 3) (merge_of_three ++ two_join ++ late_accept)) ≡ 2 ∷ 1 ∷ 2 ∷ []
-unfolding check_timer merge_timer offer asked_coordinator answered_coordinator invited accepted accept_timer told_ready acknowledged coord_timer recovery asked_there answered_there
+unfolding timed delivered
 late_accept_counts = refl

@@ -1,13 +1,12 @@
 -- Group numbers as fences: one leader, one owner of each queue, one list of members.
-use Rattle.std.proofs.Common.{◌≡◌, ◌⊎◌, ℕ, true, List, sym, ◌∙◌, ap, subst, inl, inr, Option, Some, None}
+use Rattle.std.proofs.Common.{◌≡◌, ◌⊎◌, ℕ, true, List, sym, ◌∙◌, ap, inl, inr, Option, Some, None}
 use Rattle.group_task.specs.Group.{Group}
 use Rattle.group_task.specs.Assignment.{Assignment, owner_of}
 use Rattle.group_task.specs.Ids.{has}
-use Rattle.node_core.specs.declared.phase.Phase.{Phase}
 use Rattle.node_core.specs.declared.phase.Phase.TheVariants.{Reorganization, Normal}
 use Rattle.node_core.specs.State.{State}
 use Rattle.node_core.specs.Words.{members_of}
-use Rattle.histories.specs.Book.{IsTaskOf, AgreesIn, IsInGroup, members_in}
+use Rattle.histories.specs.Book.{IsTaskOf, IsInGroup, members_in}
 use Rattle.runs.specs.Reporting.{Report}
 use Rattle.runs.specs.Headline.{IsShown, HasBook}
 use Rattle.runs.specs.Uses.{Shows, ShowsWorking, OneLeader, OneOwnerEach, MembersAgree, OneWorkerEach}
@@ -21,7 +20,7 @@ is_shown r n s shows = elim shows [
 ]
 
 in_group : (s : State) → ((s.phase ≡ Normal) ⊎ (s.phase ≡ Reorganization)) → IsInGroup s.phase
-in_group s either = elim either [ inl e ↦ rw e tt | inr e ↦ rw e tt ]
+in_group s either = elim either [ inl e ↦ inr e | inr e ↦ inl e ]
 
 pub one_leader : OneLeader
 one_leader nodes slots acts r h n m s t by_s by_t same =
@@ -38,8 +37,7 @@ members_told book n g (Some t) h = (h.1, h.2)
 
 told_by : (r : Report) (h : HasBook r) (n : ℕ) (s : State) → ShowsWorking r n s → (members_in h.book s.group ≡ Some (members_of s.task)) × (has (members_of s.task) n ≡ true)
 told_by r h n s by =
-    let agrees = subst (λ (p : Phase). AgreesIn p h.book n s) by.1 (h.agrees n s (is_shown r n s by.0)) in
-    members_told h.book n s.group s.task agrees.1
+    members_told h.book n s.group s.task ((h.agrees n s (is_shown r n s by.0)).1 by.1)
 
 same_some : {A : Type 0} (x y : A) → Some x ≡ Some y → x ≡ y
 same_some x y e = cc e

@@ -51,7 +51,6 @@ finished_in_report nodes slots acts steps origin id run by =
       told = t.told;
       among = subst (λ (ms : List Moment). IsAmong t.told ms) (sym (moments_are nodes acts steps)) t.among;
       of_act = t.of_act;
-      not_denied = t.not_denied;
       not_refused = t.not_refused;
       state = by.moment;
       shown = report_shows nodes slots by.worker acts steps by.moment run by.is_moment;

@@ -1,12 +1,12 @@
 -- Only an act `finish` tells a node that a job is finished.
-use Rattle.std.proofs.Common.{◌≡◌, ◌≢◌, length, ℕ, Bool, true, false, List, [], ◌∷◌, ◌++◌, refl, sym, ◌∙◌, ap, subst, inl, inr}
+use Rattle.std.proofs.Common.{◌≡◌, ◌≢◌, length, ℕ, Bool, true, false, List, [], ◌∷◌, ◌++◌, refl, ◌∙◌, ap, subst, inl, inr}
 use Rattle.std.specs.Prelude.{if◌then◌else◌, ◌==◌, ◌&&◌, nat_lt, Result, Ok, Err, MatchResult}
 use Rattle.wire_msg.specs.Envelope.{Envelope}
 use Rattle.node_core.specs.declared.event.Event.{Event}
 use Rattle.node_core.specs.declared.event.Event.TheVariants as on
 use Rattle.histories.specs.Lists.{IsAmong}
 use Rattle.histories.specs.declared.what.What.{What}
-use Rattle.histories.specs.declared.what.What.TheVariants.{Did, Refused, Faulted, Rests, Crashed, Recovered, MountFailed, RaiseFailed, RaiseRefused}
+use Rattle.histories.specs.declared.what.What.TheVariants.{Did, Faulted, Rests, Crashed}
 use Rattle.histories.specs.declared.what.Rest.TheVariants.{Nothing}
 use Rattle.histories.specs.Owners.{acted, acted_in}
 use Rattle.histories.proofs.PublicLaws.{among_either, eq_nat}
@@ -15,13 +15,16 @@ use Rattle.schedule.specs.declared.act.Act.TheVariants as act
 use Rattle.sim_net.specs.declared.fault.NetFault.{NetFault}
 use Rattle.sim_net.specs.Network.{Network, found, delivery, after_lost, after_cut, after_mend}
 use Rattle.runs.specs.World.{World, node_in}
-use Rattle.runs.specs.Step.{Denial, Step, Takes, Changes, Denies, OfNet, Stranger, world_after}
+use Rattle.runs.specs.declared.outcome.Outcome.TheVariants as outcome
+use Rattle.runs.specs.declared.outcome.Refusal.{Refusal}
+use Rattle.runs.specs.declared.outcome.Refusal.TheVariants.{Net as OfNet, Stranger}
+use Rattle.runs.specs.Step.{Step, Takes, Changes, Denies, world_after}
 use Rattle.runs.specs.Run.{history_in}
 use Rattle.runs.specs.Reporting.{Moment, moment_of}
 use Rattle.runs.proofs.Reports.{moments_from}
-use Rattle.node_core.specs.declared.fault.Refusal.{Refusal}
 use Rattle.histories.specs.NodeState.{NodeState}
-use Rattle.runs.specs.Acts.{DeniedAct, RefusedAct, what_outcome, IsOf, IsCompaction, At, Brings, IsStepOf, IsRunOf}
+use Rattle.histories.specs.What.{IsOf}
+use Rattle.runs.specs.Acts.{what_outcome, IsCompaction, At, Brings, IsStepOf, IsRunOf}
 use Rattle.histories.specs.After.{sent_at}
 
 abbrev SaysFinished : What → ℕ → ℕ → Type 0
@@ -36,15 +39,9 @@ taken_there true n k P m number what h =
 taken_there false n k P m number what h = absurd cc
 
 event_said : (event : Event) (what : What) (origin id : ℕ) → IsOf event what → SaysFinished what origin id → event ≡ on.Finish origin id
-event_said event (Did e) origin id is i = elim i [ inl same ↦ sym is ∙ sym same | inr none ↦ absurd none ]
-event_said event (Refused e fault) origin id is i = absurd i
-event_said event (Faulted e) origin id is i = elim i [ inl same ↦ sym is ∙ sym same | inr none ↦ absurd none ]
-event_said event (Rests rest) origin id is i = absurd i
-event_said event Crashed origin id is i = absurd i
-event_said event (Recovered kept) origin id is i = absurd i
-event_said event MountFailed origin id is i = absurd i
-event_said event (RaiseFailed kept) origin id is i = absurd i
-event_said event (RaiseRefused kept) origin id is i = absurd i
+event_said event (Did e) origin id is i = elim i [ inl same ↦ cc (is, same) | inr none ↦ absurd none ]
+event_said event (Faulted e) origin id is i = elim i [ inl same ↦ cc (is, same) | inr none ↦ absurd none ]
+event_said event _ origin id is i = absurd i
 
 compaction_said : (what : What) (origin id : ℕ) → IsCompaction what → SaysFinished what origin id → ⊥
 compaction_said (Did e) origin id is i = is
@@ -81,12 +78,7 @@ same_finish : (n origin id o i : ℕ) → on.Finish origin id ≡ on.Finish o i 
 same_finish n origin id o i e = (let of_origin : origin ≡ o = cc e in let of_id : id ≡ i = cc e in rw (of_origin, of_id) refl)
 
 finish_act : (nodes : ℕ) (w : World) (a : Act) (m number : ℕ) (what : What) (origin id : ℕ) → IsStepOf nodes w a (Takes m number what) → SaysFinished what origin id → a ≡ act.Finish m origin id
-finish_act nodes w (act.Check n) m number what o i h says = by_event (act.Check n) (nat_lt n nodes) n 0 on.CheckTimer m number what o i (λ e. absurd cc) h says
-finish_act nodes w (act.Merge n) m number what o i h says = by_event (act.Merge n) (nat_lt n nodes) n 0 on.MergeTimer m number what o i (λ e. absurd cc) h says
-finish_act nodes w (act.Accept n) m number what o i h says = by_event (act.Accept n) (nat_lt n nodes) n 0 on.AcceptTimer m number what o i (λ e. absurd cc) h says
-finish_act nodes w (act.Ready n) m number what o i h says = by_event (act.Ready n) (nat_lt n nodes) n 0 on.ReadyTimer m number what o i (λ e. absurd cc) h says
-finish_act nodes w (act.Coord n) m number what o i h says = by_event (act.Coord n) (nat_lt n nodes) n 0 on.CoordTimer m number what o i (λ e. absurd cc) h says
-finish_act nodes w (act.Dispatch n) m number what o i h says = by_event (act.Dispatch n) (nat_lt n nodes) n 0 on.DispatchTimer m number what o i (λ e. absurd cc) h says
+finish_act nodes w (act.Timer n timer) m number what o i h says = by_event (act.Timer n timer) (nat_lt n nodes) n 0 (on.Timer timer) m number what o i (λ e. absurd cc) h says
 finish_act nodes w (act.Deliver k) m number what o i h says = absurd (brings_none nodes w.net k (delivery w.net k) m number what o i h says)
 finish_act nodes w (act.Lose k) m number what o i h says = absurd (loses_none (after_lost w.net k) (found w.net k) m number what h)
 finish_act nodes w (act.Cut x y) m number what o i h says = absurd (link_none (nat_lt x nodes && nat_lt y nodes) (after_cut w.net x y) m number what h)
@@ -100,23 +92,22 @@ finish_act nodes w (act.Crash n fill) m number what o i h says =
 finish_act nodes w (act.Recover n) m number what o i h says = by_event (act.Recover n) (nat_lt n nodes) n 0 on.Recover m number what o i (λ e. absurd cc) h says
 finish_act nodes w (act.Compact n) m number what o i h says = absurd (at_rest (nat_lt n nodes) n 0 IsCompaction m number what o i (compaction_said what o i) h says)
 
--- what a node didn't refuse is told as neither denied nor refused
+-- what a node didn't refuse isn't told as refused
 acted_told : (self nodes first : ℕ) (s : NodeState) (what : What) (a : Act) (event : Event) → IsAmong event (acted what)
-    → ((why : Denial) → what_outcome self nodes first s what a ≢ DeniedAct why) × ((fault : Refusal) → what_outcome self nodes first s what a ≢ RefusedAct fault)
-acted_told self nodes first s (Did e) a event i = (λ why is. absurd (let bad = is in cc), λ fault is. absurd (let bad = is in cc))
-acted_told self nodes first s (Faulted e) a event i = (λ why is. absurd (let bad = is in cc), λ fault is. absurd (let bad = is in cc))
-acted_told self nodes first s _ a event i = absurd i
+    → (why : Refusal) → what_outcome self nodes first s what a ≢ outcome.Refused why
+acted_told self nodes first s (Did e) a event i why is = absurd (let bad = is in cc)
+acted_told self nodes first s (Faulted e) a event i why is = absurd (let bad = is in cc)
+acted_told self nodes first s _ a event i why is = absurd i
 
 -- a moment tells the act
 pub record IsTold (ms : List Moment) (worker origin id : ℕ) : Type 0 where
   pub told : Moment
   pub among : IsAmong told ms
   pub of_act : told.act ≡ act.Finish worker origin id
-  pub not_denied : (why : Denial) → told.outcome ≢ DeniedAct why
-  pub not_refused : (fault : Refusal) → told.outcome ≢ RefusedAct fault
+  pub not_refused : (why : Refusal) → told.outcome ≢ outcome.Refused why
 
 told_later : (m : Moment) (ms : List Moment) (worker origin id : ℕ) → IsTold ms worker origin id → IsTold (m ∷ ms) worker origin id
-told_later m ms worker origin id it = record { told = it.told; among = inr it.among; of_act = it.of_act; not_denied = it.not_denied; not_refused = it.not_refused }
+told_later m ms worker origin id it = record { told = it.told; among = inr it.among; of_act = it.of_act; not_refused = it.not_refused }
 
 -- and so in a whole run
 pub told_by_act : (nodes slots worker origin id : ℕ) (acts : List Act) (steps : List Step) (w : World) → IsRunOf nodes slots w acts steps
@@ -132,12 +123,11 @@ told_by_act nodes slots worker origin id (a ∷ acts) (Takes m number what ∷ s
         → (IsAmong (on.Finish origin id) (acted_in (history_in worker nodes (world_after nodes w (Takes m number what)) steps)) → IsTold (moments_from nodes (world_after nodes w (Takes m number what)) acts steps) worker origin id)
         → IsTold (moment_of nodes w a (Takes m number what) ∷ moments_from nodes (world_after nodes w (Takes m number what)) acts steps) worker origin id
     by_node true is i rest = elim (among_either (on.Finish origin id) (acted what) (acted_in (history_in worker nodes (world_after nodes w (Takes m number what)) steps)) i) [
-      | inl now ↦ (let neither = acted_told m nodes (length w.net.sent) (node_in w.states m) what a (on.Finish origin id) now in record {
+      | inl now ↦ (record {
         told = moment_of nodes w a (Takes m number what);
         among = inl refl;
         of_act = finish_act nodes w a m number what origin id run.0 now ∙ ap (λ (n : ℕ). act.Finish n origin id) (eq_nat m worker is);
-        not_denied = neither.0;
-        not_refused = neither.1;
+        not_refused = acted_told m nodes (length w.net.sent) (node_in w.states m) what a (on.Finish origin id) now;
       })
       | inr later ↦ told_later _ _ worker origin id (rest later)
     ]

@@ -5,13 +5,16 @@ use Rattle.std.specs.Prelude.{if◌then◌else◌, ◌==◌, not}
 use Rattle.std.proofs.lemmas.Bool.Decides.{nat_tests}
 use Rattle.std.proofs.lemmas.Option.{slice_get_within}
 use Rattle.job_model.specs.declared.job.Job.{Job}
-use Rattle.job_model.specs.Command.{Command, Raise, Put, Done}
+use Rattle.job_model.specs.declared.node_command.NodeCommand.{NodeCommand as Command}
+use Rattle.job_model.specs.declared.node_command.NodeCommand.TheVariants.{Raise, Put, Done}
 use Rattle.job_model.specs.Durable.{Durable, formatted}
 use Rattle.job_model.specs.Fold.{after_command, after_commands, without_job}
 use Rattle.histories.specs.Lists.{IsAmong}
-use Rattle.histories.specs.Kept.{Tried, Mounting, Kept, counted, stands_after}
-use Rattle.histories.proofs.PublicLaws.{among_left, among_right, eq_nat}
+use Rattle.histories.specs.Kept.{Mounting, Kept, counted, stands_after}
+use Rattle.histories.specs.declared.tried.Tried.{Tried}
+use Rattle.histories.proofs.PublicLaws.{among_left, among_right}
 use Rattle.runs.specs.Reporting.{MountedAt, own_mountings}
+use Rattle.runs.proofs.Own.{among_mine, of_mine}
 use Rattle.runs.proofs.Runs.{at_place}
 use Rattle.runs.specs.Uses.{RaisesAreFound, JobsAreFound, DoubtsApart}
 
@@ -113,46 +116,26 @@ found_state : (commands : List Tried) (mountings : List Mounting) (kept : Kept c
 found_state commands mountings kept w i = (let it = among_at w mountings i in (kept.found it.0 w it.1).1)
 
 -- the mountings of a node
-mine : (n : ℕ) (w : MountedAt) (ws : List MountedAt) → w.node ≡ n → IsAmong w ws → IsAmong w.mounting (own_mountings n ws)
-mine n w [] own i = absurd i
-mine n w (x ∷ ws) own i = pick (x.node == n) refl i (λ j. mine n w ws own j)
-  where
-    pick : (b : Bool) → (x.node == n) ≡ b → IsAmong w (x ∷ ws) → (IsAmong w ws → IsAmong w.mounting (own_mountings n ws)) → IsAmong w.mounting (if b then x.mounting ∷ own_mountings n ws else own_mountings n ws)
-    pick true is i rest = elim i [ inl e ↦ inl (ap (λ (y : MountedAt). y.mounting) e) | inr j ↦ inr (rest j) ]
-    pick false is i rest = elim i [
-      | inl e ↦ (let ne : x.node ≢ n = grind (arith, nat_tests) in absurd (ne (sym (ap (λ (y : MountedAt). y.node) e) ∙ own)))
-      | inr j ↦ rest j
-    ]
-
-of_node : (n : ℕ) (w : Mounting) (ws : List MountedAt) → IsAmong w (own_mountings n ws) → (x : MountedAt) × IsAmong x ws × (x.node ≡ n) × (x.mounting ≡ w)
-of_node n w [] i = absurd i
-of_node n w (x ∷ ws) i = pick (x.node == n) refl i (λ j. of_node n w ws j)
-  where
-    pick : (b : Bool) → (x.node == n) ≡ b → IsAmong w (if b then x.mounting ∷ own_mountings n ws else own_mountings n ws)
-        → (IsAmong w (own_mountings n ws) → (y : MountedAt) × IsAmong y ws × (y.node ≡ n) × (y.mounting ≡ w)) → (y : MountedAt) × IsAmong y (x ∷ ws) × (y.node ≡ n) × (y.mounting ≡ w)
-    pick true is i rest = elim i [
-      | inl e ↦ (x, inl refl, eq_nat x.node n is, sym e)
-      | inr j ↦ (let it = rest j in (it.0, inr it.1, it.2, it.3))
-    ]
-    pick false is i rest = (let it = rest i in (it.0, inr it.1, it.2, it.3))
+mine : (w : MountedAt) (ws : List MountedAt) → IsAmong w ws → IsAmong w.mounting (own_mountings w.node ws)
+mine w ws i = among_mine (λ (x : MountedAt). x.node) (λ (x : MountedAt). x.mounting) w.node w ws refl i
 
 pub raises_are_found : RaisesAreFound
 raises_are_found nodes slots acts r h w i lt k count at later =
     let kept = h.kept w.node lt in
-    rw (found_state _ _ kept w.mounting (mine w.node w r.mounted refl i))
+    rw (found_state _ _ kept w.mounting (mine w r.mounted i))
     (raise_found formatted kept.counts _ k w.mounting.before count (Some count) (acknowledged_counts _ _ kept k count _ at refl) at later (kept.answered k _ count at refl))
 
 pub jobs_are_found : JobsAreFound
 jobs_are_found nodes slots acts r h w i lt k id work at later free =
     let kept = h.kept w.node lt in
-    rw (found_state _ _ kept w.mounting (mine w.node w r.mounted refl i))
+    rw (found_state _ _ kept w.mounting (mine w r.mounted i))
     (job_found id work formatted kept.counts _ k w.mounting.before (Some id) (acknowledged_counts _ _ kept k id _ at refl) at later (kept.answered k _ id at refl) free)
 
 pub doubts_apart : DoubtsApart
 doubts_apart nodes slots acts r h n lt j k t u before at none later =
     elim ((h.kept n lt).last_of_life j t at none) [
       | inl end ↦ absurd (omega (arith, end, before, slice_get_within _ k u later))
-      | inr it ↦ (let w = of_node n it.1 r.mounted (among_of _ it.0 it.1 it.2) in
+      | inr it ↦ (let w = of_mine (λ (x : MountedAt). x.node) (λ (x : MountedAt). x.mounting) n it.1 r.mounted (among_of _ it.0 it.1 it.2) in
           let place : w.0.mounting.before ≡ j + 1 = ap (λ (x : Mounting). x.before) w.3 ∙ it.3 in
           (w.0, w.1, w.2, omega (arith, place), omega (arith, place, before)))
     ]

@@ -1,27 +1,29 @@
 -- The groups that a run names were given before, each of them once.
-use Rattle.std.proofs.Common.{◌≡◌, ◌≢◌, ℕ, zero, suc, ◌+◌, ◌<◌, ◌≤◌, Bool, true, false, List, [], ◌∷◌, ◌++◌, map, slice_get, refl, sym, ◌∙◌, ap, subst, inl, inr, arith, Option, Some, None, append_assoc}
+use Rattle.std.proofs.Common.{◌≡◌, ◌≢◌, ℕ, zero, suc, ◌+◌, ◌<◌, ◌≤◌, Bool, true, false, List, [], ◌∷◌, ◌++◌, map, slice_get, refl, sym, ◌∙◌, ap, subst, inl, inr, arith, Option, Some, None, IfSome, append_assoc}
 use Rattle.std.proofs.lemmas.List.{append-nil}
+use Rattle.std.proofs.lemmas.Option.{IfSome_then}
 use Rattle.std.specs.Prelude.{◌==◌}
 use Rattle.std.proofs.lemmas.Bool.Decides.{nat_tests}
 use Rattle.group_task.specs.Group.{Group}
 use Rattle.group_task.specs.Assignment.{Assignment}
-use Rattle.job_model.specs.Command.{Command, Raise, Put, Done}
+use Rattle.job_model.specs.declared.node_command.NodeCommand.{NodeCommand as Command}
+use Rattle.job_model.specs.declared.node_command.NodeCommand.TheVariants.{Raise, Put, Done}
 use Rattle.job_model.specs.Durable.{Durable}
 use Rattle.job_model.specs.Fold.{after_wanted}
 use Rattle.wire_msg.specs.Envelope.{Envelope}
 use Rattle.wire_msg.specs.declared.body.Body.{Body}
 use Rattle.wire_msg.specs.declared.body.Body.TheVariants.{AreYouCoordinator, Coordinator, AreYouThere, Here, Invitation, Accept, Ready, ReadyAck, Work as WorkMessage, Done as DoneMessage}
 use Rattle.node_core.specs.declared.event.Event.{Event}
-use Rattle.node_core.specs.declared.phase.Phase.{Phase}
-use Rattle.node_core.specs.declared.phase.Phase.TheVariants.{Down, Election, Reorganization, Normal}
+use Rattle.wire_msg.specs.Kinds.{group_in}
 use Rattle.node_core.specs.Words.{own_group}
+use Rattle.node_core.specs.State.{State}
 use Rattle.histories.specs.Lists.{IsAmong}
 use Rattle.histories.specs.NodeState.{NodeState, opening, wants_at, settled}
 use Rattle.histories.specs.declared.what.What.{What}
 use Rattle.histories.specs.declared.what.What.TheVariants.{Did, Refused, Faulted, Rests, Crashed, Recovered, MountFailed, RaiseFailed, RaiseRefused}
 use Rattle.histories.specs.What.{event_of, brought}
 use Rattle.histories.specs.After.{after, sent_at, given_at, raised}
-use Rattle.histories.specs.Named.{BodyHolds, AllHold, TaskHolds, PlaceHolds, StateHolds}
+use Rattle.histories.specs.Named.{AllHold, StateHolds}
 use Rattle.histories.proofs.PublicLaws.{eq_nat, among_left, among_right, among_either, each_append, each_at, each_of, each_more, AnyWork, any_pending, GivenHold, Knows, SaysIn, Says, entry_does}
 use Rattle.runs.specs.World.{World, ids_from, start, node_in}
 use Rattle.runs.specs.Step.{Step, Takes, Changes, Denies, world_after}
@@ -30,7 +32,7 @@ use Rattle.runs.specs.Given.{groups_at, groups_from, AllGiven, GivenBefore, IsOn
 use Rattle.runs.proofs.Runs.{brought_sent, node_there, state_here, state_elsewhere, opened}
 
 -- what is said names groups
-says_names : (P : Group → Type 0) (J : ℕ → ℕ → ℕ → Type 0) (self sender receiver : ℕ) (made : List Assignment) (event : Option Event) (body : Body) → SaysIn P J self made event sender receiver body → BodyHolds P body
+says_names : (P : Group → Type 0) (J : ℕ → ℕ → ℕ → Type 0) (self sender receiver : ℕ) (made : List Assignment) (event : Option Event) (body : Body) → SaysIn P J self made event sender receiver body → IfSome (group_in body) P
 says_names P J self sender receiver made event AreYouCoordinator h = tt
 says_names P J self sender receiver made event (Coordinator agreed) h = tt
 says_names P J self sender receiver made event (AreYouThere group) h = h
@@ -45,34 +47,15 @@ says_names P J self sender receiver made event (DoneMessage id) h = tt
 abbrev pub Stronger : (Group → Type 0) → (Group → Type 0) → Type 0
 Stronger P Q = (g : Group) → P g → Q g
 
-task_more : (P Q : Group → Type 0) (t : Option Assignment) → Stronger P Q → TaskHolds P t → TaskHolds Q t
-task_more P Q None sub h = tt
-task_more P Q (Some t) sub h = sub t.group h
-
-place_more : (P Q : Group → Type 0) (p : Phase) (g : Group) (t : Option Assignment) → Stronger P Q → PlaceHolds P p g t → PlaceHolds Q p g t
-place_more P Q Down g t sub h = tt
-place_more P Q Election g t sub h = (sub g h.0, task_more P Q t sub h.1)
-place_more P Q Reorganization g t sub h = (sub g h.0, task_more P Q t sub h.1)
-place_more P Q Normal g t sub h = (sub g h.0, task_more P Q t sub h.1)
-
-body_more : (P Q : Group → Type 0) (b : Body) → Stronger P Q → BodyHolds P b → BodyHolds Q b
-body_more P Q AreYouCoordinator sub h = tt
-body_more P Q (Coordinator positive) sub h = tt
-body_more P Q (AreYouThere group) sub h = sub group h
-body_more P Q (Here group positive) sub h = sub group h
-body_more P Q (Invitation group) sub h = sub group h
-body_more P Q (Accept group) sub h = sub group h
-body_more P Q (Ready task) sub h = sub task.group h
-body_more P Q (ReadyAck group) sub h = sub group h
-body_more P Q (WorkMessage group id work) sub h = sub group h
-body_more P Q (DoneMessage id) sub h = tt
+place_more : (P Q : Group → Type 0) (v : State) → Stronger P Q → StateHolds P v → StateHolds Q v
+place_more P Q v sub h = λ up. (sub v.group (h up).0, IfSome_then v.task (h up).1 (λ t. sub t.group))
 
 all_more : (P Q : Group → Type 0) (ms : List Envelope) → Stronger P Q → AllHold P ms → AllHold Q ms
-all_more P Q ms sub h = each_more (λ (m : Envelope). BodyHolds P m.body) (λ (m : Envelope). BodyHolds Q m.body) ms (λ m b. body_more P Q m.body sub b) h
+all_more P Q ms sub h = each_more (λ (m : Envelope). IfSome (group_in m.body) P) (λ (m : Envelope). IfSome (group_in m.body) Q) ms (λ m named. IfSome_then (group_in m.body) named sub) h
 
 -- what is brought names what was sent
 brought_holds : (P : Group → Type 0) (w : World) (k : ℕ) (ms : List Envelope) → AllHold P w.net.sent → IsBrought w k ms → AllHold P ms
-brought_holds P w k ms h b = each_of (λ (m : Envelope). BodyHolds P m.body) ms (λ m i. each_at (λ (m : Envelope). BodyHolds P m.body) w.net.sent m h (brought_sent w k ms m b i))
+brought_holds P w k ms h b = each_of (λ (m : Envelope). IfSome (group_in m.body) P) ms (λ m i. each_at (λ (m : Envelope). IfSome (group_in m.body) P) w.net.sent m h (brought_sent w k ms m b i))
 
 given_holds : (P : Group → Type 0) (n : ℕ) (ks : List ℕ) → ((g : Group) → IsAmong g (map (own_group n) ks) → P g) → GivenHold P n ks
 given_holds P n [] h = tt
@@ -90,14 +73,14 @@ step_given nodes w (Takes n number what) given all may =
     λ g i. among_right g given (map (own_group n) (given_at n nodes (node_in w.states n) what)) (rw (node_there w.states n s may.1) i) in
     let row = entry_does Q AnyWork AnyWork n nodes s what may.2 in
     let knows : Knows Q n s.state (given_at n nodes s what) (brought (event_of what)) = record {
-      place = place_more P Q s.state.phase s.state.group s.state.task sub (all.vectors n s may.1);
+      place = place_more P Q s.state sub (all.vectors n s may.1);
       fresh = given_holds Q n (given_at n nodes s what) new;
       heard = all_more P Q (brought (event_of what)) sub (brought_holds P w number (brought (event_of what)) all.messages may.3);
     } in
-    let said : AllHold Q (sent_at n nodes s what) = each_more (Says Q AnyWork n row.made (event_of what)) (λ (m : Envelope). BodyHolds Q m.body) (sent_at n nodes s what)
+    let said : AllHold Q (sent_at n nodes s what) = each_more (Says Q AnyWork n row.made (event_of what)) (λ (m : Envelope). IfSome (group_in m.body) Q) (sent_at n nodes s what)
     (λ m h. says_names Q AnyWork n m.sender m.receiver row.made (event_of what) m.body h) (row.says knows (any_pending n s.durable.pending) (any_pending n (after n nodes s what).durable.pending)) in record {
-      vectors = λ j t at. by_node j t at (n == j) refl (row.names knows) (λ x was. place_more P Q x.state.phase x.state.group x.state.task sub (all.vectors j x was));
-      messages = each_append (λ (m : Envelope). BodyHolds Q m.body) w.net.sent (sent_at n nodes (node_in w.states n) what) (all_more P Q w.net.sent sub all.messages) (subst (λ (x : NodeState). AllHold Q (sent_at n nodes x what)) (sym (node_there w.states n s may.1)) said);
+      vectors = λ j t at. by_node j t at (n == j) refl (row.names knows) (λ x was. place_more P Q x.state sub (all.vectors j x was));
+      messages = each_append (λ (m : Envelope). IfSome (group_in m.body) Q) w.net.sent (sent_at n nodes (node_in w.states n) what) (all_more P Q w.net.sent sub all.messages) (subst (λ (x : NodeState). AllHold Q (sent_at n nodes x what)) (sym (node_there w.states n s may.1)) said);
     }
   where
     by_node : (j : ℕ) (t : NodeState) → slice_get (world_after nodes w (Takes n number what)).states j ≡ Some t → (b : Bool) → (n == j) ≡ b
@@ -132,7 +115,7 @@ given_before nodes steps run = run_given nodes steps (start nodes) (map (λ (x :
   vectors = λ n s at.
       (let is : s ≡ opening n = opened nodes 0 n s n (omega arith) at in
       let among = opening_among nodes 0 n n s (omega arith) at in
-      subst (λ (x : NodeState). StateHolds (λ g. IsAmong g (map (λ (x : ℕ). own_group x 1) (ids_from 0 nodes))) x.state) (sym is) (among, among));
+      subst (λ (x : NodeState). StateHolds (λ g. IsAmong g (map (λ (x : ℕ). own_group x 1) (ids_from 0 nodes))) x.state) (sym is) (λ up. (among, among)));
   messages = tt;
 }) run
 

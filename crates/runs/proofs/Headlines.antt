@@ -1,27 +1,28 @@
 -- Every run of a schedule keeps groups and jobs.
-use Rattle.std.proofs.Common.{◌≡◌, ℕ, suc, ◌<◌, List, [], ◌++◌, take, drop, slice_get, refl, sym, ◌∙◌, ap, subst, inl, inr, arith, rules, Option, Some, None}
+use Rattle.std.proofs.Common.{◌≡◌, ℕ, suc, ◌<◌, List, [], take, drop, slice_get, refl, sym, ◌∙◌, ap, subst, inl, inr, arith, rules, Option, Some, None, IfSome}
 use Rattle.std.proofs.lemmas.List.{take-append-drop}
-use Rattle.job_model.specs.Command.{Done}
+use Rattle.job_model.specs.declared.node_command.NodeCommand.TheVariants.{Done}
 use Rattle.group_task.specs.Group.{Group}
 use Rattle.group_task.specs.Assignment.{Assignment}
 use Rattle.wire_msg.specs.Envelope.{Envelope}
-use Rattle.node_core.specs.declared.phase.Phase.{Phase}
 use Rattle.node_core.specs.declared.phase.Phase.TheVariants.{Down, Normal}
 use Rattle.node_core.specs.declared.in_hand.InHand.{InHand}
 use Rattle.node_core.specs.State.{State}
+use Rattle.wire_msg.specs.Kinds.{group_in}
 use Rattle.node_core.specs.Start.{down}
 use Rattle.job_model.specs.Durable.{formatted}
 use Rattle.std.specs.Prelude.{unwrap_or}
 use Rattle.histories.specs.Lists.{IsAmong}
 use Rattle.histories.specs.NodeState.{NodeState, opening}
 use Rattle.histories.specs.What.{Entry}
-use Rattle.histories.specs.Named.{BodyHolds, StateHolds}
-use Rattle.histories.specs.Book.{IsTaskOf, AgreesIn, AgreesAt, IsInGroup}
+use Rattle.histories.specs.Named.{StateHolds}
+use Rattle.histories.specs.Book.{IsTaskOf, AgreesAt, IsInGroup}
 use Rattle.histories.specs.Rising.{Rises}
-use Rattle.histories.specs.Kept.{Kept, Tried}
+use Rattle.histories.specs.Kept.{Kept}
+use Rattle.histories.specs.declared.tried.Tried.{Tried}
 use Rattle.histories.specs.Marks.{commands_of, mountings_of, marks_of}
 use Rattle.histories.specs.Owners.{FinishedBy}
-use Rattle.histories.proofs.PublicLaws.{counts_rise, owner_finishes, one_worker, each_kept, agreed_coordinator, same_task}
+use Rattle.histories.proofs.PublicLaws.{counts_rise, owner_finishes, one_worker, each_kept, same_task}
 use Rattle.histories.specs.Moments.{IsMoment}
 use Rattle.schedule.specs.declared.act.Act.{Act}
 use Rattle.runs.specs.World.{start, node_in}
@@ -30,7 +31,8 @@ use Rattle.runs.specs.Run.{RunFrom, world_at, history_in, histories_of}
 use Rattle.runs.specs.Given.{AllGiven, IsOnceEach, groups_of}
 use Rattle.runs.specs.Acts.{IsRunOf}
 use Rattle.histories.specs.Counts.{IsShort}
-use Rattle.runs.specs.Reporting.{Moment, TriedAt, own_commands, own_mountings, own_counts, report_of}
+use Rattle.runs.specs.Reporting.{Moment, own_commands, own_mountings, own_counts, report_of}
+use Rattle.runs.specs.declared.tried.TriedAt.{TriedAt}
 use Rattle.runs.proofs.Finished.{finished_in_report}
 use Rattle.runs.specs.Headline.{IsFinished, IsShown, report_within, NamesGiven, HasBook, EverySchedule}
 use Rattle.runs.proofs.Runs.{history_at, history_follows, how_many, runs_are_bundles, starts_opened}
@@ -39,7 +41,8 @@ use Rattle.runs.proofs.Given.{given_before, none_twice}
 use Rattle.runs.proofs.Tagged.{history_few}
 use Rattle.runs.proofs.Reports.{moments_from, opening_is, moments_are, groups_are, commands_told, mounted_told}
 use Rattle.runs.proofs.Exact.{all_acts_run}
-use Rattle.runs.proofs.Picked.{among_own, own_counts_of}
+use Rattle.runs.proofs.Own.{among_mine}
+use Rattle.runs.proofs.Picked.{own_counts_of}
 use Rattle.runs.proofs.Moments.{run_front, acts_front, as_many, moment_state, moment_says, opening_shown}
 
 -- ---- 2
@@ -68,7 +71,7 @@ down_or_given : (P : Group → Type 0) (states : List NodeState) (n : ℕ) → (
 down_or_given P states n h = by_state (slice_get states n) h
   where
     by_state : (o : Option NodeState) → ((s : NodeState) → o ≡ Some s → StateHolds P s.state) → StateHolds P (unwrap_or o (record { state = down n; durable = formatted; doubt = None })).state
-    by_state None h = tt
+    by_state None h = λ up. absurd (up refl)
     by_state (Some s) h = h s refl
 
 moment_given : (nodes slots : ℕ) (acts : List Act) (steps : List Step) → IsRunOf nodes slots (start nodes) acts steps → (k : ℕ) (m : Moment) → slice_get (report_of nodes acts steps).moments k ≡ Some m
@@ -82,7 +85,7 @@ moment_given nodes slots acts steps is_run k m at =
     subst (λ (gs : List Group). NamesGiven gs m) (sym (groups_are nodes slots (take (suc k) acts) front (acts_front (suc k) nodes slots acts steps (start nodes) is_run))) (record {
       by_state = rw (moment_state k nodes acts steps (start nodes) m there)
           (down_or_given (λ (g : Group). IsAmong g given) (world_at nodes (start nodes) front).states m.node (λ s here. all.vectors m.node s here));
-      by_messages = moment_says (λ (x : Envelope). BodyHolds (λ (g : Group). IsAmong g given) x.body) k nodes acts steps (start nodes) m there all.messages;
+      by_messages = moment_says (λ (x : Envelope). IfSome (group_in x.body) (λ (g : Group). IsAmong g given)) k nodes acts steps (start nodes) m there all.messages;
     })
 
 -- ---- 4
@@ -91,7 +94,7 @@ down_or_agrees : (book : List Assignment) (states : List NodeState) (n : ℕ) �
 down_or_agrees book states n h = by_state (slice_get states n) h
   where
     by_state : (o : Option NodeState) → ((s : NodeState) → o ≡ Some s → AgreesAt book n s.state) → AgreesAt book n (unwrap_or o (record { state = down n; durable = formatted; doubt = None })).state
-    by_state None h = tt
+    by_state None h = (λ in_it. elim in_it [ inl e ↦ absurd cc | inr e ↦ absurd cc ], λ e. absurd cc)
     by_state (Some s) h = h s refl
 
 its_book : (nodes : ℕ) (acts : List Act) (steps : List Step) → RunFrom nodes (start nodes) steps → HasBook (report_of nodes acts steps)
@@ -118,13 +121,11 @@ its_book nodes acts steps run =
 
 coordinator_of_two : (book : List Assignment) (n m : ℕ) (s t : State) → AgreesAt book n s → AgreesAt book m t → IsInGroup s.phase → IsInGroup t.phase → s.group ≡ t.group → s.coordinator ≡ t.coordinator
 coordinator_of_two book n m s t a b in_s in_t same =
-    agreed_coordinator s.phase book n s in_s a ∙ (ap (λ (g : Group). g.creator) same ∙ sym (agreed_coordinator t.phase book m t in_t b))
+    a.0 in_s ∙ (ap (λ (g : Group). g.creator) same ∙ sym (b.0 in_t))
 
 task_of_two : (book : List Assignment) (n m : ℕ) (s t : State) → AgreesAt book n s → AgreesAt book m t → s.phase ≡ Normal → t.phase ≡ Normal → s.group ≡ t.group → s.task ≡ t.task
 task_of_two book n m s t a b in_s in_t same =
-    let by_s = subst (λ (p : Phase). AgreesIn p book n s) in_s a in
-    let by_t = subst (λ (p : Phase). AgreesIn p book m t) in_t b in
-    same_task book n m t.group s.task t.task (subst (λ (g : Group). IsTaskOf book n g s.task) same by_s.1) by_t.1
+    same_task book n m t.group s.task t.task (subst (λ (g : Group). IsTaskOf book n g s.task) same (a.1 in_s)) (b.1 in_t)
 
 shown_coordinator : (nodes : ℕ) (acts : List Act) (steps : List Step) (h : HasBook (report_of nodes acts steps)) (n m : ℕ) (s t : State)
     → IsShown (report_of nodes acts steps) n s → IsShown (report_of nodes acts steps) m t → IsInGroup s.phase → IsInGroup t.phase → s.group ≡ t.group → s.coordinator ≡ t.coordinator
@@ -143,7 +144,7 @@ finished_by nodes slots acts steps is_run t id among lt done =
     let h : List Entry = history_in n nodes (start nodes) steps in
     let at : slice_get (histories_of nodes steps) n ≡ Some h = history_at nodes 0 n nodes steps (opening n) n (omega arith) (starts_opened nodes n lt) in
     let tried : IsAmong t.tried (commands_of (marks_of n nodes h)) =
-    subst (λ (ts : List Tried). IsAmong t.tried ts) (commands_told nodes slots n acts steps is_run lt) (among_own n t (report_of nodes acts steps).commands refl among) in
+    subst (λ (ts : List Tried). IsAmong t.tried ts) (commands_told nodes slots n acts steps is_run lt) (among_mine (λ (x : TriedAt). x.node) (λ (x : TriedAt). x.tried) n t (report_of nodes acts steps).commands refl among) in
     owner_finishes (histories_of nodes steps) (runs_are_bundles nodes steps (all_acts_run nodes slots (start nodes) acts steps is_run)) n h at t.tried id
     (subst (λ (j : ℕ). IsAmong t.tried (commands_of (marks_of n j h))) (sym (how_many nodes 0 nodes steps)) tried) done
 

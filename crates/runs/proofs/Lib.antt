@@ -2,6 +2,7 @@ mod Runs
 mod RunBooks
 mod Tagged
 mod Reports
+mod Own
 mod Picked
 mod Moments
 mod Headlines
@@ -11,6 +12,8 @@ mod Growing
 mod Examples
 mod Exact
 mod Sending
+mod Numbered
+mod Counted
 mod Hands
 mod Keeping
 mod Rooms

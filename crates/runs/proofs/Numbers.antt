@@ -1,22 +1,22 @@
 -- A group's number is new when it is given.
-use Rattle.std.proofs.Common.{◌≡◌, ◌⊎◌, ℕ, zero, suc, ◌<◌, Bool, true, false, List, [], ◌∷◌, slice_get, refl, sym, ◌∙◌, ap, subst, inl, inr, arith, Some}
-use Rattle.std.specs.Prelude.{if◌then◌else◌, ◌==◌}
+use Rattle.std.proofs.Common.{◌≡◌, ◌⊎◌, ℕ, zero, suc, ◌<◌, Bool, true, false, List, [], ◌∷◌, slice_get, refl, sym, ◌∙◌, ap, subst, inl, inr, arith, Some, IfSome, Option}
+use Rattle.std.specs.Prelude.{◌==◌, cond, map}
+use Rattle.std.specs.List.{filter}
 use Rattle.std.proofs.lemmas.Bool.Decides.{nat_tests}
 use Rattle.group_task.specs.Group.{Group}
 use Rattle.wire_msg.specs.Envelope.{Envelope}
-use Rattle.wire_msg.specs.declared.body.Body.{Body}
-use Rattle.wire_msg.specs.declared.body.Body.TheVariants.{AreYouCoordinator, Coordinator, AreYouThere, Here, Invitation, Accept, Ready, ReadyAck, Work as WorkMessage, Done as DoneMessage}
 use Rattle.node_core.specs.declared.phase.Phase.{Phase}
-use Rattle.node_core.specs.declared.phase.Phase.TheVariants.{Down, Election, Reorganization, Normal}
+use Rattle.node_core.specs.declared.phase.Phase.TheVariants.{Down}
 use Rattle.node_core.specs.State.{State}
+use Rattle.wire_msg.specs.Kinds.{group_in}
 use Rattle.histories.specs.Lists.{IsAmong}
-use Rattle.histories.specs.Named.{BodyHolds, PlaceHolds}
+use Rattle.histories.specs.Named.{StateHolds}
 use Rattle.histories.specs.Rising.{Rises}
 use Rattle.histories.proofs.PublicLaws.{each_at}
 use Rattle.runs.specs.Given.{IsOnceEach}
 use Rattle.runs.specs.Reporting.{own_counts}
 use Rattle.runs.specs.Headline.{report_within}
-use Rattle.runs.specs.Uses.{groups_in, GivenAtOnePlace, LaterIsGreater, NamedWasGiven}
+use Rattle.runs.specs.Uses.{GivenAtOnePlace, LaterIsGreater, NamedWasGiven}
 use Rattle.runs.proofs.Found.{among_of}
 
 one_place : (gs : List Group) → IsOnceEach gs → (i j : ℕ) (g : Group) → slice_get gs i ≡ Some g → slice_get gs j ≡ Some g → i ≡ j
@@ -36,12 +36,16 @@ rises_lower low high (k ∷ ks) lt h = (omega (arith, lt, h.0), h.1)
 not_equal : (a b : ℕ) → (a == b) ≡ false → a ≡ b → ⊥
 not_equal a b is e = grind (arith, nat_tests)
 
+-- the groups that a node gave
+abbrev of_node : ℕ → List Group → List Group
+of_node n gs = filter (λ (g : Group). g.creator == n) gs
+
 -- each count of the node is above the last one before the list
 above : (n : ℕ) (gs : List Group) (last : ℕ) → Rises last (own_counts n gs) → (j : ℕ) (h : Group) → slice_get gs j ≡ Some h → h.creator ≡ n → last < h.count
 above n [] last rises j h at own = absurd cc
 above n (x ∷ gs) last rises j h at own = pick (x.creator == n) refl rises j at (λ low risen i at_i. above n gs low risen i h at_i own)
   where
-    pick : (b : Bool) → (x.creator == n) ≡ b → Rises last (if b then x.count ∷ own_counts n gs else own_counts n gs) → (j : ℕ) → slice_get (x ∷ gs) j ≡ Some h
+    pick : (b : Bool) → (x.creator == n) ≡ b → Rises last (map (λ (y : Group). y.count) (cond b (x ∷ of_node n gs) (of_node n gs))) → (j : ℕ) → slice_get (x ∷ gs) j ≡ Some h
         → ((low : ℕ) → Rises low (own_counts n gs) → (i : ℕ) → slice_get gs i ≡ Some h → low < h.count) → last < h.count
     pick true is rises zero at rest = (let same : x ≡ h = cc at in subst (λ (y : Group). last < y.count) same rises.0)
     pick true is rises (suc j) at rest = rest last (rises_lower last x.count (own_counts n gs) rises.0 rises.1) j at
@@ -55,7 +59,7 @@ rising_places n (x ∷ gs) last rises i zero g h lt at_i at_j of_g of_h = absurd
 rising_places n (x ∷ gs) last rises i (suc j) g h lt at_i at_j of_g of_h =
     pick (x.creator == n) refl rises i lt at_i (λ low risen k less at. rising_places n gs low risen k j g h less at at_j of_g of_h)
   where
-    pick : (b : Bool) → (x.creator == n) ≡ b → Rises last (if b then x.count ∷ own_counts n gs else own_counts n gs) → (i : ℕ) → i < suc j → slice_get (x ∷ gs) i ≡ Some g
+    pick : (b : Bool) → (x.creator == n) ≡ b → Rises last (map (λ (y : Group). y.count) (cond b (x ∷ of_node n gs) (of_node n gs))) → (i : ℕ) → i < suc j → slice_get (x ∷ gs) i ≡ Some g
         → ((low : ℕ) → Rises low (own_counts n gs) → (k : ℕ) → k < j → slice_get gs k ≡ Some g → g.count < h.count) → g.count < h.count
     pick true is rises zero lt at rest = (let same : x ≡ g = cc at in subst (λ (y : Group). y.count < h.count) same (above n gs x.count rises.1 j h at_j of_h))
     pick true is rises (suc i) lt at rest = rest x.count rises.1 i (omega (arith, lt)) at
@@ -66,23 +70,9 @@ pub later_is_greater : LaterIsGreater
 later_is_greater nodes slots acts r head i j g h lt at_i at_j same within = rising_places g.creator r.groups 0 (head.rising g.creator within) i j g h lt at_i at_j refl (sym same)
 
 -- a node that is up shows its group
-group_shown : (P : Group → Type 0) (s : State) (phase : Phase) → s.phase ≡ phase → PlaceHolds P phase s.group s.task → (s.phase ≡ Down) ⊎ P s.group
+group_shown : (P : Group → Type 0) (s : State) (phase : Phase) → s.phase ≡ phase → StateHolds P s → (s.phase ≡ Down) ⊎ P s.group
 group_shown P s Down is h = inl is
-group_shown P s Election is h = inr h.0
-group_shown P s Reorganization is h = inr h.0
-group_shown P s Normal is h = inr h.0
-
-group_said : (P : Group → Type 0) (b : Body) (g : Group) → BodyHolds P b → IsAmong g (groups_in b) → P g
-group_said P AreYouCoordinator g h i = absurd i
-group_said P (Coordinator positive) g h i = absurd i
-group_said P (AreYouThere group) g h i = elim i [ inl e ↦ rw e h | inr none ↦ absurd none ]
-group_said P (Here group positive) g h i = elim i [ inl e ↦ rw e h | inr none ↦ absurd none ]
-group_said P (Invitation group) g h i = elim i [ inl e ↦ rw e h | inr none ↦ absurd none ]
-group_said P (Accept group) g h i = elim i [ inl e ↦ rw e h | inr none ↦ absurd none ]
-group_said P (Ready task) g h i = elim i [ inl e ↦ rw e h | inr none ↦ absurd none ]
-group_said P (ReadyAck group) g h i = elim i [ inl e ↦ rw e h | inr none ↦ absurd none ]
-group_said P (WorkMessage group id work) g h i = elim i [ inl e ↦ rw e h | inr none ↦ absurd none ]
-group_said P (DoneMessage id) g h i = absurd i
+group_shown P s phase is h = inr (h (λ down. absurd cc (is, down))).0
 
 pub named_was_given : NamedWasGiven
 named_was_given nodes slots acts r head k m at =
@@ -90,5 +80,5 @@ named_was_given nodes slots acts r head k m at =
     let P = λ (g : Group). IsAmong g given in
     let named = head.given k m at in (
       group_shown P m.state m.state.phase refl named.by_state,
-      λ x g here says. group_said P x.body g (each_at (λ (y : Envelope). BodyHolds P y.body) m.sent x named.by_messages here) says,
+      λ x g here says. subst (λ (o : Option Group). IfSome o P) says (each_at (λ (y : Envelope). IfSome (group_in y.body) P) m.sent x named.by_messages here),
     )

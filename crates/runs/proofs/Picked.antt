@@ -1,9 +1,8 @@
 -- The counts that a node gives in a run are those of its history.
-use Rattle.std.proofs.Common.{◌≡◌, ◌≢◌, ℕ, zero, suc, ◌+◌, ◌<◌, ◌≤◌, Bool, true, false, List, [], ◌∷◌, ◌++◌, map, slice_get, refl, sym, ◌∙◌, ap, subst, inl, inr, arith, Some}
+use Rattle.std.proofs.Common.{◌≡◌, ◌≢◌, ℕ, ◌<◌, Bool, true, false, List, [], ◌∷◌, ◌++◌, map, slice_get, refl, sym, ◌∙◌, ap, subst, arith, Some}
 use Rattle.std.specs.Prelude.{if◌then◌else◌, ◌==◌}
 use Rattle.std.proofs.lemmas.Bool.Decides.{nat_tests}
 use Rattle.group_task.specs.Group.{Group}
-use Rattle.histories.specs.Lists.{IsAmong}
 use Rattle.histories.specs.NodeState.{NodeState, opening}
 use Rattle.histories.specs.After.{after, given_at, sent_at}
 use Rattle.histories.specs.History.{counts_given}
@@ -12,35 +11,13 @@ use Rattle.runs.specs.World.{World, ids_from, start, node_in}
 use Rattle.runs.specs.Step.{Step, Takes, Changes, Denies, world_after}
 use Rattle.runs.specs.Run.{history_in}
 use Rattle.runs.specs.Given.{groups_from, groups_of}
-use Rattle.runs.specs.Reporting.{TriedAt, own_commands, own_counts}
+use Rattle.runs.specs.Reporting.{own_counts}
+use Rattle.runs.proofs.Own.{append_own, one_each}
 use Rattle.runs.proofs.Runs.{node_there, starts_opened, state_here, state_elsewhere}
 use Rattle.node_core.specs.Words.{own_group}
 
--- a command of a node is among those of the node
-pub among_own : (n : ℕ) (t : TriedAt) (ts : List TriedAt) → t.node ≡ n → IsAmong t ts → IsAmong t.tried (own_commands n ts)
-among_own n t [] mine i = absurd i
-among_own n t (x ∷ ts) mine i = pick (x.node == n) refl i (λ j. among_own n t ts mine j)
-  where
-    pick : (b : Bool) → (x.node == n) ≡ b → IsAmong t (x ∷ ts) → (IsAmong t ts → IsAmong t.tried (own_commands n ts)) → IsAmong t.tried (if b then x.tried ∷ own_commands n ts else own_commands n ts)
-    pick true is i rest = elim i [
-      | inl e ↦ inl (ap (λ (y : TriedAt). y.tried) e)
-      | inr j ↦ inr (rest j)
-    ]
-    pick false is i rest = elim i [
-      | inl e ↦ (let ne : x.node ≢ n = grind (arith, nat_tests) in absurd (ne (sym (ap (λ (y : TriedAt). y.node) e) ∙ mine)))
-      | inr j ↦ rest j
-    ]
-
--- ---- counts
-
 counts_append : (n : ℕ) (xs ys : List Group) → own_counts n (xs ++ ys) ≡ own_counts n xs ++ own_counts n ys
-counts_append n [] ys = refl
-counts_append n (x ∷ xs) ys = pick (x.creator == n) (counts_append n xs ys)
-  where
-    pick : (b : Bool) → own_counts n (xs ++ ys) ≡ own_counts n xs ++ own_counts n ys
-        → (if b then x.count ∷ own_counts n (xs ++ ys) else own_counts n (xs ++ ys)) ≡ (if b then x.count ∷ own_counts n xs else own_counts n xs) ++ own_counts n ys
-    pick true same = ap (λ (ks : List ℕ). x.count ∷ ks) same
-    pick false same = same
+counts_append n xs ys = append_own (λ (g : Group). g.creator) (λ (g : Group). g.count) n xs ys
 
 counts_same : (m n : ℕ) (ks : List ℕ) → (m == n) ≡ true → own_counts n (map (own_group m) ks) ≡ ks
 counts_same m n [] is = refl
@@ -49,20 +26,6 @@ counts_same m n (k ∷ ks) is = rw is (ap (λ (ys : List ℕ). k ∷ ys) (counts
 counts_other : (m n : ℕ) (ks : List ℕ) → (m == n) ≡ false → own_counts n (map (own_group m) ks) ≡ []
 counts_other m n [] is = refl
 counts_other m n (k ∷ ks) is = rw is (counts_other m n ks is)
-
-no_opening_counts : (k i n : ℕ) → n < i → own_counts n (map (λ (x : ℕ). own_group x 1) (ids_from i k)) ≡ []
-no_opening_counts zero i n lt = refl
-no_opening_counts (suc k) i n lt =
-    let other : (i == n) ≡ false = grind (arith, nat_tests, lt) in
-    rw other (no_opening_counts k (suc i) n (omega (arith, lt)))
-
-opening_counts : (k i n : ℕ) → i ≤ n → n < i + k → own_counts n (map (λ (x : ℕ). own_group x 1) (ids_from i k)) ≡ 1 ∷ []
-opening_counts zero i n le lt = absurd (omega (arith, le, lt))
-opening_counts (suc k) i n le lt = pick (i == n) refl (λ above. opening_counts k (suc i) n above (omega (arith, lt)))
-  where
-    pick : (b : Bool) → (i == n) ≡ b → (suc i ≤ n → own_counts n (map (λ (x : ℕ). own_group x 1) (ids_from (suc i) k)) ≡ 1 ∷ []) → (if b then 1 ∷ own_counts n (map (λ (x : ℕ). own_group x 1) (ids_from (suc i) k)) else own_counts n (map (λ (x : ℕ). own_group x 1) (ids_from (suc i) k))) ≡ 1 ∷ []
-    pick true is rest = (let same : i ≡ n = eq_nat i n is in ap (λ (ks : List ℕ). 1 ∷ ks) (no_opening_counts k (suc i) n (omega (arith, same))))
-    pick false is rest = (let ne : i ≢ n = grind (arith, nat_tests) in rest (omega (arith, le, ne)))
 
 counts_from : (n nodes : ℕ) (steps : List Step) (w : World) (s : NodeState) → slice_get w.states n ≡ Some s
     → own_counts n (groups_from nodes w steps) ≡ counts_given n nodes s (history_in n nodes w steps)
@@ -94,5 +57,5 @@ counts_from n nodes (Denies told why ∷ steps) w s at = counts_from n nodes ste
 pub own_counts_of : (nodes n : ℕ) (steps : List Step) → n < nodes → own_counts n (groups_of nodes steps) ≡ 1 ∷ counts_given n nodes (opening n) (history_in n nodes (start nodes) steps)
 own_counts_of nodes n steps lt =
     counts_append n (map (λ (x : ℕ). own_group x 1) (ids_from 0 nodes)) (groups_from nodes (start nodes) steps)
-    ∙ ap (λ (ks : List ℕ). ks ++ own_counts n (groups_from nodes (start nodes) steps)) (opening_counts nodes 0 n (omega arith) (omega (arith, lt)))
+    ∙ ap (λ (ks : List ℕ). ks ++ own_counts n (groups_from nodes (start nodes) steps)) (one_each (λ (g : Group). g.creator) (λ (g : Group). g.count) (λ (x : ℕ). own_group x 1) (λ i. refl) nodes 0 n (omega arith) (omega (arith, lt)))
     ∙ ap (λ (ks : List ℕ). 1 ∷ ks) (counts_from n nodes steps (start nodes) (opening n) (starts_opened nodes n lt))

@@ -1,11 +1,12 @@
 -- What the report of a run says, part by part.
-use Rattle.std.proofs.Common.{◌≡◌, ◌≢◌, ℕ, zero, suc, ◌+◌, ◌<◌, ◌≤◌, Bool, true, false, List, [], ◌∷◌, ◌++◌, length, map, slice_get, refl, sym, ◌∙◌, ap, subst, arith, Option, Some, None, append_assoc}
+use Rattle.std.proofs.Common.{◌≡◌, ◌≢◌, ℕ, ◌+◌, ◌<◌, Bool, true, false, List, [], ◌∷◌, ◌++◌, length, map, slice_get, refl, sym, ◌∙◌, ap, subst, arith, Option, Some, None, append_assoc}
 use Rattle.std.specs.Prelude.{if◌then◌else◌, ◌==◌, option_to_list, flat_map}
 use Rattle.std.proofs.lemmas.List.{append-nil, length-append}
 use Rattle.std.proofs.lemmas.Bool.Decides.{nat_tests}
 use Rattle.group_task.specs.Group.{Group}
 use Rattle.node_core.specs.Words.{own_group}
-use Rattle.job_model.specs.Command.{Command, Raise, Put, Done}
+use Rattle.job_model.specs.declared.node_command.NodeCommand.{NodeCommand as Command}
+use Rattle.job_model.specs.declared.node_command.NodeCommand.TheVariants.{Raise, Put, Done}
 use Rattle.job_model.specs.Durable.{Durable, formatted}
 use Rattle.job_model.specs.Answer.{answer_of}
 use Rattle.histories.specs.NodeState.{NodeState, opening, wants_at}
@@ -13,16 +14,19 @@ use Rattle.histories.specs.declared.what.What.{What}
 use Rattle.histories.specs.declared.what.What.TheVariants.{Did, Faulted}
 use Rattle.histories.specs.What.{Entry}
 use Rattle.histories.specs.After.{after, sent_at, given_at, raised, found_at}
-use Rattle.histories.specs.Kept.{Tried, Mounting}
+use Rattle.histories.specs.Kept.{Mounting}
+use Rattle.histories.specs.declared.tried.Tried.{Tried}
 use Rattle.histories.specs.Marks.{Mark, Acknowledged, Unanswered, Mounted, commands_of, mountings_of, tried_marks, failed_marks, marks_at, marks_from, marks_of}
 use Rattle.histories.proofs.PublicLaws.{commands_append, eq_nat}
 use Rattle.schedule.specs.declared.act.Act.{Act}
-use Rattle.runs.specs.World.{World, ids_from, node_in, start}
+use Rattle.runs.proofs.Own.{append_own, one_each}
+use Rattle.runs.specs.World.{World, node_in, start}
 use Rattle.runs.specs.Step.{Step, Takes, Changes, Denies, world_after}
 use Rattle.runs.specs.Run.{history_in}
 use Rattle.runs.specs.Acts.{IsRunOf}
 use Rattle.runs.specs.Given.{groups_at, groups_from, groups_of}
-use Rattle.runs.specs.Reporting.{Moment, TriedAt, MountedAt, Report, moment_of, own_commands, own_mountings, first_report, tries, grown, report_from, report_of, commands_at, group_of}
+use Rattle.runs.specs.Reporting.{Moment, MountedAt, Report, moment_of, own_commands, own_mountings, first_report, tries, grown, report_from, report_of, commands_at, group_of}
+use Rattle.runs.specs.declared.tried.TriedAt.{TriedAt}
 use Rattle.runs.proofs.Runs.{node_there, state_here, state_elsewhere, starts_opened}
 
 -- ---- openings, moments and groups
@@ -99,22 +103,10 @@ mountings_append (Unanswered c ∷ ms) ns = mountings_append ms ns
 mountings_append (Mounted w ∷ ms) ns = ap (λ (ws : List Mounting). w ∷ ws) (mountings_append ms ns)
 
 pub own_append : (n : ℕ) (xs ys : List TriedAt) → own_commands n (xs ++ ys) ≡ own_commands n xs ++ own_commands n ys
-own_append n [] ys = refl
-own_append n (t ∷ xs) ys = pick (t.node == n) (own_append n xs ys)
-  where
-    pick : (b : Bool) → own_commands n (xs ++ ys) ≡ own_commands n xs ++ own_commands n ys
-        → (if b then t.tried ∷ own_commands n (xs ++ ys) else own_commands n (xs ++ ys)) ≡ (if b then t.tried ∷ own_commands n xs else own_commands n xs) ++ own_commands n ys
-    pick true is = ap (λ (ts : List Tried). t.tried ∷ ts) is
-    pick false is = is
+own_append n xs ys = append_own (λ (t : TriedAt). t.node) (λ (t : TriedAt). t.tried) n xs ys
 
 own_mounted_append : (n : ℕ) (xs ys : List MountedAt) → own_mountings n (xs ++ ys) ≡ own_mountings n xs ++ own_mountings n ys
-own_mounted_append n [] ys = refl
-own_mounted_append n (w ∷ xs) ys = pick (w.node == n) (own_mounted_append n xs ys)
-  where
-    pick : (b : Bool) → own_mountings n (xs ++ ys) ≡ own_mountings n xs ++ own_mountings n ys
-        → (if b then w.mounting ∷ own_mountings n (xs ++ ys) else own_mountings n (xs ++ ys)) ≡ (if b then w.mounting ∷ own_mountings n xs else own_mountings n xs) ++ own_mountings n ys
-    pick true is = ap (λ (ws : List Mounting). w.mounting ∷ ws) is
-    pick false is = is
+own_mounted_append n xs ys = append_own (λ (w : MountedAt). w.node) (λ (w : MountedAt). w.mounting) n xs ys
 
 abbrev mounted_there : ℕ → ℕ → Option Durable → List MountedAt
 mounted_there m before d = map (λ (d : Durable). record { node = m; mounting = record { before = before; state = d } }) (option_to_list d)
@@ -259,35 +251,9 @@ raised_first n = record { node = n; tried = record { command = Raise; acked = So
 abbrev mounted_first : ℕ → MountedAt
 mounted_first n = record { node = n; mounting = record { before = 0; state = formatted } }
 
-no_first : (k i n : ℕ) → n < i → own_commands n (map raised_first (ids_from i k)) ≡ []
-no_first zero i n lt = refl
-no_first (suc k) i n lt = let other : (i == n) ≡ false = grind (arith, nat_tests, lt) in rw other (no_first k (suc i) n (omega (arith, lt)))
-
-one_first : (k i n : ℕ) → i ≤ n → n < i + k → own_commands n (map raised_first (ids_from i k)) ≡ record { command = Raise; acked = Some 1 } ∷ []
-one_first zero i n le lt = absurd (omega (arith, le, lt))
-one_first (suc k) i n le lt = pick (i == n) refl (λ above. one_first k (suc i) n above (omega (arith, lt)))
-  where
-    pick : (b : Bool) → (i == n) ≡ b → (suc i ≤ n → own_commands n (map raised_first (ids_from (suc i) k)) ≡ record { command = Raise; acked = Some 1 } ∷ [])
-        → (if b then record { command = Raise; acked = Some 1 } ∷ own_commands n (map raised_first (ids_from (suc i) k)) else own_commands n (map raised_first (ids_from (suc i) k))) ≡ record { command = Raise; acked = Some 1 } ∷ []
-    pick true is rest = (let same : i ≡ n = eq_nat i n is in ap (λ (ts : List Tried). record { command = Raise; acked = Some 1 } ∷ ts) (no_first k (suc i) n (omega (arith, same))))
-    pick false is rest = (let ne : i ≢ n = grind (arith, nat_tests) in rest (omega (arith, le, ne)))
-
-no_mounting : (k i n : ℕ) → n < i → own_mountings n (map mounted_first (ids_from i k)) ≡ []
-no_mounting zero i n lt = refl
-no_mounting (suc k) i n lt = let other : (i == n) ≡ false = grind (arith, nat_tests, lt) in rw other (no_mounting k (suc i) n (omega (arith, lt)))
-
-one_mounting : (k i n : ℕ) → i ≤ n → n < i + k → own_mountings n (map mounted_first (ids_from i k)) ≡ record { before = 0; state = formatted } ∷ []
-one_mounting zero i n le lt = absurd (omega (arith, le, lt))
-one_mounting (suc k) i n le lt = pick (i == n) refl (λ above. one_mounting k (suc i) n above (omega (arith, lt)))
-  where
-    pick : (b : Bool) → (i == n) ≡ b → (suc i ≤ n → own_mountings n (map mounted_first (ids_from (suc i) k)) ≡ record { before = 0; state = formatted } ∷ [])
-        → (if b then record { before = 0; state = formatted } ∷ own_mountings n (map mounted_first (ids_from (suc i) k)) else own_mountings n (map mounted_first (ids_from (suc i) k))) ≡ record { before = 0; state = formatted } ∷ []
-    pick true is rest = (let same : i ≡ n = eq_nat i n is in ap (λ (ws : List Mounting). record { before = 0; state = formatted } ∷ ws) (no_mounting k (suc i) n (omega (arith, same))))
-    pick false is rest = (let ne : i ≢ n = grind (arith, nat_tests) in rest (omega (arith, le, ne)))
-
 -- each node raised once
 pub raised_once : (nodes n : ℕ) → n < nodes → own_commands n (first_report nodes).commands ≡ record { command = Raise; acked = Some 1 } ∷ []
-raised_once nodes n lt = one_first nodes 0 n (omega arith) (omega (arith, lt))
+raised_once nodes n lt = one_each (λ (t : TriedAt). t.node) (λ (t : TriedAt). t.tried) raised_first (λ i. refl) nodes 0 n (omega arith) (omega (arith, lt))
 
 -- ---- what the report of a run says of a node is what its history says
 
@@ -307,4 +273,4 @@ pub mounted_told : (nodes slots n : ℕ) (acts : List Act) (steps : List Step) �
     → own_mountings n (report_of nodes acts steps).mounted ≡ mountings_of (marks_of n nodes (history_in n nodes (start nodes) steps))
 mounted_told nodes slots n acts steps run lt =
     (own_told nodes slots n acts steps run lt).mounted
-    ∙ ap (λ (ws : List Mounting). ws ++ mountings_of (marks_from n nodes (opening n) 1 (history_in n nodes (start nodes) steps))) (one_mounting nodes 0 n (omega arith) (omega (arith, lt)))
+    ∙ ap (λ (ws : List Mounting). ws ++ mountings_of (marks_from n nodes (opening n) 1 (history_in n nodes (start nodes) steps))) (one_each (λ (w : MountedAt). w.node) (λ (w : MountedAt). w.mounting) mounted_first (λ i. refl) nodes 0 n (omega arith) (omega (arith, lt)))

@@ -5,14 +5,16 @@ use Rattle.std.proofs.lemmas.Bool.{cases_lt}
 use Rattle.std.proofs.lemmas.List.{length-append}
 use Rattle.std.proofs.lemmas.List.Sums.{length-filter, count_by-le-length}
 use Rattle.job_model.specs.declared.job.Job.{Job}
-use Rattle.job_model.specs.Command.{Command, Raise, Put, Done}
+use Rattle.job_model.specs.declared.node_command.NodeCommand.{NodeCommand as Command}
+use Rattle.job_model.specs.declared.node_command.NodeCommand.TheVariants.{Raise, Put, Done}
 use Rattle.job_model.specs.Durable.{Durable}
 use Rattle.job_model.specs.Fold.{after_wanted}
+use Rattle.node_core.specs.State.{is_down}
 use Rattle.node_core.specs.NodeStep.{IsFull}
 use Rattle.histories.specs.NodeState.{NodeState, opening, wants_at, settled}
 use Rattle.histories.specs.declared.what.What.{What}
 use Rattle.histories.specs.declared.what.What.TheVariants.{Did, Refused, Faulted, Rests, Crashed, Recovered, MountFailed, RaiseFailed, RaiseRefused}
-use Rattle.histories.specs.After.{after}
+use Rattle.histories.specs.After.{after, found_at}
 use Rattle.histories.specs.Possible.{IsPossible, IsOfSlots}
 use Rattle.histories.specs.Marks.{IsNone}
 use Rattle.histories.proofs.PublicLaws.{at_down, DoubtIsDown, doubt_after}
@@ -118,3 +120,14 @@ pub left_few : (nodes slots : ℕ) (w : World) (r : Report) → IsLeft nodes slo
 left_few nodes slots w r left n s at kept =
     let there : slice_get (world_at nodes (start nodes) left.steps).states n ≡ Some s = subst (λ (x : World). slice_get x.states n ≡ Some s) left.world at in
     few_pending nodes slots (acts_in r) left.steps left.is_run n s there kept
+
+-- what a mounting finds there, at a node that is down
+pub found_few : (nodes slots : ℕ) (w : World) (r : Report) → IsLeft nodes slots w r → (n : ℕ) (s : NodeState) → slice_get w.states n ≡ Some s
+    → (among : ℕ) (what : What) → IsPossible n among s what → (d : Durable) → found_at s what ≡ Some d → (is_down s.state.phase ≡ true) × (length d.pending ≤ slots)
+found_few nodes slots w r left n s at among (Recovered kept) may d is =
+    (may.0, subst (λ (x : Durable). length x.pending ≤ slots) (let same : settled kept s ≡ d = cc is in same) (left_few nodes slots w r left n s at kept))
+found_few nodes slots w r left n s at among (RaiseFailed kept) may d is =
+    (may.0, subst (λ (x : Durable). length x.pending ≤ slots) (let same : settled kept s ≡ d = cc is in same) (left_few nodes slots w r left n s at kept))
+found_few nodes slots w r left n s at among (RaiseRefused kept) may d is =
+    (may.0, subst (λ (x : Durable). length x.pending ≤ slots) (let same : settled kept s ≡ d = cc is in same) (left_few nodes slots w r left n s at kept))
+found_few nodes slots w r left n s at among _ may d is = absurd (let bad = is in cc)

@@ -1,6 +1,6 @@
 -- A run of a cluster, seen from each node, is a bundle of histories.
 use Rattle.std.proofs.Common.{◌≡◌, ◌≢◌, ◌⊎◌, ℕ, zero, suc, ◌+◌, ◌<◌, Bool, true, false, List, [], ◌∷◌, ◌++◌, length, slice_get, refl, sym, ◌∙◌, ap, subst, inl, inr, arith, Option, Some, None, map}
-use Rattle.std.specs.Prelude.{if◌then◌else◌, ◌==◌, slice_set, Result, Ok, Err}
+use Rattle.std.specs.Prelude.{if◌then◌else◌, ◌==◌, slice_set, slice_index_or, Result, Ok, Err}
 use Rattle.std.proofs.lemmas.Bool.Decides.{nat_tests}
 use Rattle.wire_msg.specs.Envelope.{Envelope}
 use Rattle.histories.specs.Lists.{IsAmong}
@@ -12,8 +12,8 @@ use Rattle.histories.specs.Possible.{IsPossible}
 use Rattle.histories.specs.History.{Follows, brought_in, sent_in}
 use Rattle.histories.proofs.PublicLaws.{eq_nat, among_left, among_right, among_either, sent_of_one, each_append}
 use Rattle.sim_net.specs.declared.fault.NetFault.{NetFault}
-use Rattle.sim_net.specs.declared.fault.NetFault.TheVariants.{Cut}
-use Rattle.sim_net.specs.Network.{Network, is_cut, found_by, found, unless_cut, delivery}
+use Rattle.sim_net.specs.declared.fault.NetFault.TheVariants.{NoSuch, Lost, Cut}
+use Rattle.sim_net.specs.Network.{Network, is_cut, found, delivery}
 use Rattle.runs.specs.World.{World, ids_from, start, node_in}
 use Rattle.runs.specs.Step.{Step, Takes, Changes, Denies, world_after}
 use Rattle.runs.specs.Run.{IsBrought, RunFrom, world_at, history_in, histories_from, histories_of, RunsAreBundles}
@@ -23,6 +23,13 @@ pub at_place : {A : Type 0} (xs : List A) (n : ℕ) → n < length xs → (x : A
 at_place [] n within = absurd (let bad : n < 0 = within in omega (arith, bad))
 at_place (x ∷ xs) zero within = (x, refl)
 at_place (x ∷ xs) (suc n) within = at_place xs n (omega (arith, within))
+
+-- what holds of each, and of one more
+pub all_more : {A : Type 0} (P : ℕ → A → Type 0) (xs : List A) (x : A) → ((k : ℕ) (y : A) → slice_get xs k ≡ Some y → P k y) → P (length xs) x → (k : ℕ) (y : A) → slice_get (xs ++ x ∷ []) k ≡ Some y → P k y
+all_more {A} P [] x all here zero y at = subst (λ (z : A). P 0 z) (let same : x ≡ y = cc at in same) here
+all_more P [] x all here (suc k) y at = absurd cc
+all_more P (z ∷ xs) x all here zero y at = all zero y at
+all_more {A} P (z ∷ xs) x all here (suc k) y at = all_more (λ (j : ℕ) (a : A). P (suc j) a) xs x (λ j a is. all (suc j) a is) here k y at
 
 -- a cell that is set, and the others
 pub get_set_same : {A : Type 0} (xs : List A) (n : ℕ) (x y : A) → slice_get xs n ≡ Some x → slice_get (slice_set xs n y) n ≡ Some y
@@ -76,22 +83,20 @@ history_follows n nodes (Changes net ∷ steps) w s at run = history_follows n n
 history_follows n nodes (Denies told why ∷ steps) w s at run = history_follows n nodes steps w s at run.1
 
 -- what comes was sent
-found_sent : (o : Option Envelope) (lost : Option Bool) (m : Envelope) → found_by o lost ≡ Ok m → o ≡ Some m
-found_sent None lost m h = absurd cc
-found_sent (Some x) None m h = cc h
-found_sent (Some x) (Some true) m h = absurd cc
-found_sent (Some x) (Some false) m h = cc h
+unless_so : (b : Bool) (why : NetFault) (x m : Envelope) → (if b then Err why else Ok x) ≡ Ok m → x ≡ m
+unless_so true why x m h = absurd cc
+unless_so false why x m h = cc h
 
-uncut_by : (cut : Bool) (denied r : Result Envelope NetFault) (m : Envelope) → denied ≡ Err Cut → (if cut then denied else r) ≡ Ok m → r ≡ Ok m
-uncut_by true denied r m is h = absurd cc (is, h)
-uncut_by false denied r m is h = h
+found_sent : (net : Network) (k : ℕ) (m : Envelope) (o : Option Envelope) → slice_get net.sent k ≡ o → found net k ≡ Ok m → o ≡ Some m
+found_sent net k m None is h = (let none : found net k ≡ Err NoSuch = rw (is, found) refl in absurd cc (none, h))
+found_sent net k m (Some x) is h = ap (λ (y : Envelope). Some y) (unless_so (slice_index_or net.lost k false) Lost x m (rw (is, found) at h))
 
-uncut_found : (cuts : List (List ℕ)) (r : Result Envelope NetFault) (m : Envelope) → unless_cut cuts r ≡ Ok m → r ≡ Ok m
-uncut_found cuts (Err fault) m h = absurd cc
-uncut_found cuts (Ok x) m h = uncut_by (is_cut cuts x.sender x.receiver) (Err Cut) (Ok x) m refl h
+comes_found : (net : Network) (k : ℕ) (m : Envelope) (r : Result Envelope NetFault) → found net k ≡ r → delivery net k ≡ Ok m → found net k ≡ Ok m
+comes_found net k m (Ok x) is h = is ∙ ap (λ (y : Envelope). Ok y) (unless_so (is_cut net.cuts x.sender x.receiver) Cut x m (rw (is, delivery) at h))
+comes_found net k m (Err why) is h = (let none : delivery net k ≡ Err why = rw (is, delivery) refl in absurd cc (none, h))
 
 pub comes_sent : (net : Network) (k : ℕ) (m : Envelope) → delivery net k ≡ Ok m → slice_get net.sent k ≡ Some m
-comes_sent net k m h = found_sent (slice_get net.sent k) (slice_get net.lost k) m (uncut_found net.cuts (found net k) m h)
+comes_sent net k m h = found_sent net k m (slice_get net.sent k) refl (comes_found net k m (found net k) refl h)
 
 get_among : {A : Type 0} (xs : List A) (k : ℕ) (x : A) → slice_get xs k ≡ Some x → IsAmong x xs
 get_among [] k x h = absurd cc

@@ -1,16 +1,14 @@
 -- What a history says of a node, the report shows.
 use Rattle.std.proofs.Common.{◌≡◌, ◌≢◌, ◌⊎◌, ℕ, zero, suc, Bool, true, false, List, [], ◌∷◌, ◌++◌, take, slice_get, refl, sym, ◌∙◌, ap, inl, inr, arith, Some}
-use Rattle.std.specs.Prelude.{if◌then◌else◌, ◌==◌, ◌&&◌}
+use Rattle.std.specs.Prelude.{if◌then◌else◌, ◌==◌}
 use Rattle.std.proofs.lemmas.Bool.Decides.{nat_tests}
 use Rattle.node_core.specs.State.{State}
-use Rattle.node_core.specs.declared.event.Event.TheVariants as on
 use Rattle.histories.specs.Lists.{IsAmong}
 use Rattle.histories.specs.NodeState.{NodeState}
 use Rattle.histories.specs.After.{after, sent_at}
 use Rattle.histories.specs.History.{vectors}
 use Rattle.histories.proofs.PublicLaws.{eq_nat}
 use Rattle.schedule.specs.declared.act.Act.{Act}
-use Rattle.schedule.specs.declared.act.Act.TheVariants as act
 use Rattle.runs.specs.World.{World, node_in}
 use Rattle.runs.specs.Step.{Step, Takes, Changes, Denies, world_after}
 use Rattle.runs.specs.Run.{history_in}

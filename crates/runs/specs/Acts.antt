@@ -1,14 +1,14 @@
 -- The acts of a schedule, each with the step that it is and with what is told of it.
 use Rattle.std.specs.Prelude.{ℕ, ◌≡◌, ◌+◌, ◌&&◌, Bool, true, false, nat_lt, if◌then◌else◌, List, [], ◌∷◌, length, slice_get, Option, Some, None, Result, Ok, Err, MatchResult, option_map, unwrap_or}
 use Rattle.wire_msg.specs.Envelope.{Envelope}
-use Rattle.node_core.specs.declared.event.Event.{Event}
 use Rattle.node_core.specs.declared.event.Event.TheVariants as on
 use Rattle.node_core.specs.declared.fault.CoreFault.TheVariants.{Down}
-use Rattle.node_core.specs.declared.fault.Refusal.{Refusal}
 use Rattle.node_core.specs.declared.fault.Refusal.TheVariants.{Core, Exhausted, Worn}
-use Rattle.histories.specs.NodeState.{NodeState, wants_at, settled, answer_if_wanted}
+use Rattle.histories.specs.NodeState.{NodeState, wants_at, settled}
+use Rattle.histories.specs.What.{IsOf}
+use Rattle.job_model.specs.Answer.{answer_of}
 use Rattle.histories.specs.declared.what.What.{What}
-use Rattle.histories.specs.declared.what.What.TheVariants.{Did, Refused, Faulted, Rests, Crashed, Recovered, RaiseRefused}
+use Rattle.histories.specs.declared.what.What.TheVariants.{Did, Refused, Rests, Crashed, Recovered, RaiseRefused}
 use Rattle.histories.specs.declared.what.Rest.TheVariants.{Nothing, CompactDown, CompactWorn}
 use Rattle.histories.specs.After.{sent_at}
 use Rattle.histories.specs.Possible.{IsOfSlots}
@@ -17,17 +17,11 @@ use Rattle.schedule.specs.declared.act.Act.TheVariants as act
 use Rattle.sim_net.specs.declared.fault.NetFault.{NetFault}
 use Rattle.sim_net.specs.Network.{Network, found, delivery, after_lost, after_cut, after_mend}
 use Rattle.runs.specs.World.{World, node_in}
-use Rattle.runs.specs.Step.{Denial, OfNet, Stranger, Step, Takes, Changes, Denies, world_after}
+use Rattle.runs.specs.declared.outcome.Outcome.{Outcome}
+use Rattle.runs.specs.declared.outcome.Outcome.TheVariants as outcome
+use Rattle.runs.specs.declared.outcome.Refusal.TheVariants.{Node, Net as OfNet, Stranger}
+use Rattle.runs.specs.Step.{Step, Takes, Changes, Denies, world_after}
 use Rattle.runs.specs.Run.{IsAllowed}
-
--- it came of this event, which was handled or refused, or in whose command the device failed; a recovery may come by mounting too
-abbrev pub IsOf : Event → What → Type 0
-IsOf event (Did e) = e ≡ event
-IsOf event (Refused e fault) = e ≡ event
-IsOf event (Faulted e) = e ≡ event
-IsOf event (Rests rest) = ⊥
-IsOf event Crashed = ⊥
-IsOf event mounting = event ≡ on.Recover
 
 -- it came of a compaction, which is done, is refused, or meets a device that fails: then the node falls as in a crash
 abbrev pub IsCompaction : What → Type 0
@@ -52,12 +46,7 @@ Brings nodes net k (Err why) step = step ≡ Denies (receiver_or_first nodes (sl
 
 -- the step that an act is
 abbrev pub IsStepOf : ℕ → World → Act → Step → Type 0
-IsStepOf nodes w (act.Check n) step = At (nat_lt n nodes) n 0 (IsOf on.CheckTimer) step
-IsStepOf nodes w (act.Merge n) step = At (nat_lt n nodes) n 0 (IsOf on.MergeTimer) step
-IsStepOf nodes w (act.Accept n) step = At (nat_lt n nodes) n 0 (IsOf on.AcceptTimer) step
-IsStepOf nodes w (act.Ready n) step = At (nat_lt n nodes) n 0 (IsOf on.ReadyTimer) step
-IsStepOf nodes w (act.Coord n) step = At (nat_lt n nodes) n 0 (IsOf on.CoordTimer) step
-IsStepOf nodes w (act.Dispatch n) step = At (nat_lt n nodes) n 0 (IsOf on.DispatchTimer) step
+IsStepOf nodes w (act.Timer n timer) step = At (nat_lt n nodes) n 0 (IsOf (on.Timer timer)) step
 IsStepOf nodes w (act.Deliver k) step = Brings nodes w.net k (delivery w.net k) step
 IsStepOf nodes w (act.Lose k) step = MatchResult (found w.net k) (λ m. step ≡ Changes (after_lost w.net k)) (λ why. step ≡ Denies 0 (OfNet why))
 IsStepOf nodes w (act.Cut a b) step = step ≡ (if nat_lt a nodes && nat_lt b nodes then Changes (after_cut w.net a b) else Denies 0 Stranger)
@@ -83,29 +72,21 @@ IsRunOf nodes slots w acts steps = ⊥
 
 -- ---- what is told of an act
 
-pub data ActOutcome : Type 0 where
-  -- with the answer of the disk, the number of the first message, and how many were sent
-  Done : (answer : Option ℕ) (first many : ℕ) → ActOutcome
-  DeniedAct : (why : Denial) → ActOutcome
-  RefusedAct : (fault : Refusal) → ActOutcome
-  -- the device failed, and the node is down
-  FaultedAct : ActOutcome
-
 -- what is told of what came at a node, of this act, where so many messages were sent before it. In all else the device failed
-abbrev pub what_outcome : ℕ → ℕ → ℕ → NodeState → What → Act → ActOutcome
-what_outcome n nodes first s (Did event) a = Done (answer_if_wanted s.durable (wants_at n nodes s event)) first (length (sent_at n nodes s (Did event)))
-what_outcome n nodes first s (Refused event fault) a = RefusedAct fault
-what_outcome n nodes first s (Rests CompactDown) a = RefusedAct (Core Down)
-what_outcome n nodes first s (Rests CompactWorn) a = RefusedAct Worn
-what_outcome n nodes first s (Rests rest) a = Done None first 0
-what_outcome n nodes first s Crashed (act.Compact m) = FaultedAct
-what_outcome n nodes first s Crashed a = Done None first 0
-what_outcome n nodes first s (Recovered kept) a = Done (Some ((settled kept s).counter + 1)) first 0
-what_outcome n nodes first s (RaiseRefused kept) a = RefusedAct Exhausted
-what_outcome n nodes first s failed a = FaultedAct
+abbrev pub what_outcome : ℕ → ℕ → ℕ → NodeState → What → Act → Outcome
+what_outcome n nodes first s (Did event) a = outcome.Done (option_map (answer_of s.durable) (wants_at n nodes s event)) first (length (sent_at n nodes s (Did event)))
+what_outcome n nodes first s (Refused event fault) a = outcome.Refused (Node fault)
+what_outcome n nodes first s (Rests CompactDown) a = outcome.Refused (Node (Core Down))
+what_outcome n nodes first s (Rests CompactWorn) a = outcome.Refused (Node Worn)
+what_outcome n nodes first s (Rests rest) a = outcome.Done None first 0
+what_outcome n nodes first s Crashed (act.Compact m) = outcome.Faulted
+what_outcome n nodes first s Crashed a = outcome.Done None first 0
+what_outcome n nodes first s (Recovered kept) a = outcome.Done (Some ((settled kept s).counter + 1)) first 0
+what_outcome n nodes first s (RaiseRefused kept) a = outcome.Refused (Node Exhausted)
+what_outcome n nodes first s failed a = outcome.Faulted
 
 -- what is told of an act that had this step
-abbrev pub act_outcome : ℕ → World → Act → Step → ActOutcome
+abbrev pub act_outcome : ℕ → World → Act → Step → Outcome
 act_outcome nodes w a (Takes n number what) = what_outcome n nodes (length w.net.sent) (node_in w.states n) what a
-act_outcome nodes w a (Changes net) = Done None (length w.net.sent) 0
-act_outcome nodes w a (Denies n why) = DeniedAct why
+act_outcome nodes w a (Changes net) = outcome.Done None (length w.net.sent) 0
+act_outcome nodes w a (Denies n why) = outcome.Refused why

@@ -2,28 +2,29 @@
 use Rattle.std.specs.Prelude.{ℕ, ◌≡◌, ◌<◌, List, slice_get, Some, Ok}
 use Rattle.wire_msg.specs.Envelope.{Envelope}
 use Rattle.node_core.specs.declared.event.Event.{Event}
-use Rattle.node_core.specs.NodeStep.{IsRefused, FitsSlots, Handled, Refused}
+use Rattle.node_core.specs.NodeStep.{IsFull, IsRefused}
 use Rattle.node_core.specs.declared.fault.Refusal.{Refusal}
 use Rattle.node_core.specs.declared.fault.Refusal.TheVariants.{Worn}
 use Rattle.histories.specs.NodeState.{NodeState, wants_at}
-use Rattle.histories.specs.Possible.{Takes}
+use Rattle.histories.specs.Possible.{Takes, FitsSlots}
 use Rattle.histories.specs.History.{FollowsSlots}
 use Rattle.schedule.specs.declared.act.Act.{Act}
 use Rattle.sim_net.specs.Network.{delivery}
 use Rattle.runs.specs.World.{World}
-use Rattle.runs.specs.Step.{Denial, Step, Denies}
+use Rattle.runs.specs.declared.outcome.Refusal.{Refusal as ActRefusal}
+use Rattle.runs.specs.Step.{Step, Denies}
 use Rattle.runs.specs.Run.{RunFrom, history_in}
 use Rattle.runs.specs.Acts.{Brings, IsRunOf}
 
 -- the network doesn't deny a message that comes
 abbrev pub NoIdleDenial : Type 0
-NoIdleDenial = (nodes : ℕ) (w : World) (k : ℕ) (m : Envelope) (n : ℕ) (why : Denial) → delivery w.net k ≡ Ok m → m.receiver < nodes → Brings nodes w.net k (delivery w.net k) (Denies n why) → ⊥
+NoIdleDenial = (nodes : ℕ) (w : World) (k : ℕ) (m : Envelope) (n : ℕ) (why : ActRefusal) → delivery w.net k ≡ Ok m → m.receiver < nodes → Brings nodes w.net k (delivery w.net k) (Denies n why) → ⊥
 
 -- an event that a node may handle can be refused only where no area of its disk is left, which the layout alone tells
 abbrev pub OneOutcome : Type 0
 OneOutcome = (slots self nodes : ℕ) (s : NodeState) (event : Event) (fault : Refusal) →
-    Takes self nodes s event → FitsSlots slots s.durable (wants_at self nodes s event) Handled →
-    IsRefused nodes self s.state s.durable event fault → FitsSlots slots s.durable (wants_at self nodes s event) (Refused fault) →
+    Takes self nodes s event → (IsFull slots s.durable (wants_at self nodes s event) → ⊥) →
+    IsRefused nodes self s.state s.durable event fault → FitsSlots slots s.durable (wants_at self nodes s event) fault →
     fault ≡ Worn
 
 -- a run of acts is a run, so all laws of runs hold of it

@@ -1,11 +1,10 @@
 -- What is promised of every schedule.
 use Rattle.std.specs.Prelude.{ℕ, suc, ◌≡◌, ◌≢◌, ◌⊎◌, ◌<◌, List, take, slice_get, Some}
-use Rattle.job_model.specs.Command.{Done}
+use Rattle.job_model.specs.declared.node_command.NodeCommand.TheVariants.{Done}
 use Rattle.group_task.specs.Group.{Group}
 use Rattle.group_task.specs.Assignment.{Assignment}
 use Rattle.node_core.specs.declared.phase.Phase.TheVariants.{Normal}
 use Rattle.node_core.specs.declared.in_hand.InHand.{InHand}
-use Rattle.node_core.specs.declared.fault.Refusal.{Refusal}
 use Rattle.node_core.specs.State.{State}
 use Rattle.node_core.specs.Words.{owner}
 use Rattle.histories.specs.Lists.{IsAmong}
@@ -17,10 +16,13 @@ use Rattle.histories.specs.Rising.{Rises}
 use Rattle.schedule.specs.declared.act.Act.{Act}
 use Rattle.schedule.specs.declared.act.Act.TheVariants as act
 use Rattle.runs.specs.World.{start}
-use Rattle.runs.specs.Step.{Denial, Step}
-use Rattle.runs.specs.Acts.{IsRunOf, DeniedAct, RefusedAct}
+use Rattle.runs.specs.declared.outcome.Outcome.TheVariants.{Refused}
+use Rattle.runs.specs.declared.outcome.Refusal.{Refusal}
+use Rattle.runs.specs.Step.{Step}
+use Rattle.runs.specs.Acts.{IsRunOf}
 use Rattle.runs.specs.Given.{IsOnceEach}
-use Rattle.runs.specs.Reporting.{Moment, TriedAt, Report, own_commands, own_mountings, own_counts, report_of}
+use Rattle.runs.specs.Reporting.{Moment, Report, own_commands, own_mountings, own_counts, report_of}
+use Rattle.runs.specs.declared.tried.TriedAt.{TriedAt}
 
 -- a state that the report shows: of a node's opening, or of the moment of an act
 abbrev pub IsShown : Report → ℕ → State → Type 0
@@ -37,8 +39,7 @@ pub record IsFinished (r : Report) (origin id : ℕ) : Type 0 where
   pub told : Moment
   pub among : IsAmong told r.moments
   pub of_act : told.act ≡ act.Finish worker origin id
-  pub not_denied : (why : Denial) → told.outcome ≢ DeniedAct why
-  pub not_refused : (fault : Refusal) → told.outcome ≢ RefusedAct fault
+  pub not_refused : (why : Refusal) → told.outcome ≢ Refused why
   pub state : State
   pub shown : IsShown r worker state
   pub works : state.phase ≡ Normal

@@ -11,3 +11,4 @@ pub mod Growth
 pub mod Events
 pub mod Strangers
 pub mod Uses
+pub mod Numbered

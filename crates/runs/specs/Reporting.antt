@@ -1,7 +1,9 @@
 -- What a run reports: a moment for each act, the groups that were given, and what each node tried and mounted.
-use Rattle.std.specs.Prelude.{ℕ, ◌+◌, List, [], ◌∷◌, ◌++◌, map, length, if◌then◌else◌, ◌==◌, Option, Some, None, option_to_list, flat_map}
+use Rattle.std.specs.Prelude.{ℕ, ◌+◌, List, [], ◌∷◌, ◌++◌, map, length, ◌==◌, Option, Some, None, option_to_list, flat_map}
+use Rattle.std.specs.List.{filter}
 use Rattle.group_task.specs.Group.{Group}
-use Rattle.job_model.specs.Command.{Command, Raise}
+use Rattle.job_model.specs.declared.node_command.NodeCommand.{NodeCommand as Command}
+use Rattle.job_model.specs.declared.node_command.NodeCommand.TheVariants.{Raise}
 use Rattle.job_model.specs.Durable.{Durable, formatted}
 use Rattle.job_model.specs.Answer.{answer_of}
 use Rattle.wire_msg.specs.Envelope.{Envelope}
@@ -11,24 +13,22 @@ use Rattle.histories.specs.NodeState.{NodeState, wants_at, settled}
 use Rattle.histories.specs.declared.what.What.{What}
 use Rattle.histories.specs.declared.what.What.TheVariants.{Did, Faulted, Recovered, RaiseFailed}
 use Rattle.histories.specs.After.{found_at}
-use Rattle.histories.specs.Kept.{Tried, Mounting}
+use Rattle.histories.specs.Kept.{Mounting}
+use Rattle.histories.specs.declared.tried.Tried.{Tried}
 use Rattle.schedule.specs.declared.act.Act.{Act}
 use Rattle.runs.specs.World.{World, ids_from, node_in, start}
 use Rattle.runs.specs.Step.{Step, Takes, Changes, Denies, step_sent, world_after}
-use Rattle.runs.specs.Acts.{ActOutcome, act_outcome}
+use Rattle.runs.specs.Acts.{act_outcome}
+use Rattle.runs.specs.declared.outcome.Outcome.{Outcome}
+use Rattle.runs.specs.declared.tried.TriedAt.{TriedAt}
 
 -- an act, the node that it is told of, what came of it, what was sent, and the state of that node after it
 pub record Moment : Type 0 where
   pub act : Act
   pub node : ℕ
-  pub outcome : ActOutcome
+  pub outcome : Outcome
   pub sent : List Envelope
   pub state : State
-
--- a command that a node tried on its device
-pub record TriedAt : Type 0 where
-  pub node : ℕ
-  pub tried : Tried
 
 -- a mounting of a node that succeeded, with the number of that node's commands before it
 pub record MountedAt : Type 0 where
@@ -59,17 +59,14 @@ moment_of nodes w a step = record {
 
 -- those of one node
 abbrev pub own_commands : ℕ → List TriedAt → List Tried
-own_commands n [] = []
-own_commands n (t ∷ ts) = if t.node == n then t.tried ∷ own_commands n ts else own_commands n ts
+own_commands n ts = map (λ (t : TriedAt). t.tried) (filter (λ (t : TriedAt). t.node == n) ts)
 
 abbrev pub own_mountings : ℕ → List MountedAt → List Mounting
-own_mountings n [] = []
-own_mountings n (w ∷ ws) = if w.node == n then w.mounting ∷ own_mountings n ws else own_mountings n ws
+own_mountings n ws = map (λ (w : MountedAt). w.mounting) (filter (λ (w : MountedAt). w.node == n) ws)
 
 -- the counts of the groups that a node gave
 abbrev pub own_counts : ℕ → List Group → List ℕ
-own_counts n [] = []
-own_counts n (g ∷ gs) = if g.creator == n then g.count ∷ own_counts n gs else own_counts n gs
+own_counts n gs = map (λ (g : Group). g.count) (filter (λ (g : Group). g.creator == n) gs)
 
 -- ---- the report
 

@@ -1,25 +1,19 @@
 -- One step of a cluster: of one node, or of the network.
 use Rattle.std.specs.Prelude.{ℕ, List, [], slice_set}
 use Rattle.wire_msg.specs.Envelope.{Envelope}
-use Rattle.sim_net.specs.declared.fault.NetFault.{NetFault}
 use Rattle.sim_net.specs.Network.{Network, after_all_sent}
 use Rattle.histories.specs.declared.what.What.{What}
 use Rattle.histories.specs.After.{after, sent_at}
+use Rattle.runs.specs.declared.outcome.Refusal.{Refusal}
 use Rattle.runs.specs.World.{World, node_in}
-
--- why nothing is done
-pub data Denial : Type 0 where
-  OfNet : (fault : NetFault) → Denial
-  -- a node outside the cluster
-  Stranger : Denial
 
 pub data Step : Type 0 where
   -- something comes of an event at a node, the message of this number being the one that it was brought, if any
   Takes : (node : ℕ) (number : ℕ) (what : What) → Step
   -- the network alone changes, and is this from then on
   Changes : (net : Network) → Step
-  -- nothing is done, and it is this node that is told of it
-  Denies : (node : ℕ) (why : Denial) → Step
+  -- nothing is done, for this reason, and it is this node that is told of it
+  Denies : (node : ℕ) (why : Refusal) → Step
 
 -- the messages that a step sends
 abbrev pub step_sent : ℕ → World → Step → List Envelope

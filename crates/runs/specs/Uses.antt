@@ -1,22 +1,22 @@
 -- What a user of a cluster takes from the headline, each in words of its own.
 use Rattle.job_model.specs.declared.work.Work.{Work}
-use Rattle.std.specs.Prelude.{ℕ, suc, ◌≡◌, ◌⊎◌, ◌<◌, ◌≤◌, true, List, [], ◌∷◌, length, map, take, slice_get, Some, None}
-use Rattle.job_model.specs.Command.{Raise, Put, Done}
+use Rattle.std.specs.Prelude.{ℕ, suc, ◌≡◌, ◌⊎◌, ◌<◌, ◌≤◌, true, List, length, map, take, slice_get, Some, None}
+use Rattle.job_model.specs.declared.node_command.NodeCommand.TheVariants.{Raise, Put, Done}
 use Rattle.group_task.specs.Group.{Group}
 use Rattle.group_task.specs.Ids.{has}
 use Rattle.wire_msg.specs.Envelope.{Envelope}
-use Rattle.wire_msg.specs.declared.body.Body.{Body}
-use Rattle.wire_msg.specs.declared.body.Body.TheVariants.{AreYouCoordinator, Coordinator, AreYouThere, Here, Invitation, Accept, Ready, ReadyAck, Work as WorkMessage, Done as DoneMessage}
+use Rattle.wire_msg.specs.Kinds.{group_in}
 use Rattle.node_core.specs.declared.phase.Phase.TheVariants.{Down, Reorganization, Normal}
 use Rattle.node_core.specs.declared.in_hand.InHand.{InHand}
 use Rattle.node_core.specs.State.{State}
 use Rattle.node_core.specs.Start.{alone}
 use Rattle.node_core.specs.Words.{members_of, owner}
 use Rattle.histories.specs.Lists.{IsAmong}
-use Rattle.histories.specs.Kept.{Tried}
+use Rattle.histories.specs.declared.tried.Tried.{Tried}
 use Rattle.schedule.specs.declared.act.Act.{Act}
 use Rattle.schedule.specs.declared.act.Act.TheVariants as act
-use Rattle.runs.specs.Reporting.{Moment, TriedAt, MountedAt, Report, own_commands}
+use Rattle.runs.specs.Reporting.{Moment, MountedAt, Report, own_commands}
+use Rattle.runs.specs.declared.tried.TriedAt.{TriedAt}
 use Rattle.runs.specs.Headline.{Headline, report_within}
 
 -- ---- what is told
@@ -60,25 +60,12 @@ abbrev pub LaterIsGreater : Type 0
 LaterIsGreater = (nodes slots : ℕ) (acts : List Act) (r : Report) → Headline nodes slots acts r →
     (i j : ℕ) (g h : Group) → i < j → slice_get r.groups i ≡ Some g → slice_get r.groups j ≡ Some h → g.creator ≡ h.creator → g.creator < nodes → g.count < h.count
 
--- the groups that a message names
-abbrev pub groups_in : Body → List Group
-groups_in AreYouCoordinator = []
-groups_in (Coordinator positive) = []
-groups_in (AreYouThere group) = group ∷ []
-groups_in (Here group positive) = group ∷ []
-groups_in (Invitation group) = group ∷ []
-groups_in (Accept group) = group ∷ []
-groups_in (Ready task) = task.group ∷ []
-groups_in (ReadyAck group) = group ∷ []
-groups_in (WorkMessage group id work) = group ∷ []
-groups_in (DoneMessage id) = []
-
--- what a moment shows is no number that was yet to be given: the group of a node that is up, and each group in a message,
+-- what a moment shows is no number that was yet to be given: the group of a node that is up, and the group that a message names,
 -- were given in the openings, by an earlier act or by this one
 abbrev pub NamedWasGiven : Type 0
 NamedWasGiven = (nodes slots : ℕ) (acts : List Act) (r : Report) (h : Headline nodes slots acts r) (k : ℕ) (m : Moment) → slice_get r.moments k ≡ Some m →
     ((m.state.phase ≡ Down) ⊎ IsAmong m.state.group (report_within nodes (suc k) acts h.steps).groups)
-    × ((x : Envelope) (g : Group) → IsAmong x m.sent → IsAmong g (groups_in x.body) → IsAmong g (report_within nodes (suc k) acts h.steps).groups)
+    × ((x : Envelope) (g : Group) → IsAmong x m.sent → group_in x.body ≡ Some g → IsAmong g (report_within nodes (suc k) acts h.steps).groups)
 
 -- ---- fences
 

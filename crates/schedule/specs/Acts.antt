@@ -3,7 +3,7 @@ use Rattle.std.specs.Prelude.{ℕ, List, [], ◌∷◌, Option, Some, None, opti
 use Rattle.schedule.specs.declared.act.Act.{Act}
 use Rattle.schedule.specs.declared.act.Act.TheVariants as act
 use Rattle.schedule.specs.declared.verb.Verb.{Verb}
-use Rattle.schedule.specs.declared.verb.Verb.TheVariants.{Check, Merge, Accept, Ready, Coord, Dispatch, Deliver, Lose, Cut, Mend, Submit, Finish, Arm, Crash, Recover, Compact}
+use Rattle.schedule.specs.declared.verb.Verb.TheVariants.{Timer, Deliver, Lose, Cut, Mend, Submit, Finish, Arm, Crash, Recover, Compact}
 use Rattle.line_words.specs.Words.{number_of}
 use Rattle.line_words.specs.Lines.{bytes_of}
 use Rattle.schedule.specs.Verbs.{verb_of}
@@ -29,79 +29,32 @@ submit_act node queue payload priority = of_two act.Submit (node_of node) (of_th
 
 -- a verb with one field
 abbrev pub short_act : Verb → List ℕ → Option Act
-short_act Check node = option_map act.Check (node_of node)
-short_act Merge node = option_map act.Merge (node_of node)
-short_act Accept node = option_map act.Accept (node_of node)
-short_act Ready node = option_map act.Ready (node_of node)
-short_act Coord node = option_map act.Coord (node_of node)
-short_act Dispatch node = option_map act.Dispatch (node_of node)
+short_act (Timer timer) node = option_map (λ n. act.Timer n timer) (node_of node)
 short_act Deliver number = option_map act.Deliver (number_of number)
 short_act Lose number = option_map act.Lose (number_of number)
-short_act Cut field = None
-short_act Mend field = None
-short_act Submit field = None
-short_act Finish field = None
-short_act Arm field = None
 short_act Crash node = option_map (λ n. act.Crash n []) (node_of node)
 short_act Recover node = option_map act.Recover (node_of node)
 short_act Compact node = option_map act.Compact (node_of node)
+short_act verb field = None
 
 -- a verb with two fields
 abbrev pub middle_act : Verb → List ℕ → List ℕ → Option Act
-middle_act Check a b = None
-middle_act Merge a b = None
-middle_act Accept a b = None
-middle_act Ready a b = None
-middle_act Coord a b = None
-middle_act Dispatch a b = None
-middle_act Deliver a b = None
-middle_act Lose a b = None
 middle_act Cut a b = of_two act.Cut (node_of a) (node_of b)
 middle_act Mend a b = of_two act.Mend (node_of a) (node_of b)
-middle_act Submit a b = None
-middle_act Finish a b = None
 middle_act Arm node calls = of_two act.Arm (node_of node) (number_of calls)
 middle_act Crash node fill = of_two act.Crash (node_of node) (bytes_of fill)
-middle_act Recover a b = None
-middle_act Compact a b = None
+middle_act verb a b = None
 
 -- a verb with three fields
 abbrev pub long_act : Verb → List ℕ → List ℕ → List ℕ → Option Act
-long_act Check a b c = None
-long_act Merge a b c = None
-long_act Accept a b c = None
-long_act Ready a b c = None
-long_act Coord a b c = None
-long_act Dispatch a b c = None
-long_act Deliver a b c = None
-long_act Lose a b c = None
-long_act Cut a b c = None
-long_act Mend a b c = None
 long_act Submit node queue payload = submit_act node queue payload (Some 0)
 long_act Finish node origin id = of_three act.Finish (node_of node) (node_of origin) (number_of id)
-long_act Arm a b c = None
-long_act Crash a b c = None
-long_act Recover a b c = None
-long_act Compact a b c = None
+long_act verb a b c = None
 
 -- a verb with four fields: a job that is submitted with a priority
 abbrev pub longest_act : Verb → List ℕ → List ℕ → List ℕ → List ℕ → Option Act
-longest_act Check a b c d = None
-longest_act Merge a b c d = None
-longest_act Accept a b c d = None
-longest_act Ready a b c d = None
-longest_act Coord a b c d = None
-longest_act Dispatch a b c d = None
-longest_act Deliver a b c d = None
-longest_act Lose a b c d = None
-longest_act Cut a b c d = None
-longest_act Mend a b c d = None
 longest_act Submit node queue payload priority = submit_act node queue payload (priority_of priority)
-longest_act Finish a b c d = None
-longest_act Arm a b c d = None
-longest_act Crash a b c d = None
-longest_act Recover a b c d = None
-longest_act Compact a b c d = None
+longest_act verb a b c d = None
 
 abbrev pub with_verb : {A : Type 0} → (Verb → Option A) → Option Verb → Option A
 with_verb read None = None

@@ -2,7 +2,6 @@
 use Rattle.std.specs.Prelude.{ℕ, List, [], ◌∷◌, bytes_eq, codes, is_some, if◌then◌else◌, Option, Some, None}
 use Rattle.line_words.specs.Words.{first_word, words_of}
 use Rattle.schedule.specs.declared.verb.Verb.{Verb}
-use Rattle.schedule.specs.declared.verb.Verb.TheVariants as verb
 use Rattle.schedule.specs.declared.flaw.Flaw.{Flaw}
 use Rattle.schedule.specs.declared.flaw.Flaw.TheVariants.{Nothing, Cluster, NoAct, Fields, Misplaced}
 use Rattle.schedule.specs.Acts.{act_of}
@@ -20,22 +19,3 @@ name_flaw name = if bytes_eq name (codes "cluster") then Cluster else verb_flaw 
 abbrev pub flaw_of : List ℕ → Flaw
 flaw_of [] = Nothing
 flaw_of (c ∷ line) = if is_some (act_of (words_of (c ∷ line))) then Misplaced else name_flaw (first_word (words_of (c ∷ line)))
-
--- how an act is written
-abbrev pub form_of : Verb → List ℕ
-form_of verb.Check = codes "check N"
-form_of verb.Merge = codes "merge N"
-form_of verb.Accept = codes "accept N"
-form_of verb.Ready = codes "ready N"
-form_of verb.Coord = codes "coord N"
-form_of verb.Dispatch = codes "dispatch N"
-form_of verb.Deliver = codes "deliver K"
-form_of verb.Lose = codes "lose K"
-form_of verb.Cut = codes "cut A B"
-form_of verb.Mend = codes "mend A B"
-form_of verb.Submit = codes "submit N QUEUE HEX [P]"
-form_of verb.Finish = codes "finish N ORIGIN ID"
-form_of verb.Arm = codes "arm N K"
-form_of verb.Crash = codes "crash N [HEX]"
-form_of verb.Recover = codes "recover N"
-form_of verb.Compact = codes "compact N"

@@ -2,6 +2,7 @@ ghost use Rattle.std.specs.Prelude.{◌≡◌, IfOk};
 
 use group_task::NodeId;
 use job_model::{NewJob, Work};
+use node_core::Timer;
 use std::alloc::{AllocError, Global};
 use std::marker::Model;
 
@@ -71,12 +72,7 @@ impl Submitted {
 /// One line of a schedule.
 #[derive(Drop)]
 pub enum Act {
-    Check(NodeId),
-    Merge(NodeId),
-    Accept(NodeId),
-    Ready(NodeId),
-    Coord(NodeId),
-    Dispatch(NodeId),
+    Timer(NodeId, Timer),
     Deliver(u64),
     Lose(u64),
     Cut(NodeId, NodeId),
@@ -88,3 +84,5 @@ pub enum Act {
     Recover(NodeId),
     Compact(NodeId),
 }
+
+const _: () = prove!(size_of::<Act>() <= 16);

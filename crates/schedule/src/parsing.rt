@@ -9,6 +9,7 @@ use crate::fields::{node, priority, queue};
 use crate::verb::Verb;
 use job_model::NewJob;
 use line_words::{bytes, cut_word, number};
+use node_core::Timer;
 use std::alloc::{AllocError, Global};
 
 /// The act of the words of a line.
@@ -61,12 +62,7 @@ fn short(alloc: Global, verb: Verb, field: &[u8]) -> Result<Option<Act>, AllocEr
     ensures { IfOk result (λ act. act ≡ short_act verb field.now) }
 {
     match verb {
-        Verb::Check => Ok(node(field).map(Act::Check)),
-        Verb::Merge => Ok(node(field).map(Act::Merge)),
-        Verb::Accept => Ok(node(field).map(Act::Accept)),
-        Verb::Ready => Ok(node(field).map(Act::Ready)),
-        Verb::Coord => Ok(node(field).map(Act::Coord)),
-        Verb::Dispatch => Ok(node(field).map(Act::Dispatch)),
+        Verb::Timer(timer) => Ok(fire(timer, field)),
         Verb::Deliver => Ok(number(field).map(Act::Deliver)),
         Verb::Lose => Ok(number(field).map(Act::Lose)),
         Verb::Crash => bare_crash(alloc, field),
@@ -121,6 +117,12 @@ fn longest(
         Verb::Submit => submit(alloc, first, second, third, priority(fourth)),
         _ => Ok(None),
     }
+}
+
+fn fire(timer: Timer, field: &[u8]) -> Option<Act>
+    ensures { result ≡ short_act (Verb.Timer timer) field.now }
+{
+    Some(Act::Timer(node(field)?, timer))
 }
 
 fn cut(first: &[u8], second: &[u8]) -> Option<Act>

@@ -1,18 +1,13 @@
 ghost use Rattle.std.specs.Prelude.{◌≡◌};
-ghost use Rattle.schedule.specs.Flaws.{form_of};
-ghost use Rattle.schedule.specs.Verbs.{verb_of};
+ghost use Rattle.schedule.specs.Verbs.{fields_of, verb_of, word_of};
 
 use line_words::is_word;
+use node_core::Timer;
 
 /// What a line of a schedule asks for.
 #[derive(Clone, Copy, Debug, PartialEq, Eq)]
 pub enum Verb {
-    Check,
-    Merge,
-    Accept,
-    Ready,
-    Coord,
-    Dispatch,
+    Timer(Timer),
     Deliver,
     Lose,
     Cut,
@@ -30,18 +25,8 @@ impl Verb {
     pub fn from_word(word: &[u8]) -> Option<Verb>
         ensures { result ≡ verb_of word.now }
     {
-        if is_word(word, "check") {
-            Some(Verb::Check)
-        } else if is_word(word, "merge") {
-            Some(Verb::Merge)
-        } else if is_word(word, "accept") {
-            Some(Verb::Accept)
-        } else if is_word(word, "ready") {
-            Some(Verb::Ready)
-        } else if is_word(word, "coord") {
-            Some(Verb::Coord)
-        } else if is_word(word, "dispatch") {
-            Some(Verb::Dispatch)
+        if let Some(timer) = Timer::from_word(word) {
+            Some(Verb::Timer(timer))
         } else if is_word(word, "deliver") {
             Some(Verb::Deliver)
         } else if is_word(word, "lose") {
@@ -67,27 +52,37 @@ impl Verb {
         }
     }
 
-    /// How its act is written, with a word for each field.
-    pub fn form(self) -> &'static str
-        ensures { result.now ≡ form_of self }
+    /// The word for it.
+    pub fn word(self) -> &'static str
+        ensures { result.now ≡ word_of self }
     {
         match self {
-            Verb::Check => "check N",
-            Verb::Merge => "merge N",
-            Verb::Accept => "accept N",
-            Verb::Ready => "ready N",
-            Verb::Coord => "coord N",
-            Verb::Dispatch => "dispatch N",
-            Verb::Deliver => "deliver K",
-            Verb::Lose => "lose K",
-            Verb::Cut => "cut A B",
-            Verb::Mend => "mend A B",
-            Verb::Submit => "submit N QUEUE HEX [P]",
-            Verb::Finish => "finish N ORIGIN ID",
-            Verb::Arm => "arm N K",
-            Verb::Crash => "crash N [HEX]",
-            Verb::Recover => "recover N",
-            Verb::Compact => "compact N",
+            Verb::Timer(timer) => timer.word(),
+            Verb::Deliver => "deliver",
+            Verb::Lose => "lose",
+            Verb::Cut => "cut",
+            Verb::Mend => "mend",
+            Verb::Submit => "submit",
+            Verb::Finish => "finish",
+            Verb::Arm => "arm",
+            Verb::Crash => "crash",
+            Verb::Recover => "recover",
+            Verb::Compact => "compact",
+        }
+    }
+
+    /// A name for each field of its act, as they stand behind its word.
+    pub fn fields(self) -> &'static str
+        ensures { result.now ≡ fields_of self }
+    {
+        match self {
+            Verb::Timer(_) | Verb::Recover | Verb::Compact => " N",
+            Verb::Deliver | Verb::Lose => " K",
+            Verb::Cut | Verb::Mend => " A B",
+            Verb::Submit => " N QUEUE HEX [P]",
+            Verb::Finish => " N ORIGIN ID",
+            Verb::Arm => " N K",
+            Verb::Crash => " N [HEX]",
         }
     }
 }

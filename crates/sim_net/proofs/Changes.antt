@@ -1,13 +1,11 @@
 -- Delivery by what is kept is delivery by what was done.
 use Rattle.std.proofs.Common.{◌≡◌, ℕ, zero, suc, Bool, true, false, List, [], ◌∷◌, ◌++◌, length, slice_get, refl, sym, ◌∙◌, ap, arith, slice_index_or, append_assoc, Option, Some, None}
-use Rattle.std.specs.Prelude.{◌==◌, ◌&&◌, ◌||◌, not, nat_lt, if◌then◌else◌, replicate, unwrap_or, Ok, Err}
+use Rattle.std.specs.Prelude.{◌==◌, ◌&&◌, ◌||◌, not, nat_lt, min, max, replicate}
 use Rattle.std.proofs.lemmas.List.{append-nil, length-append, length-set}
-use Rattle.std.proofs.lemmas.Option.{unwrap_or-slice_get}
 use Rattle.group_task.specs.declared.node.TheConstants.{NODES}
 use Rattle.group_task.specs.Ids.{has}
 use Rattle.wire_msg.specs.Envelope.{Envelope}
-use Rattle.sim_net.specs.declared.fault.NetFault.TheVariants.{Lost, Cut}
-use Rattle.sim_net.specs.Network.{Network, silent, lesser, greater, is_cut, found_by, unless_cut}
+use Rattle.sim_net.specs.Network.{Network, silent, is_cut, found, delivery}
 use Rattle.sim_net.specs.Changes.{Change, Sends, Loses, Cuts, Mends, after_change, after_changes, sent_by, was_lost, same_pair, was_cut, told_of, AreOfNodes, DeliveredByChanges}
 use Rattle.sim_net.proofs.Cuts.{cut_now, mended_now, not_lost_yet, lost_now}
 
@@ -57,25 +55,14 @@ none_cut zero i x = refl
 none_cut (suc n) zero x = refl
 none_cut (suc n) (suc i) x = none_cut n i x
 
-if_same : (lost : Bool) (cuts : Bool) (m : Envelope) (cut : List (List ℕ)) → is_cut cut m.sender m.receiver ≡ cuts
-    → unless_cut cut (found_by (Some m) (Some lost)) ≡ (if lost then Err Lost else (if cuts then Err Cut else Ok m))
-if_same true cuts m cut is = refl
-if_same false cuts m cut is = rw is refl
-
-told_same : (o : Option Envelope) (l : Option Bool) (cut : List (List ℕ)) (cs : List Change) (lost : Bool) → unwrap_or l false ≡ lost
-    → ((m : Envelope) → is_cut cut m.sender m.receiver ≡ was_cut m.sender m.receiver false cs) → unless_cut cut (found_by o l) ≡ told_of cs o lost
-told_same None l cut cs lost is same = refl
-told_same (Some m) None cut cs lost is same =
-    let no : false ≡ lost = is in
-    if_same false (was_cut m.sender m.receiver false cs) m cut (same m) ∙ ap (λ (b : Bool). told_of cs (Some m) b) no
-told_same (Some m) (Some b) cut cs lost is same =
-    if_same b (was_cut m.sender m.receiver false cs) m cut (same m) ∙ ap (λ (x : Bool). told_of cs (Some m) x) is
+told_same : (net : Network) (cs : List Change) (k : ℕ) (lost : Bool) (o : Option Envelope) → slice_index_or net.lost k false ≡ lost → slice_get net.sent k ≡ o
+    → ((m : Envelope) → is_cut net.cuts m.sender m.receiver ≡ was_cut m.sender m.receiver false cs) → delivery net k ≡ told_of cs o lost
+told_same net cs k lost None at sent same = rw (sent, delivery, found) refl
+told_same net cs k true (Some m) at sent same = rw (sent, at, delivery, found) refl
+told_same net cs k false (Some m) at sent same = rw (sent, at, same m, delivery, found) refl
 
 pub delivered_by_changes : DeliveredByChanges
 delivered_by_changes cs nodes k =
     let net : Network = after_changes silent cs in
-    let sent : net.sent ≡ sent_by cs = all_sent cs silent in
-    let lost : unwrap_or (slice_get net.lost k) false ≡ was_lost k 0 cs = unwrap_or-slice_get net.lost k false ∙ all_lost cs silent k 0 refl in
-    told_same (slice_get net.sent k) (slice_get net.lost k) net.cuts cs (was_lost k 0 cs) lost
-    (λ m. all_cut cs silent m.sender m.receiver false refl nodes (none_cut NODES (lesser m.sender m.receiver) (greater m.sender m.receiver)))
-    ∙ ap (λ (ms : List Envelope). told_of cs (slice_get ms k) (was_lost k 0 cs)) sent
+    told_same net cs k (was_lost k 0 cs) (slice_get (sent_by cs) k) (all_lost cs silent k 0 refl) (ap (λ (ms : List Envelope). slice_get ms k) (all_sent cs silent))
+    (λ m. all_cut cs silent m.sender m.receiver false refl nodes (none_cut NODES (min m.sender m.receiver) (max m.sender m.receiver)))

@@ -1,11 +1,11 @@
 -- What is cut and what is lost, after one change.
 use Rattle.std.proofs.Common.{◌≡◌, ◌≢◌, ℕ, zero, suc, ◌<◌, Bool, true, false, List, [], ◌∷◌, ◌++◌, length, refl, sym, ◌∙◌, ap, subst, arith, slice_index_or}
-use Rattle.std.specs.Prelude.{◌==◌, ◌&&◌, ◌||◌, not, nat_lt, if◌then◌else◌, slice_set}
+use Rattle.std.specs.Prelude.{◌==◌, ◌&&◌, ◌||◌, not, nat_lt, if◌then◌else◌, slice_set, min, max}
 use Rattle.std.proofs.lemmas.Bool.Decides.{nat_tests}
 use Rattle.std.proofs.lemmas.List.{get_or-set_other}
 use Rattle.std.proofs.lemmas.Grind.{get_or-set_at}
 use Rattle.group_task.specs.Ids.{has, with_id, without_id}
-use Rattle.sim_net.specs.Network.{lesser, greater, row, is_cut, with_cut, without_cut}
+use Rattle.sim_net.specs.Network.{is_cut, with_pair}
 use Rattle.sim_net.specs.Changes.{same_pair}
 
 or_twice : (b c : Bool) → b || c ≡ b || (b || c)
@@ -56,42 +56,35 @@ without_has_all (y ∷ ys) x id = without_parts (y == x) x y id ys (without_id y
 
 -- ---- pairs
 
-lesser_low : (a b limit : ℕ) → a < limit → b < limit → lesser a b < limit
-lesser_low a b limit p q = by_test (nat_lt b a) p q
+pub cut_now : (cuts : List (List ℕ)) (a b c d : ℕ) → c < length cuts → d < length cuts → is_cut (with_pair with_id cuts c d) a b ≡ same_pair a b c d || is_cut cuts a b
+cut_now cuts a b c d in_c in_d = by_row (min a b == min c d) refl
   where
-    by_test : (t : Bool) → a < limit → b < limit → (if t then b else a) < limit
-    by_test true p q = q
-    by_test false p q = p
-
-pub cut_now : (cuts : List (List ℕ)) (a b c d : ℕ) → c < length cuts → d < length cuts → is_cut (with_cut cuts c d) a b ≡ same_pair a b c d || is_cut cuts a b
-cut_now cuts a b c d in_c in_d = by_row (lesser a b == lesser c d) refl
-  where
-    by_row : (t : Bool) → (lesser a b == lesser c d) ≡ t
-        → has (slice_index_or (slice_set cuts (lesser c d) (with_id (row cuts (lesser c d)) (greater c d))) (lesser a b) []) (greater a b)
-        ≡ (t && greater a b == greater c d) || is_cut cuts a b
+    by_row : (t : Bool) → (min a b == min c d) ≡ t
+        → has (slice_index_or (slice_set cuts (min c d) (with_id (slice_index_or cuts (min c d) []) (max c d))) (min a b) []) (max a b)
+        ≡ (t && max a b == max c d) || is_cut cuts a b
     by_row true is =
-        let same : lesser a b ≡ lesser c d = equal (lesser a b) (lesser c d) is in
-        ap (λ (ids : List ℕ). has ids (greater a b)) (get_or-set_at cuts (lesser c d) (lesser a b) (with_id (row cuts (lesser c d)) (greater c d)) [] same (lesser_low c d (length cuts) in_c in_d))
-        ∙ with_has (row cuts (lesser c d)) (greater c d) (greater a b)
-        ∙ ap (λ (j : ℕ). (greater a b == greater c d) || has (row cuts j) (greater a b)) (sym same)
+        let same : min a b ≡ min c d = equal (min a b) (min c d) is in
+        ap (λ (ids : List ℕ). has ids (max a b)) (get_or-set_at cuts (min c d) (min a b) (with_id (slice_index_or cuts (min c d) []) (max c d)) [] same (omega (arith, in_c, in_d)))
+        ∙ with_has (slice_index_or cuts (min c d) []) (max c d) (max a b)
+        ∙ ap (λ (j : ℕ). (max a b == max c d) || has (slice_index_or cuts j []) (max a b)) (sym same)
     by_row false is =
-        let ne : lesser a b ≢ lesser c d = grind (arith, nat_tests) in
-        ap (λ (ids : List ℕ). has ids (greater a b)) (get_or-set_other cuts (lesser c d) (lesser a b) (with_id (row cuts (lesser c d)) (greater c d)) [] ne)
+        let ne : min a b ≢ min c d = grind (arith, nat_tests) in
+        ap (λ (ids : List ℕ). has ids (max a b)) (get_or-set_other cuts (min c d) (min a b) (with_id (slice_index_or cuts (min c d) []) (max c d)) [] ne)
 
-pub mended_now : (cuts : List (List ℕ)) (a b c d : ℕ) → c < length cuts → d < length cuts → is_cut (without_cut cuts c d) a b ≡ not (same_pair a b c d) && is_cut cuts a b
-mended_now cuts a b c d in_c in_d = by_row (lesser a b == lesser c d) refl
+pub mended_now : (cuts : List (List ℕ)) (a b c d : ℕ) → c < length cuts → d < length cuts → is_cut (with_pair without_id cuts c d) a b ≡ not (same_pair a b c d) && is_cut cuts a b
+mended_now cuts a b c d in_c in_d = by_row (min a b == min c d) refl
   where
-    by_row : (t : Bool) → (lesser a b == lesser c d) ≡ t
-        → has (slice_index_or (slice_set cuts (lesser c d) (without_id (row cuts (lesser c d)) (greater c d))) (lesser a b) []) (greater a b)
-        ≡ not (t && greater a b == greater c d) && is_cut cuts a b
+    by_row : (t : Bool) → (min a b == min c d) ≡ t
+        → has (slice_index_or (slice_set cuts (min c d) (without_id (slice_index_or cuts (min c d) []) (max c d))) (min a b) []) (max a b)
+        ≡ not (t && max a b == max c d) && is_cut cuts a b
     by_row true is =
-        let same : lesser a b ≡ lesser c d = equal (lesser a b) (lesser c d) is in
-        ap (λ (ids : List ℕ). has ids (greater a b)) (get_or-set_at cuts (lesser c d) (lesser a b) (without_id (row cuts (lesser c d)) (greater c d)) [] same (lesser_low c d (length cuts) in_c in_d))
-        ∙ without_has_all (row cuts (lesser c d)) (greater c d) (greater a b)
-        ∙ ap (λ (j : ℕ). not (greater a b == greater c d) && has (row cuts j) (greater a b)) (sym same)
+        let same : min a b ≡ min c d = equal (min a b) (min c d) is in
+        ap (λ (ids : List ℕ). has ids (max a b)) (get_or-set_at cuts (min c d) (min a b) (without_id (slice_index_or cuts (min c d) []) (max c d)) [] same (omega (arith, in_c, in_d)))
+        ∙ without_has_all (slice_index_or cuts (min c d) []) (max c d) (max a b)
+        ∙ ap (λ (j : ℕ). not (max a b == max c d) && has (slice_index_or cuts j []) (max a b)) (sym same)
     by_row false is =
-        let ne : lesser a b ≢ lesser c d = grind (arith, nat_tests) in
-        ap (λ (ids : List ℕ). has ids (greater a b)) (get_or-set_other cuts (lesser c d) (lesser a b) (without_id (row cuts (lesser c d)) (greater c d)) [] ne)
+        let ne : min a b ≢ min c d = grind (arith, nat_tests) in
+        ap (λ (ids : List ℕ). has ids (max a b)) (get_or-set_other cuts (min c d) (min a b) (without_id (slice_index_or cuts (min c d) []) (max c d)) [] ne)
 
 -- ---- losses
 

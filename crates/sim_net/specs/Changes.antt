@@ -1,11 +1,11 @@
 -- All that was done with a network, and what it says of each number: delivery as a function of what was done, not of what
 -- is kept.
-use Rattle.std.specs.Prelude.{ℕ, suc, ◌≡◌, ◌<◌, Bool, false, not, ◌&&◌, ◌||◌, ◌==◌, nat_lt, List, [], ◌∷◌, if◌then◌else◌, slice_get, Option, Some, None, Result, Ok, Err}
+use Rattle.std.specs.Prelude.{ℕ, suc, min, max, ◌≡◌, ◌<◌, Bool, false, not, ◌&&◌, ◌||◌, ◌==◌, nat_lt, List, [], ◌∷◌, if◌then◌else◌, slice_get, Option, Some, None, Result, Ok, Err}
 use Rattle.group_task.specs.declared.node.TheConstants.{NODES}
 use Rattle.wire_msg.specs.Envelope.{Envelope}
 use Rattle.sim_net.specs.declared.fault.NetFault.{NetFault}
 use Rattle.sim_net.specs.declared.fault.NetFault.TheVariants.{NoSuch, Lost, Cut}
-use Rattle.sim_net.specs.Network.{Network, silent, lesser, greater, delivery, after_sent, after_lost, after_cut, after_mend}
+use Rattle.sim_net.specs.Network.{Network, silent, delivery, after_sent, after_lost, after_cut, after_mend}
 
 -- something that was done
 pub data Change : Type 0 where
@@ -45,7 +45,7 @@ was_lost k sent (Mends a b ∷ cs) = was_lost k sent cs
 
 -- the same two nodes, in whichever order
 abbrev pub same_pair : ℕ → ℕ → ℕ → ℕ → Bool
-same_pair a b c d = lesser a b == lesser c d && greater a b == greater c d
+same_pair a b c d = min a b == min c d && max a b == max c d
 
 -- whether the last cut or mend of the two nodes is a cut, and where there is none, what was before
 abbrev pub was_cut : ℕ → ℕ → Bool → List Change → Bool

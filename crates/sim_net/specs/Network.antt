@@ -1,5 +1,5 @@
 -- What the network keeps, and what comes of asking it for a message.
-use Rattle.std.specs.Prelude.{ℕ, Bool, true, false, nat_lt, List, [], ◌∷◌, ◌++◌, map, replicate, if◌then◌else◌, slice_get, slice_set, slice_index_or, Option, Some, None, Result, Ok, Err}
+use Rattle.std.specs.Prelude.{ℕ, Bool, true, false, min, max, List, [], ◌∷◌, ◌++◌, map, replicate, if◌then◌else◌, slice_get, slice_set, slice_index_or, Some, None, Result, Ok, Err}
 use Rattle.group_task.specs.Ids.{has, with_id, without_id}
 use Rattle.group_task.specs.declared.node.TheConstants.{NODES}
 use Rattle.wire_msg.specs.Envelope.{Envelope}
@@ -24,61 +24,39 @@ silent = record { sent = []; lost = []; cuts = replicate NODES [] }
 
 -- ---- pairs of nodes
 
-abbrev pub lesser : ℕ → ℕ → ℕ
-lesser a b = if nat_lt b a then b else a
-
-abbrev pub greater : ℕ → ℕ → ℕ
-greater a b = if nat_lt b a then a else b
-
-abbrev pub row : List (List ℕ) → ℕ → List ℕ
-row cuts a = slice_index_or cuts a []
-
 -- whether the pair of these two nodes is cut, in whichever order they are named
 abbrev pub is_cut : List (List ℕ) → ℕ → ℕ → Bool
-is_cut cuts a b = has (row cuts (lesser a b)) (greater a b)
+is_cut cuts a b = has (slice_index_or cuts (min a b) []) (max a b)
 
-abbrev pub with_cut : List (List ℕ) → ℕ → ℕ → List (List ℕ)
-with_cut cuts a b = slice_set cuts (lesser a b) (with_id (row cuts (lesser a b)) (greater a b))
-
-abbrev pub without_cut : List (List ℕ) → ℕ → ℕ → List (List ℕ)
-without_cut cuts a b = slice_set cuts (lesser a b) (without_id (row cuts (lesser a b)) (greater a b))
+-- the cuts with the pair's greater id put into the row of its lesser one, or taken out
+abbrev pub with_pair : (List ℕ → ℕ → List ℕ) → List (List ℕ) → ℕ → ℕ → List (List ℕ)
+with_pair change cuts a b = slice_set cuts (min a b) (change (slice_index_or cuts (min a b) []) (max a b))
 
 -- ---- what comes of an act
 
 -- the message of this number, if it was sent and isn't lost
-abbrev pub found_by : Option Envelope → Option Bool → Result Envelope NetFault
-found_by None lost = Err NoSuch
-found_by (Some m) None = Ok m
-found_by (Some m) (Some true) = Err Lost
-found_by (Some m) (Some false) = Ok m
-
 abbrev pub found : Network → ℕ → Result Envelope NetFault
-found net k = found_by (slice_get net.sent k) (slice_get net.lost k)
+found net k = elim (slice_get net.sent k) [ None ↦ Err NoSuch | Some m ↦ if slice_index_or net.lost k false then Err Lost else Ok m ]
 
--- and if its pair isn't cut
-abbrev pub unless_cut : List (List ℕ) → Result Envelope NetFault → Result Envelope NetFault
-unless_cut cuts (Err fault) = Err fault
-unless_cut cuts (Ok m) = if is_cut cuts m.sender m.receiver then Err Cut else Ok m
-
--- what is delivered under a number
+-- what is delivered under a number: what is found there, unless its pair is cut
 abbrev pub delivery : Network → ℕ → Result Envelope NetFault
-delivery net k = unless_cut net.cuts (found net k)
+delivery net k = elim (found net k) [ Ok m ↦ if is_cut net.cuts m.sender m.receiver then Err Cut else Ok m | Err why ↦ Err why ]
 
 -- ---- the network after it
 
 -- a message more, not lost
 abbrev pub after_sent : Network → Envelope → Network
-after_sent net m = record { sent = net.sent ++ m ∷ []; lost = net.lost ++ false ∷ []; cuts = net.cuts }
+after_sent net m = record net { sent = net.sent ++ m ∷ []; lost = net.lost ++ false ∷ [] }
 
 abbrev pub after_lost : Network → ℕ → Network
-after_lost net k = record { sent = net.sent; lost = slice_set net.lost k true; cuts = net.cuts }
+after_lost net k = record net { lost = slice_set net.lost k true }
 
 abbrev pub after_cut : Network → ℕ → ℕ → Network
-after_cut net a b = record { sent = net.sent; lost = net.lost; cuts = with_cut net.cuts a b }
+after_cut net a b = record net { cuts = with_pair with_id net.cuts a b }
 
 abbrev pub after_mend : Network → ℕ → ℕ → Network
-after_mend net a b = record { sent = net.sent; lost = net.lost; cuts = without_cut net.cuts a b }
+after_mend net a b = record net { cuts = with_pair without_id net.cuts a b }
 
 -- messages more, one after another
 abbrev pub after_all_sent : Network → List Envelope → Network
-after_all_sent net ms = record { sent = net.sent ++ ms; lost = net.lost ++ map (λ (m : Envelope). false) ms; cuts = net.cuts }
+after_all_sent net ms = record net { sent = net.sent ++ ms; lost = net.lost ++ map (λ (m : Envelope). false) ms }

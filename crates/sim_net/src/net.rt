@@ -1,5 +1,5 @@
-ghost use Rattle.std.specs.Prelude.{◌≡◌, ◌↔◌, ◌+◌, ◌-◌, ◌<◌, ◌≤◌, length, max, Ok, Err, OnOk, OnErr, IfOk, IfErr};
-ghost use Rattle.sim_net.specs.Network.{silent, lesser, greater, is_cut, found, delivery, after_sent, after_lost, after_cut, after_mend};
+ghost use Rattle.std.specs.Prelude.{◌≡◌, ◌↔◌, ◌+◌, ◌-◌, ◌<◌, ◌≤◌, length, min, max, Ok, Err, OnOk, OnErr, IfOk, IfErr};
+ghost use Rattle.sim_net.specs.Network.{silent, is_cut, found, delivery, after_sent, after_lost, after_cut, after_mend};
 
 use crate::fault::NetFault;
 use group_task::{Members, NODES, NodeId};
@@ -163,7 +163,7 @@ impl Net {
 
 /// Two nodes, the lesser first.
 fn in_order(a: NodeId, b: NodeId) -> (NodeId, NodeId)
-    ensures { result ≡ (lesser a b, greater a b) }
+    ensures { result ≡ (min a b, max a b) }
 {
     if b.number() < a.number() {
         (b, a)

@@ -3,7 +3,7 @@
 use durable_node::{Came, DurableNode};
 use group_task::{GroupNo, Members, NodeId, Task};
 use job_model::{Payload, Queue, Work};
-use node_core::{Event, Phase};
+use node_core::{Event, Phase, Timer};
 use sector_disk::MemDisk;
 use std::alloc::Global;
 use std::io::Print;
@@ -36,16 +36,16 @@ fn submitted(rt: &impl Abort, queue: u8, priority: u8, bytes: &[u8]) -> Event {
 fn first_life(rt: &impl Abort) -> [Event; 10] {
     let group = GroupNo::numbered(NodeId::numbered(0), 2);
     [
-        Event::CheckTimer,
+        Event::Timer(Timer::Check),
         told(Body::Coordinator(true)),
-        Event::MergeTimer,
+        Event::Timer(Timer::Merge),
         told(Body::Accept(group)),
-        Event::AcceptTimer,
+        Event::Timer(Timer::Accept),
         told(Body::ReadyAck(group)),
         submitted(rt, 1, 7, b"hi"),
         told(Body::Done(0)),
         submitted(rt, 0, 0, b"a"),
-        Event::DispatchTimer,
+        Event::Timer(Timer::Dispatch),
     ]
 }
 
@@ -54,8 +54,8 @@ fn second_life() -> [Event; 4] {
     [
         Event::Recover,
         told(Body::AreYouCoordinator),
-        Event::CheckTimer,
-        Event::DispatchTimer,
+        Event::Timer(Timer::Check),
+        Event::Timer(Timer::Dispatch),
     ]
 }
 

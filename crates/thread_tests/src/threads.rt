@@ -9,8 +9,8 @@ use crossbeam_utils::CachePadded;
 use group_task::{NODES, NodeId};
 use histories::What;
 use link_ring::LinkEnd;
-use node_core::Event;
-use node_lock::{Gate, History, MOST_ENTRIES, Plans, Timer, Worker};
+use node_core::{Event, Timer};
+use node_lock::{Gate, History, MOST_ENTRIES, Plans, Worker};
 use node_threads::{Gathered, Size, ThreadsFault, poll_others, run_threads};
 use std::alloc::{AllocError, Global};
 use std::process::Abort;
@@ -134,7 +134,7 @@ impl Gate for Meeting {
 /// Expects one turn, in which the clock fired Check.
 fn expect_check(rt: &impl Abort, history: &History) {
     assert_eq!(rt; history.len(), 1);
-    assert!(rt; came(history, 0, Worker::Clock, 0) == Some(What::Did(Event::CheckTimer)));
+    assert!(rt; came(history, 0, Worker::Clock, 0) == Some(What::Did(Event::Timer(Timer::Check))));
 }
 
 /// Expects a link that carried one message, which wasn't taken.

@@ -7,10 +7,8 @@ use group_task::NodeId;
 use histories::{Rest, What};
 use link_ring::{PutEnd, TakeEnd, link};
 use message_list::MessageList;
-use node_core::Event;
-use node_lock::{
-    Gate, Held, HeldFault, History, NodeLock, Parts, Plans, Run, Timer, TurnFault, Worker,
-};
+use node_core::{Event, Timer};
+use node_lock::{Gate, Held, HeldFault, History, NodeLock, Parts, Plans, Run, TurnFault, Worker};
 use std::alloc::{AllocError, Global};
 use std::io::Print;
 use std::process::Abort;
@@ -183,7 +181,9 @@ fn expect_exchange(rt: &impl Abort, asker: &Parts, other: &Parts) {
     let question = sent(&asker.history, 1).expect(rt, "a question");
     let answer = sent(&other.history, 0).expect(rt, "an answer");
     assert_eq!(rt; asker.history.len(), 3);
-    assert!(rt; came(&asker.history, 1, Worker::Clock, 0) == Some(What::Did(Event::CheckTimer)));
+    assert!(rt;
+        came(&asker.history, 1, Worker::Clock, 0) == Some(What::Did(Event::Timer(Timer::Check)))
+    );
     expect_polled(rt, &asker.history, 0, 0, None);
     expect_polled(rt, &other.history, 0, 0, Some(question));
     expect_polled(rt, &asker.history, 2, 1, Some(answer));
@@ -247,7 +247,9 @@ fn gate_shuts(rt: HostRuntime) {
 /// Expects that the message was taken from its ring once, and what is answered and asked is put once.
 fn expect_answered_once(rt: &impl Abort, parts: &Parts) {
     expect_polled(rt, &parts.history, 0, 0, Some(question()));
-    assert!(rt; came(&parts.history, 1, Worker::Clock, 0) == Some(What::Did(Event::CheckTimer)));
+    assert!(rt;
+        came(&parts.history, 1, Worker::Clock, 0) == Some(What::Did(Event::Timer(Timer::Check)))
+    );
     assert!(rt; parts.waiting.is_none());
     expect_taken(rt, &parts.takes, question());
     for end in parts.puts.iter() {

@@ -1,7 +1,7 @@
 -- The plans that turns are, node by node.
 use Rattle.std.specs.Prelude.{◌≡◌, ◌≢◌, ◌<◌, ℕ, ◌==◌, if◌then◌else◌, List, [], ◌∷◌, ◌++◌, length, flat_map, slice_get, slice_set, Some}
 use Rattle.line_words.specs.Words.{words_of}
-use Rattle.node_lock.specs.declared.order.Timer.{Timer}
+use Rattle.node_core.specs.declared.timer.Timer.{Timer}
 use Rattle.node_lock.specs.declared.order.Order.{Order}
 use Rattle.node_lock.specs.Planned.{Planned}
 use Rattle.threads_console.specs.declared.turn.Turn.{Turn}

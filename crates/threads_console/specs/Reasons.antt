@@ -2,13 +2,13 @@
 use Rattle.std.specs.Prelude.{ℕ, List, [], ◌∷◌, ◌++◌, drop, bytes_eq, codes, is_some, if◌then◌else◌, Option, Some, None}
 use Rattle.line_words.specs.Words.{first_word, words_of}
 use Rattle.line_words.specs.Lines.{line_numbered, lines_of}
+use Rattle.node_core.specs.TimerWords.{timer_named}
 use Rattle.schedule.specs.declared.size.Size.{Size as ClusterSize}
 use Rattle.schedule.specs.Fields.{number_below}
 use Rattle.schedule.specs.Text.{size_of}
 use Rattle.console_text.specs.Reasons.{line_flaw, word_shown}
 use Rattle.threads_console.specs.Lines.{numbered_from}
 use Rattle.threads_console.specs.Scripts.{capacity_of, script_of}
-use Rattle.threads_console.specs.Turns.{timer_of}
 
 -- nothing of this kind is named by the word; an empty word stands for one that isn't there
 abbrev pub no_such : List ℕ → List ℕ → List ℕ
@@ -29,7 +29,7 @@ order_flaw name None = no_such (codes "order") name
 order_flaw name (Some form) = codes "not of the form " ++ form
 
 abbrev pub timer_flaw : List ℕ → List ℕ
-timer_flaw name = if is_some (timer_of name) then codes "not of the form N clock TIMER" else no_such (codes "timer") name
+timer_flaw name = if is_some (timer_named name) then codes "not of the form N clock TIMER" else no_such (codes "timer") name
 
 -- a turn of the worker of this name, with this word behind it
 abbrev pub worker_flaw : List ℕ → List ℕ → List ℕ

@@ -4,8 +4,7 @@ use Rattle.line_words.specs.Words.{number_of}
 use Rattle.line_words.specs.Lines.{bytes_of}
 use Rattle.schedule.specs.Fields.{kept_if, node_of, number_below, payload_of, priority_of, queue_of}
 use Rattle.schedule.specs.Acts.{of_three, of_two, work}
-use Rattle.node_lock.specs.declared.order.Timer.{Timer}
-use Rattle.node_lock.specs.declared.order.Timer.TheVariants.{Check, Merge, Accept, Ready, Coord, Dispatch}
+use Rattle.node_core.specs.TimerWords.{timer_named}
 use Rattle.node_lock.specs.declared.order.Order.{Order}
 use Rattle.node_lock.specs.declared.order.Order.TheVariants.{Submit, Finish, Arm, Crash, Recover}
 use Rattle.threads_console.specs.declared.turn.Turn.{Turn}
@@ -14,16 +13,6 @@ use Rattle.threads_console.specs.declared.turn.Turn.TheVariants.{Poll, Fire, Do}
 -- another node than this one, in a cluster of so many
 abbrev pub other_of : ℕ → ℕ → List ℕ → Option ℕ
 other_of nodes own word = kept_if (λ j. not (j == own)) (number_below nodes word)
-
--- the timer of a name
-abbrev pub timer_of : List ℕ → Option Timer
-timer_of name =
-    if bytes_eq name (codes "check") then Some Check else
-    if bytes_eq name (codes "merge") then Some Merge else
-    if bytes_eq name (codes "accept") then Some Accept else
-    if bytes_eq name (codes "ready") then Some Ready else
-    if bytes_eq name (codes "coord") then Some Coord else
-    if bytes_eq name (codes "dispatch") then Some Dispatch else None
 
 -- ---- what the operator does: a name, and its fields
 
@@ -65,7 +54,7 @@ of_one read (word ∷ more ∷ rest) = None
 abbrev pub turn_of : ℕ → ℕ → List ℕ → List (List ℕ) → Option Turn
 turn_of nodes own worker fields =
     if bytes_eq worker (codes "intake") then option_map Poll (of_one (other_of nodes own) fields) else
-    if bytes_eq worker (codes "clock") then option_map Fire (of_one timer_of fields) else
+    if bytes_eq worker (codes "clock") then option_map Fire (of_one timer_named fields) else
     if bytes_eq worker (codes "operator") then option_map Do (order_of fields) else None
 
 abbrev pub turn_at : ℕ → Option ℕ → List ℕ → List (List ℕ) → Option (ℕ × Turn)

@@ -6,7 +6,8 @@ ghost use Rattle.threads_console.specs.Planning.{IsPlaced, TurnFits, no_plans, w
 
 use crate::turn::Turn;
 use group_task::NodeId;
-use node_lock::{Order, Plans, Timer};
+use node_core::Timer;
+use node_lock::{Order, Plans};
 use std::alloc::{AllocError, Global};
 use std::marker::Model;
 

@@ -3,12 +3,11 @@
 ghost use Rattle.std.specs.Prelude.{◌≡◌, ◌≢◌, ◌≤◌, ◌<◌, IfSome};
 ghost use Rattle.schedule.specs.Fields.{node_of, number_below, number_between, priority_of, queue_of};
 ghost use Rattle.group_task.specs.declared.node.TheConstants.{NODES};
-ghost use Rattle.threads_console.specs.Turns.{other_of, timer_of};
+ghost use Rattle.threads_console.specs.Turns.{other_of};
 
 use group_task::NodeId;
 use job_model::Queue;
-use line_words::{is_word, number};
-use node_lock::Timer;
+use line_words::number;
 
 /// The node that a word names.
 pub fn node(word: &[u8]) -> Option<NodeId>
@@ -42,27 +41,6 @@ pub fn other(nodes: u8, own: NodeId, word: &[u8]) -> Option<NodeId>
         None
     } else {
         Some(node)
-    }
-}
-
-/// The timer that a word names.
-pub fn timer(word: &[u8]) -> Option<Timer>
-    ensures { result ≡ timer_of word.now }
-{
-    if is_word(word, "check") {
-        Some(Timer::Check)
-    } else if is_word(word, "merge") {
-        Some(Timer::Merge)
-    } else if is_word(word, "accept") {
-        Some(Timer::Accept)
-    } else if is_word(word, "ready") {
-        Some(Timer::Ready)
-    } else if is_word(word, "coord") {
-        Some(Timer::Coord)
-    } else if is_word(word, "dispatch") {
-        Some(Timer::Dispatch)
-    } else {
-        None
     }
 }
 

@@ -3,16 +3,18 @@
 ghost use Rattle.std.specs.Prelude.{◌≡◌, ◌≤◌, ◌<◌, IfOk, IfSome, option_map};
 ghost use Rattle.group_task.specs.declared.node.TheConstants.{NODES};
 ghost use Rattle.line_words.specs.Words.{words_of};
+ghost use Rattle.node_core.specs.TimerWords.{timer_named};
 ghost use Rattle.threads_console.specs.declared.turn.Turn.TheVariants.{Poll};
 ghost use Rattle.threads_console.specs.Planning.{PollFits, TurnFits};
-ghost use Rattle.threads_console.specs.Turns.{alone_order, line_of, long_order, middle_order, of_one, order_of, other_of, short_order, submit_order, timer_of, turn_of};
+ghost use Rattle.threads_console.specs.Turns.{alone_order, line_of, long_order, middle_order, of_one, order_of, other_of, short_order, submit_order, turn_of};
 
-use crate::fields::{member, node, other, priority, queue, timer};
+use crate::fields::{member, node, other, priority, queue};
 use crate::turn::Turn;
 use group_task::NodeId;
 use job_model::NewJob;
 use line_words::{bytes, cut_word, is_word, number};
-use node_lock::{Fill, Order, Timer};
+use node_core::Timer;
+use node_lock::{Fill, Order};
 use std::alloc::{AllocError, Global};
 
 /// The node and the turn of a line, in a cluster of so many nodes.
@@ -84,10 +86,10 @@ fn poll(nodes: u8, own: NodeId, fields: &[u8]) -> Option<Turn>
 /// The timer that is named.
 #[tactic(auto, using(crate::proofs::Counts::more_than_one))]
 fn fire(fields: &[u8]) -> Option<Timer>
-    ensures { result ≡ of_one timer_of (words_of fields.now) }
+    ensures { result ≡ of_one timer_named (words_of fields.now) }
 {
     match cut_word(fields) {
-        None => timer(fields),
+        None => Timer::from_word(fields),
         Some(_) => None,
     }
 }

@@ -8,11 +8,12 @@ ghost use Rattle.console_text.specs.Ends.{outcome_of, refused};
 ghost use Rattle.console_text.specs.Reasons.{line_head};
 ghost use Rattle.threads_console.specs.Reasons.{flaw_at, no_such, order_flaw, order_form, script_flaw, timer_flaw, turn_flaw, worker_flaw};
 
-use crate::fields::{member, timer};
+use crate::fields::member;
 use crate::lines::Lines;
 use crate::reading::{capacity, cluster};
 use console_text::{Told, bad_line, line_reason, push_text, push_unknown};
 use line_words::{cut_word, first_word, is_word, line_numbered};
+use node_core::Timer;
 use std::alloc::{AllocError, Global};
 
 /// What is told of plans of which the line of this number can't be read, where it is known that it is the first such line.
@@ -91,7 +92,7 @@ fn push_worker_flaw(text: &mut Vec<u8>, worker: &[u8], word: &[u8]) -> Result<()
 fn push_timer_flaw(text: &mut Vec<u8>, name: &[u8]) -> Result<(), AllocError>
     ensures { OnOk result (text.new.items ≡ text.old.items ++ timer_flaw name.now) }
 {
-    match timer(name) {
+    match Timer::from_word(name) {
         Some(_) => push_text(text, "not of the form N clock TIMER"),
         None => push_no_such(text, "timer", name),
     }

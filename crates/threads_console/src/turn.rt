@@ -1,7 +1,8 @@
 //! One turn of a worker, and how many messages a link may have room for.
 
 use group_task::NodeId;
-use node_lock::{Order, Timer};
+use node_core::Timer;
+use node_lock::Order;
 
 /// For how many messages a link has room at least.
 pub const LEAST_CAPACITY: u64 = 1;

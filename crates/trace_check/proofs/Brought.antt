@@ -31,12 +31,7 @@ abbrev BroughtAt : List Envelope → ℕ → List Envelope → Type 0
 BroughtAt ms at is = (at < length ms) × (part at (at + 1) ms ≡ is)
 
 event_brought : (ms : List Envelope) (p : List ℕ) (e : KeptEvent) (at : ℕ) → EventStands (length ms) (length p) e → delivered_at e ≡ Some at → BroughtAt ms at (brought (Some (event_said ms p e)))
-event_brought ms p kept.CheckTimer at h is = absurd cc
-event_brought ms p kept.MergeTimer at h is = absurd cc
-event_brought ms p kept.AcceptTimer at h is = absurd cc
-event_brought ms p kept.ReadyTimer at h is = absurd cc
-event_brought ms p kept.CoordTimer at h is = absurd cc
-event_brought ms p kept.DispatchTimer at h is = absurd cc
+event_brought ms p (kept.Timer timer) at h is = absurd cc
 event_brought ms p (kept.Deliver place) at h is =
     let found = there ms place h in
     subst (λ (k : ℕ). BroughtAt ms k (brought (Some (delivered (slice_get ms place))))) (same_Some place at is)
@@ -54,12 +49,7 @@ brought_there ms p (done.Recovered kept) at h is = absurd cc
 brought_there ms p (done.NotRecovered kept fault) at h is = absurd cc
 
 event_without : (ms : List Envelope) (p : List ℕ) (e : KeptEvent) → delivered_at e ≡ None → brought (Some (event_said ms p e)) ≡ []
-event_without ms p kept.CheckTimer is = refl
-event_without ms p kept.MergeTimer is = refl
-event_without ms p kept.AcceptTimer is = refl
-event_without ms p kept.ReadyTimer is = refl
-event_without ms p kept.CoordTimer is = refl
-event_without ms p kept.DispatchTimer is = refl
+event_without ms p (kept.Timer timer) is = refl
 event_without ms p (kept.Deliver place) is = absurd cc
 event_without ms p (kept.Submit queue priority start len) is = refl
 event_without ms p (kept.Finish origin id) is = refl

@@ -34,12 +34,7 @@ part_same {A} xs more start len within =
     ∙ take-append-le len (drop start xs) more (omega (arith, within, length-drop start xs))
 
 event_same : (ms more : List Envelope) (p bytes : List ℕ) (e : KeptEvent) → EventStands (length ms) (length p) e → event_said (ms ++ more) (p ++ bytes) e ≡ event_said ms p e
-event_same ms more p bytes kept.CheckTimer h = refl
-event_same ms more p bytes kept.MergeTimer h = refl
-event_same ms more p bytes kept.AcceptTimer h = refl
-event_same ms more p bytes kept.ReadyTimer h = refl
-event_same ms more p bytes kept.CoordTimer h = refl
-event_same ms more p bytes kept.DispatchTimer h = refl
+event_same ms more p bytes (kept.Timer timer) h = refl
 event_same ms more p bytes (kept.Deliver place) h = ap (λ (o : Option Envelope). delivered o) (get_same ms more place h)
 event_same ms more p bytes (kept.Submit queue priority start len) h = ap (λ (xs : List ℕ). on.Submit (record { queue = queue; priority = priority; payload = xs })) (part_same p bytes start len h.0)
 event_same ms more p bytes (kept.Finish origin id) h = refl
@@ -78,12 +73,7 @@ part_again : {A : Type 0} → (xs ys : List A) → take (length ys) (drop (lengt
 part_again {A} xs ys = ap (λ (zs : List A). take (length ys) zs) (drop-append_seam xs ys) ∙ take_whole ys
 
 event_again : (ms : List Envelope) (p : List ℕ) (e : Event) → event_said (ms ++ brought (Some e)) (p ++ payload_of e) (kept_event (length ms) (length p) e) ≡ e
-event_again ms p on.CheckTimer = refl
-event_again ms p on.MergeTimer = refl
-event_again ms p on.AcceptTimer = refl
-event_again ms p on.ReadyTimer = refl
-event_again ms p on.CoordTimer = refl
-event_again ms p on.DispatchTimer = refl
+event_again ms p (on.Timer timer) = refl
 event_again ms p (on.Deliver m) = ap (λ (o : Option Envelope). delivered o) (get_again ms m)
 event_again ms p (on.Submit work) = ap (λ (xs : List ℕ). on.Submit (record work { payload = xs })) (part_again p work.payload)
 event_again ms p (on.Finish origin id) = refl
@@ -98,12 +88,7 @@ deed_again ms p (deed.Recovered kept) = refl
 deed_again ms p (deed.NotRecovered kept fault) = refl
 
 event_stands : (ms : List Envelope) (p : List ℕ) (e : Event) → length (payload_of e) ≤ PAYLOAD_CAPACITY → EventStands (length (ms ++ brought (Some e))) (length (p ++ payload_of e)) (kept_event (length ms) (length p) e)
-event_stands ms p on.CheckTimer few = tt
-event_stands ms p on.MergeTimer few = tt
-event_stands ms p on.AcceptTimer few = tt
-event_stands ms p on.ReadyTimer few = tt
-event_stands ms p on.CoordTimer few = tt
-event_stands ms p on.DispatchTimer few = tt
+event_stands ms p (on.Timer timer) few = tt
 event_stands ms p (on.Deliver m) few = omega (arith, length-append ms (m ∷ []))
 event_stands ms p (on.Submit work) few = (omega (arith, length-append p work.payload), few)
 event_stands ms p (on.Finish origin id) few = tt
@@ -120,12 +105,7 @@ deed_stands ms p (deed.NotRecovered kept fault) few = tt
 -- ---- where more can be read, what could be read still can
 
 event_longer : (m m' p p' : ℕ) (e : KeptEvent) → m ≤ m' → p ≤ p' → EventStands m p e → EventStands m' p' e
-event_longer m m' p p' kept.CheckTimer a b h = tt
-event_longer m m' p p' kept.MergeTimer a b h = tt
-event_longer m m' p p' kept.AcceptTimer a b h = tt
-event_longer m m' p p' kept.ReadyTimer a b h = tt
-event_longer m m' p p' kept.CoordTimer a b h = tt
-event_longer m m' p p' kept.DispatchTimer a b h = tt
+event_longer m m' p p' (kept.Timer timer) a b h = tt
 event_longer m m' p p' (kept.Deliver place) a b h = omega (arith, a, h)
 event_longer m m' p p' (kept.Submit queue priority start len) a b h = (let within = h.0 in omega (arith, b, within), h.1)
 event_longer m m' p p' (kept.Finish origin id) a b h = tt

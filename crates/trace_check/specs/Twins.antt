@@ -1,6 +1,6 @@
 -- What contracts see of a replica, and what it says of an entry.
 use Rattle.std.specs.Prelude.{ℕ, ◌≡◌, ◌<◌, ◌≤◌, Bool, true, false, List, Option, Some, None}
-use Rattle.job_model.specs.Command.{Command}
+use Rattle.job_model.specs.declared.node_command.NodeCommand.{NodeCommand as Command}
 use Rattle.job_model.specs.Durable.{Durable}
 use Rattle.wire_msg.specs.Envelope.{Envelope}
 use Rattle.group_task.specs.declared.node.TheConstants.{NODES}

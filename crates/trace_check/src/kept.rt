@@ -11,17 +11,12 @@ use crate::trace::{Deed, RecoverFault};
 use group_task::NodeId;
 use job_model::{PAYLOAD_CAPACITY, Payload, Queue, Work};
 use message_list::MessageList;
-use node_core::Event;
+use node_core::{Event, Timer};
 
 /// An event as it is kept.
 #[derive(Clone, Copy)]
 pub enum KeptEvent {
-    CheckTimer,
-    MergeTimer,
-    AcceptTimer,
-    ReadyTimer,
-    CoordTimer,
-    DispatchTimer,
+    Timer(Timer),
     /// The message stands at this place of its list.
     Deliver(usize),
     /// A queue and a priority; the payload begins at this place of all payloads, and has so many bytes.
@@ -79,12 +74,7 @@ fn keep_event(messages: &mut MessageList, payloads: &mut Vec<u8>, event: &Event)
     ensures few { length (payload_of event.now) ≤ PAYLOAD_CAPACITY }
 {
     match event {
-        Event::CheckTimer => KeptEvent::CheckTimer,
-        Event::MergeTimer => KeptEvent::MergeTimer,
-        Event::AcceptTimer => KeptEvent::AcceptTimer,
-        Event::ReadyTimer => KeptEvent::ReadyTimer,
-        Event::CoordTimer => KeptEvent::CoordTimer,
-        Event::DispatchTimer => KeptEvent::DispatchTimer,
+        Event::Timer(timer) => KeptEvent::Timer(*timer),
         Event::Deliver(message) => {
             let place = messages.len();
             messages.push(message);
@@ -131,12 +121,7 @@ pub fn read_event(messages: &MessageList, payloads: &[u8], event: KeptEvent, sai
     ensures { said.new ≡ event_said messages.now.messages payloads.now event }
 {
     match event {
-        KeptEvent::CheckTimer => *said = Event::CheckTimer,
-        KeptEvent::MergeTimer => *said = Event::MergeTimer,
-        KeptEvent::AcceptTimer => *said = Event::AcceptTimer,
-        KeptEvent::ReadyTimer => *said = Event::ReadyTimer,
-        KeptEvent::CoordTimer => *said = Event::CoordTimer,
-        KeptEvent::DispatchTimer => *said = Event::DispatchTimer,
+        KeptEvent::Timer(timer) => *said = Event::Timer(timer),
         KeptEvent::Deliver(place) => match messages.get(place) {
             Some(message) => *said = Event::Deliver(message),
             None => unreachable!(),

@@ -4,6 +4,7 @@ use Rattle.std.specs.List.{flat_map}
 use Rattle.group_task.specs.Group.{Group}
 use Rattle.node_core.specs.declared.event.Event.{Event}
 use Rattle.node_core.specs.declared.event.Event.TheVariants as on
+use Rattle.node_core.specs.TimerWords.{word_of}
 use Rattle.trace_check.specs.declared.trace.Deed.{Deed}
 use Rattle.trace_check.specs.declared.trace.Deed.TheVariants as deed
 use Rattle.trace_draw.specs.declared.turn.Point.{Point}
@@ -35,12 +36,7 @@ look (deed.Recovered kept) = codes "rise"
 look (deed.NotRecovered kept fault) = codes "fail"
 
 abbrev pub event_word : Event → List ℕ
-event_word on.CheckTimer = codes "check"
-event_word on.MergeTimer = codes "merge"
-event_word on.AcceptTimer = codes "accept"
-event_word on.ReadyTimer = codes "ready"
-event_word on.CoordTimer = codes "coord"
-event_word on.DispatchTimer = codes "dispatch"
+event_word (on.Timer timer) = word_of timer
 event_word (on.Deliver m) = []
 event_word (on.Submit work) = codes "submit"
 event_word (on.Finish origin id) = codes "finish"

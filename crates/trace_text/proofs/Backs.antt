@@ -17,6 +17,7 @@ use Rattle.wire_msg.specs.Reading.{message_of}
 use Rattle.wire_msg.proofs.PublicLaws.{IsBytes-from_all, IsBytes-spelling, spelled_is_message}
 use Rattle.node_core.specs.declared.event.Event.{Event}
 use Rattle.node_core.specs.declared.event.Event.TheVariants as on
+use Rattle.node_core.specs.declared.timer.Timer.TheVariants as timer
 use Rattle.histories.specs.Lists.{Each}
 use Rattle.trace_check.specs.declared.trace.Deed.{Deed}
 use Rattle.trace_check.specs.declared.trace.Deed.TheVariants as deed
@@ -95,22 +96,14 @@ claim_with d ms = record { deed = d; sent = ms }
 
 deed_back : (d : Deed) (ms : List Envelope) → DeedFits d → HasName d → deed_in (found_in (entry_data (claim_with d ms))) ≡ Some d
 deed_back deed.Nothing ms fits named = refl
-deed_back (deed.Done on.CheckTimer) ms fits named = refl
-deed_back (deed.Done on.MergeTimer) ms fits named = refl
-deed_back (deed.Done on.AcceptTimer) ms fits named = refl
-deed_back (deed.Done on.ReadyTimer) ms fits named = refl
-deed_back (deed.Done on.CoordTimer) ms fits named = refl
-deed_back (deed.Done on.DispatchTimer) ms fits named = refl
+deed_back (deed.Done (on.Timer timer.Check)) ms fits named = refl
+deed_back (deed.Done (on.Timer _)) ms fits named = refl
 deed_back (deed.Done (on.Deliver m)) ms fits named = deliver_back false m fits
 deed_back (deed.Done (on.Submit w)) ms fits named = submit_back false (w.priority == 0) w ms refl fits
 deed_back (deed.Done (on.Finish origin id)) ms fits named = finish_back false origin id fits.0
 deed_back (deed.Done on.Recover) ms fits named = absurd named
-deed_back (deed.Faulted on.CheckTimer) ms fits named = refl
-deed_back (deed.Faulted on.MergeTimer) ms fits named = refl
-deed_back (deed.Faulted on.AcceptTimer) ms fits named = refl
-deed_back (deed.Faulted on.ReadyTimer) ms fits named = refl
-deed_back (deed.Faulted on.CoordTimer) ms fits named = refl
-deed_back (deed.Faulted on.DispatchTimer) ms fits named = refl
+deed_back (deed.Faulted (on.Timer timer.Check)) ms fits named = refl
+deed_back (deed.Faulted (on.Timer _)) ms fits named = refl
 deed_back (deed.Faulted (on.Deliver m)) ms fits named = deliver_back true m fits
 deed_back (deed.Faulted (on.Submit w)) ms fits named = submit_back true (w.priority == 0) w ms refl fits
 deed_back (deed.Faulted (on.Finish origin id)) ms fits named = finish_back true origin id fits.0
@@ -130,22 +123,12 @@ work_sent false false w ms = refl
 
 sent_there : (d : Deed) (ms : List Envelope) → get (codes "sent") (entry_data (claim_with d ms)) ≡ Some (sent_data ms)
 sent_there deed.Nothing ms = refl
-sent_there (deed.Done on.CheckTimer) ms = refl
-sent_there (deed.Done on.MergeTimer) ms = refl
-sent_there (deed.Done on.AcceptTimer) ms = refl
-sent_there (deed.Done on.ReadyTimer) ms = refl
-sent_there (deed.Done on.CoordTimer) ms = refl
-sent_there (deed.Done on.DispatchTimer) ms = refl
+sent_there (deed.Done (on.Timer t)) ms = refl
 sent_there (deed.Done (on.Deliver m)) ms = refl
 sent_there (deed.Done (on.Submit w)) ms = work_sent false (w.priority == 0) w ms
 sent_there (deed.Done (on.Finish origin id)) ms = refl
 sent_there (deed.Done on.Recover) ms = refl
-sent_there (deed.Faulted on.CheckTimer) ms = refl
-sent_there (deed.Faulted on.MergeTimer) ms = refl
-sent_there (deed.Faulted on.AcceptTimer) ms = refl
-sent_there (deed.Faulted on.ReadyTimer) ms = refl
-sent_there (deed.Faulted on.CoordTimer) ms = refl
-sent_there (deed.Faulted on.DispatchTimer) ms = refl
+sent_there (deed.Faulted (on.Timer t)) ms = refl
 sent_there (deed.Faulted (on.Deliver m)) ms = refl
 sent_there (deed.Faulted (on.Submit w)) ms = work_sent true (w.priority == 0) w ms
 sent_there (deed.Faulted (on.Finish origin id)) ms = refl

@@ -38,12 +38,7 @@ priority_of priority rest = by_zero (priority == 0)
     by_zero false = refl
 
 event_of : (e : Event) (rest : Members) → members_tokens (members_outline (event_members e rest)) ≡ event_tokens e ++ members_tokens (members_outline rest)
-event_of on.CheckTimer rest = refl
-event_of on.MergeTimer rest = refl
-event_of on.AcceptTimer rest = refl
-event_of on.ReadyTimer rest = refl
-event_of on.CoordTimer rest = refl
-event_of on.DispatchTimer rest = refl
+event_of (on.Timer timer) rest = refl
 event_of (on.Deliver m) rest = refl
 event_of (on.Submit work) rest =
     ap (λ (ts : List Token). token.key (codes "payload") ∷ token.string (encode_lower work.payload) ∷ ts)

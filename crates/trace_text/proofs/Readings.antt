@@ -52,22 +52,12 @@ work_read false false w ms fits =
 
 entry_read : (d : Deed) (ms : List Envelope) → DeedFits d → of_json (outline (entry_data (claim_with d ms))) ≡ Some (entry_data (claim_with d ms))
 entry_read deed.Nothing ms fits = rw (sent_read ms) refl
-entry_read (deed.Done on.CheckTimer) ms fits = rw (sent_read ms) refl
-entry_read (deed.Done on.MergeTimer) ms fits = rw (sent_read ms) refl
-entry_read (deed.Done on.AcceptTimer) ms fits = rw (sent_read ms) refl
-entry_read (deed.Done on.ReadyTimer) ms fits = rw (sent_read ms) refl
-entry_read (deed.Done on.CoordTimer) ms fits = rw (sent_read ms) refl
-entry_read (deed.Done on.DispatchTimer) ms fits = rw (sent_read ms) refl
+entry_read (deed.Done (on.Timer timer)) ms fits = rw (sent_read ms) refl
 entry_read (deed.Done (on.Deliver m)) ms fits = rw (sent_read ms) refl
 entry_read (deed.Done (on.Submit w)) ms fits = work_read false (w.priority == 0) w ms fits
 entry_read (deed.Done (on.Finish origin id)) ms fits = let place : origin < 2 ^ 64 = omega (arith, fits.0) in rw (number_of-decimal id fits.1, number_of-decimal origin place, sent_read ms) refl
 entry_read (deed.Done on.Recover) ms fits = rw (sent_read ms) refl
-entry_read (deed.Faulted on.CheckTimer) ms fits = rw (sent_read ms) refl
-entry_read (deed.Faulted on.MergeTimer) ms fits = rw (sent_read ms) refl
-entry_read (deed.Faulted on.AcceptTimer) ms fits = rw (sent_read ms) refl
-entry_read (deed.Faulted on.ReadyTimer) ms fits = rw (sent_read ms) refl
-entry_read (deed.Faulted on.CoordTimer) ms fits = rw (sent_read ms) refl
-entry_read (deed.Faulted on.DispatchTimer) ms fits = rw (sent_read ms) refl
+entry_read (deed.Faulted (on.Timer timer)) ms fits = rw (sent_read ms) refl
 entry_read (deed.Faulted (on.Deliver m)) ms fits = rw (sent_read ms) refl
 entry_read (deed.Faulted (on.Submit w)) ms fits = work_read true (w.priority == 0) w ms fits
 entry_read (deed.Faulted (on.Finish origin id)) ms fits = let place : origin < 2 ^ 64 = omega (arith, fits.0) in rw (number_of-decimal id fits.1, number_of-decimal origin place, sent_read ms) refl
@@ -102,12 +92,7 @@ priority_flat true priority rest = omega arith
 priority_flat false priority rest = omega arith
 
 event_flat : (e : Event) (rest : Members) → tree.members_depth (members_outline (event_members e rest)) ≤ tree.members_depth (members_outline rest)
-event_flat on.CheckTimer rest = omega arith
-event_flat on.MergeTimer rest = omega arith
-event_flat on.AcceptTimer rest = omega arith
-event_flat on.ReadyTimer rest = omega arith
-event_flat on.CoordTimer rest = omega arith
-event_flat on.DispatchTimer rest = omega arith
+event_flat (on.Timer timer) rest = omega arith
 event_flat (on.Deliver m) rest = omega arith
 event_flat (on.Submit w) rest = let ranked = priority_flat (w.priority == 0) w.priority (member (codes "queue") (number (unsigned w.queue)) rest) in omega (arith, ranked)
 event_flat (on.Finish origin id) rest = omega arith

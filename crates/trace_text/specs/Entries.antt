@@ -1,5 +1,6 @@
 -- The entry that a JSON value stands for.
 use Rattle.std.specs.Prelude.{ℕ, Bool, true, false, List, [], ◌∷◌, Option, Some, None, option_map, option_and_then, if◌then◌else◌, ◌&&◌, nat_lt, nat_le, length, codes, Result, Ok, Err}
+use Rattle.std.specs.Option.{option_or}
 use Rattle.std.specs.Str.{bytes_eq}
 use Rattle.serde_json.specs.Data.{Data, Items, no_items, item}
 use Rattle.serde_json.specs.Find.{get, as_str, as_bool, as_array, as_number, as_u64}
@@ -12,6 +13,8 @@ use Rattle.wire_msg.specs.Envelope.{Envelope}
 use Rattle.wire_msg.specs.Reading.{message_of}
 use Rattle.node_core.specs.declared.event.Event.{Event}
 use Rattle.node_core.specs.declared.event.Event.TheVariants as on
+use Rattle.node_core.specs.declared.timer.Timer.{Timer}
+use Rattle.node_core.specs.TimerWords.{timer_named}
 use Rattle.trace_check.specs.declared.trace.Deed.{Deed}
 use Rattle.trace_check.specs.declared.trace.Deed.TheVariants as deed
 use Rattle.trace_check.specs.declared.trace.RecoverFault.TheVariants as recover
@@ -80,17 +83,13 @@ submit_in f = submitted (option_and_then (below QUEUES) (number_in f.queue)) (pr
 abbrev pub finish_in : Found → Option Event
 finish_in f = option_and_then (λ (origin : ℕ). option_map (λ (id : ℕ). on.Finish origin id) (number_in f.id)) (option_and_then (below NODES) (number_in f.origin))
 
+-- an event: of a timer the name says all
 abbrev pub event_in : Found → List ℕ → Option Event
 event_in f name =
-    if bytes_eq name (codes "check") then Some on.CheckTimer else
-    if bytes_eq name (codes "merge") then Some on.MergeTimer else
-    if bytes_eq name (codes "accept") then Some on.AcceptTimer else
-    if bytes_eq name (codes "ready") then Some on.ReadyTimer else
-    if bytes_eq name (codes "coord") then Some on.CoordTimer else
-    if bytes_eq name (codes "dispatch") then Some on.DispatchTimer else
-    if bytes_eq name (codes "deliver") then deliver_in f else
+    option_or (option_map (λ (timer : Timer). on.Timer timer) (timer_named name))
+    (if bytes_eq name (codes "deliver") then deliver_in f else
     if bytes_eq name (codes "submit") then submit_in f else
-    if bytes_eq name (codes "finish") then finish_in f else None
+    if bytes_eq name (codes "finish") then finish_in f else None)
 
 -- whether the device failed: left out where it didn't
 abbrev pub device_in : Option Data → Option Bool

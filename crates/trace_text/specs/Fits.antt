@@ -21,12 +21,7 @@ pub record WorkFits (w : Work) : Type 0 where
   pub bytes : AreBytes w.payload
 
 abbrev pub EventFits : Event → Type 0
-EventFits on.CheckTimer = ⊤
-EventFits on.MergeTimer = ⊤
-EventFits on.AcceptTimer = ⊤
-EventFits on.ReadyTimer = ⊤
-EventFits on.CoordTimer = ⊤
-EventFits on.DispatchTimer = ⊤
+EventFits (on.Timer timer) = ⊤
 EventFits (on.Deliver m) = IsMessage m
 EventFits (on.Submit work) = WorkFits work
 EventFits (on.Finish origin id) = (origin < NODES) × (id < 2 ^ 64)

@@ -31,12 +31,7 @@ abbrev pub work_tokens : Work → List Token
 work_tokens work = token.key (codes "payload") ∷ token.string (encode_lower work.payload) ∷ rank_tokens work
 
 abbrev pub event_tokens : Event → List Token
-event_tokens on.CheckTimer = []
-event_tokens on.MergeTimer = []
-event_tokens on.AcceptTimer = []
-event_tokens on.ReadyTimer = []
-event_tokens on.CoordTimer = []
-event_tokens on.DispatchTimer = []
+event_tokens (on.Timer timer) = []
 event_tokens (on.Deliver m) = token.key (codes "msg") ∷ token.string (encode_lower (spelling m)) ∷ []
 event_tokens (on.Submit work) = work_tokens work
 event_tokens (on.Finish origin id) = token.key (codes "id") ∷ token.number (decimal id) ∷ token.key (codes "origin") ∷ token.number (decimal origin) ∷ []

@@ -7,6 +7,7 @@ use Rattle.wire_msg.specs.Envelope.{Envelope}
 use Rattle.wire_msg.specs.Spelling.{spelling}
 use Rattle.node_core.specs.declared.event.Event.{Event}
 use Rattle.node_core.specs.declared.event.Event.TheVariants as on
+use Rattle.node_core.specs.TimerWords.{word_of}
 use Rattle.trace_check.specs.declared.trace.Deed.{Deed}
 use Rattle.trace_check.specs.declared.trace.Deed.TheVariants as deed
 use Rattle.trace_check.specs.declared.trace.RecoverFault.{RecoverFault}
@@ -17,12 +18,7 @@ abbrev pub message_data : Envelope → Data
 message_data m = string (encode_lower (spelling m))
 
 abbrev pub event_name : Event → List ℕ
-event_name on.CheckTimer = codes "check"
-event_name on.MergeTimer = codes "merge"
-event_name on.AcceptTimer = codes "accept"
-event_name on.ReadyTimer = codes "ready"
-event_name on.CoordTimer = codes "coord"
-event_name on.DispatchTimer = codes "dispatch"
+event_name (on.Timer timer) = word_of timer
 event_name (on.Deliver m) = codes "deliver"
 event_name (on.Submit work) = codes "submit"
 event_name (on.Finish origin id) = codes "finish"
@@ -34,12 +30,7 @@ priority_members priority rest = if priority == 0 then rest else member (codes "
 
 -- the members of an event, in front of others
 abbrev pub event_members : Event → Members → Members
-event_members on.CheckTimer rest = rest
-event_members on.MergeTimer rest = rest
-event_members on.AcceptTimer rest = rest
-event_members on.ReadyTimer rest = rest
-event_members on.CoordTimer rest = rest
-event_members on.DispatchTimer rest = rest
+event_members (on.Timer timer) rest = rest
 event_members (on.Deliver m) rest = member (codes "msg") (message_data m) rest
 event_members (on.Submit work) rest = member (codes "payload") (string (encode_lower work.payload)) (priority_members work.priority (member (codes "queue") (number (unsigned work.queue)) rest))
 event_members (on.Finish origin id) rest = member (codes "id") (number (unsigned id)) (member (codes "origin") (number (unsigned origin)) rest)

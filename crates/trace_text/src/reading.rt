@@ -14,7 +14,7 @@ use crate::fields::{Field, Fields};
 use group_task::{NODES, NodeId};
 use job_model::{Payload, QUEUES, Queue, Work};
 use line_words::is_word;
-use node_core::Event;
+use node_core::{Event, Timer};
 use serde_json::Value;
 use std::alloc::{AllocError, Global};
 use trace_check::{Deed, RecoverFault};
@@ -250,18 +250,8 @@ fn read_event(
     requires { bytes_eq name.now (codes "deliver") ≡ false }
     ensures { IfOk result (λ some. IsRead some event.new (event_in (found_by fields.now) name.now)) }
 {
-    if is_word(name, "check") {
-        *event = Event::CheckTimer;
-    } else if is_word(name, "merge") {
-        *event = Event::MergeTimer;
-    } else if is_word(name, "accept") {
-        *event = Event::AcceptTimer;
-    } else if is_word(name, "ready") {
-        *event = Event::ReadyTimer;
-    } else if is_word(name, "coord") {
-        *event = Event::CoordTimer;
-    } else if is_word(name, "dispatch") {
-        *event = Event::DispatchTimer;
+    if let Some(timer) = Timer::from_word(name) {
+        *event = Event::Timer(timer);
     } else if is_word(name, "submit") {
         return read_submit(room, fields, event);
     } else if is_word(name, "finish") {

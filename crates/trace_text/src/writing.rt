@@ -147,12 +147,7 @@ fn event_name(event: &Event) -> &'static str
     ensures { result.now ≡ event_name event.now }
 {
     match event {
-        Event::CheckTimer => "check",
-        Event::MergeTimer => "merge",
-        Event::AcceptTimer => "accept",
-        Event::ReadyTimer => "ready",
-        Event::CoordTimer => "coord",
-        Event::DispatchTimer => "dispatch",
+        Event::Timer(timer) => timer.word(),
         Event::Deliver(_) => "deliver",
         Event::Submit(_) => "submit",
         Event::Finish(_, _) => "finish",

@@ -1,4 +1,8 @@
-use group_task::{GroupNo, Task};
+ghost use Rattle.std.specs.Prelude.{◌≡◌, IfSome};
+ghost use Rattle.wire_msg.specs.Kinds.{group_in, shape_of, short_of, body_of, IsShort, IsForm};
+
+use crate::short::{Kind, Short};
+use group_task::{GroupNo, NodeId, Task};
 use job_model::Work;
 
 /// How many bytes the body of a message has at most: that of a Work with a priority and the longest payload. Its whole spelling
@@ -29,4 +33,76 @@ pub enum Body {
     Work { group: GroupNo, id: u64, work: Work },
     /// Tells the node that gave the work that the job of this id is done.
     Done(u64),
+}
+
+/// What a body says: it has a short form, or it is one of the two long ones.
+#[derive(Clone, Copy)]
+pub enum Form<'a> {
+    Short(Short),
+    Ready(&'a Task),
+    Work(GroupNo, u64, &'a Work),
+}
+
+impl Body {
+    /// The group that it names.
+    #[inline]
+    pub fn group(&self) -> Option<GroupNo>
+        ensures { result ≡ group_in self.now }
+    {
+        match self {
+            Body::AreYouThere(group)
+            | Body::Here(group, _)
+            | Body::Invitation(group)
+            | Body::Accept(group)
+            | Body::ReadyAck(group)
+            | Body::Work { group, .. } => Some(*group),
+            Body::Ready(task) => Some(task.group()),
+            Body::AreYouCoordinator | Body::Coordinator(_) | Body::Done(_) => None,
+        }
+    }
+
+    /// Its form.
+    #[inline(always)]
+    pub fn form(&self) -> Form<'_>
+        ensures form { IsForm result (shape_of self.now) }
+        ensures same { body_of (shape_of self.now) ≡ self.now }
+    {
+        let none = NodeId::numbered(0);
+        let of = |kind: Kind, answer: bool, group: GroupNo| Short {
+            kind,
+            answer,
+            creator: group.creator(),
+            number: group.count(),
+        };
+        let own = |kind: Kind, answer: bool, number: u64| Short {
+            kind,
+            answer,
+            creator: none,
+            number,
+        };
+        match self {
+            Body::AreYouCoordinator => Form::Short(own(Kind::AreYouCoordinator, false, 0)),
+            Body::Coordinator(answer) => Form::Short(own(Kind::Coordinator, *answer, 0)),
+            Body::AreYouThere(group) => Form::Short(of(Kind::AreYouThere, false, *group)),
+            Body::Here(group, answer) => Form::Short(of(Kind::Here, *answer, *group)),
+            Body::Invitation(group) => Form::Short(of(Kind::Invitation, false, *group)),
+            Body::Accept(group) => Form::Short(of(Kind::Accept, false, *group)),
+            Body::Ready(task) => Form::Ready(task),
+            Body::ReadyAck(group) => Form::Short(of(Kind::ReadyAck, false, *group)),
+            Body::Work { group, id, work } => Form::Work(*group, *id, work),
+            Body::Done(id) => Form::Short(own(Kind::Done, false, *id)),
+        }
+    }
+
+    /// Its short form, which a Ready and a Work don't have.
+    #[inline]
+    pub fn short(&self) -> Option<Short>
+        ensures value { result ≡ short_of self.now }
+        ensures short { IfSome result IsShort }
+    {
+        match self.form() {
+            Form::Short(short) => Some(short),
+            Form::Ready(_) | Form::Work(_, _, _) => None,
+        }
+    }
 }

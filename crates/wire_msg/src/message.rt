@@ -1,10 +1,12 @@
 ghost use Rattle.std.specs.Prelude.{◌≡◌, ◌≢◌, option_map};
 ghost use Rattle.wire_msg.specs.Envelope.{envelope};
+ghost use Rattle.wire_msg.specs.Kinds.{said, IsCounted};
 ghost use Rattle.wire_msg.specs.Reading.{whole_at};
 ghost use Rattle.wire_msg.specs.declared.body.Body.TheVariants.{AreYouCoordinator};
 
 use crate::body::Body;
 use crate::reading::read;
+use crate::short::Short;
 use group_task::NodeId;
 use std::marker::Model;
 
@@ -100,6 +102,17 @@ impl Message {
             receiver,
             body,
         };
+    }
+
+    /// The same for the body of this short form.
+    #[inline]
+    pub fn set_short(&mut self, sender: NodeId, receiver: NodeId, short: Short)
+        requires ends { sender ≢ receiver }
+        requires counted { IsCounted short }
+        ensures { self.new ≡ record { sender = sender; receiver = receiver; body = said short } }
+    {
+        (self.sender, self.receiver) = (sender, receiver);
+        short.write_to(&mut self.body);
     }
 
     /// Some message, in whose place others are read one after another.

@@ -1,15 +1,17 @@
-ghost use Rattle.std.specs.Prelude.{◌≡◌, ◌<◌, ◌≤◌, ℕ, List, length, take, drop, ◌≢◌, Some, IfSome, IfOk, IsOk, OnOk, IfErr, Ok, option_map};
+ghost use Rattle.std.specs.Prelude.{◌≡◌, ◌<◌, ◌≤◌, ℕ, List, length, take, drop, ◌≢◌, Some, IfSome, IfOk, IsOk, OnOk, IfErr, Ok, option_map, MatchBool, ⊤};
 ghost use Rattle.std.specs.Int.{w16, w64};
 ghost use Rattle.job_model.specs.declared.payload.TheConstants.{PAYLOAD_CAPACITY};
 ghost use Rattle.job_model.specs.declared.queue.TheConstants.{QUEUES};
 ghost use Rattle.group_task.specs.declared.node.TheConstants.{NODES};
 ghost use Rattle.wire_msg.specs.Envelope.{Envelope};
+ghost use Rattle.wire_msg.specs.Kinds.{names_group};
 ghost use Rattle.wire_msg.specs.Spelling.{Spells};
-ghost use Rattle.wire_msg.specs.Reading.{seen, byte_at, number_at, below_at, truth_at, group_at, members_at, task_at, payload_at, priority_at, work_at, here_at, body_at, whole_at};
+ghost use Rattle.wire_msg.specs.Reading.{seen, byte_at, number_at, below_at, truth_at, group_at, members_at, task_at, payload_at, priority_at, work_at, named_at, answer_at, short_at, body_at, whole_at};
 
 use crate::body::Body;
 use crate::fault::WireFault;
 use crate::message::Message;
+use crate::short::{Kind, Short};
 use crate::version::version_of;
 use group_task::{GroupNo, Members, NodeId, Task, share};
 use job_model::{PAYLOAD_CAPACITY, Payload, Queue, Work};
@@ -182,30 +184,67 @@ impl<'a> Reader<'a> {
         Some(())
     }
 
+    /// The creator and the count of the group that a short body names, or 0 and the id that it has.
+    #[tactic(auto, unfolding(crate::specs::Reading::named_at))]
+    #[inline(always)]
+    fn named(&mut self, kind: Kind) -> Option<(NodeId, u64)>
+        ensures value { seen (option_map (λ g. record { creator = g.0; count = g.1 }) result) self.new.rest.now ≡ named_at kind self.old.rest.now }
+        ensures counted { IfSome result (λ g. MatchBool (names_group kind) (1 ≤ g.1) ⊤) }
+    {
+        let none = NodeId::numbered(0);
+        if kind.names_group() {
+            let group = self.group()?;
+            return Some((group.creator(), group.count()));
+        }
+        if kind.has_id() {
+            return Some((none, self.u64()?));
+        }
+        Some((none, 0))
+    }
+
+    /// The answer of a short body.
+    #[tactic(auto, unfolding(crate::specs::Reading::answer_at))]
+    #[inline(always)]
+    fn answer(&mut self, kind: Kind) -> Option<bool>
+        ensures { seen result self.new.rest.now ≡ answer_at kind self.old.rest.now }
+    {
+        if kind.has_answer() {
+            self.truth()
+        } else {
+            Some(false)
+        }
+    }
+
+    /// Reads a short body into the place where it will stay.
+    #[tactic(auto, unfolding(crate::specs::Reading::short_at))]
+    #[inline(always)]
+    fn short(&mut self, kind: Kind, body: &mut Body) -> Option<()>
+        ensures { option_map (λ _. (body.new, self.new.rest.now)) result ≡ short_at kind self.old.rest.now }
+    {
+        let (creator, number) = self.named(kind)?;
+        let answer = self.answer(kind)?;
+        let short = Short {
+            kind,
+            answer,
+            creator,
+            number,
+        };
+        short.write_to(body);
+        Some(())
+    }
+
     /// Reads the body into the place where it will stay, since it has room for the longest payload.
-    #[tactic(auto, unfolding(crate::specs::Reading::body_at, crate::specs::Reading::here_at))]
+    #[tactic(auto, unfolding(crate::specs::Reading::body_at, crate::specs::Reading::long_at, crate::specs::Reading::ready_at))]
     #[inline(always)]
     fn body(&mut self, kind: u8, body: &mut Body) -> Option<()>
         ensures { option_map (λ _. (body.new, self.new.rest.now)) result ≡ body_at kind self.old.rest.now }
     {
+        if let Some(short) = Kind::numbered(kind) {
+            return self.short(short, body);
+        }
         match kind {
-            1 => {
-                if !matches!(body, Body::AreYouCoordinator) {
-                    *body = Body::AreYouCoordinator;
-                }
-            }
-            2 => *body = Body::Coordinator(self.truth()?),
-            3 => *body = Body::AreYouThere(self.group()?),
-            4 => {
-                let group = self.group()?;
-                *body = Body::Here(group, self.truth()?);
-            }
-            5 => *body = Body::Invitation(self.group()?),
-            6 => *body = Body::Accept(self.group()?),
             7 => *body = Body::Ready(self.task()?),
-            8 => *body = Body::ReadyAck(self.group()?),
             9 | 11 => self.work(kind == 11, body)?,
-            10 => *body = Body::Done(self.u64()?),
             _ => return None,
         }
         Some(())

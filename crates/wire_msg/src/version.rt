@@ -19,7 +19,7 @@ fn is_narrow(id: NodeId) -> bool
 
 /// The version of a message between these nodes whose body names no node.
 #[inline]
-pub fn version_between(sender: NodeId, receiver: NodeId) -> u8
+pub(crate) fn version_between(sender: NodeId, receiver: NodeId) -> u8
     ensures { result ≡ version_naming (sender ∷ receiver ∷ []) }
 {
     if is_narrow(sender) && is_narrow(receiver) {
@@ -31,7 +31,7 @@ pub fn version_between(sender: NodeId, receiver: NodeId) -> u8
 
 /// The version of a message between these nodes whose body names this node alone, as the creator of its group.
 #[inline]
-pub fn version_naming(sender: NodeId, receiver: NodeId, creator: NodeId) -> u8
+pub(crate) fn version_naming(sender: NodeId, receiver: NodeId, creator: NodeId) -> u8
     ensures { result ≡ version_naming (sender ∷ receiver ∷ creator ∷ []) }
 {
     if is_narrow(creator) {
@@ -42,7 +42,7 @@ pub fn version_naming(sender: NodeId, receiver: NodeId, creator: NodeId) -> u8
 }
 
 /// The version of a message that tells this task.
-fn version_telling(sender: NodeId, receiver: NodeId, task: &Task) -> u8
+pub(crate) fn version_telling(sender: NodeId, receiver: NodeId, task: &Task) -> u8
     ensures { result ≡ version_naming (sender ∷ receiver ∷ task.now.group.creator ∷ task.now.members) }
 {
     if task.members().are_below(NodeId::numbered(NARROW_NODES)) {
@@ -57,16 +57,11 @@ fn version_telling(sender: NodeId, receiver: NodeId, task: &Task) -> u8
 pub(crate) fn version_of(sender: NodeId, receiver: NodeId, body: &Body) -> u8
     ensures { result ≡ version_of (record { sender = sender; receiver = receiver; body = body.now }) }
 {
-    match body {
-        Body::AreYouCoordinator | Body::Coordinator(_) | Body::Done(_) => {
-            version_between(sender, receiver)
-        }
-        Body::AreYouThere(group)
-        | Body::Here(group, _)
-        | Body::Invitation(group)
-        | Body::Accept(group)
-        | Body::ReadyAck(group)
-        | Body::Work { group, .. } => version_naming(sender, receiver, group.creator()),
-        Body::Ready(task) => version_telling(sender, receiver, task),
+    if let Body::Ready(task) = body {
+        return version_telling(sender, receiver, task);
+    }
+    match body.group() {
+        Some(group) => version_naming(sender, receiver, group.creator()),
+        None => version_between(sender, receiver),
     }
 }

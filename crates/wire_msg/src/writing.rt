@@ -1,51 +1,19 @@
-ghost use Rattle.std.specs.Prelude.{◌≡◌, ◌+◌, ◌≤◌, [], ◌∷◌, ◌++◌, length, vec_len, vec_capacity, OnOk, OnErr, IfOk, IfErr};
-ghost use Rattle.wire_msg.specs.Spelling.{group as group_bytes, task as task_bytes, priority as priority_bytes, work as work_bytes, kind_of, content, AreBytes, IsGroup, IsTask, IsWork, IsBody, Spells};
+ghost use Rattle.std.specs.Prelude.{◌≡◌, ◌≢◌, ◌+◌, ◌<◌, ◌≤◌, [], ◌∷◌, ◌++◌, Bool, if◌then◌else◌, length, vec_len, vec_capacity, OnOk, OnErr, IfOk, IfErr};
+ghost use Rattle.std.specs.Int.{w16, to_be_bytes};
+ghost use Rattle.group_task.specs.Group.{Group};
+ghost use Rattle.group_task.specs.declared.node.TheConstants.{NODES};
+ghost use Rattle.wire_msg.specs.declared.body.Body.TheVariants.{Ready, Work as WorkMessage};
+ghost use Rattle.wire_msg.specs.Kinds.{said, names_group, IsCounted};
+ghost use Rattle.wire_msg.specs.Spelling.{group as group_bytes, task as task_bytes, priority as priority_bytes, work as work_bytes, place, answered, version_naming, AreBytes, IsGroup, IsTask, IsWork, Spells};
 
-use crate::body::Body;
+use crate::body::Form;
 use crate::fault::WireFault;
 use crate::message::Message;
-use crate::version::version_of;
-use group_task::{GroupNo, Members, Task};
+use crate::short::{Kind, Short};
+use crate::version::{version_between, version_naming, version_telling};
+use group_task::{GroupNo, Members, NodeId, Task};
 use job_model::Work;
 use std::alloc::{AllocError, Global};
-
-fn kind_of(body: &Body) -> u8
-    ensures { result ≡ kind_of body.now }
-{
-    match body {
-        Body::AreYouCoordinator => 1,
-        Body::Coordinator(_) => 2,
-        Body::AreYouThere(_) => 3,
-        Body::Here(_, _) => 4,
-        Body::Invitation(_) => 5,
-        Body::Accept(_) => 6,
-        Body::Ready(_) => 7,
-        Body::ReadyAck(_) => 8,
-        Body::Work { work, .. } => { if work.priority == 0 { 9 } else { 11 } }
-        Body::Done(_) => 10,
-    }
-}
-
-/// How many bytes `put_body` adds.
-fn len_of(body: &Body) -> u16
-    ensures { result ≡ length (content body.now) }
-{
-    match body {
-        Body::AreYouCoordinator => 0,
-        Body::Coordinator(_) => 1,
-        Body::AreYouThere(_) => 9,
-        Body::Here(_, _) => 10,
-        Body::Invitation(_) => 9,
-        Body::Accept(_) => 9,
-        Body::Ready(task) => 10 + task.members().len() as u16,
-        Body::ReadyAck(_) => 9,
-        Body::Work { work, .. } => {
-            let priority = if work.priority == 0 { 0 } else { 1 };
-            20 + priority + work.payload.len() as u16
-        }
-        Body::Done(_) => 8,
-    }
-}
 
 fn put_bytes(out: &mut Vec<u8>, bytes: &[u8]) -> Result<(), AllocError>
     ensures added { OnOk result (out.new.items ≡ out.old.items ++ bytes.now) }
@@ -59,10 +27,17 @@ fn put_group(out: &mut Vec<u8>, group: GroupNo) -> Result<(), AllocError>
     ensures bytes { OnOk result (out.new.items ≡ out.old.items ++ group_bytes group) }
     ensures fits { OnOk result (IsGroup group) }
 {
-    let creator = group.creator().number();
-    let count = group.count().to_be_bytes();
-    out.push(creator)?;
-    out.extend_from_slice(&count)
+    put_named(out, group.creator(), group.count())
+}
+
+/// Writes the group of this creator and this count.
+fn put_named(out: &mut Vec<u8>, creator: NodeId, count: u64) -> Result<(), AllocError>
+    ensures bytes { OnOk result (out.new.items ≡ out.old.items ++ group_bytes (record { creator = creator; count = count })) }
+    ensures creator { creator < NODES }
+{
+    let bytes = count.to_be_bytes();
+    out.push(creator.number())?;
+    out.extend_from_slice(&bytes)
 }
 
 fn put_task(out: &mut Vec<u8>, task: &Task) -> Result<(), AllocError>
@@ -113,43 +88,131 @@ fn put_work(out: &mut Vec<u8>, group: GroupNo, id: u64, work: &Work) -> Result<(
     Ok(())
 }
 
-fn put_body(out: &mut Vec<u8>, body: &Body) -> Result<(), AllocError>
-    ensures bytes { OnOk result (out.new.items ≡ out.old.items ++ content body.now) }
-    ensures fits { OnOk result (IsBody body.now) }
-{
-    match body {
-        Body::AreYouCoordinator => Ok(()),
-        Body::Coordinator(answer) => Ok(out.push(u8::from(*answer))?),
-        Body::AreYouThere(group) => put_group(out, *group),
-        Body::Here(group, answer) => {
-            put_group(out, *group)?;
-            Ok(out.push(u8::from(*answer))?)
-        }
-        Body::Invitation(group) => put_group(out, *group),
-        Body::Accept(group) => put_group(out, *group),
-        Body::Ready(task) => put_task(out, task),
-        Body::ReadyAck(group) => put_group(out, *group),
-        Body::Work { group, id, work } => put_work(out, *group, *id, work),
-        Body::Done(id) => {
-            let id = *id;
-            out.extend_from_slice(&id.to_be_bytes())
-        }
-    }
-}
-
-/// Writes what stands in front of a body, in the room that is there.
+/// Writes what stands in front of a body of so many bytes, and makes room for it.
 #[inline]
-fn put_head(out: &mut Vec<u8>, version: u8, kind: u8, sender: u8, receiver: u8, len: [u8; 2])
-    requires { vec_len out.old + 6 ≤ vec_capacity out.old }
-    ensures { out.new.items ≡ out.old.items ++ version ∷ kind ∷ sender ∷ receiver ∷ len }
+fn begin(
+    out: &mut Vec<u8>,
+    version: u8,
+    kind: u8,
+    ends: (NodeId, NodeId),
+    len: u16,
+) -> Result<(), AllocError>
+    ensures bytes { OnOk result (out.new.items ≡ out.old.items ++ version ∷ kind ∷ ends.0 ∷ ends.1 ∷ to_be_bytes w16 len) }
+    ensures nodes { OnOk result ((ends.0 < NODES) × (ends.1 < NODES)) }
 {
-    let [high, low] = len;
+    let (sender, receiver) = (ends.0.number(), ends.1.number());
+    let [high, low] = len.to_be_bytes();
+    out.reserve(6 + usize::from(len))?;
     out.push_reserved(version);
     out.push_reserved(kind);
     out.push_reserved(sender);
     out.push_reserved(receiver);
     out.push_reserved(high);
     out.push_reserved(low);
+    Ok(())
+}
+
+/// How many bytes the body of a short form has.
+fn len_of(kind: Kind) -> u16
+    ensures { (g : Group) (answer : Bool) → result ≡ length (place kind g ++ answered kind answer) }
+{
+    let place = if kind.names_group() {
+        9
+    } else if kind.has_id() {
+        8
+    } else {
+        0
+    };
+    place + u16::from(kind.has_answer())
+}
+
+/// The version of a message between these nodes of this kind, which names the creator where it names a group.
+fn version_of_short(sender: NodeId, receiver: NodeId, kind: Kind, creator: NodeId) -> u8
+    ensures { result ≡ version_naming (sender ∷ receiver ∷ (if names_group kind then creator ∷ [] else [])) }
+{
+    if kind.names_group() {
+        version_naming(sender, receiver, creator)
+    } else {
+        version_between(sender, receiver)
+    }
+}
+
+/// Writes the group of a kind that names one, and the id of one that has an id.
+fn put_place(out: &mut Vec<u8>, kind: Kind, creator: NodeId, number: u64) -> Result<(), AllocError>
+    ensures { OnOk result (out.new.items ≡ out.old.items ++ place kind (record { creator = creator; count = number })) }
+{
+    if kind.names_group() {
+        return put_named(out, creator, number);
+    }
+    if kind.has_id() {
+        return out.extend_from_slice(&number.to_be_bytes());
+    }
+    Ok(())
+}
+
+/// Writes the answer of a kind that has one.
+fn put_answer(out: &mut Vec<u8>, kind: Kind, answer: bool) -> Result<(), AllocError>
+    ensures { OnOk result (out.new.items ≡ out.old.items ++ answered kind answer) }
+{
+    if kind.has_answer() {
+        out.push(u8::from(answer))?;
+    }
+    Ok(())
+}
+
+/// Writes the spelling of the message between these nodes that has this short form into an empty list.
+fn put_short(out: &mut Vec<u8>, ends: (NodeId, NodeId), short: Short) -> Result<(), AllocError>
+    requires empty { out.old.items ≡ [] }
+    requires ends { ends.0 ≢ ends.1 }
+    requires counted { IsCounted short }
+    ensures { OnOk result (Spells (record { sender = ends.0; receiver = ends.1; body = said short }) out.new.items) }
+{
+    let Short {
+        kind,
+        answer,
+        creator,
+        number,
+    } = short;
+    let version = version_of_short(ends.0, ends.1, kind, creator);
+    let len = len_of(kind);
+    let kind_number = kind.number();
+    begin(out, version, kind_number, ends, len)?;
+    put_place(out, kind, creator, number)?;
+    put_answer(out, kind, answer)?;
+    Ok(())
+}
+
+/// Writes the spelling of the Ready between these nodes that tells this task into an empty list.
+fn put_ready(out: &mut Vec<u8>, ends: (NodeId, NodeId), task: &Task) -> Result<(), AllocError>
+    requires empty { out.old.items ≡ [] }
+    requires ends { ends.0 ≢ ends.1 }
+    ensures { OnOk result (Spells (record { sender = ends.0; receiver = ends.1; body = Ready task.now }) out.new.items) }
+{
+    let len = 10 + task.members().len() as u16;
+    let version = version_telling(ends.0, ends.1, task);
+    begin(out, version, 7, ends, len)?;
+    put_task(out, task)?;
+    Ok(())
+}
+
+/// Writes the spelling of the Work between these nodes that gives this job into an empty list.
+fn put_given(
+    out: &mut Vec<u8>,
+    ends: (NodeId, NodeId),
+    group: GroupNo,
+    id: u64,
+    work: &Work,
+) -> Result<(), AllocError>
+    requires empty { out.old.items ≡ [] }
+    requires ends { ends.0 ≢ ends.1 }
+    ensures { OnOk result (Spells (record { sender = ends.0; receiver = ends.1; body = WorkMessage group id work.now }) out.new.items) }
+{
+    let (kind, priority) = if work.priority == 0 { (9, 0) } else { (11, 1) };
+    let len = 20 + priority + work.payload.len() as u16;
+    let version = version_naming(ends.0, ends.1, group.creator());
+    begin(out, version, kind, ends, len)?;
+    put_work(out, group, id, work)?;
+    Ok(())
 }
 
 /// Writes the spelling into an empty list.
@@ -157,16 +220,12 @@ fn spell(out: &mut Vec<u8>, message: &Message) -> Result<(), AllocError>
     requires { out.old.items ≡ [] }
     ensures { OnOk result (Spells message.now out.new.items) }
 {
-    let sender = message.sender().number();
-    let receiver = message.receiver().number();
-    let body = message.body();
-    let len = len_of(body);
-    let kind = kind_of(body);
-    let version = version_of(message.sender(), message.receiver(), body);
-    out.reserve(6 + usize::from(len))?;
-    put_head(out, version, kind, sender, receiver, len.to_be_bytes());
-    put_body(out, body)?;
-    Ok(())
+    let ends = (message.sender(), message.receiver());
+    match message.body().form() {
+        Form::Short(short) => put_short(out, ends, short),
+        Form::Ready(task) => put_ready(out, ends, task),
+        Form::Work(group, id, work) => put_given(out, ends, group, id, work),
+    }
 }
 
 /// The spelling of the message, at most 427 bytes. The only fault is `NoMemory`.
@@ -188,6 +247,27 @@ pub fn encode_into(bytes: &mut Vec<u8>, message: &Message) -> Result<(), WireFau
 {
     bytes.clear();
     if spell(bytes, message).is_err() {
+        bytes.clear();
+        return Err(WireFault::NoMemory);
+    }
+    Ok(())
+}
+
+/// The same for the message between these nodes that has this short form. No message is made for it.
+pub fn encode_short_into(
+    bytes: &mut Vec<u8>,
+    sender: NodeId,
+    receiver: NodeId,
+    short: Short,
+) -> Result<(), WireFault>
+    requires ends { sender ≢ receiver }
+    requires counted { IsCounted short }
+    ensures ok { OnOk result (Spells (record { sender = sender; receiver = receiver; body = said short }) bytes.new.items) }
+    ensures fault { IfErr result (λ e. e ≡ WireFault.NoMemory) }
+    ensures none { OnErr result (bytes.new.items ≡ []) }
+{
+    bytes.clear();
+    if put_short(bytes, (sender, receiver), short).is_err() {
         bytes.clear();
         return Err(WireFault::NoMemory);
     }

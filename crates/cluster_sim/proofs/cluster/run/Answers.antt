@@ -1,19 +1,32 @@
-use Rattle.std.proofs.Common.{◌+◌, ◌<◌, ◌^◌, [], length, ◌∙◌, ap, arith}
+use Rattle.std.proofs.Common.{◌≡◌, ◌++◌, subst, ◌+◌, ◌<◌, ◌^◌, length, sym, ◌∙◌, ap, arith}
 use Rattle.std.proofs.lemmas.List.{length-map}
-use Rattle.sim_net.specs.Network.{Network}
+use Rattle.std.proofs.lemmas.Simd.{map-map}
 use Rattle.runs.specs.World.{start}
-use Rattle.runs.specs.Reporting.{report_of}
-use Rattle.cluster_sim.specs.Recorded.{moment_in, report_in}
+use Rattle.runs.specs.Growth.{acts_in}
+use Rattle.runs.specs.Reporting.{Moment, Report}
+use Rattle.cluster_sim.specs.Recorded.{HasRun, moment_in, report_in}
 use Rattle.runs.proofs.PublicLaws.{length_openings}
-use Rattle.cluster_sim.proofs.Promised.{all_promised}
+use Rattle.cluster_sim.proofs.Promised.{promised}
 use Rattle.cluster_sim.proofs.cluster.run.Goals as goal
 
-pub returns : goal.returns
-returns c =
+-- the run of the acts
+ran : (c : goal.After-into_parts) → HasRun c.args.nodes c.args.acts.items c.step_all.new.self
+ran c =
     let opens = c.in_ok-cluster.ensures in
-    let nodes = c.args.nodes in
-    let h = c.in_ok-step_all.ensures.run nodes (report_of nodes [] []) (start nodes) (length_openings 0 nodes) opens.opens in
+    subst (λ (r : Report). HasRun c.args.nodes (acts_in r ++ c.args.acts.items) c.step_all.new.self) opens.report (c.in_ok-step_all.ensures.run c.args.nodes (start c.args.nodes) (length_openings 0 c.args.nodes) opens.opens)
+
+-- its report, by the network's messages
+is : (c : goal.After-into_parts) → report_in c.into_parts.result.0 c.into_parts.result.1.network.sent ≡ c.step_all.new.self.report
+is c = (λ i. report_in c.into_parts.result.0 (c.into_parts.ensures.net i).sent) ∙ c.into_parts.ensures.report
+
+pub returns-clause-keeps : goal.returns-clause-keeps
+returns-clause-keeps c =
+    let h = ran c in
+    let sent = c.into_parts.result.1.network.sent in
     let ms = c.into_parts.result.0.moments in
-    let short : length (report_in c.into_parts.result.0).moments + 1 < 2 ^ 64 = omega (arith, length-map ms.items moment_in, ms.ok.0, ms.ok.1, ms.small) in
-    all_promised c.step_all.new.self nodes c.args.slots c.args.acts.items (report_in c.into_parts.result.0) c.into_parts.result.1.network.sent h (c.step_all.ensures.slots ∙ opens.slots) c.into_parts.ensures.report
-    (ap (λ (n : Network). n.sent) c.into_parts.ensures.net) short
+    let short : length (report_in c.into_parts.result.0 sent).moments + 1 < 2 ^ 64 = omega (arith, length-map ms.items (moment_in sent), ms.ok.0, ms.ok.1, ms.small) in
+    let many : length (report_in c.into_parts.result.0 sent).moments ≡ length c.step_all.new.self.report.moments = (λ i. length (is c i).moments) in
+    rw (is c, ← h.of_acts, ← h.as_many, ← c.step_all.ensures.slots ∙ c.in_ok-cluster.ensures.slots) (promised c.step_all.new.self h.world h.tells (omega (arith, short, many)))
+
+pub returns-clause-acts : goal.returns-clause-acts
+returns-clause-acts c = sym (map-map (λ (m : Moment). m.act) (moment_in c.into_parts.result.1.network.sent) c.into_parts.result.0.moments.items) ∙ ap acts_in (is c) ∙ (ran c).of_acts

@@ -1,13 +1,18 @@
-use Rattle.std.proofs.Common.{ℕ, List, length, subst}
-use Rattle.cluster_sim.specs.Operated.{IsLeftWith}
-use Rattle.cluster_sim.proofs.Coming.{crash_same, crash_counted}
+use Rattle.std.proofs.Common.{◌≡◌, refl, ◌∙◌, sym, arith}
+use Rattle.cluster_sim.proofs.Coming.{some_of}
 use Rattle.cluster_sim.proofs.member.crash.Goals as goal
 
 pub returns-clause-same : goal.returns-clause-same
-returns-clause-same c = crash_same c.as_slice.result.now c.args.node.now c.crash.new.self c.crash.ensures.there c.crash.ensures.down c.crash.ensures.disk
+returns-clause-same c =
+    let is = c.crash.ensures.down in
+    let was = some_of c.args.node.now.disk c.crash.ensures.there in
+    record { id = λ i. (is i).id; nodes = λ i. (is i).nodes; size = λ slots size d at. (c.crash.ensures.disk was.0 d was.1 at).0.size ∙ size was.0 was.1 }
 
 pub returns-clause-counted : goal.returns-clause-counted
-returns-clause-counted c = crash_counted c.as_slice.result.now c.args.node.now c.crash.new.self c.nothing_sent.result (length c.args.net.now.network.sent) c.crash.ensures.disk c.nothing_sent.ensures
+returns-clause-counted c = λ was now before after.
+    let is = c.crash.ensures.disk was now before after in
+    let same : now.failures ≡ was.failures = λ i. (is.1 i).failures in
+    record { sectors = is.0.size; honest = refl; later = omega (arith, same); unchanged = λ _. same; cause = λ faulted. absurd (let bad = sym c.nothing_sent.ensures ∙ faulted in cc) }
 
 pub returns-clause-left : goal.returns-clause-left
-returns-clause-left c = subst (λ (fill : List ℕ). IsLeftWith fill c.args.node.now.disk c.crash.new.self.disk) c.as_slice.ensures c.crash.ensures.disk
+returns-clause-left c = rw (← c.as_slice.ensures) c.crash.ensures.disk

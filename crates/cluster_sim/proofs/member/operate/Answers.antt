@@ -11,3 +11,6 @@ returns-in-Crash-clause-disk c = rw c.in-Crash.is c.crash.ensures.left
 
 pub returns-in-Compact-clause-came : goal.returns-in-Compact-clause-came
 returns-in-Compact-clause-came c = rw c.in-Compact.is (λ slots s stands. c.compact.ensures.came slots _ s stands)
+
+pub returns-in-Compact-clause-disk : goal.returns-in-Compact-clause-disk
+returns-in-Compact-clause-disk c = rw c.in-Compact.is c.compact.ensures.compacted

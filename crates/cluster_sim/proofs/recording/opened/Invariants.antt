@@ -1,9 +1,10 @@
-use Rattle.std.proofs.Common.{◌≡◌, ℕ}
+use Rattle.std.proofs.Common.{◌≡◌, ℕ, List}
+use Rattle.wire_msg.specs.Envelope.{Envelope}
 use Rattle.cluster_sim.specs.Machine.{StandsFor}
 use Rattle.runs.specs.World.{start}
 use Rattle.cluster_sim.specs.Recorded.{report_in}
-use Rattle.cluster_sim.proofs.Opening.{opened_to}
+use Rattle.runs.specs.Reporting.{first_report}
 use Rattle.cluster_sim.proofs.recording.opened.Given as goal
 
 abbrev pub invariant-loop-number : goal.invariant-loop-number
-invariant-loop-number l = (nodes : ℕ) → StandsFor l.simulation (start nodes) → report_in l.report ≡ opened_to l.number
+invariant-loop-number l = (nodes : ℕ) → StandsFor l.simulation (start nodes) → (sent : List Envelope) → report_in l.report sent ≡ first_report l.number

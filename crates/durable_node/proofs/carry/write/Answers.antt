@@ -1,5 +1,6 @@
 use Rattle.std.proofs.Common.{◌≡◌, Option, Result, Ok, Err, IsOk, IfErr, ℕ, refl, sym, ap, subst}
-use Rattle.job_model.specs.Command.{Command, Put}
+use Rattle.job_model.specs.declared.node_command.NodeCommand.{NodeCommand as Command}
+use Rattle.job_model.specs.declared.node_command.NodeCommand.TheVariants.{Put}
 use Rattle.node_core.specs.Planned.{lent_by}
 use Rattle.node_store.specs.declared.fault.StoreFault.{StoreFault}
 use Rattle.durable_node.specs.declared.fault.NodeFault.{NodeFault}

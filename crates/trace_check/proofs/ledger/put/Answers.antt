@@ -1,7 +1,7 @@
 use Rattle.job_model.specs.declared.work.Work.{Work}
 use Rattle.std.proofs.Common.{◌≡◌, ℕ, List, ap, ◌∙◌}
 use Rattle.job_model.specs.declared.job.Job.{Job}
-use Rattle.job_model.specs.Command.{Put}
+use Rattle.job_model.specs.declared.node_command.NodeCommand.TheVariants.{Put}
 use Rattle.job_model.specs.Durable.{Durable}
 use Rattle.job_model.specs.Fold.{after_command}
 use Rattle.job_model.specs.Table.{Table, durable_of}

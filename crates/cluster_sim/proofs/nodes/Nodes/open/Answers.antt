@@ -1,7 +1,5 @@
-use Rattle.std.proofs.Common.{ap}
-use Rattle.sim_net.specs.Network.{Roomy}
 use Rattle.cluster_sim.proofs.Opening.{starts}
 use Rattle.cluster_sim.proofs.nodes.Nodes.open.Goals as goal
 
 pub returns-clause-starts : goal.returns-clause-starts
-returns-clause-starts c = starts c.args.slots c.args.nodes c.in_ok-members.members.items c.new.result.network c.in_ok-members.ensures (ap (λ (n : Roomy). n.network) c.new.ensures)
+returns-clause-starts c = starts c.args.slots c.args.nodes c.in_ok-members.members.items c.new.result.network c.in_ok-members.ensures (λ i. (c.new.ensures i).network)

@@ -1,6 +1,6 @@
-use Rattle.std.proofs.Common.{◌≡◌, refl, ◌+◌, ℕ, List, [], ◌∷◌, ◌++◌, length, map, sym, ap, ◌∙◌, arith}
+use Rattle.std.proofs.Common.{refl, List, [], ◌∷◌, ◌++◌, length, map, sym, ap, ◌∙◌, arith}
 use Rattle.std.proofs.lemmas.List.{length-append}
-use Rattle.rtrb.specs.Ring.{known_free, producer_capacity, sent}
+use Rattle.rtrb.specs.Ring.{sent}
 use Rattle.wire_msg.specs.Envelope.{Envelope}
 use Rattle.wire_msg.specs.declared.body.Body.{Body}
 use Rattle.message_list.specs.Letters.{Kept}

@@ -1,12 +1,12 @@
 use Rattle.std.proofs.Common.{◌<◌, Some, length, refl, ap, sym, ◌∙◌, subst, get_or}
 use Rattle.std.proofs.lemmas.Option.{slice_get-get_or}
-use Rattle.node_core.specs.declared.event.Event.{Event}
-use Rattle.node_lock.specs.declared.order.Timer.TheVariants.{Check}
+use Rattle.node_core.specs.declared.event.Event.TheVariants as on
+use Rattle.node_core.specs.declared.timer.Timer.TheVariants.{Check}
 use Rattle.node_lock.specs.declared.worker.Worker.TheVariants.{Clock}
 use Rattle.node_lock.specs.declared.held.TheConstants.{MOST_ENTRIES}
-use Rattle.node_lock.specs.Asking.{Hand, event_for}
+use Rattle.node_lock.specs.Asking.{Hand}
 use Rattle.node_lock.specs.HeldView.{HeldView}
-use Rattle.node_lock.specs.Taking.{site, turn_of, TookTurn}
+use Rattle.node_lock.specs.Taking.{turn_of}
 use Rattle.node_lock.proofs.Keeping.{gives_in}
 use Rattle.node_lock.proofs.Taking.{takes_next, keeps_next_past}
 use Rattle.node_lock.proofs.Telling.{none_of_tick}
@@ -20,9 +20,9 @@ invariant_of-self-2 c =
     let timer = get_or c.clock.result.now h.turns.clock Check in
     let got = slice_get-get_or h.plans.clock h.turns.clock Check more ∙ ap (λ l. Some (get_or l h.turns.clock Check)) (sym c.clock.ensures) in
     let e = c.in_ok-hand.ensures.taken.0 in
-    let took = subst (λ (event : Event). TookTurn Clock h.turns.clock (Hand event) e (site h.node h.puts.items h.history.turns) (site c.hand.new.node c.hand.new.puts.items c.hand.new.history.turns)) c.event_for-event.ensures c.in_ok-hand.ensures.taken.1 in
-    let gives = gives_in _ (Hand (event_for timer)) (turn_of Clock h.turns.clock e) _ c.self.invariant took.did in
-    keeps_next_past _ _ Clock (Hand (event_for timer)) e c.self.invariant ((timer, got, refl), took, refl) refl refl few refl refl refl (none_of_tick timer e.what gives)
+    let took = c.in_ok-hand.ensures.taken.1 in
+    let gives = gives_in _ (Hand (on.Timer timer)) (turn_of Clock h.turns.clock e) _ c.self.invariant took.did in
+    keeps_next_past _ _ Clock (Hand (on.Timer timer)) e c.self.invariant ((timer, got, refl), took, refl) refl refl few refl refl refl (none_of_tick timer e.what gives)
 
 pub returns-clause-taken : goal.returns-clause-taken
 returns-clause-taken c =
@@ -31,5 +31,5 @@ returns-clause-taken c =
     let timer = get_or c.clock.result.now h.turns.clock Check in
     let got = slice_get-get_or h.plans.clock h.turns.clock Check more ∙ ap (λ l. Some (get_or l h.turns.clock Check)) (sym c.clock.ensures) in
     let e = c.in_ok-hand.ensures.taken.0 in
-    let took = subst (λ (event : Event). TookTurn Clock h.turns.clock (Hand event) e (site h.node h.puts.items h.history.turns) (site c.hand.new.node c.hand.new.puts.items c.hand.new.history.turns)) c.event_for-event.ensures c.in_ok-hand.ensures.taken.1 in
-    rw (← c.self.view_is) (refl, takes_next _ _ Clock (Hand (event_for timer)) e c.self.invariant ((timer, got, refl), took, refl) tt)
+    let took = c.in_ok-hand.ensures.taken.1 in
+    rw (← c.self.view_is) (refl, takes_next _ _ Clock (Hand (on.Timer timer)) e c.self.invariant ((timer, got, refl), took, refl) tt)

@@ -1,6 +1,6 @@
 use Rattle.std.proofs.Common.{sym, ap, ◌∙◌, Result, Ok, Err}
 use Rattle.std.specs.Prelude.{OnOk}
-use Rattle.job_model.specs.Command.{Put, Done}
+use Rattle.job_model.specs.declared.node_command.NodeCommand.TheVariants.{Put, Done}
 use Rattle.job_model.specs.Durable.{Durable}
 use Rattle.job_model.specs.Fold.{after_command, after_wanted}
 use Rattle.node_core.specs.declared.durable.Wanted.{Wanted}

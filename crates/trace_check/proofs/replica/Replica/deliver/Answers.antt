@@ -1,5 +1,5 @@
 use Rattle.std.proofs.Common.{rules, Option, ap, ◌∙◌}
-use Rattle.job_model.specs.Command.{Command}
+use Rattle.job_model.specs.declared.node_command.NodeCommand.{NodeCommand as Command}
 use Rattle.job_model.specs.Fold.{after_wanted}
 use Rattle.node_core.specs.declared.event.Event.TheVariants.{Deliver}
 use Rattle.node_core.specs.Effect.{Effect}

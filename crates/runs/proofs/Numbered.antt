@@ -13,11 +13,12 @@ use Rattle.schedule.specs.declared.act.Act.TheVariants as act
 use Rattle.runs.specs.World.{World, node_in, start}
 use Rattle.runs.specs.Step.{Step, Takes, Changes, Denies, step_sent, world_after}
 use Rattle.runs.specs.Run.{IsAllowed, RunFrom, world_at}
-use Rattle.runs.proofs.PublicLaws.{all_acts_run, moments_from, moments_are}
+use Rattle.runs.proofs.Exact.{all_acts_run}
+use Rattle.runs.proofs.Reports.{moments_from, moments_are}
 use Rattle.runs.specs.Acts.{what_outcome, act_outcome}
 use Rattle.runs.specs.Reporting.{Moment, Report, moment_of}
 use Rattle.runs.specs.Growth.{IsLeft, acts_in}
-use Rattle.cluster_sim.specs.Numbered.{sent_under}
+use Rattle.runs.specs.Numbered.{sent_under}
 
 -- what stands behind the first ones, as many as it is
 part_between : (first part rest : List Envelope) → take (length part) (drop (length first) ((first ++ part) ++ rest)) ≡ part
@@ -35,7 +36,7 @@ node_numbered n nodes before rest s Crashed (act.Compact m) = refl
 node_numbered n nodes before rest s Crashed _ = refl
 node_numbered n nodes before rest s _ a = refl
 
-step_numbered : (nodes : ℕ) (w : World) (a : Act) (step : Step) (rest : List Envelope)
+pub step_numbered : (nodes : ℕ) (w : World) (a : Act) (step : Step) (rest : List Envelope)
     → step_sent nodes w step ≡ sent_under ((world_after nodes w step).net.sent ++ rest) (act_outcome nodes w a step)
 step_numbered nodes w a (Takes n number what) rest = node_numbered n nodes w.net.sent rest (node_in w.states n) what a
 step_numbered nodes w a _ rest = refl
@@ -57,20 +58,21 @@ run_adds nodes (step ∷ steps) w run =
 
 -- ---- moments
 
--- whatever steps there are
-pub moment_numbered : (k nodes : ℕ) (acts : List Act) (steps : List Step) (w : World) (m : Moment) → RunFrom nodes w steps → slice_get (moments_from nodes w acts steps) k ≡ Some m
-    → m.sent ≡ sent_under (world_at nodes w steps).net.sent m.outcome
-moment_numbered k nodes [] steps w m run at = absurd cc
-moment_numbered k nodes (a ∷ acts) [] w m run at = absurd cc
-moment_numbered zero nodes (a ∷ acts) (step ∷ steps) w m run at =
+-- whatever steps there are, and whatever is sent after them
+pub moment_numbered : (k nodes : ℕ) (acts : List Act) (steps : List Step) (w : World) (m : Moment) (more : List Envelope) → RunFrom nodes w steps → slice_get (moments_from nodes w acts steps) k ≡ Some m
+    → m.sent ≡ sent_under ((world_at nodes w steps).net.sent ++ more) m.outcome
+moment_numbered k nodes [] steps w m more run at = absurd cc
+moment_numbered k nodes (a ∷ acts) [] w m more run at = absurd cc
+moment_numbered zero nodes (a ∷ acts) (step ∷ steps) w m more run at =
     let it : moment_of nodes w a step ≡ m = cc at in
     let grown = run_adds nodes steps (world_after nodes w step) run.1 in
-    subst (λ (x : Moment). x.sent ≡ sent_under (world_at nodes (world_after nodes w step) steps).net.sent x.outcome) it
-    (subst (λ (all : List Envelope). step_sent nodes w step ≡ sent_under all (act_outcome nodes w a step)) (sym grown.1) (step_numbered nodes w a step grown.0))
-moment_numbered (suc k) nodes (a ∷ acts) (step ∷ steps) w m run at = moment_numbered k nodes acts steps (world_after nodes w step) m run.1 at
+    subst (λ (x : Moment). x.sent ≡ sent_under ((world_at nodes (world_after nodes w step) steps).net.sent ++ more) x.outcome) it
+    (subst (λ (all : List Envelope). step_sent nodes w step ≡ sent_under all (act_outcome nodes w a step))
+    (sym (append_assoc (world_after nodes w step).net.sent grown.0 more) ∙ ap (λ (all : List Envelope). all ++ more) (sym grown.1)) (step_numbered nodes w a step (grown.0 ++ more)))
+moment_numbered (suc k) nodes (a ∷ acts) (step ∷ steps) w m more run at = moment_numbered k nodes acts steps (world_after nodes w step) m more run.1 at
 
 -- of a cluster that a run left, and its report
-pub left_numbered : (nodes slots : ℕ) (w : World) (r : Report) → IsLeft nodes slots w r → (k : ℕ) (m : Moment) → slice_get r.moments k ≡ Some m → m.sent ≡ sent_under w.net.sent m.outcome
-left_numbered nodes slots w r left k m at =
+pub left_numbered : (nodes slots : ℕ) (w : World) (r : Report) (more : List Envelope) → IsLeft nodes slots w r → (k : ℕ) (m : Moment) → slice_get r.moments k ≡ Some m → m.sent ≡ sent_under (w.net.sent ++ more) m.outcome
+left_numbered nodes slots w r more left k m at =
     let shown : slice_get (moments_from nodes (start nodes) (acts_in r) left.steps) k ≡ Some m = subst (λ (ms : List Moment). slice_get ms k ≡ Some m) (ap (λ (x : Report). x.moments) left.reported ∙ moments_are nodes (acts_in r) left.steps) at in
-    subst (λ (x : World). m.sent ≡ sent_under x.net.sent m.outcome) (sym left.world) (moment_numbered k nodes (acts_in r) left.steps (start nodes) m (all_acts_run nodes slots (start nodes) (acts_in r) left.steps left.is_run) shown)
+    subst (λ (x : World). m.sent ≡ sent_under (x.net.sent ++ more) m.outcome) (sym left.world) (moment_numbered k nodes (acts_in r) left.steps (start nodes) m more (all_acts_run nodes slots (start nodes) (acts_in r) left.steps left.is_run) shown)

@@ -1,6 +1,5 @@
 // What comes of an act.
-use durable_node::NodeFault;
-use histories::Attempt;
+use node_core::Refusal as NodeRefusal;
 use sim_net::NetFault;
 
 /// What came of an act.
@@ -22,20 +21,8 @@ pub enum Outcome {
 /// Why an act was refused.
 #[derive(Clone, Copy, Debug, PartialEq, Eq)]
 pub enum Refusal {
-    Node(NodeFault),
+    Node(NodeRefusal),
     Net(NetFault),
     /// It names a node outside the cluster.
     Stranger,
-}
-
-/// What came of an act, and what its node tells of its disk.
-#[derive(Clone, Copy)]
-pub(crate) struct Deed {
-    pub outcome: Outcome,
-    /// Which command the node tried on its disk, if it tried one.
-    pub tried: Option<Attempt>,
-    /// The answer of that command. None where the device failed in it.
-    pub acked: Option<u64>,
-    /// Whether the node mounted its disk.
-    pub mounted: bool,
 }

@@ -1,0 +1,91 @@
+ghost use Rattle.std.specs.Prelude.{◌≡◌};
+ghost use Rattle.pace.specs.Timers.{wait_of, timer_of, units_of, jitter_of, least_of};
+
+use crate::setting::Setting;
+use crate::sight::Sight;
+use node_core::{Phase, Timer};
+
+/// What a node waits for, one thing at a time. A timer fires when it has waited long enough.
+#[derive(Clone, Copy, Debug, PartialEq, Eq)]
+pub enum Wait {
+    /// A coordinator: its next look for other coordinators.
+    Check,
+    /// A coordinator that looks for others: their answers, and its turn to merge.
+    Merge,
+    /// A node that invited others: that they accept.
+    Accept,
+    /// A coordinator that sent the task out: that all members have it.
+    Ready,
+    /// A node that accepted an invitation: its task.
+    Task,
+    /// A member: its next question whether the coordinator is there.
+    Coordinator,
+    /// A node that asked whether its coordinator is there: the answer.
+    Answer,
+}
+
+impl Wait {
+    /// What a node waits for where this is seen of it. Nothing where it is Down: who restarts a node recovers it.
+    pub fn of(sight: &Sight) -> Option<Wait>
+        ensures { result ≡ wait_of sight.now }
+    {
+        match sight.phase {
+            Phase::Down => None,
+            Phase::Election => Some(Wait::Accept),
+            Phase::Reorganization if sight.is_coordinator => Some(Wait::Ready),
+            Phase::Normal if sight.is_coordinator && sight.checking => Some(Wait::Merge),
+            Phase::Normal if sight.is_coordinator => Some(Wait::Check),
+            Phase::Reorganization | Phase::Normal if sight.probing => Some(Wait::Answer),
+            Phase::Reorganization => Some(Wait::Task),
+            Phase::Normal => Some(Wait::Coordinator),
+        }
+    }
+
+    /// The timer that fires when the wait is over.
+    pub fn timer(self) -> Timer
+        ensures { result ≡ timer_of self }
+    {
+        match self {
+            Wait::Check => Timer::Check,
+            Wait::Merge => Timer::Merge,
+            Wait::Accept => Timer::Accept,
+            Wait::Ready => Timer::Ready,
+            Wait::Task | Wait::Coordinator | Wait::Answer => Timer::Coord,
+        }
+    }
+
+    /// How long it lasts at least, in milliseconds.
+    pub fn least(self, setting: &Setting) -> u32
+        ensures { result ≡ least_of setting.now self }
+    {
+        let units = self.units(setting);
+        (u32::from(units) * u32::from(setting.unit)).max(1)
+    }
+
+    /// How much longer it may last, in milliseconds.
+    pub fn jitter(self, setting: &Setting) -> u32
+        ensures { result ≡ jitter_of setting.now self }
+    {
+        let units = match self {
+            Wait::Check => setting.check_jitter,
+            Wait::Merge => setting.merge_jitter,
+            Wait::Coordinator => setting.coordinator_jitter,
+            _ => 0,
+        };
+        u32::from(units) * u32::from(setting.unit)
+    }
+
+    fn units(self, setting: &Setting) -> u16
+        ensures { result ≡ units_of setting.now self }
+    {
+        match self {
+            Wait::Check => setting.check,
+            Wait::Merge => setting.merge,
+            Wait::Accept => setting.accept,
+            Wait::Ready => setting.ready,
+            Wait::Task => setting.task,
+            Wait::Coordinator => setting.coordinator,
+            Wait::Answer => setting.answer,
+        }
+    }
+}
