@@ -115,7 +115,7 @@ class Inputs:
             # the newest messages come most often
             return f"deliver {max(0, sent - 1 - int(chance.expovariate(0.25)))}"
         if kind < 0.75:
-            return chance.choice(("check", "merge", "accept", "ready", "coord", "dispatch")) + " " + node
+            return chance.choice(grammar.TIMERS) + " " + node
         if kind < 0.85:
             return f"submit {node} {chance.randrange(16)} {chance.choice(('-', '61', '6869', 'ff' * 400))}" + (f" {chance.randrange(1, 256)}" if HAS_PRIORITIES and chance.random() < 0.4 else "")
         if kind < 0.91:

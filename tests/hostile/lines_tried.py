@@ -1,12 +1,11 @@
 """Every line of the grammars of `sim`, `store`, `node` and `format`, spoiled word by word."""
 import os, re, tempfile, time
-from grammar import NODE, SIM, STORE, bad_in_pieces, bad_in_schedule, bad_in_store, is_number, is_read
+from grammar import NODE, SIM, STORE, TIMERS, bad_in_pieces, bad_in_schedule, bad_in_store, is_number, is_read
 
-OF_SIM = """check 0;merge 0;accept 0;ready 0;coord 0;dispatch 0;deliver 0;lose 0;cut 0 1;mend 0 1;submit 0 3 6869;submit 0 3 6869 7;finish 0 0 0
+OF_SIM = [f"{timer} 0" for timer in TIMERS] + """deliver 0;lose 0;cut 0 1;mend 0 1;submit 0 3 6869;submit 0 3 6869 7;finish 0 0 0
 arm 0 5;crash 0;crash 0 a5;recover 0;compact 0""".replace("\n", ";").split(";")
 OF_STORE = "format 4;mount;raise;put 1 6869;put 1 6869 7;done 0;compact;list".split(";")
-OF_NODE = """recover;deliver 010101000000;tick 5;lost 1;submit 3 6869;submit 3 6869 7;finish 0 0;compact;state;jobs;check;merge;accept;ready
-coord;dispatch""".replace("\n", ";").split(";")
+OF_NODE = """recover;deliver 010101000000;tick 5;lost 1;submit 3 6869;submit 3 6869 7;finish 0 0;compact;state;jobs""".split(";") + list(TIMERS)
 LONG = 1 << 20
 WORDS = [b"", b"0", b"00", b"01", b"007", b"+1", b"-1", b"-0", b"1.0", b"1e0", b"0x1", b"127", b"128", b"255", b"256", b"15", b"16", b"4", b"4096", b"4097", b"3",
          b"18446744073709551615", b"18446744073709551616", b"99999999999999999999", b"340282366920938463463374607431768211457", b"-", b"--", b"f", b"FF", b"fF", b"zz",
@@ -84,7 +83,7 @@ def try_sim(tried):
 
 def try_strange(tried):
     """What names no node of the cluster and no message is refused, and nothing is changed by it."""
-    lines = [f"{word} {node}" for word in ("check", "merge", "accept", "ready", "coord", "dispatch", "recover", "compact", "crash") for node in (2, 64, 127)]
+    lines = [f"{word} {node}" for word in (*TIMERS, "recover", "compact", "crash") for node in (2, 64, 127)]
     lines += ["submit 2 0 61", "finish 2 0 0", "arm 2 0", "crash 2 a5", "cut 0 2", "cut 2 0", "mend 0 127", "mend 127 0"]
     text = "".join(f"{at} refused Stranger\n" for at in range(len(lines)))
     more = ["deliver 0", "lose 0", "deliver 18446744073709551615", "lose 18446744073709551615", "finish 0 127 0", "finish 0 0 18446744073709551615", "cut 1 1", "mend 0 0"]

@@ -1,12 +1,12 @@
 """Traces, read as docs/TRACES.md says and not as the program does: a text is a trace, or a bad one, with or without a place."""
 import re
+from grammar import TIMERS
 from spelling import HAS_PRIORITIES
 from wire import Malformed, decode
 
 DEEPEST = 127
 TOKEN_NUMBER = re.compile(r"-?(?:0|[1-9][0-9]*)(?:\.[0-9]+)?(?:[eE][+-]?[0-9]+)?")
 ESCAPES = {'"': '"', "\\": "\\", "/": "/", "b": "\b", "f": "\f", "n": "\n", "r": "\r", "t": "\t"}
-TIMERS = ("check", "merge", "accept", "ready", "coord", "dispatch")
 
 
 class NoJson(Exception):

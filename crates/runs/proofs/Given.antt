@@ -12,7 +12,7 @@ use Rattle.job_model.specs.Durable.{Durable}
 use Rattle.job_model.specs.Fold.{after_wanted}
 use Rattle.wire_msg.specs.Envelope.{Envelope}
 use Rattle.wire_msg.specs.declared.body.Body.{Body}
-use Rattle.wire_msg.specs.declared.body.Body.TheVariants.{AreYouCoordinator, Coordinator, AreYouThere, Here, Invitation, Accept, Ready, ReadyAck, Work as WorkMessage, Done as DoneMessage}
+use Rattle.wire_msg.specs.declared.body.Body.TheVariants.{Ready, Work as WorkMessage, Done as DoneMessage}
 use Rattle.node_core.specs.declared.event.Event.{Event}
 use Rattle.wire_msg.specs.Kinds.{group_in}
 use Rattle.node_core.specs.Words.{own_group}
@@ -33,16 +33,10 @@ use Rattle.runs.proofs.Runs.{brought_sent, node_there, state_here, state_elsewhe
 
 -- what is said names groups
 says_names : (P : Group → Type 0) (J : ℕ → ℕ → ℕ → Type 0) (self sender receiver : ℕ) (made : List Assignment) (event : Option Event) (body : Body) → SaysIn P J self made event sender receiver body → IfSome (group_in body) P
-says_names P J self sender receiver made event AreYouCoordinator h = tt
-says_names P J self sender receiver made event (Coordinator agreed) h = tt
-says_names P J self sender receiver made event (AreYouThere group) h = h
-says_names P J self sender receiver made event (Here group agreed) h = h
-says_names P J self sender receiver made event (Invitation group) h = h
-says_names P J self sender receiver made event (Accept group) h = h
 says_names P J self sender receiver made event (Ready task) h = h.2
-says_names P J self sender receiver made event (ReadyAck group) h = h
 says_names P J self sender receiver made event (WorkMessage group id work) h = h.0
 says_names P J self sender receiver made event (DoneMessage id) h = tt
+says_names P J self sender receiver made event body h = h
 
 abbrev pub Stronger : (Group → Type 0) → (Group → Type 0) → Type 0
 Stronger P Q = (g : Group) → P g → Q g

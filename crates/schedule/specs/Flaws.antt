@@ -12,7 +12,7 @@ verb_flaw None = NoAct
 verb_flaw (Some verb) = Fields verb
 
 -- a line that is no act begins with this word
-abbrev pub name_flaw : List ℕ → Flaw
+unfoldable pub name_flaw : List ℕ → Flaw
 name_flaw name = if bytes_eq name (codes "cluster") then Cluster else verb_flaw (verb_of name)
 
 -- a line that can't be read where it stands: an act can be read at another place

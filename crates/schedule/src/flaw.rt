@@ -37,6 +37,7 @@ pub fn flaw_in(alloc: Global, line: &[u8]) -> Result<Flaw, AllocError>
 }
 
 /// What is wrong with a line that is no act and begins with this word.
+#[tactic(auto, unfolding(crate::specs::Flaws::name_flaw))]
 fn name_flaw(name: &[u8]) -> Flaw
     ensures { result ≡ name_flaw name.now }
 {
