@@ -2,7 +2,8 @@
 # Tries the must-fail edits of tests/more_edits, which the gate leaves out: the prover has to refuse each. Called with the
 # names of crates, as in: tests/more_edits.sh sim_net safe_cell; with none it tries all of them.
 # It works on a copy of the repository, edits in place of those of crates/NAME/must-fail, and ends with the status of rt must-fail.
-# With --apply before the names it only says, within a second, which edits no longer fit the sources that they turn.
+# With --apply before the names it only says, within a second or two, which edits no longer fit the sources that they turn, those of
+# crates/NAME/must-fail among them.
 set -euo pipefail
 top=$(cd "$(dirname "${BASH_SOURCE[0]}")/.." && pwd)
 edits=$top/tests/more_edits
@@ -51,7 +52,8 @@ misfit() {
 if [ -n "$is_dry" ]; then
     status=0
     for crate in "${crates[@]}"; do
-        for edit in "$edits/$crate"/*.edit; do
+        for edit in "$edits/$crate"/*.edit "$top/crates/$crate/must-fail"/*.edit; do
+            [ -e "$edit" ] || continue
             why=$(misfit "$crate" "$edit")
             if [ -n "$why" ]; then
                 echo "$crate/$(basename "$edit"): $why"

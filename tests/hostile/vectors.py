@@ -1,9 +1,13 @@
 """Messages and streams to begin from."""
+import wire
 
 MESSAGES = """010102000000 01020002000101 01020002000100 010302000009000000000000000002 01040002000a00000000000000000200
 010500010009000000000000000002 010601000009000000000000000002 01070001000c000000000000000002020001 010801000009000000000000000002
 01090001001600000000000000000200000000000000000100026869 010a010000080000000000000000 020102400000 02024002000101
 010b0001001600000000000000000200000000000000010107000162""".split()
+
+# And one of each kind of a fixed length that none of these has.
+MESSAGES += [wire.example(kind) for kind in wire.LENGTHS if not any(bytes.fromhex(text)[1] == kind for text in MESSAGES)]
 
 # What is no message, or is one of other ids.
 OTHERS = """010100000000 010140000000 020102000000 020180000000 01020002000102 010600010009000000000000000000 01010200000100
@@ -16,7 +20,6 @@ OTHERS = """010100000000 010140000000 020102000000 020180000000 01020002000102 0
 
 def stream_to(own, other):
     """A stream of messages to a node: it is asked, invited, given a task, asked again, given work."""
-    import wire
     group = bytes([other]) + (2).to_bytes(8, "big")
     members = bytes(sorted([own, other]))
     spell = lambda kind, body, ids=(): wire.encode(kind, other, own, body, ids)

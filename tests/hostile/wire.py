@@ -63,6 +63,13 @@ def encode(kind, sender, receiver, body, ids=()):
     return bytes([version, kind, sender, receiver]) + len(body).to_bytes(2, "big") + body
 
 
+def example(kind):
+    """Some message of a kind of a fixed length, in hex."""
+    group = bytes(8) + bytes([2])
+    bodies = {0: b"", 1: b"\1", 8: bytes(8), 9: group, 10: group + b"\0"}
+    return encode(kind, 1, 0, bodies[LENGTHS[kind]]).hex()
+
+
 def stream(data):
     """The messages of a stream, and how it ends: `malformed`, or the number of bytes of its rest."""
     messages = []

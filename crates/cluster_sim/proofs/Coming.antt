@@ -5,6 +5,7 @@ use Rattle.sector_disk.specs.Memory.{Memory, state_of}
 use Rattle.job_model.specs.Durable.{Durable}
 use Rattle.sim_net.specs.Network.{Network, after_all_sent}
 use Rattle.node_core.specs.declared.event.Event.{Event}
+use Rattle.histories.specs.What.{IsOf}
 use Rattle.histories.specs.Fates.{what_of}
 use Rattle.node_store.specs.Store.{slots_for}
 use Rattle.durable_node.specs.declared.fault.NodeFault.{NodeFault}
@@ -17,7 +18,7 @@ use Rattle.histories.specs.NodeState.{NodeState}
 use Rattle.histories.specs.declared.fate.Fate.{Fate}
 use Rattle.histories.specs.declared.fate.Fate.TheVariants.{Done, Refused, Faulted, Recovered, MountFailed, RaiseFailed}
 use Rattle.histories.specs.Possible.{IsOfSlots, IsPossible}
-use Rattle.durable_node.specs.Stepping.{Does, Steps, CountsOf, CameOf}
+use Rattle.durable_node.specs.Stepping.{Does, Steps, CountsOf}
 use Rattle.runs.specs.declared.outcome.Outcome.{Outcome}
 use Rattle.runs.specs.declared.outcome.Outcome.TheVariants as outcome
 use Rattle.runs.specs.Acts.{what_outcome, IsCompaction}
@@ -69,7 +70,7 @@ settled old new last event came (inr forgot) id nodes counts steps =
 
 pub comes_by : (event : Event) (old new : Node Memory) (net net' : Network) (came : Came) (deed : Deed) → IsSome old.disk → Steps state_of old new event came
     → deed.tried ≡ came.tried → deed.acked ≡ came.answer → deed.mounted ≡ is_mounting (what_of event came.fate) → deed.outcome ≡ came_told came.fate (length net.sent) came → net' ≡ after_all_sent net came.sent.items
-    → (slots : ℕ) (s : NodeState) (a : Act) → slots ≤ 4096 → IsOfSize slots old.disk → Stands state_of old s → Comes slots old.id old.nodes a (CameOf event) s deed new net net'
+    → (slots : ℕ) (s : NodeState) (a : Act) → slots ≤ 4096 → IsOfSize slots old.disk → Stands state_of old s → Comes slots old.id old.nodes a (IsOf event) s deed new net net'
 comes_by event old new net net' came deed has steps tried acked mounted is_told sent slots s a most size stands =
     let was = some_of old.disk has in
     let step = steps was.0 s was.1 stands (λ _. refl) in

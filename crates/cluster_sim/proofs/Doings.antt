@@ -8,7 +8,7 @@ use Rattle.node_core.specs.declared.event.Event.{Event}
 use Rattle.node_core.specs.declared.event.Event.TheVariants as on
 use Rattle.histories.specs.declared.what.What.{What}
 use Rattle.histories.specs.declared.what.What.TheVariants.{Rests, Crashed}
-use Rattle.histories.specs.What.{event_of, brought, AreAddressed}
+use Rattle.histories.specs.What.{event_of, brought, AreAddressed, IsOf}
 use Rattle.schedule.specs.declared.act.Act.{Act}
 use Rattle.schedule.specs.declared.act.Act.TheVariants as act
 use Rattle.runs.specs.declared.outcome.Outcome.{Outcome}
@@ -23,7 +23,6 @@ use Rattle.runs.specs.Events.{event_at}
 use Rattle.sector_disk.specs.Memory.{Memory}
 use Rattle.durable_node.specs.Arming.{armed_disk}
 use Rattle.durable_node.specs.Node.{Node}
-use Rattle.durable_node.specs.Stepping.{CameOf}
 use Rattle.durable_node.proofs.PublicLaws.{is_some}
 use Rattle.cluster_sim.specs.Machine.{FaultsAt, Machine, StandsFor, Performed, Makes, bare, disk_of}
 use Rattle.cluster_sim.specs.Operated.{Operates, IsCompacted, OperatedAs, OperatesNode, operated_at}
@@ -33,7 +32,7 @@ use Rattle.cluster_sim.specs.declared.deed.Deed.{Deed}
 -- ---- what comes of an event
 
 pub brought_came : (w : World) (n number : ℕ) (event : Event) → IsBrought w number (brought (Some event)) → AreAddressed n (brought (Some event))
-    → (what : What) → CameOf event what → IsBrought w number (brought (event_of what)) × AreAddressed n (brought (event_of what))
+    → (what : What) → IsOf event what → IsBrought w number (brought (event_of what)) × AreAddressed n (brought (event_of what))
 brought_came w n number event brings goes what is = rw is (brings, goes)
 
 -- ---- an act that is an event
@@ -41,7 +40,7 @@ brought_came w n number event brings goes what is = rw is (brings, goes)
 pub record IsTakenAs (a : Act) (e : ℕ × Event) : Type 0 where
   pub quiet : brought (Some e.1) ≡ []
   pub named : (nodes : ℕ) (sent : List Envelope) → node_named nodes sent a ≡ node_or_first nodes e.0
-  pub is_step : (nodes : ℕ) (w : World) (step : Step) → At (nat_lt e.0 nodes) e.0 0 (CameOf e.1) step → IsStepOf nodes w a step
+  pub is_step : (nodes : ℕ) (w : World) (step : Step) → At (nat_lt e.0 nodes) e.0 0 (IsOf e.1) step → IsStepOf nodes w a step
 
 taken : (a : Act) → IfSome (event_at a) (IsTakenAs a)
 taken (act.Recover n) = record { quiet = refl; named = λ nodes sent. refl; is_step = λ nodes w step at. at }
@@ -70,11 +69,11 @@ pub taken_as : (a : Act) (n : ℕ) (event : Event) → event_at a ≡ Some (n, e
 taken_as a n event at = subst (λ (x : Option (ℕ × Event)). IfSome x (IsTakenAs a)) at (taken a)
 
 pub event_acted : {E : Type 0} (w : World) (a : Act) (n : ℕ) (event : Event) (result : Result Deed E) (new : Machine) → event_at a ≡ Some (n, event)
-    → ((number : ℕ) → IsBrought w number (brought (Some event)) → AreAddressed n (brought (Some event)) → IfOk result (λ (d : Deed). Makes a (λ step. At (nat_lt n (length w.states)) n number (CameOf event) step) w d new))
+    → ((number : ℕ) → IsBrought w number (brought (Some event)) → AreAddressed n (brought (Some event)) → IfOk result (λ (d : Deed). Makes a (λ step. At (nat_lt n (length w.states)) n number (IsOf event) step) w d new))
     → IfOk result (λ (d : Deed). Performed w a d new)
 event_acted w a n event result new at makes =
     let is = taken_as a n event at in
-    performed (λ step. At (nat_lt n (length w.states)) n 0 (CameOf event) step) w a result new (is.is_step (length w.states) w)
+    performed (λ step. At (nat_lt n (length w.states)) n 0 (IsOf event) step) w a result new (is.is_step (length w.states) w)
     (makes 0 (rw is.quiet tt) (rw is.quiet tt))
 
 pub faults_named : {E : Type 0} (a : Act) (n : ℕ) (event : Event) (was now new : Machine) (result : Result Deed E) → was ≡ now → event_at a ≡ Some (n, event)
@@ -86,9 +85,9 @@ faults_named a n event was now new result view is faults =
 
 pub delivered : {E : Type 0} (w : World) (k : ℕ) (m : Envelope) (result : Result Deed E) (new : Machine) → delivery w.net k ≡ Ok m
     → (IsBrought w k (brought (Some (on.Deliver m))) → AreAddressed m.receiver (brought (Some (on.Deliver m)))
-    → IfOk result (λ (d : Deed). Makes (act.Deliver k) (λ step. At (nat_lt m.receiver (length w.states)) m.receiver k (CameOf (on.Deliver m)) step) w d new))
+    → IfOk result (λ (d : Deed). Makes (act.Deliver k) (λ step. At (nat_lt m.receiver (length w.states)) m.receiver k (IsOf (on.Deliver m)) step) w d new))
     → IfOk result (λ (d : Deed). Performed w (act.Deliver k) d new)
-delivered w k m result new comes makes = performed (λ step. At (nat_lt m.receiver (length w.states)) m.receiver k (CameOf (on.Deliver m)) step) w (act.Deliver k) result new
+delivered w k m result new comes makes = performed (λ step. At (nat_lt m.receiver (length w.states)) m.receiver k (IsOf (on.Deliver m)) step) w (act.Deliver k) result new
     (λ step at. rw comes at) (makes (comes, tt) (refl, tt))
 
 no_err : {A E : Type 0} (r : Result A E) → ((e : E) → r ≡ Err e → ⊥) → (a : A) × (r ≡ Ok a)

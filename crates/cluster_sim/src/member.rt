@@ -5,7 +5,7 @@ ghost use Rattle.sim_net.specs.Network.{after_all_sent};
 ghost use Rattle.durable_node.specs.Arming.{armed_disk};
 ghost use Rattle.durable_node.specs.Node.{Stands};
 ghost use Rattle.histories.specs.NodeState.{NodeState};
-ghost use Rattle.durable_node.specs.Stepping.{CameOf};
+ghost use Rattle.histories.specs.What.{IsOf};
 ghost use Rattle.histories.specs.Fates.{what_of};
 ghost use Rattle.histories.specs.declared.what.What.TheVariants.{Rests, Crashed};
 ghost use Rattle.histories.specs.declared.what.Rest.TheVariants.{Nothing};
@@ -38,7 +38,7 @@ pub(crate) fn handle(
 ) -> Result<Deed, AllocError>
     ensures same { IsSame node.old node.new }
     ensures came { (slots : ℕ) (s : NodeState) (a : AnyAct) → slots ≤ 4096 → IsOfSize slots node.old.disk → Stands state_of node.old s
-        → IfOk result (λ deed. Comes slots node.old.id node.old.nodes a (CameOf event.now) s deed node.new net.old.network net.new.network) }
+        → IfOk result (λ deed. Comes slots node.old.id node.old.nodes a (IsOf event.now) s deed node.new net.old.network net.new.network) }
     ensures memory { OnErr result ((s : NodeState) → Stands state_of node.old s → IsUntouchedNode node.old node.new) }
     ensures unsent { OnErr result (net.new.network ≡ net.old.network) }
     ensures counted { IfOk result (λ deed. IsCounted node.old.disk node.new.disk deed.outcome) }

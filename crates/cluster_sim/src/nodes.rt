@@ -1,8 +1,7 @@
 // The nodes of a cluster, and the network between them.
 ghost use Rattle.std.specs.Prelude.{◌≡◌, ◌≢◌, ◌≤◌, ◌<◌, ◌&&◌, length, nat_lt, slice_get, false, Some, None, IfOk, OnErr, ℕ};
 ghost use Rattle.group_task.specs.declared.node.TheConstants.{NODES};
-ghost use Rattle.durable_node.specs.Stepping.{CameOf};
-ghost use Rattle.histories.specs.What.{brought, AreAddressed};
+ghost use Rattle.histories.specs.What.{brought, AreAddressed, IsOf};
 ghost use Rattle.schedule.specs.declared.act.Act.{Act as AnyAct};
 ghost use Rattle.schedule.specs.declared.act.Act.TheVariants as acts;
 ghost use Rattle.runs.specs.Acts.{At};
@@ -107,7 +106,7 @@ impl Nodes {
     pub(crate) fn take(&mut self, id: NodeId, event: &Event) -> Result<Deed, AllocError>
         ensures slots { self.new.slots ≡ self.old.slots }
         ensures acted { (w : World) (number : ℕ) (a : AnyAct) → StandsFor self.old w → IsBrought w number (brought (Some event.now)) → AreAddressed id (brought (Some event.now))
-            → IfOk result (λ deed. Makes a (λ step. At (nat_lt id (length w.states)) id number (CameOf event.now) step) w deed self.new) }
+            → IfOk result (λ deed. Makes a (λ step. At (nat_lt id (length w.states)) id number (IsOf event.now) step) w deed self.new) }
         ensures memory { (w : World) → StandsFor self.old w → OnErr result (StandsFor self.new w) }
         ensures untouched { (w : World) → StandsFor self.old w → OnErr result (IsUntouched self.old self.new) }
         ensures faults { IfOk result (λ deed. FaultsAt (node_or_first (length self.old.nodes) id) self.old self.new deed.outcome) }

@@ -2,7 +2,7 @@ use group_task::{GroupNo, Members, NodeId, owner, share};
 use job_model::Queue;
 use std::process::Abort;
 
-fn members(numbers: &[u8]) -> Members {
+pub(crate) fn members(numbers: &[u8]) -> Members {
     let mut all = Members::new();
     for number in numbers {
         if let Some(id) = NodeId::new(*number) {

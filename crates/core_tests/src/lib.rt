@@ -1,6 +1,6 @@
-//! Tests of groups, messages, lists of messages and the network, through their public calls, against values from outside.
+//! Tests of groups, messages, lists of messages, the network and a node's core, through their public calls, against values from outside.
 //! The crate has no code beside its tests. They stand apart from the crates that they try, each of which would else be proved twice. Rows of the
-//! protocol's table are schedules, which the built program runs.
+//! protocol's table are schedules, which the built program runs; rows of the core by itself stand here too.
 #![tactic(auto)]
 
 #[cfg(test)]
@@ -13,3 +13,5 @@ mod messages;
 mod networks;
 #[cfg(test)]
 mod refused;
+#[cfg(test)]
+mod rows;

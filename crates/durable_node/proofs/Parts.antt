@@ -7,12 +7,13 @@ use Rattle.node_core.specs.Start.{down}
 use Rattle.node_core.specs.declared.event.Event.{Event}
 use Rattle.histories.specs.NodeState.{NodeState}
 use Rattle.histories.specs.declared.what.What.{What}
+use Rattle.histories.specs.What.{IsOf}
 use Rattle.histories.specs.Possible.{IsPossible, IsOfSlots}
 use Rattle.histories.specs.Fates.{IsTriedAt}
 use Rattle.histories.specs.After.{sent_at, found_at}
 use Rattle.durable_node.specs.declared.came.Came.{Came}
 use Rattle.durable_node.specs.Node.{IsLeft, Node, Stands, told_doubt}
-use Rattle.durable_node.specs.Stepping.{Does, CameOf, command_at, answer_at}
+use Rattle.durable_node.specs.Stepping.{Does, command_at, answer_at}
 
 pub is_some : {T : Type 0} (x y : T) → Some x ≡ Some y → x ≡ y
 is_some x y e = cc
@@ -43,6 +44,6 @@ pub stands_down : {Disk : Type 0} (disks : Disk → DiskState) (n : Node Disk) (
 stands_down disks n s disk id fallen at left state doubt = stands_at disks n s disk at left state doubt (λ up. absurd (not_up id n.state fallen up))
 
 -- this came of an event
-pub does : {slots self nodes : ℕ} {s : NodeState} {event : Event} {came : Came} {found : Option Durable} {what : What} → CameOf event what → IsPossible self nodes s what → IsOfSlots slots self nodes s what
+pub does : {slots self nodes : ℕ} {s : NodeState} {event : Event} {came : Came} {found : Option Durable} {what : What} → IsOf event what → IsPossible self nodes s what → IsOfSlots slots self nodes s what
     → IsTriedAt event came.tried (command_at self nodes s what) → came.answer ≡ answer_at self nodes s what → came.sent.items ≡ sent_at self nodes s what → found ≡ found_at s what → Does slots self nodes s event came found what
 does of possible of_slots tried answer sent mounted = record { of = of; possible = possible; of_slots = of_slots; tried = tried; answer = answer; sent = sent; mounted = mounted }

@@ -17,7 +17,7 @@ use Rattle.durable_node.specs.declared.fault.NodeFault.{NodeFault}
 use Rattle.durable_node.specs.declared.fault.NodeFault.TheVariants as node
 use Rattle.durable_node.specs.declared.came.Came.{Came}
 use Rattle.histories.specs.NodeState.{NodeState, wants_at, settled}
-use Rattle.histories.specs.What.{event_of}
+use Rattle.histories.specs.What.{IsOf}
 use Rattle.histories.specs.declared.what.What.{What}
 use Rattle.histories.specs.declared.what.What.TheVariants.{Did, Faulted, Recovered, RaiseFailed}
 use Rattle.histories.specs.After.{after, sent_at, found_at}
@@ -94,10 +94,6 @@ IsIgnored why came other = ⊥
 
 -- ---- any call
 
--- it came of this event, or of the mounting that the event Recover makes where the node is down
-abbrev pub CameOf : Event → What → Type 0
-CameOf event what = event_of what ≡ Some event
-
 -- the command that was tried on the disk, if there was one
 abbrev pub command_at : ℕ → ℕ → NodeState → What → Option Command
 command_at self nodes s (Did event) = wants_at self nodes s event
@@ -114,7 +110,7 @@ answer_at self nodes s what = None
 
 -- this came of the event, and so the call tells it
 pub record Does (slots self nodes : ℕ) (s : NodeState) (event : Event) (came : Came) (found : Option Durable) (what : What) : Type 0 where
-  pub of : CameOf event what
+  pub of : IsOf event what
   pub possible : IsPossible self nodes s what
   pub of_slots : IsOfSlots slots self nodes s what
   pub tried : IsTriedAt event came.tried (command_at self nodes s what)

@@ -71,8 +71,8 @@ fn while_down<D: SectorDisk + Drop>(
     ensures counts { CountsOf D.state (disk_in disk.old) (disk_in disk.new) (told result) }
     ensures mounting { event.now ≡ Event.Recover
         → Remounted (node_with id nodes core.old disk.old doubt.old found.old) (node_with id nodes core.new disk.new doubt.new found.new) (told result) (found_in found.new (store_in disk.new)) }
-    ensures kept { event.now ≡ Event.Recover → IfOk result (λ came. IsFoundBy doubt.old came.fate (found_in found.new (store_in disk.new))) }
-    ensures reads { event.now ≡ Event.Recover → ReadsDisk D.state (disk_in disk.old) (disk_in disk.new) (told result) (found_in found.new (store_in disk.new)) }
+    ensures found { event.now ≡ Event.Recover
+        → IfOk result (λ came. IsFoundBy doubt.old came.fate (found_in found.new (store_in disk.new))) × ReadsDisk D.state (disk_in disk.old) (disk_in disk.new) (told result) (found_in found.new (store_in disk.new)) }
     ensures few { IfOk result (λ came. length came.sent.items ≤ most_by nodes (kept_in (is_down core.old.state.phase) (store_in disk.old))) }
 {
     match event {

@@ -9,13 +9,13 @@ use Rattle.histories.specs.declared.what.What.{What}
 use Rattle.histories.specs.declared.what.What.TheVariants as what
 use Rattle.histories.specs.declared.what.Rest.TheVariants.{Nothing}
 use Rattle.histories.specs.NodeState.{NodeState}
-use Rattle.histories.specs.What.{brought, event_of}
+use Rattle.histories.specs.What.{brought, event_of, IsOf}
 use Rattle.histories.specs.After.{after, sent_at}
 use Rattle.histories.specs.Possible.{IsPossible}
 use Rattle.durable_node.specs.declared.fault.NodeFault.{NodeFault}
 use Rattle.durable_node.specs.declared.fault.NodeFault.TheVariants as fault
 use Rattle.durable_node.specs.Node.{Node, Stands}
-use Rattle.durable_node.specs.Stepping.{CameOf, IsUnmountable, Stuck}
+use Rattle.durable_node.specs.Stepping.{IsUnmountable, Stuck}
 use Rattle.node_lock.specs.declared.order.Order.{Order}
 use Rattle.node_lock.specs.declared.order.Order.TheVariants as order
 use Rattle.node_lock.specs.Asking.{Asked, Hand, Rest, Arm, Crash, asked_in, asked_by}
@@ -38,7 +38,7 @@ did_comes old new event w sent did s stands =
     let disk = some_of old.disk did.has in
     let came = did.steps disk.0 s disk.1 stands (λ _. refl) in
     record {
-      gives = subst (λ (x : What). CameOf event x) (sym did.written) came.0.of;
+      gives = subst (λ (x : What). IsOf event x) (sym did.written) came.0.of;
       possible = subst (λ (x : What). IsPossible old.id old.nodes s x) (sym did.written) came.0.possible;
       is_sent = did.is_sent ∙ (came.0.sent ∙ ap (λ (x : What). sent_at old.id old.nodes s x) (sym did.written));
       stands = subst (λ (x : What). Stands state_of new (after old.id old.nodes s x)) (sym did.written) came.1;
@@ -58,7 +58,7 @@ turn_comes old new (Crash fill) w sent did s stands =
 
 -- ---- what a turn was brought
 
-brought_by : (m : Envelope) (w : What) → CameOf (on.Deliver m) w → brought (event_of w) ≡ m ∷ []
+brought_by : (m : Envelope) (w : What) → IsOf (on.Deliver m) w → brought (event_of w) ≡ m ∷ []
 brought_by m w is = ap brought is
 
 -- a poll brings what it found
@@ -67,7 +67,7 @@ brought_found (Some m) w is = brought_by m w is
 brought_found None w is = ap (λ (x : What). brought (event_of x)) is
 
 -- an event that brings nothing
-none_by : (event : Event) (w : What) → brought (Some event) ≡ [] → CameOf event w → brought (event_of w) ≡ []
+none_by : (event : Event) (w : What) → brought (Some event) ≡ [] → IsOf event w → brought (event_of w) ≡ []
 none_by event w none is = ap brought is ∙ none
 
 -- timers and orders bring no message

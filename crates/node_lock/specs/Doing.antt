@@ -9,12 +9,13 @@ use Rattle.histories.specs.declared.what.What.{What}
 use Rattle.histories.specs.declared.what.What.TheVariants as what
 use Rattle.histories.specs.declared.what.Rest.TheVariants.{Nothing}
 use Rattle.histories.specs.NodeState.{NodeState}
+use Rattle.histories.specs.What.{IsOf}
 use Rattle.histories.specs.After.{after}
 use Rattle.histories.specs.Fates.{what_of}
 use Rattle.durable_node.specs.declared.came.Came.{Came}
 use Rattle.durable_node.specs.Arming.{armed_disk}
 use Rattle.durable_node.specs.Node.{Node, Stands}
-use Rattle.durable_node.specs.Stepping.{CameOf, Steps}
+use Rattle.durable_node.specs.Stepping.{Steps}
 use Rattle.node_lock.specs.Asking.{Asked, Hand, Rest, Arm, Crash}
 
 -- there is a state that the node and its disk stand for
@@ -49,7 +50,7 @@ TurnDid old (Crash fill) w sent new = WasCrashed fill old new × (w ≡ what.Cra
 
 -- what may be written down of what was asked
 abbrev pub Gives : Asked → What → Type 0
-Gives (Hand event) w = CameOf event w
+Gives (Hand event) w = IsOf event w
 Gives Rest w = w ≡ what.Rests Nothing
 Gives (Arm calls) w = w ≡ what.Rests Nothing
 Gives (Crash fill) w = w ≡ what.Crashed

@@ -67,6 +67,19 @@ impl Body {
         ensures form { IsForm result (shape_of self.now) }
         ensures same { body_of (shape_of self.now) ≡ self.now }
     {
+        match self {
+            Body::Ready(task) => Form::Ready(task),
+            Body::Work { group, id, work } => Form::Work(*group, *id, work),
+            _ => Form::Short(self.short().unwrap()),
+        }
+    }
+
+    /// Its short form, which a Ready and a Work don't have.
+    #[inline(always)]
+    pub fn short(&self) -> Option<Short>
+        ensures value { result ≡ short_of self.now }
+        ensures short { IfSome result IsShort }
+    {
         let none = NodeId::numbered(0);
         let of = |kind: Kind, answer: bool, group: GroupNo| Short {
             kind,
@@ -80,29 +93,17 @@ impl Body {
             creator: none,
             number,
         };
-        match self {
-            Body::AreYouCoordinator => Form::Short(own(Kind::AreYouCoordinator, false, 0)),
-            Body::Coordinator(answer) => Form::Short(own(Kind::Coordinator, *answer, 0)),
-            Body::AreYouThere(group) => Form::Short(of(Kind::AreYouThere, false, *group)),
-            Body::Here(group, answer) => Form::Short(of(Kind::Here, *answer, *group)),
-            Body::Invitation(group) => Form::Short(of(Kind::Invitation, false, *group)),
-            Body::Accept(group) => Form::Short(of(Kind::Accept, false, *group)),
-            Body::Ready(task) => Form::Ready(task),
-            Body::ReadyAck(group) => Form::Short(of(Kind::ReadyAck, false, *group)),
-            Body::Work { group, id, work } => Form::Work(*group, *id, work),
-            Body::Done(id) => Form::Short(own(Kind::Done, false, *id)),
-        }
-    }
-
-    /// Its short form, which a Ready and a Work don't have.
-    #[inline]
-    pub fn short(&self) -> Option<Short>
-        ensures value { result ≡ short_of self.now }
-        ensures short { IfSome result IsShort }
-    {
-        match self.form() {
-            Form::Short(short) => Some(short),
-            Form::Ready(_) | Form::Work(_, _, _) => None,
-        }
+        let short = match self {
+            Body::AreYouCoordinator => own(Kind::AreYouCoordinator, false, 0),
+            Body::Coordinator(answer) => own(Kind::Coordinator, *answer, 0),
+            Body::AreYouThere(group) => of(Kind::AreYouThere, false, *group),
+            Body::Here(group, answer) => of(Kind::Here, *answer, *group),
+            Body::Invitation(group) => of(Kind::Invitation, false, *group),
+            Body::Accept(group) => of(Kind::Accept, false, *group),
+            Body::ReadyAck(group) => of(Kind::ReadyAck, false, *group),
+            Body::Done(id) => own(Kind::Done, false, *id),
+            Body::Ready(_) | Body::Work { .. } => return None,
+        };
+        Some(short)
     }
 }

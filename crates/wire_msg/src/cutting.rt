@@ -14,6 +14,7 @@ use std::slice;
 
 /// Reads the message of the frame at the front in place of `message`, and answers what is behind the frame, or none where it
 /// isn't whole. So messages that stand one after another are read without a list of them.
+#[inline(always)]
 pub fn decode_front<'a>(
     bytes: &'a [u8],
     message: &mut Message,
@@ -109,7 +110,7 @@ fn take_frames(bytes: &[u8], out: &mut Vec<Message>) -> Result<usize, WireFault>
 }
 
 /// The length of the frame at the front, if it is whole.
-#[inline]
+#[inline(always)]
 fn whole_frame(bytes: &[u8]) -> Option<usize>
     ensures { MatchOption result (IsPartial bytes.now) (λ len. (len ≡ frame_len bytes.now) × (len ≤ length bytes.now)) }
 {
@@ -137,7 +138,7 @@ fn take_frame(frame: &[u8], blank: &Message, out: &mut Vec<Message>) -> Result<(
 }
 
 /// Reads the message of a frame in place of `message`. False says that it spells none.
-#[inline]
+#[inline(always)]
 fn read_frame(frame: &[u8], message: &mut Message) -> bool
     ensures read { result ≡ true → Spells message.new frame.now }
     ensures bad { result ≡ false → (m : Envelope) → Spells m frame.now → ⊥ }

@@ -128,6 +128,7 @@ impl Message {
     }
 
     /// Makes this the message that the bytes spell, all of them. Where they spell none, it is some message.
+    #[inline(always)]
     pub(crate) fn read(&mut self, bytes: &[u8]) -> Option<()>
         ensures { option_map (λ _. self.new) result ≡ whole_at bytes.now }
     {

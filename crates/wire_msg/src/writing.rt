@@ -1,12 +1,11 @@
-ghost use Rattle.std.specs.Prelude.{◌≡◌, ◌≢◌, ◌+◌, ◌<◌, ◌≤◌, [], ◌∷◌, ◌++◌, Bool, if◌then◌else◌, length, vec_len, vec_capacity, OnOk, OnErr, IfOk, IfErr};
+ghost use Rattle.std.specs.Prelude.{◌≡◌, ◌≢◌, ◌+◌, ◌<◌, ◌≤◌, [], ◌∷◌, ◌++◌, length, vec_len, vec_capacity, OnOk, OnErr, IfOk, IfErr};
 ghost use Rattle.std.specs.Int.{w16, to_be_bytes};
-ghost use Rattle.group_task.specs.Group.{Group};
 ghost use Rattle.group_task.specs.declared.node.TheConstants.{NODES};
 ghost use Rattle.wire_msg.specs.declared.body.Body.TheVariants.{Ready, Work as WorkMessage};
-ghost use Rattle.wire_msg.specs.Kinds.{said, names_group, IsCounted};
-ghost use Rattle.wire_msg.specs.Spelling.{group as group_bytes, task as task_bytes, priority as priority_bytes, work as work_bytes, place, answered, version_naming, AreBytes, IsGroup, IsTask, IsWork, Spells};
+ghost use Rattle.wire_msg.specs.Kinds.{said, IsCounted};
+ghost use Rattle.wire_msg.specs.Spelling.{group as group_bytes, task as task_bytes, priority as priority_bytes, work as work_bytes, answered, front, AreBytes, IsGroup, IsTask, IsWork, Spells};
 
-use crate::body::Form;
+use crate::body::Body;
 use crate::fault::WireFault;
 use crate::message::Message;
 use crate::short::{Kind, Short};
@@ -103,54 +102,34 @@ fn begin(
     let (sender, receiver) = (ends.0.number(), ends.1.number());
     let [high, low] = len.to_be_bytes();
     out.reserve(6 + usize::from(len))?;
-    out.push_reserved(version);
-    out.push_reserved(kind);
-    out.push_reserved(sender);
-    out.push_reserved(receiver);
-    out.push_reserved(high);
-    out.push_reserved(low);
-    Ok(())
+    out.extend_from_slice(&[version, kind, sender, receiver, high, low])
 }
 
-/// How many bytes the body of a short form has.
-fn len_of(kind: Kind) -> u16
-    ensures { (g : Group) (answer : Bool) → result ≡ length (place kind g ++ answered kind answer) }
+/// Writes what stands in front of the answer of a short form.
+#[inline(always)]
+fn put_front(out: &mut Vec<u8>, ends: (NodeId, NodeId), short: Short) -> Result<(), AllocError>
+    ensures bytes { OnOk result (out.new.items ≡ out.old.items ++ front ends.0 ends.1 short) }
+    ensures nodes { OnOk result ((ends.0 < NODES) × (ends.1 < NODES)) }
 {
-    let place = if kind.names_group() {
-        9
-    } else if kind.has_id() {
-        8
-    } else {
-        0
-    };
-    place + u16::from(kind.has_answer())
-}
-
-/// The version of a message between these nodes of this kind, which names the creator where it names a group.
-fn version_of_short(sender: NodeId, receiver: NodeId, kind: Kind, creator: NodeId) -> u8
-    ensures { result ≡ version_naming (sender ∷ receiver ∷ (if names_group kind then creator ∷ [] else [])) }
-{
+    let kind = short.kind;
+    let kind_number = kind.number();
+    let answers = u16::from(kind.has_answer());
     if kind.names_group() {
-        version_naming(sender, receiver, creator)
-    } else {
-        version_between(sender, receiver)
+        let version = version_naming(ends.0, ends.1, short.creator);
+        begin(out, version, kind_number, ends, 9 + answers)?;
+        return put_named(out, short.creator, short.number);
     }
-}
-
-/// Writes the group of a kind that names one, and the id of one that has an id.
-fn put_place(out: &mut Vec<u8>, kind: Kind, creator: NodeId, number: u64) -> Result<(), AllocError>
-    ensures { OnOk result (out.new.items ≡ out.old.items ++ place kind (record { creator = creator; count = number })) }
-{
-    if kind.names_group() {
-        return put_named(out, creator, number);
-    }
+    let version = version_between(ends.0, ends.1);
     if kind.has_id() {
-        return out.extend_from_slice(&number.to_be_bytes());
+        let id = short.number.to_be_bytes();
+        begin(out, version, kind_number, ends, 8 + answers)?;
+        return out.extend_from_slice(&id);
     }
-    Ok(())
+    begin(out, version, kind_number, ends, answers)
 }
 
 /// Writes the answer of a kind that has one.
+#[inline(always)]
 fn put_answer(out: &mut Vec<u8>, kind: Kind, answer: bool) -> Result<(), AllocError>
     ensures { OnOk result (out.new.items ≡ out.old.items ++ answered kind answer) }
 {
@@ -161,28 +140,21 @@ fn put_answer(out: &mut Vec<u8>, kind: Kind, answer: bool) -> Result<(), AllocEr
 }
 
 /// Writes the spelling of the message between these nodes that has this short form into an empty list.
+#[inline(always)]
 fn put_short(out: &mut Vec<u8>, ends: (NodeId, NodeId), short: Short) -> Result<(), AllocError>
     requires empty { out.old.items ≡ [] }
     requires ends { ends.0 ≢ ends.1 }
     requires counted { IsCounted short }
     ensures { OnOk result (Spells (record { sender = ends.0; receiver = ends.1; body = said short }) out.new.items) }
 {
-    let Short {
-        kind,
-        answer,
-        creator,
-        number,
-    } = short;
-    let version = version_of_short(ends.0, ends.1, kind, creator);
-    let len = len_of(kind);
-    let kind_number = kind.number();
-    begin(out, version, kind_number, ends, len)?;
-    put_place(out, kind, creator, number)?;
+    let Short { kind, answer, .. } = short;
+    put_front(out, ends, short)?;
     put_answer(out, kind, answer)?;
     Ok(())
 }
 
 /// Writes the spelling of the Ready between these nodes that tells this task into an empty list.
+#[inline(never)]
 fn put_ready(out: &mut Vec<u8>, ends: (NodeId, NodeId), task: &Task) -> Result<(), AllocError>
     requires empty { out.old.items ≡ [] }
     requires ends { ends.0 ≢ ends.1 }
@@ -196,6 +168,7 @@ fn put_ready(out: &mut Vec<u8>, ends: (NodeId, NodeId), task: &Task) -> Result<(
 }
 
 /// Writes the spelling of the Work between these nodes that gives this job into an empty list.
+#[inline(never)]
 fn put_given(
     out: &mut Vec<u8>,
     ends: (NodeId, NodeId),
@@ -221,10 +194,10 @@ fn spell(out: &mut Vec<u8>, message: &Message) -> Result<(), AllocError>
     ensures { OnOk result (Spells message.now out.new.items) }
 {
     let ends = (message.sender(), message.receiver());
-    match message.body().form() {
-        Form::Short(short) => put_short(out, ends, short),
-        Form::Ready(task) => put_ready(out, ends, task),
-        Form::Work(group, id, work) => put_given(out, ends, group, id, work),
+    match message.body() {
+        Body::Ready(task) => put_ready(out, ends, task),
+        Body::Work { group, id, work } => put_given(out, ends, *group, *id, work),
+        body => put_short(out, ends, body.short().unwrap()),
     }
 }
 

@@ -7,7 +7,7 @@ use Rattle.durable_node.proofs.advance.advance.Goals as goal
 pub returns-in_default-clause-reads : goal.returns-in_default-clause-reads
 returns-in_default-clause-reads g c = λ _ on.
     let same : c.in_default.disk ≡ c.args.disk.now = search rules in
-    rw same at (c.while_down.ensures.reads on)
+    rw same at (c.while_down.ensures.found on).1
 
 pub handle-requires : goal.handle-requires
 handle-requires g c =

@@ -1,4 +1,4 @@
-use Rattle.std.proofs.Common.{true, false, sym, ◌∙◌, arith}
+use Rattle.std.proofs.Common.{sym, ◌∙◌, arith}
 use Rattle.wire_msg.proofs.Frames.{some_read, none_read}
 use Rattle.wire_msg.proofs.Messages.{message_takes, none_reads}
 use Rattle.wire_msg.proofs.cutting.read_frame.Goals as goal

@@ -1,5 +1,4 @@
-use Rattle.std.proofs.Common.{◌≡◌, true, false, not, refl, ap, sym, ◌∙◌, arith}
-use Rattle.std.specs.Prelude.{Ok}
+use Rattle.std.proofs.Common.{not, refl, ap, sym, ◌∙◌, arith}
 use Rattle.wire_msg.proofs.Frames.{some_read, none_read}
 use Rattle.wire_msg.proofs.Messages.{message_takes, none_reads, one_reads}
 use Rattle.wire_msg.proofs.reading.decode_into.Goals as goal

@@ -1,7 +1,6 @@
 use Rattle.std.proofs.Common.{◌≡◌, ℕ, ◌≤◌, length, slice_get, sym, ◌∙◌, subst, arith, Some}
 use Rattle.std.proofs.lemmas.Option.{slice_get_read}
-use Rattle.histories.specs.What.{AreAddressed, brought}
-use Rattle.durable_node.specs.Stepping.{CameOf}
+use Rattle.histories.specs.What.{AreAddressed, brought, IsOf}
 use Rattle.cluster_sim.proofs.Members.{denied_at, still_cluster, takes, rests_if, untouched_if, faults_if}
 use Rattle.cluster_sim.proofs.Doings.{brought_came}
 use Rattle.cluster_sim.proofs.nodes.Nodes.take.Goals as goal
@@ -10,7 +9,7 @@ pub returns-then-place-len-clause-acted : goal.returns-then-place-len-clause-act
 returns-then-place-len-clause-acted c = λ w number a stands brings goes.
     let place = c.from-place.ensures ∙ c.number.ensures.value in
     let past : length c.self.inside.nodes.items ≤ c.args.id = grind (arith, place) in
-    denied_at w c.args.id number a (CameOf c.args.event.now) c.args.self.now stands (rw (← c.self.view_is) past)
+    denied_at w c.args.id number a (IsOf c.args.event.now) c.args.self.now stands (rw (← c.self.view_is) past)
 
 there : (c : goal.After-self-1) → slice_get c.self.inside.nodes.items c.from-place.result ≡ Some c.index_mut.result.now
 there c = slice_get_read c.self.inside.nodes.items c.len.result c.from-place.result c.index_mut.result.now (grind (arith)) (grind (arith)) c.index_mut.ensures.value
@@ -23,7 +22,7 @@ returns-clause-acted c = λ w number a stands brings goes.
     let was = c.self.inside in
     let id = c.from-place.ensures ∙ c.number.ensures.value in
     let p = c.from-place.result in
-    rw (← id) (takes was.slots p number a (CameOf c.args.event.now) was.nodes.items c.index_mut.result.now c.handle.new.node was.net.network c.handle.new.net.network c.handle.result w c.self.invariant (there c)
+    rw (← id) (takes was.slots p number a (IsOf c.args.event.now) was.nodes.items c.index_mut.result.now c.handle.new.node was.net.network c.handle.new.net.network c.handle.result w c.self.invariant (there c)
     (rw c.self.view_is stands) (brought_came w p number c.args.event.now brings (subst (λ (k : ℕ). AreAddressed k (brought (Some c.args.event.now))) (sym id) goes))
     (λ s. c.handle.ensures.came was.slots s a c.self.invariant.most_slots (c.self.invariant.members p c.index_mut.result.now (there c)).size))
 

@@ -1,0 +1,319 @@
+//! Rows of the table of events at a core of two nodes: the whole state, the command that is wanted, and the messages that are sent.
+ghost use Rattle.std.specs.Prelude.{◌≢◌, ◌<◌, ◌≤◌};
+
+use crate::groups::members;
+use group_task::{GroupNo, Members, NodeId, Task, share};
+use job_model::{Command, JobTable, Payload, Queue, Work};
+use node_core::{CoreFault, Durable, Event, InHand, NodeCore, Phase, Standing, Timer};
+use std::alloc::Global;
+use std::process::Abort;
+use wire_msg::{Body, Message};
+
+/// A core, and the jobs that it keeps.
+#[derive(Drop)]
+struct Node {
+    alloc: Global,
+    core: NodeCore,
+    table: JobTable,
+}
+
+impl Node {
+    /// A node that is Normal and alone in its group of count 1.
+    fn new(rt: &impl Abort, alloc: Global, number: u8) -> Node
+        requires { number < 2 }
+    {
+        Node {
+            alloc,
+            core: NodeCore::new(alloc, NodeId::numbered(number), 2, 1),
+            table: JobTable::with_room(alloc, 8).expect(rt, "memory"),
+        }
+    }
+
+    fn put(&mut self, rt: &impl Abort, work: Work) {
+        let command = Command::Put(work);
+        assert!(rt; self.table.can_apply(&command));
+        self.table.apply(command);
+    }
+
+    /// Expects that an event wants this command, which is answered so, and sends these messages.
+    fn step(&mut self, rt: &impl Abort, event: &Event, command: (Durable, u64), sends: &[Message])
+        requires { 1 ≤ command.1 }
+    {
+        let (wants, answer) = command;
+        let planned = match event {
+            Event::Deliver(message) => {
+                let room = Vec::new(self.alloc);
+                self.core.plan_delivery(message, &self.table, room)
+            }
+            _ => self.core.plan_step(event, &self.table),
+        };
+        let plan = planned.expect(rt, "a plan");
+        assert!(rt; plan.wants() == wants);
+        let sent = self.core.commit_step(plan, answer);
+        assert!(rt; sent.as_slice() == sends);
+        assert!(rt; sent.len() <= self.core.most(&self.table));
+    }
+
+    /// Expects that a timer wants no command and sends these messages.
+    fn fire(&mut self, rt: &impl Abort, timer: Timer, sends: &[Message]) {
+        self.step(rt, &Event::Timer(timer), (Durable::None, 1), sends);
+    }
+
+    /// Expects that a message wants no command and is answered with these.
+    fn hear(&mut self, rt: &impl Abort, message: &Message, answers: &[Message]) {
+        self.step(rt, &Event::Deliver(*message), (Durable::None, 1), answers);
+    }
+
+    /// Expects that an event is refused so.
+    fn refuse(&mut self, rt: &impl Abort, event: &Event, fault: CoreFault) {
+        let refused = Some(fault);
+        assert!(rt; self.core.plan_step(event, &self.table).err() == refused);
+        if let Event::Deliver(message) = event {
+            let room = Vec::new(self.alloc);
+            let planned = self.core.plan_delivery(message, &self.table, room);
+            assert!(rt; planned.err() == refused);
+        }
+    }
+
+    /// Expects this whole state.
+    fn expect(&self, rt: &impl Abort, want: &Standing, hand: &[InHand]) {
+        let standing = &self.core.vector().standing;
+        assert_eq!(rt; standing.phase, want.phase);
+        assert!(rt; standing.coordinator == want.coordinator && standing.group == want.group);
+        assert!(rt; standing.up == want.up && standing.task == want.task);
+        assert!(rt; standing.found == want.found && standing.unready == want.unready);
+        assert!(rt; standing.checking == want.checking && standing.probing == want.probing);
+        assert!(rt; self.core.vector().hand.jobs() == hand);
+    }
+}
+
+fn to_one(body: Body) -> Message {
+    Message::between(NodeId::numbered(0), NodeId::numbered(1), body)
+}
+
+fn to_zero(body: Body) -> Message {
+    Message::between(NodeId::numbered(1), NodeId::numbered(0), body)
+}
+
+fn group(creator: u8, count: u64) -> GroupNo
+    requires creator { creator < 3 }
+    requires count { 1 ≤ count }
+{
+    GroupNo::numbered(NodeId::numbered(creator), count)
+}
+
+fn task(rt: &impl Abort, group: GroupNo, numbers: &[u8]) -> Task {
+    let members = members(numbers);
+    assert!(rt; members.contains(group.creator()));
+    share(group, members)
+}
+
+/// The state of node 0 where it is Down.
+fn down() -> Standing {
+    Standing {
+        phase: Phase::Down,
+        coordinator: NodeId::numbered(0),
+        group: group(0, 1),
+        up: Members::new(),
+        task: None,
+        found: Members::new(),
+        unready: Members::new(),
+        checking: false,
+        probing: false,
+    }
+}
+
+/// The state of node 0 where it is Normal in its group of this count, which has these members.
+fn leading(rt: &impl Abort, count: u64, numbers: &[u8]) -> Standing
+    requires { 1 ≤ count }
+{
+    let mut state = down();
+    state.phase = Phase::Normal;
+    state.group = group(0, count);
+    state.up = members(numbers).without(state.coordinator);
+    state.task = Some(task(rt, state.group, numbers));
+    state
+}
+
+/// A job that node 0 keeps.
+fn job(rt: &impl Abort, id: u64, queue: u8, priority: u8) -> InHand {
+    InHand {
+        origin: NodeId::numbered(0),
+        id,
+        work: Work {
+            queue: Queue::new(queue).expect(rt, "a queue"),
+            priority,
+            payload: Payload::new(&[queue, priority]).expect(rt, "a payload"),
+        },
+    }
+}
+
+/// Node 0 in Election of its group of count 2, into which it invited node 1.
+fn inviting(rt: &impl Abort, alloc: Global) -> Node {
+    let mut node = Node::new(rt, alloc, 0);
+    node.fire(rt, Timer::Check, &[to_one(Body::AreYouCoordinator)]);
+    assert!(rt; node.core.merge_wait().is_none());
+    node.hear(rt, &to_zero(Body::Coordinator(true)), &[]);
+    assert_eq!(rt; node.core.merge_wait(), Some(1));
+    let invites = to_one(Body::Invitation(group(0, 2)));
+    let merge = Event::Timer(Timer::Merge);
+    node.step(rt, &merge, (Durable::Raise, 2), &[invites]);
+    node
+}
+
+/// Node 0 in Reorganization of its group of count 2, whose task it told node 1.
+fn reorganizing(rt: &impl Abort, alloc: Global) -> Node {
+    let mut node = inviting(rt, alloc);
+    node.hear(rt, &to_zero(Body::Accept(group(0, 2))), &[]);
+    let tells = Body::Ready(task(rt, group(0, 2), &[0, 1]));
+    node.fire(rt, Timer::Accept, &[to_one(tells)]);
+    node
+}
+
+/// The new group has the count that the raise answers. A node that is Normal keeps its group.
+#[test]
+fn ready_timer(rt: HostRuntime) {
+    let mut node = reorganizing(&rt, rt.alloc());
+    node.step(&rt, &Event::Timer(Timer::Ready), (Durable::Raise, 9), &[]);
+    node.expect(&rt, &leading(&rt, 9, &[0]), &[]);
+    node.fire(&rt, Timer::Ready, &[]);
+    node.expect(&rt, &leading(&rt, 9, &[0]), &[]);
+}
+
+#[test]
+fn merge_timer_with_nothing_found(rt: HostRuntime) {
+    let mut node = Node::new(&rt, rt.alloc(), 0);
+    node.fire(&rt, Timer::Check, &[to_one(Body::AreYouCoordinator)]);
+    let mut state = leading(&rt, 1, &[0]);
+    state.checking = true;
+    node.expect(&rt, &state, &[]);
+    node.fire(&rt, Timer::Merge, &[]);
+    node.expect(&rt, &leading(&rt, 1, &[0]), &[]);
+}
+
+#[test]
+fn accept_timer_with_no_member(rt: HostRuntime) {
+    let mut node = inviting(&rt, rt.alloc());
+    let mut state = leading(&rt, 2, &[0]);
+    state.phase = Phase::Election;
+    state.task = None;
+    node.expect(&rt, &state, &[]);
+    node.fire(&rt, Timer::Accept, &[]);
+    node.expect(&rt, &leading(&rt, 2, &[0]), &[]);
+}
+
+#[test]
+fn accept_timer_with_one_member(rt: HostRuntime) {
+    let node = reorganizing(&rt, rt.alloc());
+    let mut state = leading(&rt, 2, &[0, 1]);
+    state.phase = Phase::Reorganization;
+    state.unready = members(&[1]);
+    node.expect(&rt, &state, &[]);
+}
+
+/// Equal priorities go by rising id. A job in hand stays there once, and an order goes out each time.
+#[test]
+fn dispatch_timer(rt: HostRuntime) {
+    let mut node = reorganizing(&rt, rt.alloc());
+    node.hear(&rt, &to_zero(Body::ReadyAck(group(0, 2))), &[]);
+    for (queue, priority) in [(1, 0), (0, 3), (1, 7), (0, 7), (3, 7)] {
+        node.put(&rt, job(&rt, 0, queue, priority).work);
+    }
+    let orders = [(2, 1, 7), (4, 3, 7), (0, 1, 0)].map(|(id, queue, priority)| {
+        let work = job(&rt, id, queue, priority).work;
+        let group = group(0, 2);
+        to_one(Body::Work { group, id, work })
+    });
+    let hand = [job(&rt, 3, 0, 7), job(&rt, 1, 0, 3)];
+    for _time in 0..2 {
+        node.fire(&rt, Timer::Dispatch, &orders);
+        node.expect(&rt, &leading(&rt, 2, &[0, 1]), &hand);
+    }
+}
+
+#[test]
+fn recover_while_up_empties_the_hand(rt: HostRuntime) {
+    let mut node = Node::new(&rt, rt.alloc(), 0);
+    let job = job(&rt, 6, 5, 9);
+    let submit = Event::Submit(job.work);
+    node.step(&rt, &submit, (Durable::Put(job.work), 6), &[]);
+    node.expect(&rt, &leading(&rt, 1, &[0]), &[job]);
+    node.step(&rt, &Event::Recover, (Durable::Raise, 9), &[]);
+    node.expect(&rt, &leading(&rt, 9, &[0]), &[]);
+}
+
+/// The sender, a group's creator, or a member is outside the cluster, or the message is for another node.
+#[test]
+fn strangers(rt: HostRuntime) {
+    let mut node = Node::new(&rt, rt.alloc(), 0);
+    for message in [
+        Message::between(NodeId::numbered(2), NodeId::numbered(0), Body::Done(0)),
+        to_zero(Body::Invitation(group(2, 5))),
+        to_zero(Body::Ready(task(&rt, group(1, 5), &[0, 1, 2]))),
+        to_one(Body::AreYouCoordinator),
+    ] {
+        node.refuse(&rt, &Event::Deliver(message), CoreFault::Stranger);
+    }
+    node.expect(&rt, &leading(&rt, 1, &[0]), &[]);
+}
+
+/// Timers and messages change nothing, and jobs are refused. A message for another node is Stranger here, too.
+#[test]
+fn down_until_it_recovers(rt: HostRuntime) {
+    let mut node = Node::new(&rt, rt.alloc(), 0);
+    node.core = NodeCore::down(rt.alloc(), NodeId::numbered(0), 2);
+    let job = job(&rt, 0, 5, 9);
+    node.put(&rt, job.work);
+    for word in ["check", "merge", "accept", "ready", "coord", "dispatch"] {
+        let timer = Timer::from_word(word.as_bytes()).expect(&rt, "a timer");
+        node.fire(&rt, timer, &[]);
+    }
+    node.hear(&rt, &to_zero(Body::AreYouCoordinator), &[]);
+    node.hear(&rt, &to_zero(Body::Invitation(group(1, 2))), &[]);
+    node.hear(&rt, &to_zero(Body::Done(0)), &[]);
+    let stray = Event::Deliver(to_one(Body::AreYouCoordinator));
+    node.refuse(&rt, &stray, CoreFault::Stranger);
+    node.refuse(&rt, &Event::Submit(job.work), CoreFault::Down);
+    node.refuse(&rt, &Event::Finish(job.origin, 0), CoreFault::Down);
+    node.expect(&rt, &down(), &[]);
+    node.step(&rt, &Event::Recover, (Durable::Raise, 2), &[]);
+    node.expect(&rt, &leading(&rt, 2, &[0]), &[]);
+}
+
+/// Origin and id name a job together, and an origin outside the cluster is no stranger.
+#[test]
+fn finish_of_an_unknown_job(rt: HostRuntime) {
+    let mut node = Node::new(&rt, rt.alloc(), 0);
+    let job = job(&rt, 0, 2, 0);
+    node.put(&rt, job.work);
+    node.fire(&rt, Timer::Dispatch, &[]);
+    for (origin, id) in [(0, 1), (1, 0), (2, 0)] {
+        let finish = Event::Finish(NodeId::numbered(origin), id);
+        node.refuse(&rt, &finish, CoreFault::UnknownJob);
+    }
+    node.expect(&rt, &leading(&rt, 1, &[0]), &[job]);
+    let finish = Event::Finish(NodeId::numbered(0), 0);
+    node.step(&rt, &finish, (Durable::Done(0), 1), &[]);
+    node.refuse(&rt, &finish, CoreFault::UnknownJob);
+    node.expect(&rt, &leading(&rt, 1, &[0]), &[]);
+}
+
+#[test]
+fn merge_of_two(rt: HostRuntime) {
+    let mut zero = inviting(&rt, rt.alloc());
+    let mut one = Node::new(&rt, rt.alloc(), 1);
+    let agrees = to_zero(Body::Coordinator(true));
+    one.hear(&rt, &to_one(Body::AreYouCoordinator), &[agrees]);
+    let accepts = to_zero(Body::Accept(group(0, 2)));
+    one.hear(&rt, &to_one(Body::Invitation(group(0, 2))), &[accepts]);
+    zero.hear(&rt, &accepts, &[]);
+    let tells = to_one(Body::Ready(task(&rt, group(0, 2), &[0, 1])));
+    zero.fire(&rt, Timer::Accept, &[tells]);
+    let is_ready = to_zero(Body::ReadyAck(group(0, 2)));
+    one.hear(&rt, &tells, &[is_ready]);
+    zero.hear(&rt, &is_ready, &[]);
+    let mut state = leading(&rt, 2, &[0, 1]);
+    zero.expect(&rt, &state, &[]);
+    state.up = Members::new();
+    one.expect(&rt, &state, &[]);
+}
