@@ -35,7 +35,7 @@ refused() {
     [ ! -s "$room/err" ] || problem='it writes to standard error'
     grep -qE '^(error: |Usage: invite |invite [0-9])' "$room/out" || problem='it says neither what is wrong nor how it is written'
     cmp -s "$room/in" "$room/left" || problem='it read its input'
-    tell "$problem" invite "$@"
+    mark "$problem" invite "$@"
 }
 
 # helps COMMAND: its help has an example, which runs at the top of the repository
@@ -48,7 +48,7 @@ helps() {
     example=${example//\/tmp\//$room/}
     (cd "$here/.." && eval "${example//invite $1/$program $1}") > "$room/out" 2> "$room/err" || problem="its example ends badly: $example"
     [ ! -s "$room/err" ] || problem='its example writes to standard error'
-    tell "$problem" invite "$1" --help
+    mark "$problem" invite "$1" --help
 }
 
 # says REASON: what the next run has to say on standard error, in one line
@@ -58,7 +58,7 @@ says() {
 }
 
 # prints STATUS INPUT TEXT WORDS..: the program reads all of its input, prints the text and ends so; on standard error stands the
-# reason that was told before, or nothing
+# reason that was printed before, or nothing
 prints() {
     local want=$1 input=$2 text=$3 problem=''
     shift 3
@@ -68,7 +68,7 @@ prints() {
     reason=''
     [ ! -s "$room/left" ] || problem='it left input unread'
     printf '%b' "$text" | cmp -s - "$room/out" || problem="it prints something else than $text"
-    tell "$problem" invite "$@"
+    mark "$problem" invite "$@"
 }
 
 # full INPUT WORDS..: where standard output is full, the program ends with status 1, and says so
@@ -77,7 +77,7 @@ full() {
     start "$1" /dev/full "${@:2}"
     [ "$status" -eq 1 ] || problem="status $status in place of 1, over a full output"
     grep -qx "invite: can't write: No space left on device.*" "$room/err" || problem="it says '$(cat "$room/err")' of a full output"
-    tell "$problem" invite "${@:2}"
+    mark "$problem" invite "${@:2}"
 }
 
 # folder WORDS..: where standard input can't be read, the program ends with status 1, prints nothing, and says so
@@ -88,7 +88,7 @@ folder() {
     [ "$status" -eq 1 ] || problem="status $status in place of 1, over a folder as input"
     [ ! -s "$room/out" ] || problem='it prints something'
     grep -qx "invite: can't read: Is a directory.*" "$room/err" || problem="it says '$(cat "$room/err")' of a folder as input"
-    tell "$problem" invite "$@"
+    mark "$problem" invite "$@"
 }
 
 refused
@@ -124,7 +124,7 @@ for command in answer show sim store format node trace record threads draw; do
     problem=''
     start '' "$room/out" --help
     grep -q "^  $command " "$room/out" || problem="the help doesn't name $command"
-    tell "$problem" invite --help
+    mark "$problem" invite --help
     helps "$command"
 done
 
@@ -161,7 +161,7 @@ prints 1 '' 'bad line 1\n' sim
 says 'line 1: an act in front of the line cluster NODES SLOTS, or behind 65536 acts'
 prints 1 'check 0\n' 'bad line 1\n' sim
 
-# The same run, told by default, with messages by name, and with the nodes in front of each act.
+# The same run, printed by default, with messages by name, and with the nodes in front of each act.
 two='node 0 Normal coord 0 group 0:1 up - members 0 count 1 pending - hand -\nnode 1 Normal coord 1 group 1:1 up - members 1 count 1 pending - hand -\n'
 asked='cluster 2 4\ncheck 1\ndeliver 0\n'
 prints 0 "$asked" "0 ok 0:010101000000\n1 ok 1:01020001000101\n$two" sim

@@ -109,7 +109,7 @@ class Tried:
     def __init__(self, program):
         self.program, self.passed, self.failed = program, 0, 0
 
-    def tell(self, wrong, name):
+    def mark(self, wrong, name):
         if wrong:
             self.failed += 1
             print(f"files.py: {name!r:.150}: {wrong}")
@@ -117,14 +117,14 @@ class Tried:
             self.passed += 1
 
     def same(self, found, wanted, name):
-        self.tell("" if found == wanted else f"there is {found!r:.200} in place of {wanted!r:.200}", name)
+        self.mark("" if found == wanted else f"there is {found!r:.200} in place of {wanted!r:.200}", name)
 
     def run(self, words, fed, **more):
         """The status and the standard output. Where the status isn't 0, one line is said of it, and else nothing."""
         ended = subprocess.run([self.program, *words], input=fed if isinstance(fed, bytes) else fed.encode(), capture_output=True, timeout=60, **more)
         is_said = re.fullmatch(rb"invite: [^\n]+\n", ended.stderr) is not None if ended.returncode else ended.stderr == b""
         if not is_said:
-            self.tell(f"it says {ended.stderr!r}", words)
+            self.mark(f"it says {ended.stderr!r}", words)
         return ended.returncode, ended.stdout
 
     def expect(self, words, fed, text, status=0, **more):
@@ -165,13 +165,13 @@ def try_bytes(tried, path):
         tried.same(found[1].decode()[-len(shown):], shown, requests)
         tried.same(read(path), bytes_of(slots, sectors), (slots, requests))
         # the zeros take the room that later writes need: a file of holes would have none
-        tried.tell("" if os.stat(path).st_blocks >= 8 + 4 * slots else "it has no room", (slots, requests))
+        tried.mark("" if os.stat(path).st_blocks >= 8 + 4 * slots else "it has no room", (slots, requests))
         write(path, bytes_of(slots, sectors))
         tried.expect(["store", path], "mount\nlist\n", "ok\n" + shown)
     for words, requests, sectors, label in NODES:
         tried.formatted(path, words)
         _, out = tried.run(["node", path, *words.split()[1:3]], requests)
-        tried.tell("" if out.count(b"ok ") == requests.count("\n") else f"it answers {out!r}", (words, requests))
+        tried.mark("" if out.count(b"ok ") == requests.count("\n") else f"it answers {out!r}", (words, requests))
         tried.same(read(path), bytes_of(int(words.split()[0]), sectors, label), (words, requests))
 
 
@@ -182,12 +182,12 @@ def try_made(tried, folder):
         write(path, b"\x55" * length)
         tried.expect(["store", path], f"format {slots}\n", "ok\n")
         tried.same(read(path), bytes_of(slots, EMPTY), (length, slots))
-        tried.tell("" if os.stat(path).st_blocks >= 8 + 4 * slots else "it has no room", (length, slots))
+        tried.mark("" if os.stat(path).st_blocks >= 8 + 4 * slots else "it has no room", (length, slots))
     # a file of holes, and one behind a symbolic link
     write(path, b"")
     os.truncate(path, 1 << 20)
     tried.expect(["store", path], "format 73\n", "ok\n")
-    tried.tell("" if os.stat(path).st_blocks >= 300 else "it has no room", "holes")
+    tried.mark("" if os.stat(path).st_blocks >= 300 else "it has no room", "holes")
     os.symlink(path, link)
     tried.expect(["store", link], "format 4\n", "ok\n")
     tried.same((os.path.islink(link), read(path)), (True, bytes_of(4, EMPTY)), "a symbolic link")
@@ -296,9 +296,9 @@ def try_locked(tried, path):
         for how in (fcntl.LOCK_SH, fcntl.LOCK_EX):
             try:
                 fcntl.flock(file, how | fcntl.LOCK_NB)
-                tried.tell("it isn't locked", how)
+                tried.mark("it isn't locked", how)
             except BlockingIOError:
-                tried.tell("", how)
+                tried.mark("", how)
     tried.ask(child, b"recover\nsubmit 3 6869\n", UP.replace(b"ok 1", b"ok 2") + b"take 0 0 3 6869\nok 3 id 0\n")
     tried.end(child, 0, b"", "a node whose file was asked for")
     for how in (fcntl.LOCK_SH, fcntl.LOCK_EX):
@@ -376,10 +376,10 @@ def built(folder, name):
 
 def try_refused_calls(tried, folder, path):
     """The system refuses to open or to lock a file, or a call fails and the file is mounted again."""
-    library, told = built(folder, "faults"), os.path.join(folder, "told")
+    library, noted = built(folder, "faults"), os.path.join(folder, "noted")
 
     def failing(at, error):
-        return {"env": {**os.environ, "LD_PRELOAD": library, "FAULT_FILE": path, "FAULT_AT": str(at), "FAULT": str(error), "FAULT_COUNT": told}}
+        return {"env": {**os.environ, "LD_PRELOAD": library, "FAULT_FILE": path, "FAULT_AT": str(at), "FAULT": str(error), "FAULT_COUNT": noted}}
 
     for error, node, making in OPENING:
         tried.formatted(path)
@@ -387,13 +387,13 @@ def try_refused_calls(tried, folder, path):
         tried.expect(["store", path], "mount\nlist\n", "refused Device\nrefused Broken\n", **failing(1, error))
         os.remove(path)
         tried.expect(["format", path, "4", "0", "1"], "", "", making, **failing(1, error))
-        tried.tell("it was made" if os.path.exists(path) else "", ("format", errno.errorcode[error]))
+        tried.mark("it was made" if os.path.exists(path) else "", ("format", errno.errorcode[error]))
     # opened, asked what it is, and then locked
     for error, node, word in LOCKING:
         tried.formatted(path)
         before = read(path)
         tried.expect(["node", path, "0", "1"], "recover\n", "", node, **failing(3, error))
-        tried.same(read(told).split()[1:], [b"flock"], "the third call")
+        tried.same(read(noted).split()[1:], [b"flock"], "the third call")
         tried.expect(["store", path], "mount\n", f"refused {word}\n", **failing(3, error))
         tried.expect(["store", path], "format 5\n", f"refused {word}\n", **failing(3, error))
         tried.same(read(path), before, "a file that couldn't be locked")
@@ -417,12 +417,12 @@ def try_refused_calls(tried, folder, path):
 
 
 def try_short_calls(tried, folder, path):
-    """Reads and writes that move less than was asked for, or are interrupted, are gone on with; where nothing is moved at all, that is told."""
-    library, told = built(folder, "short"), os.path.join(folder, "disturbed")
+    """Reads and writes that move less than was asked for, or are interrupted, are gone on with; where nothing is moved at all, that is printed."""
+    library, noted = built(folder, "short"), os.path.join(folder, "disturbed")
     lines = "format 4\nmount\nraise\nput 1 6869\nput 15 " + "a5" * 400 + " 255\ndone 0\ncompact\nraise\nmount\nlist\n"
     whole, answers, before = None, None, bytes_of(4, EMPTY)
     for most in (1 << 20, 511, 100, 5, 1):
-        env = {**os.environ, "LD_PRELOAD": library, "SHORT_FILE": path, "SHORT_MOST": str(most), "SHORT_COUNT": told}
+        env = {**os.environ, "LD_PRELOAD": library, "SHORT_FILE": path, "SHORT_MOST": str(most), "SHORT_COUNT": noted}
         write(path, b"\x55" * 5000)
         if whole is None:
             answers = tried.run(["store", path], lines)
@@ -430,7 +430,7 @@ def try_short_calls(tried, folder, path):
             write(path, b"\x55" * 5000)
         tried.same(tried.run(["store", path], lines, env=env), answers, ("moved at most", most))
         tried.same(read(path), whole, ("moved at most", most))
-        tried.tell("" if int(read(told)) > 50 else f"{read(told)} calls were disturbed", ("moved at most", most))
+        tried.mark("" if int(read(noted)) > 50 else f"{read(noted)} calls were disturbed", ("moved at most", most))
         tried.formatted(path)
         tried.expect(["node", path, "0", "1"], "recover\nsubmit 0 61\n", UP + b"take 0 0 0 61\nok 2 id 0\n", env=env)
     tried.same(answers, (0, b"ok\nok\nok 1\nok 0\nok 1\nok\nok\nok 2\nok\ncount 2 next 2\njob 1 15 " + b"a5" * 400 + b" 255\n"), "the session")

@@ -12,7 +12,7 @@ has() {
     local name=$1 found
     found=$(cat "$2")
     shift 2
-    if [ "$found" = "$(IFS=$'\n' && echo "$*")" ]; then tell '' "$name"; else tell "it has '${found:0:300}'" "$name"; fi
+    if [ "$found" = "$(IFS=$'\n' && echo "$*")" ]; then mark '' "$name"; else mark "it has '${found:0:300}'" "$name"; fi
 }
 
 # A repository of empty crates, and an rt that writes down what it is asked for and where, and says what rt says.
@@ -59,15 +59,15 @@ anew() {
 
 # expect NAME STATUS: the last call ended so
 expect() {
-    if [ "$status" -eq "$2" ]; then tell '' "$1"; else tell "status $status in place of $2" "$1"; fi
+    if [ "$status" -eq "$2" ]; then mark '' "$1"; else mark "status $status in place of $2" "$1"; fi
 }
 
 call ./invite answer 0 3
 expect 'the first call' 0
 has 'the first call prints' "$room/out" 'answer 0 3' input
 has 'what rt is asked for' <(sed 's/[0-9]*$//' "$room/log") 'crates: all check --jobs ' end 'invite: run -- show'
-has 'each crate is told' <(sed -n 's/^invite: checked \([a-z_]*\) (.*/\1/p' "$room/err") "$crates"
-has 'the last is told' <(grep -c "^invite: checked .* ($(wc -w <<<"$crates") of $(wc -w <<<"$crates")), 0 min so far" "$room/err") 1
+has 'each crate is named' <(sed -n 's/^invite: checked \([a-z_]*\) (.*/\1/p' "$room/err") "$crates"
+has 'the last is named' <(grep -c "^invite: checked .* ($(wc -w <<<"$crates") of $(wc -w <<<"$crates")), 0 min so far" "$room/err") 1
 
 call ./invite show
 expect 'the second call' 0
@@ -100,7 +100,7 @@ for name in node_core invite; do
     anew
     REFUSED=$name call ./invite show
     expect "$name is refused" 1
-    has "$name: what is told" <(tail -n 3 "$room/err") "== $name" "a goal of $name is open" 'invite: the program was not built'
+    has "$name: what is printed" <(tail -n 3 "$room/err") "== $name" "a goal of $name is open" 'invite: the program was not built'
     has "$name: what is built" <(grep -c run "$room/log") 0
     has "$name: what is printed" "$room/out"
 done
@@ -123,7 +123,7 @@ for word in show --unproved; do
     status=$?
     if ! PATH=/usr/bin:/bin command -v rt >/dev/null; then
         expect "no rt, $word" 1
-        has "no rt is told, $word" <(grep -c '^invite: there is no command rt: ' "$room/err") 1
+        has "no rt is named, $word" <(grep -c '^invite: there is no command rt: ' "$room/err") 1
     fi
 done
 

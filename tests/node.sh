@@ -26,7 +26,7 @@ ends() {
     [ "$status" -eq "$want" ] || problem="status $status in place of $want"
     [ "$want" -eq 2 ] || [ ! -s "$room/out" ] || problem='it prints something'
     [ "$want" -eq 0 ] || [ "$want" -eq 2 ] || [ -s "$room/err" ] || problem='it says nothing on standard error'
-    tell "$problem" "$name"
+    mark "$problem" "$name"
 }
 
 # answers STATUS NAME INPUT TEXT WORDS..: a node that is fed this answers this, and ends so
@@ -37,7 +37,7 @@ answers() {
     status=$?
     [ "$status" -eq "$want" ] || problem="status $status in place of $want"
     printf '%b' "$text" | cmp -s - "$room/out" || problem="it answers $(tr '\n' '/' <"$room/out")"
-    tell "$problem" "$name"
+    mark "$problem" "$name"
 }
 
 # fresh [FIRST]: makes the file of node 0 of 3 anew
@@ -104,7 +104,7 @@ fresh
 printf 'recover\ntick 0\ntick 600\ntick 600\n' | "$program" node "$file" 0 3 >"$room/out"
 problem=''
 [ "$(grep -c '^send 1 010100010000$' "$room/out")" -eq 1 ] || problem="it answers $(tr '\n' '/' <"$room/out")"
-tell "$problem" 'a tick fires once'
+mark "$problem" 'a tick fires once'
 
 # Work that was dispatched is dispatched again after 20 round trips; in a new group at once, since its predecessor's jobs were dropped.
 fresh
@@ -112,7 +112,7 @@ printf 'recover\nsubmit 0 -\ntick 1\ntick 2\nrecover\ntick 3\n' | "$program" nod
 problem=''
 [ "$(grep -c '^fired dispatch$' "$room/out")" -eq 2 ] || problem="it answers $(tr '\n' '/' <"$room/out")"
 [ "$(grep -c '^take 0 0 0 -$' "$room/out")" -eq 2 ] || problem="it answers $(tr '\n' '/' <"$room/out")"
-tell "$problem" 'a new group hands its jobs out'
+mark "$problem" 'a new group hands its jobs out'
 
 # A node that runs: its file is locked, and after kill -9 the next one finds what was answered.
 fresh
@@ -136,7 +136,7 @@ printf 'recover\n' | "$program" node "$file" 0 3 >/dev/full 2>"$room/err"
 status=$?
 problem=''
 [ "$status" -eq 1 ] || problem="status $status in place of 1"
-tell "$problem" 'a full output'
+mark "$problem" 'a full output'
 
 # Each answer of a command is written after the last sync of it: a raise and a Put write, sync and are answered in this order.
 if command -v strace >/dev/null && strace -o "$room/probe" true 2>/dev/null; then
@@ -147,11 +147,11 @@ if command -v strace >/dev/null && strace -o "$room/probe" true 2>/dev/null; the
     problem=''
     [ "$order" = 'fdatasync ok 1 -- fdatasync ok 2 ' ] || [ "$order" = 'fdatasync ok 1 fdatasync ok 2 ' ] || problem="the calls are $order"
     [ "$(grep -c pwrite64 "$room/calls")" -gt 0 ] || problem='nothing was written'
-    tell "$problem" 'an answer after its sync'
+    mark "$problem" 'an answer after its sync'
     problem=''
     tail -n 1 "$room/calls" >/dev/null
     awk '/pwrite64\(/ { open = 1 } /fdatasync\(/ { open = 0 } /write\(1,/ && open { bad = 1 } END { exit bad }' "$room/calls" || problem='an answer was written with a write not synced'
-    tell "$problem" 'no answer over an unsynced write'
+    mark "$problem" 'no answer over an unsynced write'
 fi
 
 # example NAME PATTERN COMMAND..: the example ends well, and in one of three runs its last lines show what it is for. How much comes about in
@@ -164,7 +164,7 @@ example() {
         grep -qE "$pattern" "$room/out" && { problem=''; break; }
         problem=$(tail -n 3 "$room/out")
     done
-    tell "$problem" "$name"
+    mark "$problem" "$name"
 }
 
 if command -v python3 >/dev/null; then
@@ -188,7 +188,7 @@ if command -v python3 >/dev/null; then
         [ "$(for i in 0 1 2; do grep '^group Normal' "$room/machine$i.out" | tail -n 1; done | sort -u | wc -l)" -eq 1 ] || problem=$(tail -n 2 "$room"/machine?.out)
         [ -n "$problem" ] || break
     done
-    tell "$problem" 'three machines'
+    mark "$problem" 'three machines'
 
     rm -f "$file"
     "$program" format "$file" 64 0 1
@@ -205,7 +205,7 @@ if command -v python3 >/dev/null; then
     problem=''
     printf 'group Normal 0 0:1 0\nkeeps 1 0 0\nok 1\ntake 0 0 0 6563686f2068656c6c6f\nok 2 id 0\ngone 0\nok 3\n' | cmp -s - "$room/out" || problem=$(cat "$room/out")
     [ "$(cat "$room/err")" = hello ] || problem='the command did not run'
-    tell "$problem" 'a worker'
+    mark "$problem" 'a worker'
 
     if python3 -c 'import sqlite3' 2>/dev/null; then
         example 'a lock' 'takeovers [2-9].* refused [1-9].* both [1-9]' python3 "$top/examples/lock/lock.py" "$program" 9

@@ -87,7 +87,7 @@ class Tried:
         self.program, self.folder, self.passed, self.failed = program, folder, 0, 0
         self.path, self.made = os.path.join(folder, "node"), {}
 
-    def tell(self, wrong, name):
+    def mark(self, wrong, name):
         if wrong:
             self.failed += 1
             print(f"node_rows.py: {name!r:.200}: {wrong}")
@@ -95,7 +95,7 @@ class Tried:
             self.passed += 1
 
     def same(self, found, wanted, name):
-        self.tell("" if found == wanted else f"there is {found!r:.500} in place of {wanted!r:.500}", name)
+        self.mark("" if found == wanted else f"there is {found!r:.500} in place of {wanted!r:.500}", name)
 
     def fresh(self, own=0, nodes=3):
         """A file as `format` makes it."""
@@ -145,10 +145,10 @@ def try_timers(tried):
         tried.fresh(own, nodes)
         text, status = tried.serve(["".join(line + "\n" for line in lines).encode()], own, nodes)
         answers = re.split(r"^ok .*\n", text, flags=re.MULTILINE)
-        tried.tell("" if status == 0 and len(answers) == len(lines) + 1 and answers[-1] == "" else f"status {status}, it answers {text!r}", lines)
+        tried.mark("" if status == 0 and len(answers) == len(lines) + 1 and answers[-1] == "" else f"status {status}, it answers {text!r}", lines)
         for answer, (time, due) in zip(answers[len(before):], times):
             if due is not None:
-                tried.tell("" if (event in fired(answer)) == due else f"{event} at {time}: {fired(answer)}", lines)
+                tried.mark("" if (event in fired(answer)) == due else f"{event} at {time}: {fired(answer)}", lines)
 
 
 def try_jitter(tried):
@@ -159,9 +159,9 @@ def try_jitter(tried):
         text, _ = tried.serve([b"recover\n"] + ["".join(f"tick {time}\n" for time in range(at, at + 50)).encode() for at in range(0, 900, 50)], own, 4)
         answers = re.split(r"^ok .*\n", text, flags=re.MULTILINE)[1:]
         at = [next((time for time, answer in enumerate(answers) if event in fired(answer)), -1) for event in ("check", "merge")]
-        tried.tell("" if 400 <= at[0] <= 600 and 100 <= at[1] - at[0] <= 200 else f"it checks and merges at {at}", ("jitter of node", own))
+        tried.mark("" if 400 <= at[0] <= 600 and 100 <= at[1] - at[0] <= 200 else f"it checks and merges at {at}", ("jitter of node", own))
         seen[tuple(at)] = own
-    tried.tell("" if len(seen) == 4 else f"the times are {seen}", "jitter of four nodes")
+    tried.mark("" if len(seen) == 4 else f"the times are {seen}", "jitter of four nodes")
 
 
 def try_greatest(tried):
@@ -181,31 +181,31 @@ def try_greatest(tried):
 
 def try_failing(tried):
     """Each call on the file fails in turn. Then the process ends; another one finds what was answered, and of the last line all or nothing."""
-    library, told = os.path.join(tried.folder, "faults.so"), os.path.join(tried.folder, "told")
+    library, noted = os.path.join(tried.folder, "faults.so"), os.path.join(tried.folder, "noted")
     subprocess.run(["cc", "-shared", "-fPIC", "-O1", "-o", library, os.path.join(HERE, "shim", "faults.c"), "-ldl"], check=True)
     fed, at, came = FAILING.encode(), 0, []
     while not came or came[-1] != (UNFAILED, 0):
         at += 1
-        env = {**os.environ, "LD_PRELOAD": library, "FAULT_FILE": tried.path, "FAULT_AT": str(at), "FAULT": str(errno.EIO), "FAULT_COUNT": told}
+        env = {**os.environ, "LD_PRELOAD": library, "FAULT_FILE": tried.path, "FAULT_AT": str(at), "FAULT": str(errno.EIO), "FAULT_COUNT": noted}
         tried.fresh()
         cut = at % (len(fed) - 1) + 1
         came.append(tried.serve([fed[:cut], fed[cut:]], env=env))
         found, status = tried.serve([b"recover\n"])
         counts, jobs = {"": ((1,), (0,)), **dict(zip((text for text, _ in FAILED), (((1, 2), (0,)), ((2,), (0, 1)), ((2, 3), (1,)))))}.get(came[-1][0], ((3,), (1,)))
         allowed = [f"group Normal 0 0:{count} 0\nkeeps {count} {job} {job}\nok 1\n" for count in counts for job in jobs]
-        tried.tell("" if status == 0 and found in allowed else f"then there is {found!r}", ("call that fails", at))
+        tried.mark("" if status == 0 and found in allowed else f"then there is {found!r}", ("call that fails", at))
         if at > 100:
             break
     opening = came.count(("", 3))
     wanted = [("", 3)] * opening + [(text, 3) for text, calls in FAILED for _ in range(calls)] + [(UNFAILED, 0)]
-    tried.tell("" if opening > 0 else "no call opens the file", "the calls that open the file")
+    tried.mark("" if opening > 0 else "no call opens the file", "the calls that open the file")
     tried.same(len(came), len(wanted), "the number of calls")
     for at, (found, want) in enumerate(zip(came, wanted)):
         tried.same(found, want, ("call that fails", at + 1))
 
 
 def try_disks_in_memory(tried):
-    """No call of a disk in memory fails that wasn't told to."""
+    """No call of a disk in memory fails that wasn't asked to."""
     for slots in (4, 8, 4096):
         schedule = f"cluster 1 {slots}\nsubmit 0 0 61\ncompact 0\nrecover 0\nfinish 0 0 0\ncompact 0\ncrash 0\nrecover 0\n"
         found = subprocess.run([tried.program, "sim"], input=schedule.encode(), capture_output=True, timeout=60)

@@ -61,7 +61,7 @@ learn() {
     done
 }
 
-# kept K WHAT: the file holds what the first K lines leave, or with one more. Else a problem is told.
+# kept K WHAT: the file holds what the first K lines leave, or with one more. Else a problem is named.
 kept() {
     local more=$(($1 + 1))
     [ "$more" -le "${#session[@]}" ] || more=$1
@@ -93,7 +93,7 @@ fail_at() {
     [ "$fault" != 4 ] || [ "$name" = statx ] || [ "$name" = lseek ] || [ "$k" -eq "${#session[@]}" ] || problem="line $k fails, interrupted"
     [ "$status" -eq 0 ] || problem="status $status"
     kept "$k"
-    tell "$problem" "error $fault at call $at, $name"
+    mark "$problem" "error $fault at call $at, $name"
 }
 
 # The program is ended before a call, or within it: nothing is printed, and the lines whose calls were all made are kept.
@@ -108,7 +108,7 @@ end_at() {
     [ "$status" -eq 137 ] || problem="status $status"
     [ ! -s "$room/out" ] || problem='it printed something'
     kept "$k"
-    tell "$problem" "$fault at call $at"
+    mark "$problem" "$fault at call $at"
 }
 
 # A format that is cut off leaves no file, one that isn't formatted, or the empty store, and a second one makes the store.
@@ -129,7 +129,7 @@ format_at() {
     [ "$(echo 'format 4' | "$program" store "$file")" = ok ] || problem='a second one fails'
     found
     [ "$found" = $'ok\ncount 0 next 0' ] || problem="a second one leaves $found"
-    tell "$problem" "$fault at call $at of a format"
+    mark "$problem" "$fault at call $at of a format"
 }
 
 # EIO, ENOSPC and EINTR
@@ -152,7 +152,7 @@ with 0 none
 formatting=$calls
 problem=''
 [ "$formatting" -gt 0 ] 2>/dev/null || problem='no call of the program is seen'
-tell "$problem" 'the shim'
+mark "$problem" 'the shim'
 if [ -n "$problem" ]; then
     echo "$passed passed, $failed failed"
     exit 1
@@ -166,7 +166,7 @@ done
 
 problem=''
 learn
-tell "$problem" 'the session'
+mark "$problem" 'the session'
 printf '%s\n' "${session[@]}" >"$room/in"
 for ((at = 1; at <= ends[-1]; at++)); do
     for fault in $(errors_at "$at"); do

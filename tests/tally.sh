@@ -2,8 +2,8 @@
 passed=0
 failed=0
 
-# tell PROBLEM NAME..: counts a check. A problem that is no empty text is a failure, and is told with the name.
-tell() {
+# mark PROBLEM NAME..: counts a check. A problem that is no empty text is a failure, and is printed with the name.
+mark() {
     local problem=$1
     shift
     if [ -z "$problem" ]; then

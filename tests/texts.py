@@ -121,7 +121,7 @@ SIMULATED = [
     ("", "cluster 1 4\ncheck 1\ncut 0 1\nmend 63 0\ncrash 2\nrecover 1\narm 1 0\nfinish 0 63 18446744073709551615\ndeliver 18446744073709551615\nlose 0\ncut 0 0\nmend 0 0",
      "0 refused Stranger\n1 refused Stranger\n2 refused Stranger\n3 refused Stranger\n4 refused Stranger\n5 refused Stranger\n6 refused UnknownJob\n7 refused NoSuch\n"
      "8 refused NoSuch\n9 ok\n10 ok\n" + ALONE.format(1, "-")),
-    # one run, told in three ways
+    # one run, printed in three ways
     ("", ASKED, "0 ok 0:010101000000\n1 ok 1:01020001000101\n2 refused NoSuch\n" + TWO),
     ("--names", ASKED, "0 ok\n    0: 1>0 AreYouCoordinator\n1 ok\n    1: 0>1 Coordinator yes\n2 refused NoSuch\n" + TWO),
     ("--nodes", ASKED, TWO + "0 ok 0:010101000000\n" + TWO + "1 ok 1:01020001000101\n" + TWO + "2 refused NoSuch\n" + TWO),
@@ -209,7 +209,7 @@ class Rows:
     def __init__(self, program):
         self.program, self.passed, self.failed = program, 0, 0
 
-    def tell(self, wrong, row):
+    def mark(self, wrong, row):
         if wrong:
             self.failed += 1
             print(f"{row!r:.200}: {wrong}")
@@ -231,7 +231,7 @@ class Rows:
             wrong.append(f"status {found.returncode} in place of {status}")
         if not re.fullmatch(r"invite: [^\n]+\n", said) if reason is None else said != (f"invite: {reason}\n" if reason else ""):
             wrong.append(f"it says {said!r:.200} in place of {reason!r}")
-        self.tell("; ".join(wrong), (words, fed))
+        self.mark("; ".join(wrong), (words, fed))
 
 
 def reason_of(text):
@@ -308,7 +308,7 @@ def try_cut_compactions(rows):
 
 
 def try_greatest_group(rows):
-    """All 128 nodes join one group: each of the six rounds brings a message to or from each of the 127 others. The task of all is told in 138 bytes."""
+    """All 128 nodes join one group: each of the six rounds brings a message to or from each of the 127 others. The task of all takes 138 bytes."""
     acts = ["check 0"] + [f"deliver {k}" for k in range(254)] + ["merge 0"] + [f"deliver {k}" for k in range(254, 508)] + ["accept 0"]
     acts += [f"deliver {k}" for k in range(508, 762)]
     found = rows.run(["sim"], "cluster 128 4\n" + "\n".join(acts))
@@ -321,7 +321,7 @@ def try_greatest_group(rows):
     all_of_them = ",".join(str(node) for node in range(128))
     up = ",".join(str(node) for node in range(1, 128))
     nodes = [f"node {n} Normal coord 0 group 0:2 up {'-' if n else up} members {all_of_them} count {1 if n else 2} pending - hand -" for n in range(128)]
-    rows.tell("; ".join(wrong)[:300] or ("" if lines[-128:] == nodes else "the nodes are not one group"), "a group of 128")
+    rows.mark("; ".join(wrong)[:300] or ("" if lines[-128:] == nodes else "the nodes are not one group"), "a group of 128")
 
 
 def try_records(rows):
@@ -330,7 +330,7 @@ def try_records(rows):
     for schedule, trace in RECORDED:
         rows.expect(["record"], schedule, trace + "\n", 0)
         judged = rows.run(["trace"], trace)
-        rows.tell("" if judged.returncode == 0 and judged.stdout.startswith(b"Run") else f"it is judged {judged.stdout!r}", trace)
+        rows.mark("" if judged.returncode == 0 and judged.stdout.startswith(b"Run") else f"it is judged {judged.stdout!r}", trace)
     rows.expect(["record"], "cluster 1 4\nchek 0\n", "bad line 2\n", 1, "line 2: no such act: chek")
 
 
@@ -339,7 +339,7 @@ def try_stores(rows, folder):
         path = os.path.join(folder, f"session-{at}")
         for fed, text in sessions:
             rows.expect(["store", path], fed, text, 0)
-    rows.tell("" if os.path.getsize(path) == 28 * 512 else "its file has another length", "format 5")
+    rows.mark("" if os.path.getsize(path) == 28 * 512 else "its file has another length", "format 5")
 
     path = os.path.join(folder, "damaged")
     for sectors, writes, fed, text in DAMAGED:
@@ -357,7 +357,7 @@ def try_stores(rows, folder):
     for fed, line, reason in BAD_REQUESTS:
         rows.expect(["store", path], fed, f"bad line {line}\n", 1, reason and f"line {line}: {reason}")
     rows.expect(["store", path], "", "", 0)
-    rows.tell("it made a file" if os.path.exists(path) else "", "lines that can't be read")
+    rows.mark("it made a file" if os.path.exists(path) else "", "lines that can't be read")
 
 
 def try_slow_input(rows):
@@ -368,7 +368,7 @@ def try_slow_input(rows):
             child.stdin.write(fed[at:at + 5])
         child.stdin.close()
         text = child.stdout.read()
-    rows.tell("" if (child.returncode, text) == (0, b"01020002000101\n01020001000101\n") else f"it prints {text!r}, status {child.returncode}", "pieces")
+    rows.mark("" if (child.returncode, text) == (0, b"01020002000101\n01020001000101\n") else f"it prints {text!r}, status {child.returncode}", "pieces")
 
 
 def try_failing_input(rows, words, fed):
@@ -380,7 +380,7 @@ def try_failing_input(rows, words, fed):
     found = subprocess.run([rows.program, *words], stdin=one, capture_output=True, timeout=60)
     os.close(one)
     is_right = found.returncode == 1 and found.stdout == b"" and re.fullmatch(rb"invite: can't read: Input/output error.*\n", found.stderr)
-    rows.tell("" if is_right else f"status {found.returncode}, {found.stdout!r}, {found.stderr!r}", (words, "a read that fails"))
+    rows.mark("" if is_right else f"status {found.returncode}, {found.stdout!r}, {found.stderr!r}", (words, "a read that fails"))
 
 
 def try_failing_output(rows, folder):
@@ -394,7 +394,7 @@ def try_failing_output(rows, folder):
     with open(path, "rb") as output:
         text = output.read()
     is_right = found.returncode == 1 and text == b"2>0 AreY" and re.fullmatch(rb"invite: can't write: File too large.*\n", found.stderr)
-    rows.tell("" if is_right else f"status {found.returncode}, {text!r}, {found.stderr!r}", "a write that fails")
+    rows.mark("" if is_right else f"status {found.returncode}, {text!r}, {found.stderr!r}", "a write that fails")
 
 
 def try_endless_input(rows, folder):
@@ -403,16 +403,16 @@ def try_endless_input(rows, folder):
     if compiler is None:
         print("texts.py: there is no C compiler cc, so no input was without an end")
         return
-    library, told = os.path.join(folder, "endless.so"), os.path.join(folder, "reads")
+    library, noted = os.path.join(folder, "endless.so"), os.path.join(folder, "reads")
     subprocess.run([compiler, "-shared", "-fPIC", "-O1", "-o", library, os.path.join(HERE, "shim", "endless.c")], check=True)
-    with open(told, "wb") as file:
+    with open(noted, "wb") as file:
         file.truncate(8)
-    found = subprocess.run([rows.program, "show"], stdin=subprocess.DEVNULL, capture_output=True, env={**os.environ, "LD_PRELOAD": library, "TOLD": told}, timeout=100)
-    with open(told, "rb") as file:
+    found = subprocess.run([rows.program, "show"], stdin=subprocess.DEVNULL, capture_output=True, env={**os.environ, "LD_PRELOAD": library, "NOTED": noted}, timeout=100)
+    with open(noted, "rb") as file:
         reads = int.from_bytes(file.read(), "little")
     said = b"invite: can't read: the input has no end within 16777216 reads\n"
     is_right = (found.returncode, found.stdout, found.stderr, reads) == (1, b"", said, 16777216)
-    rows.tell("" if is_right else f"status {found.returncode}, {found.stdout!r:.100}, {found.stderr!r}, {reads} reads", "an input without an end")
+    rows.mark("" if is_right else f"status {found.returncode}, {found.stdout!r:.100}, {found.stderr!r}, {reads} reads", "an input without an end")
 
 
 def main():

@@ -25,12 +25,12 @@ judge() {
     entries=$(grep -o '"do":' "$trace" | wc -l)
     turns=$(($(wc -w <"$room/verdict") - 1))
     [ "$entries" -eq "$turns" ] || problem="$entries entries in $turns turns"
-    tell "$problem" "$command $name"
+    mark "$problem" "$command $name"
     problem=''
     sed 's/"sent":\["[0-9a-f]*"/"sent":["010100010000"/' "$trace" >"$room/spoiled"
     if ! cmp -s "$trace" "$room/spoiled"; then
         "$program" trace <"$room/spoiled" >"$room/verdict" && problem='it is a run without its first message'
-        tell "$problem" "$command $name, spoiled"
+        mark "$problem" "$command $name, spoiled"
     fi
 }
 
@@ -43,7 +43,7 @@ has() {
     local problem='' entries
     entries=$(grep -o '"do":' "$room/threads-$2.json" | wc -l)
     [ "$entries" -eq "$1" ] || problem="$entries entries in place of $1"
-    tell "$problem" "entries of $2"
+    mark "$problem" "entries of $2"
 }
 
 for plans in plans/*.txt; do
@@ -54,7 +54,7 @@ for plans in plans/*.txt; do
     if [ -e "plans/$name.out" ]; then
         problem=''
         cmp -s "$room/threads-$name.json" "plans/$name.out" || problem='it is another trace'
-        tell "$problem" "the trace of $name"
+        mark "$problem" "the trace of $name"
     fi
 done
 
@@ -100,7 +100,7 @@ has "$((300 * 8 * 9))" polls
 # The picture in docs/ is the one that is drawn of its schedule; each picture of a schedule is well-formed, with a dot for each entry.
 problem=''
 "$program" draw <"$room/record-partition_heals.json" | cmp -s - docs/partition_heals.svg || problem='docs/partition_heals.svg is another picture'
-tell "$problem" 'the picture in docs'
+mark "$problem" 'the picture in docs'
 if command -v python3 >/dev/null; then
     for schedule in schedules/*.txt; do
         name=$(basename "$schedule" .txt)
@@ -108,7 +108,7 @@ if command -v python3 >/dev/null; then
         "$program" draw <"$room/record-$name.json" >"$room/picture" || problem='it is not drawn'
         dots=$(python3 -c 'import sys, xml.etree.ElementTree as tree; print(sum(e.tag.endswith("circle") for e in tree.parse(sys.argv[1]).iter()))' "$room/picture")
         [ "$dots" = "$(grep -o '"do":' "$room/record-$name.json" | wc -l)" ] || problem="$dots dots"
-        tell "$problem" "picture of $name"
+        mark "$problem" "picture of $name"
     done
 fi
 

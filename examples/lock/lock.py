@@ -5,7 +5,7 @@
 
 The row is (epoch, token, value). A node that is Normal and coordinator of C:K takes it by compare-and-swap, to (epoch + 1, C:K), and adds only
 where the token is still C:K. A number has one coordinator and is never given twice, so between two takeovers one node adds. In the
-middle third of the run the coordinator is cut off from the others and isn't told the time, as one whose driver hangs: it goes on as
+middle third of the run the coordinator is cut off from the others and isn't given the time, as one whose driver hangs: it goes on as
 coordinator, and its client goes on adding until the others take the row, and is refused from then on.
 """
 import heapq, os, selectors, sqlite3, subprocess, sys, tempfile, time
@@ -26,7 +26,7 @@ alone = None                 # the node that is cut off
 seen = dict(takeovers=0, added=0, refused=0, both=0)
 
 
-def tell(i, line):
+def feed(i, line):
     nodes[i].stdin.write(line.encode() + b"\n")
 
 
@@ -60,13 +60,13 @@ for i in range(NODES):
     subprocess.run([program, "format", f"{folder}/{i}", "64", str(i), str(NODES)], check=True)
     nodes.append(subprocess.Popen([program, "node", f"{folder}/{i}", str(i), str(NODES)], stdin=subprocess.PIPE, stdout=subprocess.PIPE, bufsize=0))
     look.register(nodes[i].stdout, selectors.EVENT_READ, i)
-    tell(i, "recover")
+    feed(i, "recover")
 ticked = 0.0
 while (now := time.monotonic()) - begun < seconds:
     while due and due[0][0] <= now:
         _, _, i, to, message = heapq.heappop(due)
         if alone not in (i, to):
-            tell(to, "deliver " + message)
+            feed(to, "deliver " + message)
     if alone is None and seconds / 3 < now - begun < 2 * seconds / 3:
         alone = next((i for i in range(NODES) if leads[i]), None)
     elif now - begun > 2 * seconds / 3:
@@ -75,7 +75,7 @@ while (now := time.monotonic()) - begun < seconds:
         ticked = now
         for i in range(NODES):
             if i != alone:
-                tell(i, f"tick {int((now - begun) * 1000)}")
+                feed(i, f"tick {int((now - begun) * 1000)}")
             client(i)
         seen["both"] += sum(lead is not None for lead in leads) > 1
     for key, _ in look.select(0.002):

@@ -21,7 +21,7 @@ for file in (link, node.stdout, sys.stdin):
 asked, typed, unread = 0, set(), b""
 
 
-def tell(line):
+def feed(line):
     global asked
     asked += 1
     node.stdin.write(line + b"\n")
@@ -41,19 +41,19 @@ def heard(words, line):
         print(line, flush=True)
 
 
-tell(b"recover")
+feed(b"recover")
 ticked = 0.0
 while node.poll() is None:
     for key, _ in look.select(0.01):
         if key.fileobj is link:
-            tell(b"deliver " + link.recv(1024).hex().encode())
+            feed(b"deliver " + link.recv(1024).hex().encode())
         elif key.fileobj is sys.stdin:
             line = os.read(0, 4096)
             if not line:
                 look.unregister(sys.stdin)
             for request in line.split(b"\n"):
                 if request:
-                    tell(request)
+                    feed(request)
                     typed.add(asked)
         else:
             *lines, unread = (unread + os.read(node.stdout.fileno(), 65536)).split(b"\n")
@@ -61,5 +61,5 @@ while node.poll() is None:
                 heard(line.decode().split(), line.decode())
     if time.monotonic() - ticked >= 0.01:
         ticked = time.monotonic()
-        tell(b"tick %d" % (ticked * 1000))
+        feed(b"tick %d" % (ticked * 1000))
 sys.exit(node.returncode)

@@ -42,7 +42,7 @@ def later(after, *what):
     heapq.heappush(due, (clock() + after, next(places)) + what)
 
 
-def tell(i, line):
+def feed(i, line):
     """A request is asked once the one before it is answered."""
     waiting[i].append(line)
     ask(i)
@@ -59,7 +59,7 @@ def start(i):
     nodes[i] = subprocess.Popen([program, "node", f"{folder}/{i}", str(i), str(NODES)], stdin=subprocess.PIPE, stdout=subprocess.PIPE, bufsize=0)
     look.register(nodes[i].stdout, selectors.EVENT_READ, i)
     waiting[i], asked[i], unread[i], leader[i] = [], None, b"", None
-    tell(i, "recover")
+    feed(i, "recover")
 
 
 def kill(i):
@@ -130,18 +130,18 @@ def heard(i, words):
 
 def happens(now, what, *of):
     if what == "deliver" and frozenset(of[:2]) not in links_cut:
-        tell(of[1], "deliver " + of[2])
+        feed(of[1], "deliver " + of[2])
     elif what == "finish":
-        tell(of[0], f"finish {of[1]} {of[2]}")
+        feed(of[0], f"finish {of[1]} {of[2]}")
     elif what == "tick":
         if not waiting[of[0]]:
-            tell(of[0], f"tick {int(now)}")
+            feed(of[0], f"tick {int(now)}")
         later(ROUND_TRIP / 2, "tick", of[0])
     elif what == "submit":
         leads = [i for i in range(NODES) if leader[i] == i]
         if leads:
             priority = chance.randrange(4)
-            tell(chance.choice(leads), f"submit {chance.randrange(16)} {chance.getrandbits(32):08x}" + (f" {priority}" if priority else ""))
+            feed(chance.choice(leads), f"submit {chance.randrange(16)} {chance.getrandbits(32):08x}" + (f" {priority}" if priority else ""))
         later(2.5 * ROUND_TRIP, "submit")
     elif what == "kill":
         i = chance.randrange(NODES)

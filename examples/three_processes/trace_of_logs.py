@@ -5,7 +5,7 @@
 
 The log of a node has its requests, each behind "> ", each followed by the lines of its answer, and a line "killed" where its process ended.
 A request is asked once the one before it is answered, and what an answer says to send is carried once its closing line was read. So at a
-kill one request at most is in doubt: whether its command counted is told by what the next recovery keeps.
+kill one request at most is in doubt: whether its command counted is known by what the next recovery keeps.
 """
 import json, sys
 

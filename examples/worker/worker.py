@@ -14,7 +14,7 @@ node = subprocess.Popen([program, "node", file, self, nodes], stdin=subprocess.P
 turn = threading.Lock()
 
 
-def tell(line):
+def feed(line):
     with turn:
         node.stdin.write(line)
         node.stdin.flush()
@@ -23,12 +23,12 @@ def tell(line):
 def work(origin, id, payload):
     command = "" if payload == "-" else bytes.fromhex(payload).decode()
     subprocess.run(command, shell=True, stdin=subprocess.DEVNULL, stdout=sys.stderr)
-    tell(f"finish {origin} {id}\n")
+    feed(f"finish {origin} {id}\n")
 
 
 def carry():
     for line in sys.stdin:
-        tell(line)
+        feed(line)
     node.stdin.close()
 
 

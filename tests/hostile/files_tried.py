@@ -127,7 +127,7 @@ def made(tried, path, history):
     answers += [model.apply(line) for line in history]
     tried.expect(["store", path], feed([f"format {slots}", "mount", *history, "list"]), 0, (feed(answers) + model.listed().encode()), "the file is made")
     data = read(path)
-    tried.tell("" if found_in(data)[0].listed() == model.listed() else "the layout finds something else", history)
+    tried.mark("" if found_in(data)[0].listed() == model.listed() else "the layout finds something else", history)
     return data, model
 
 
@@ -154,7 +154,7 @@ def one_store(tried, path, data, before, at, name, note):
         words = ["mount", "list", "raise"]
         text = f"refused {refused}\nrefused Broken\nrefused Broken\n"
         if tried.expect(["store", path], feed(words), 0, text.encode(), note):
-            tried.tell("" if read(path) == data else "a refused mounting wrote to the file", note)
+            tried.mark("" if read(path) == data else "a refused mounting wrote to the file", note)
         return
     tried.count("mounted")
     text, given = "ok\n" + model.listed(), []
@@ -166,23 +166,23 @@ def one_store(tried, path, data, before, at, name, note):
         given.append((verb, answer))
         if verb == "raise" and answer.startswith("ok") and count + 1 <= before.count:
             tried.count("gave a count again")
-            tried.tell("" if at is not None and at < 4 else "a count comes again, and the counter wasn't damaged", note)
+            tried.mark("" if at is not None and at < 4 else "a count comes again, and the counter wasn't damaged", note)
         if verb == "put" and answer.startswith("ok") and next_id < before.next:
             tried.count("gave an id again")
-            tried.tell("" if at is None or at >= 4 else "an id comes again, and the journal wasn't damaged", note)
+            tried.mark("" if at is None or at >= 4 else "an id comes again, and the journal wasn't damaged", note)
     if not sound:
         # A sealed slot behind the end: sealing the next one may join what was there. Only the first answers are foreseen.
         tried.count("not sound")
         text = "ok\n" + found_in(data)[0].listed()
         status, out, trouble = tried.run(["store", path], feed(["mount", "list", *COMMANDS, "list"]))
-        tried.tell(trouble or ("" if status == 0 and out.startswith(text.encode()) else f"it prints {out!r}"), note)
+        tried.mark(trouble or ("" if status == 0 and out.startswith(text.encode()) else f"it prints {out!r}"), note)
     elif not tried.expect(["store", path], feed(["mount", "list", *COMMANDS, "list"]), 0, (text + model.listed()).encode(), note):
         return
     again, refused = found_in(read(path))
     text = f"refused {refused}\nrefused Broken\n" if refused else "ok\n" + again.listed()
     tried.expect(["store", path], feed(["mount", "list"]), 0, text.encode(), (note, "mounted again"))
     if sound:
-        tried.tell("" if again and again.listed() == model.listed() else "what was acknowledged isn't there", note)
+        tried.mark("" if again and again.listed() == model.listed() else "what was acknowledged isn't there", note)
 
 
 def try_damage(tried, folder):
@@ -234,7 +234,7 @@ def try_nodes(tried, folder):
     tried.expect(["format", path, "6", str(own), "3", "40"], b"", 0, b"", "format")
     fed = feed(["recover", "submit 0 61", "submit 1 62", "finish 1 0", "recover", "submit 2 -"])
     status, out, trouble = tried.run(["node", path, str(own), "3"], fed)
-    tried.tell(trouble or ("" if status == 0 and out.count(b"\nok ") == 6 and b"1:42" in out else f"it answers {out!r}"), "the node's file")
+    tried.mark(trouble or ("" if status == 0 and out.count(b"\nok ") == 6 and b"1:42" in out else f"it answers {out!r}"), "the node's file")
     data = read(path)
     before = Model(42, 3, {}, 6)
     for at in range(SECTORS):
@@ -247,12 +247,12 @@ def try_nodes(tried, folder):
                 write(path, other)
                 status, out, trouble = tried.run(["node", path, str(own), "3"], b"recover\n")
                 same = read(path) == other
-                tried.tell(trouble or ("" if status == 5 and out == b"" and same else f"status {status}, {out!r}, the file is {'as it was' if same else 'another'}"), ("label", at, byte))
+                tried.mark(trouble or ("" if status == 5 and out == b"" and same else f"status {status}, {out!r}, the file is {'as it was' if same else 'another'}"), ("label", at, byte))
     for length in range(0, len(data) + 600, 256 if tried.is_long else 1024):
         if length != len(data):
             write(path, (data + bytes(1024))[:length])
             status, out, trouble = tried.run(["node", path, str(own), "3"], b"recover\n")
-            tried.tell(trouble or ("" if status == 5 and out == b"" else f"status {status}, {out!r}"), ("length", length))
+            tried.mark(trouble or ("" if status == 5 and out == b"" else f"status {status}, {out!r}"), ("length", length))
 
 
 def one_node(tried, path, data, before, own, at, fill):
@@ -261,16 +261,16 @@ def one_node(tried, path, data, before, own, at, fill):
     if not refused and not is_sound(data):
         tried.count("not sound")
         status, out, trouble = tried.run(["node", path, str(own), "3"], feed(["recover", "jobs"]))
-        tried.tell(trouble or ("" if status == 0 else f"status {status}"), ("node", at, fill))
+        tried.mark(trouble or ("" if status == 0 else f"status {status}"), ("node", at, fill))
         return
     if model and model.count < before.count:
         tried.count("gave a count again")
-        tried.tell("" if at < 4 else "a count comes again, and the counter wasn't damaged", ("node", at, fill))
+        tried.mark("" if at < 4 else "a count comes again, and the counter wasn't damaged", ("node", at, fill))
     tried.count("refused" if refused else "mounted")
     lines, is_up = node_text(model, refused, own)
     if tried.expect(["node", path, str(own), "3"], feed(["recover", "jobs", "submit 0 61"]), 0, feed(lines), ("node", at, fill)) and is_up:
         again = found_in(read(path))[0]
-        tried.tell("" if again and again.listed() == model.listed() else "what was answered isn't in the file", ("node", at, fill))
+        tried.mark("" if again and again.listed() == model.listed() else "what was answered isn't in the file", ("node", at, fill))
 
 
 # Ends of the process at each call that writes, with the unsynced sectors made to hold anything: what a loss of power may leave.
@@ -305,7 +305,7 @@ def crash_fills(data, at, seed):
 
 def try_crashes(tried, folder, library):
     for kind, lines in LIVES.items():
-        path, told = os.path.join(folder, "life-" + kind), os.path.join(folder, "told")
+        path, noted = os.path.join(folder, "life-" + kind), os.path.join(folder, "noted")
         commands = lines if kind == "store" else [as_commands(line) for line in lines]
         # the mounting is the first line of a store, and a part of a node's first recovery
         words = ["store", path] if kind == "store" else ["node", path, "0", "3"]
@@ -314,16 +314,16 @@ def try_crashes(tried, folder, library):
         ends, states, model = [], [], Model(0, 0, {}, 4)
         for k in range(len(lines) + 1):
             begin()
-            tried.run(words, feed(["mount", *lines[:k]] if kind == "store" else lines[:k]), shim.environment(library, told))
-            ends.append(len(shim.read_told(told)[0]))
+            tried.run(words, feed(["mount", *lines[:k]] if kind == "store" else lines[:k]), shim.environment(library, noted))
+            ends.append(len(shim.read_noted(noted)[0]))
             if k:
                 model.apply(commands[k - 1])
             states.append(model.listed())
         for at in range(1, ends[-1] + 1):
             begin()
-            status = tried.run(words, fed, shim.environment(library, told, END_AT=at))[0]
-            calls = shim.read_told(told)[0]
-            tried.tell("" if status == -9 and len(calls) == at else f"status {status}, {len(calls)} calls", (kind, "end at", at))
+            status = tried.run(words, fed, shim.environment(library, noted, END_AT=at))[0]
+            calls = shim.read_noted(noted)[0]
+            tried.mark("" if status == -9 and len(calls) == at else f"status {status}, {len(calls)} calls", (kind, "end at", at))
             data, done = read(path), max(k for k, end in enumerate(ends) if end < at) if ends[0] < at else 0
             dirty = unsynced(calls)
             for seed in range(4 if tried.is_long else 1):
@@ -338,7 +338,7 @@ def try_crashes(tried, folder, library):
                         out = "ok\n" + (found_in(image)[0] or Model(-1, 0, {}, 4)).listed()
                     allowed = ["ok\n" + state for state in states[done:done + 2]]
                     tried.count("crash images")
-                    if tried.tell("" if out in allowed else f"{out!r} in place of {allowed}", (kind, "end at", at, "fill", which, "sectors", dirty)) and kind == "node":
+                    if tried.mark("" if out in allowed else f"{out!r} in place of {allowed}", (kind, "end at", at, "fill", which, "sectors", dirty)) and kind == "node":
                         begun_again(tried, words, image, (kind, "end at", at, "fill", which))
                     if not dirty:
                         break
@@ -352,21 +352,21 @@ def begun_again(tried, words, image, note):
 
 def try_half_made(tried, folder, library):
     """The making of a node's file is ended at each write and sync: then it is no node's file."""
-    path, told = os.path.join(folder, "half"), os.path.join(folder, "told")
+    path, noted = os.path.join(folder, "half"), os.path.join(folder, "noted")
     words, at, status = ["format", path, "4", "0", "3", "5"], 0, None
     while status != 0 and at < 1000:
         at += 1
         if os.path.exists(path):
             os.remove(path)
-        status = tried.run(words, b"", shim.environment(library, told, END_AT=at))[0]
-        shim.read_told(told)
+        status = tried.run(words, b"", shim.environment(library, noted, END_AT=at))[0]
+        shim.read_noted(noted)
         if status == 0:
             tried.expect(["node", path, "0", "3"], b"recover\n", 0, b"group Normal 0 0:6 0\nkeeps 6 0 0\nok 1\n", "a whole file")
             continue
         data = read(path)
         got, out, trouble = tried.run(["node", path, "0", "3"], b"recover\n")
-        tried.tell(trouble or ("" if (status, got, out) == (-9, 5, b"") and read(path) == data else f"status {got}, {out!r}"), ("half made", at))
-        tried.tell("" if tried.run(words, b"")[0] == 1 and read(path) == data else "it is made over what is there", ("half made", at))
+        tried.mark(trouble or ("" if (status, got, out) == (-9, 5, b"") and read(path) == data else f"status {got}, {out!r}"), ("half made", at))
+        tried.mark("" if tried.run(words, b"")[0] == 1 and read(path) == data else "it is made over what is there", ("half made", at))
 
 
 def try_files(tried):

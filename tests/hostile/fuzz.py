@@ -4,8 +4,8 @@ with what is worked out here.
 
     fuzz.py PROGRAM SECONDS SEED [--each] [COMMAND..]
 
-The same seed tries the same inputs. With --each every command is tried in a process of its own, side by side, and told by itself. Some minutes apart
-the counts are told; the last line counts the runs. An input that went wrong is left in a file that is named."""
+The same seed tries the same inputs. With --each every command is tried in a process of its own, side by side, and printed by itself. Some minutes apart
+the counts are printed; the last line counts the runs. An input that went wrong is left in a file that is named."""
 import itertools, os, random, re, resource, sys, tempfile, time
 from concurrent.futures import ProcessPoolExecutor
 
@@ -23,7 +23,7 @@ from traces_tried import verdict
 
 # A run under load may take long; one that takes so long is made again with five times as much.
 SECONDS = 120
-TOLD_EVERY = 120
+COUNTS_EVERY = 120
 
 
 def one_piece(fuzz):
@@ -79,9 +79,9 @@ def one_record(fuzz):
         cluster = Cluster(nodes, slots)
         return ["record"], fed, (0, recorded.recorded_text(nodes, acts, [cluster.act(act)[:-1] for act in acts]))
     fuzz.tried.count("schedules with faults")
-    _, told, trouble = fuzz.tried.run(["sim"], fed)
-    told = told.decode().split("\n")[:len(acts)]
-    return ["record"], fed, lambda status, out: trouble or (f"status {status}" if status != 0 else recorded.problem_in_recorded(out, nodes, acts, told))
+    _, printed, trouble = fuzz.tried.run(["sim"], fed)
+    printed = printed.decode().split("\n")[:len(acts)]
+    return ["record"], fed, lambda status, out: trouble or (f"status {status}" if status != 0 else recorded.problem_in_recorded(out, nodes, acts, printed))
 
 
 def one_run_of_plans(fuzz):
@@ -243,13 +243,13 @@ def one_node(fuzz):
 
 
 def in_order(out):
-    """The jobs of a hand are told in no order that the pages name: those that are told one behind the other are sorted."""
-    told = itertools.groupby(out.splitlines(True), lambda line: line.split(b" ")[0])
-    return b"".join(b"".join(sorted(lines) if word in (b"take", b"drop", b"hand") else lines) for word, lines in told)
+    """The jobs of a hand are printed in no order that the pages name: those that are printed one behind the other are sorted."""
+    printed = itertools.groupby(out.splitlines(True), lambda line: line.split(b" ")[0])
+    return b"".join(b"".join(sorted(lines) if word in (b"take", b"drop", b"hand") else lines) for word, lines in printed)
 
 
 class Seen:
-    """What a node told: its counts rise, each id is new, and a job that was answered is kept until it is gone."""
+    """What a node answered: its counts rise, each id is new, and a job that was answered is kept until it is gone."""
 
     def __init__(self):
         self.count, self.next, self.pending, self.groups = 0, 0, {}, tables.Groups()
@@ -308,14 +308,14 @@ def one_refusal(fuzz):
     words, fed, _ = chance.choice((one_piece, one_schedule, one_schedule, one_trace, one_store, one_record, one_picture))(fuzz)
     begin = lambda: os.path.exists(words[-1]) and os.remove(words[-1]) if words[0] == "store" else None
     begin()
-    status, whole, trouble = tried.run(words, fed, shim.environment(fuzz.library, fuzz.told))
-    total = shim.read_told(fuzz.told)[1]
+    status, whole, trouble = tried.run(words, fed, shim.environment(fuzz.library, fuzz.noted))
+    total = shim.read_noted(fuzz.noted)[1]
     if trouble or total < 100:
         return words, fed, lambda *_: trouble
     begin()
     at = chance.randrange(100, total + 1)
-    got, out, trouble = tried.run(words, fed, shim.environment(fuzz.library, fuzz.told, REFUSE_AT=at))
-    shim.read_told(fuzz.told)
+    got, out, trouble = tried.run(words, fed, shim.environment(fuzz.library, fuzz.noted, REFUSE_AT=at))
+    shim.read_noted(fuzz.noted)
     begin()
     if not trouble and (got, out) not in ((status, whole), (1, b"no memory\n")):
         acts = [line.decode() for line in fed.split(b"\n") if line][1:]
@@ -347,7 +347,7 @@ class Fuzz:
         self.tried, self.folder, self.names, self.seed = Patient(program, self.name), folder, names, seed
         self.chance = random.Random(seed)
         self.inputs = Inputs(self.chance)
-        self.library, self.told = shim.built(folder), os.path.join(folder, "told")
+        self.library, self.noted = shim.built(folder), os.path.join(folder, "noted")
         if self.library is None:
             self.names = [name for name in names if name != "refusals"]
         self.begun = time.monotonic()
@@ -366,7 +366,7 @@ class Fuzz:
             with open(kept, "wb") as file:
                 file.write(fed)
             trouble += f" (the input is {kept})"
-        self.tried.tell(trouble, (name, words, fed[:200]))
+        self.tried.mark(trouble, (name, words, fed[:200]))
 
     def judged(self, want, status, out):
         """What is wrong with an output; one that can't be read as what it should be is wrong too."""
@@ -376,14 +376,14 @@ class Fuzz:
             return f"{error!r} at {out[:200]!r}"
 
     def until(self, end):
-        told = time.monotonic()
+        last = time.monotonic()
         while time.monotonic() < end and self.tried.failed < 20 and self.names:
             self.turn()
-            if time.monotonic() - told > TOLD_EVERY:
-                told = time.monotonic()
-                self.tell()
+            if time.monotonic() - last > COUNTS_EVERY:
+                last = time.monotonic()
+                self.print_counts()
 
-    def tell(self):
+    def print_counts(self):
         own, program = (sum(resource.getrusage(who)[:2]) for who in (resource.RUSAGE_SELF, resource.RUSAGE_CHILDREN))
         seconds = time.monotonic() - self.begun
         print(f"{self.name}: {self.tried.passed} runs and {self.tried.failed} wrong in {seconds:.0f} s, with {own + program:.0f} s of a processor, {program:.0f} of them the program's", flush=True)
@@ -395,7 +395,7 @@ def fuzzed(program, seconds, seed, names):
     with tempfile.TemporaryDirectory(dir="/dev/shm" if os.access("/dev/shm", os.W_OK) else None) as folder:
         fuzz = Fuzz(program, seed, names, folder)
         fuzz.until(end)
-    fuzz.tell()
+    fuzz.print_counts()
     return fuzz.tried.close()
 
 

@@ -56,7 +56,7 @@ def named(tried, words, fed, bad, ends=b"", note=""):
     status, out, trouble = tried.run(words, fed)
     if not trouble and (status != 0 or out.startswith((b"bad", b"no memory")) or not out.endswith(ends)):
         trouble = f"status {status}, it prints {out[-200:]!r}"
-    return tried.tell(trouble, (note, words, fed[:300]))
+    return tried.mark(trouble, (note, words, fed[:300]))
 
 
 def try_sim(tried):
@@ -114,11 +114,11 @@ def try_store(tried, folder):
     for line in at_most(bad, tried, 150) + longs:
         fed = b"format 4\n\n" + line + b"\nzz\n"
         if named(tried, ["store", path], fed, bad_in_store(fed), note="store"):
-            tried.tell("the file was made" if os.path.exists(path) else "", ("store", line[:300]))
+            tried.mark("the file was made" if os.path.exists(path) else "", ("store", line[:300]))
 
 
 def try_node(tried, folder):
-    """One node is fed all lines: each that can't be read is told, and it serves on."""
+    """One node is fed all lines: each that can't be read is named, and it serves on."""
     every, longs = all_spoiled(OF_NODE, tried)
     lines = [line for line in every + longs if line and b"\n" not in line]
     path = os.path.join(folder, "node")
@@ -132,12 +132,12 @@ def try_node(tried, folder):
         requests = [first, *lines, b"state"]
         if not trouble and (status != 0 or len(closing) != len(requests)):
             trouble = f"status {status}, {len(closing)} closing lines of {len(requests)}, the last {out[-100:]!r}"
-        if tried.tell(trouble, "node"):
+        if tried.mark(trouble, "node"):
             for at, (line, close) in enumerate(zip(requests, closing), 1):
                 read = is_read(line, NODE)
                 word = close.split(b" ")[0]
                 right = close.split(b" ")[1:2] == [b"%d" % at] and (word in (b"ok", b"refused") if read else close == b"bad %d" % at)
-                tried.tell("" if right else f"it answers {close!r}, and the line can{'' if read else 'not'} be read", ("node", line[:300]))
+                tried.mark("" if right else f"it answers {close!r}, and the line can{'' if read else 'not'} be read", ("node", line[:300]))
 
 
 def grows(tried, path, what, small, great, most):
@@ -149,9 +149,9 @@ def grows(tried, path, what, small, great, most):
         tried.run(["format", path, "4096", "0", "3"], b"")
         begun = time.monotonic()
         status, out, trouble = tried.run(["node", path, "0", "3"], lines, seconds=120)
-        tried.tell(trouble or ("" if status == 0 and out.endswith(text) else f"status {status}, it ends with {out[-100:]!r}"), what)
+        tried.mark(trouble or ("" if status == 0 and out.endswith(text) else f"status {status}, it ends with {out[-100:]!r}"), what)
         took.append(time.monotonic() - begun)
-    tried.tell("" if took[1] <= most * took[0] else f"{took[0]:.2f} s, and four times as much {took[1]:.2f} s", what)
+    tried.mark("" if took[1] <= most * took[0] else f"{took[0]:.2f} s, and four times as much {took[1]:.2f} s", what)
 
 
 def try_growth(tried, folder):
@@ -180,12 +180,12 @@ def try_format(tried, folder):
                 trouble = f"status {status}"
             if not trouble and os.path.exists(path) != fits:
                 trouble = "the file is made, or isn't"
-            tried.tell(trouble, given)
+            tried.mark(trouble, given)
             if os.path.exists(path):
                 os.remove(path)
     for given in ([], right[:1], right[:2], right + ["0"]):
         status, out, trouble = tried.run(["format", path, *given], b"")
-        tried.tell(trouble or ("" if status == 2 and not os.path.exists(path) else f"status {status}"), given)
+        tried.mark(trouble or ("" if status == 2 and not os.path.exists(path) else f"status {status}"), given)
 
 
 def try_lines(tried):

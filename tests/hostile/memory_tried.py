@@ -9,29 +9,29 @@ class Refusing:
     """Runs one command again and again, with one allocation more that is granted each time."""
 
     def __init__(self, tried, library, folder):
-        self.tried, self.library, self.told = tried, library, os.path.join(folder, "told")
+        self.tried, self.library, self.noted = tried, library, os.path.join(folder, "noted")
 
     def every(self, words, fed, before=lambda: None, run=None):
         """Of each run: its number, status, output, what was wrong with its end, and what is printed with ample memory."""
         run = run or self.tried.run
         before()
-        _, whole, trouble = run(words, fed, shim.environment(self.library, self.told))
-        total = shim.read_told(self.told)[1]
-        self.tried.tell(trouble or ("" if total else "no allocation was counted"), words)
+        _, whole, trouble = run(words, fed, shim.environment(self.library, self.noted))
+        total = shim.read_noted(self.noted)[1]
+        self.tried.mark(trouble or ("" if total else "no allocation was counted"), words)
         for more in ({}, {"REFUSE_ALL": 1}) if self.tried.is_long else ({},):
             for at in range(1, total + 1):
                 before()
-                status, out, trouble = run(words, fed, shim.environment(self.library, self.told, REFUSE_AT=at, **more))
-                shim.read_told(self.told)
+                status, out, trouble = run(words, fed, shim.environment(self.library, self.noted, REFUSE_AT=at, **more))
+                shim.read_noted(self.noted)
                 self.tried.count("allocations refused")
                 yield at, status, out, trouble, whole
 
     def is_over(self, status, out, trouble, note):
         """Whether the run ended as none may end, or before its command began: with `no memory` alone."""
-        is_told = (status, out) == (1, b"no memory\n")
-        if trouble or is_told:
-            self.tried.tell(trouble, note)
-        return trouble != "" or is_told
+        is_refused = (status, out) == (1, b"no memory\n")
+        if trouble or is_refused:
+            self.tried.mark(trouble, note)
+        return trouble != "" or is_refused
 
 
 def try_batches(refusing, words, fed, want, note):
@@ -46,7 +46,7 @@ def try_batches(refusing, words, fed, want, note):
             refusing.tried.count("faults of a disk that found no memory")
         elif not right:
             trouble = f"status {status}, it prints {out[-200:]!r}"
-        refusing.tried.tell(trouble, (note, "allocation", at))
+        refusing.tried.mark(trouble, (note, "allocation", at))
 
 
 def trouble_in_faulted(out, whole, acts):
@@ -84,15 +84,15 @@ def try_store(refusing, folder):
             if refusing.is_over(status, out, trouble, ("store", at)):
                 continue
             right = (status, out) in ((0, whole), (1, b"no memory\n"))
-            tried.tell("" if right else f"status {status}, it prints {out[-200:]!r}", ("store", "allocation", at))
+            tried.mark("" if right else f"status {status}, it prints {out[-200:]!r}", ("store", "allocation", at))
             found = tried.run(["store", path], b"mount\nlist\n")[1].decode()
             allowed = ["ok\n" + state for state in ([states[-1]] if (status, out) == (0, whole) else states)]
             allowed += [] if before is formatted or (status, out) == (0, whole) else ["refused Device\nrefused Broken\n"]
-            tried.tell("" if found in allowed else f"then the file has {found!r}", ("store", "allocation", at))
+            tried.mark("" if found in allowed else f"then the file has {found!r}", ("store", "allocation", at))
 
 
 def answered(out):
-    """How many requests of a node were answered, and the counts and ids that it told; what stands behind the last closing line isn't whole."""
+    """How many requests of a node were answered, and the counts and ids that it answered; what stands behind the last closing line isn't whole."""
     closing, counts, ids, gone = 0, [], [], []
     for line in out.decode().split("\n")[:-1]:
         words = line.split(" ")
@@ -129,15 +129,15 @@ def try_node(refusing, folder):
                 problem = f"it answers {out!r}"
             tried.count("ends of a node", status == 1)
             tried.count("requests that were refused", status == 0 and out != whole)
-            tried.tell(problem, (name, "allocation", at, out[-200:]))
+            tried.mark(problem, (name, "allocation", at, out[-200:]))
             found, refused = found_in(read(path))
-            if not tried.tell(refused or "", (name, "allocation", at, "then the file is refused")):
+            if not tried.mark(refused or "", (name, "allocation", at, "then the file is refused")):
                 continue
             lost = [job for job in ids if job not in gone and job not in found.pending]
             problem = f"jobs {lost} are lost" if lost else "a count is lost" if counts and found.count < max(counts) else ""
             if ids and found.next <= max(ids):
                 problem = "an id is lost"
-            tried.tell(problem, (name, "allocation", at))
+            tried.mark(problem, (name, "allocation", at))
             lines, _ = node_text(found, refused, 0)
             tried.expect(["node", path, "0", "3"], feed(["recover", "jobs", "submit 0 61"]), 0, feed(lines), ("node begun again", at))
 
@@ -153,7 +153,7 @@ def try_format(refusing, folder):
         if refusing.is_over(status, out, trouble, ("format", at)):
             continue
         made = os.path.exists(path)
-        tried.tell("" if (status, made) in ((0, True), (1, False)) else f"status {status}, {made}", ("format", "allocation", at))
+        tried.mark("" if (status, made) in ((0, True), (1, False)) else f"status {status}, {made}", ("format", "allocation", at))
 
 
 MEGABYTE = 1 << 20
@@ -164,7 +164,7 @@ def try_little_room(tried, folder):
     def limited(words, fed, megabytes, status, text):
         limit = lambda: resource.setrlimit(resource.RLIMIT_AS, (megabytes * MEGABYTE,) * 2)
         got, out, trouble = tried.run(words, fed, limit=limit)
-        tried.tell(trouble or ("" if (got, out) == (status, text) else f"status {got}, it prints {out[:100]!r}"), (words, len(fed), megabytes))
+        tried.mark(trouble or ("" if (got, out) == (status, text) else f"status {got}, it prints {out[:100]!r}"), (words, len(fed), megabytes))
     two = rows.lines("cluster 2 4096;check 0;deliver 0;deliver 1;merge 0;deliver 2;deliver 3;accept 0;deliver 4;deliver 5")
     jobs = (b"submit 0 1 " + b"61" * 400 + b"\n") * 1000
     entries = b",".join([b'{"do":"none","sent":[]}'] * 200_000)

@@ -15,9 +15,9 @@ def judged(tried, fed, note):
     if not trouble:
         turns = [line.decode().split(" ") for line in fed.split(b"\n")[2:] if line]
         trouble = f"status {status}, it prints {out[-200:]!r}" if status != 0 else problem_in_threads(out, NODES, turns)
-    if tried.tell(trouble, (note, fed[:300])):
+    if tried.mark(trouble, (note, fed[:300])):
         _, verdict, trouble = tried.run(["trace"], out)
-        tried.tell(trouble or ("" if verdict.startswith(b"Run ") else verdict[:100]), (note, fed[:300]))
+        tried.mark(trouble or ("" if verdict.startswith(b"Run ") else verdict[:100]), (note, fed[:300]))
 
 
 def refused(tried, fed, note):

@@ -19,7 +19,7 @@ class Tried:
     def count(self, what, by=1):
         self.counts[what] = self.counts.get(what, 0) + by
 
-    def tell(self, problem, case):
+    def mark(self, problem, case):
         """Counts a check; a problem that isn't empty is shown with its case."""
         if not problem:
             self.passed += 1
@@ -76,9 +76,9 @@ class Tried:
             trouble = f"status {got} in place of {status}, it prints {out[-200:]!r}"
         if not trouble and out != text:
             trouble = f"it prints {out[-300:]!r} in place of {text[-300:]!r}"
-        return self.tell(trouble, (note, words, fed if len(fed) < 400 else fed[:200] + b"..."))
+        return self.mark(trouble, (note, words, fed if len(fed) < 400 else fed[:200] + b"..."))
 
     def close(self):
-        told = "".join(f", {count} {what}" for what, count in sorted(self.counts.items()))
-        print(f"{self.name}: {self.passed + self.failed} runs, {self.failed} wrong{told}", flush=True)
+        more = "".join(f", {count} {what}" for what, count in sorted(self.counts.items()))
+        print(f"{self.name}: {self.passed + self.failed} runs, {self.failed} wrong{more}", flush=True)
         return self.passed, self.failed

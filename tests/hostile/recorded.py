@@ -11,10 +11,10 @@ def compact(nodes, histories):
     return json.dumps({"nodes": nodes, "histories": histories}, sort_keys=True, separators=(",", ":")).encode() + b"\n"
 
 
-def histories_of(nodes, acts, told):
+def histories_of(nodes, acts, printed):
     """The entries of each node, of the acts that came to one. What `sim` doesn't tell of a recovery is left open."""
     histories, sent = [[] for _ in range(nodes)], []
-    for act, answer in zip(acts, told):
+    for act, answer in zip(acts, printed):
         words, said = act.split(" "), answer.split(" ")[1:]
         own = node_of(words, said, sent)
         new = [word.split(":")[1] for word in said if ":" in word]
@@ -54,18 +54,18 @@ def opened(histories):
     return [[{key: OPEN if entry["do"] == "recover" and key in ("kept", "fault") else value for key, value in entry.items()} for entry in history] for history in histories]
 
 
-def recorded_text(nodes, acts, told):
+def recorded_text(nodes, acts, printed):
     """What is printed where no disk failed."""
-    histories = histories_of(nodes, acts, told)
+    histories = histories_of(nodes, acts, printed)
     return compact(nodes, [[{**entry, "kept": False} if entry["do"] == "recover" else entry for entry in history] for history in histories])
 
 
-def problem_in_recorded(out, nodes, acts, told):
+def problem_in_recorded(out, nodes, acts, printed):
     """What is wrong with a recorded run in which disks failed."""
     found = json.loads(out)
     if out != compact(found["nodes"], found["histories"]):
         return "it isn't written as a compact text in the order of the keys"
-    wanted = histories_of(nodes, acts, told)
+    wanted = histories_of(nodes, acts, printed)
     if opened(found["histories"]) != wanted:
         return next((f"node {n}, entry {k} is {a} in place of {b}" for n in range(nodes) for k, (a, b) in enumerate(zip(opened(found["histories"])[n], wanted[n])) if a != b), "it has other entries")
     return no_run(out)

@@ -15,18 +15,18 @@ def run(program, name, env):
     return ended.returncode, ended.stdout
 
 
-def try_test(tried, library, told, program, name):
+def try_test(tried, library, noted, program, name):
     refused, at = 0, 0
     while True:
         at += 1
-        status, out = run(program, name, shim.environment(library, told, REFUSE_AT=at))
-        total = shim.read_told(told)[1]
-        tried.tell("" if status == 0 and b"test result: ok" in out else f"status {status}, it tells {out[-300:]!r}", (name, "allocation", at))
+        status, out = run(program, name, shim.environment(library, noted, REFUSE_AT=at))
+        total = shim.read_noted(noted)[1]
+        tried.mark("" if status == 0 and b"test result: ok" in out else f"status {status}, it tells {out[-300:]!r}", (name, "allocation", at))
         refused += b"refused" in out
         if total < at or at > 20_000:
             break
-    tried.tell("" if total and total < at else f"{total} allocations were counted", name)
-    tried.tell("" if refused else "no call was refused", name)
+    tried.mark("" if total and total < at else f"{total} allocations were counted", name)
+    tried.mark("" if refused else "no call was refused", name)
     tried.count("calls that were refused and made again", refused)
 
 
@@ -38,5 +38,5 @@ def try_refused(tried):
             return
         for crate, name in CRATES:
             program = os.path.join(TOP, "crates", crate, "out", crate + "_tests")
-            if tried.tell("" if os.access(program, os.X_OK) else f"there is no {program}: `rt test` in its folder makes it", crate):
-                try_test(tried, library, os.path.join(folder, "told"), program, name)
+            if tried.mark("" if os.access(program, os.X_OK) else f"there is no {program}: `rt test` in its folder makes it", crate):
+                try_test(tried, library, os.path.join(folder, "noted"), program, name)

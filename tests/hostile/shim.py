@@ -14,11 +14,11 @@ def built(folder):
     return library
 
 
-def environment(library, told, **what):
-    return {**os.environ, "LD_PRELOAD": library, "TOLD": told, **{name: str(value) for name, value in what.items()}}
+def environment(library, noted, **what):
+    return {**os.environ, "LD_PRELOAD": library, "NOTED": noted, **{name: str(value) for name, value in what.items()}}
 
 
-def read_told(path):
+def read_noted(path):
     """The calls that write, each a sector or None for a sync, and the number of allocations."""
     calls, allocations = [], 0
     if os.path.exists(path):

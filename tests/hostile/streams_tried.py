@@ -47,7 +47,7 @@ def try_closed(streams):
             status = streams.start(words, fed, closed)
             # nothing can be read, which may count as an input that has ended, or nothing written; a store has done then what it was asked
             trouble = streams.trouble(status, (0, 1) if 0 in closed else (1,) if 1 in closed else (0,))
-            streams.tried.tell(trouble, (words, "closed", closed))
+            streams.tried.mark(trouble, (words, "closed", closed))
 
 
 def try_own_file(streams):
@@ -59,16 +59,16 @@ def try_own_file(streams):
     with subprocess.Popen([streams.tried.program, "node", streams.path, "0", "3"], preexec_fn=lambda: os.close(0), stdout=subprocess.DEVNULL, stderr=subprocess.DEVNULL) as child:
         status = child.wait(20)
     trouble = "" if status in (0, 1) and read(streams.path) == before else f"status {status}, and the file is another"
-    streams.tried.tell(trouble, "a closed input and a line in a payload")
+    streams.tried.mark(trouble, "a closed input and a line in a payload")
 
 
 def try_failing(streams):
     for words, fed in INPUTS.items():
         with open("/dev/full", "wb") as full:
-            streams.tried.tell(streams.trouble(streams.start(words, fed, stdout=full), (1,)), (words, "a full output"))
-            streams.tried.tell(streams.trouble(streams.start(words, fed, stderr=full), (0,)), (words, "a full standard error"))
+            streams.tried.mark(streams.trouble(streams.start(words, fed, stdout=full), (1,)), (words, "a full output"))
+            streams.tried.mark(streams.trouble(streams.start(words, fed, stderr=full), (0,)), (words, "a full standard error"))
         folder = os.open("/", os.O_RDONLY)
-        streams.tried.tell(streams.trouble(streams.start(words, None, stdin=folder), (1,)), (words, "a folder as input"))
+        streams.tried.mark(streams.trouble(streams.start(words, None, stdin=folder), (1,)), (words, "a folder as input"))
         os.close(folder)
         # nobody reads: the signal is as a process is given it, and ignored
         for is_ignored in (False, True):
@@ -78,7 +78,7 @@ def try_failing(streams):
             status = streams.start(words, fed, stdout=writes, restore_signals=not is_ignored)
             signal.signal(signal.SIGPIPE, kept)
             os.close(writes)
-            streams.tried.tell(streams.trouble(status, (1,)), (words, "nobody reads", is_ignored))
+            streams.tried.mark(streams.trouble(status, (1,)), (words, "nobody reads", is_ignored))
 
 
 def try_words(streams):
@@ -86,13 +86,13 @@ def try_words(streams):
     tried, long = streams.tried, "1" * 100_000
     for words in (["answer", long, "3"], ["answer", "0", long], ["answer", "", "3"], ["answer", "0", "\u0663"], ["answer", "0", "3\n"], [""], ["show", ""], ["sim\n"], ["SHOW"], [long], ["--"], ["-"], ["answer", "-0", "3"],
                   ["node", "a", "0", "3", ""], ["format", "a", "4", "0", "3", "0", ""], ["trace", long], ["node", "a", "3", "3"], ["store", "a", "b"], ["show", "--version"], ["--version"], ["-h"], ["help", "show"]):
-        streams.tried.tell(strange(tried, words, (2,)), [word[:40] for word in words])
+        streams.tried.mark(strange(tried, words, (2,)), [word[:40] for word in words])
     for words in ([b"answer", b"\xff", b"3"], [b"\xff"], [b"show", b"\xff\xfe"]):
-        streams.tried.tell(strange(tried, words, (2,)), words)
+        streams.tried.mark(strange(tried, words, (2,)), words)
     for path in ("", "a" * 300, "/" * 5000, "a/" * 3000, "no\nfolder/none", "\u00e9/none"):
         for command, status in ((["store", path], 0), (["node", path, "0", "3"], (3, 5)), (["format", path, "4", "0", "3"], (3, 5))):
             allowed = status if isinstance(status, tuple) else (status,)
-            streams.tried.tell(strange(tried, command, allowed), (command[0], path[:40]))
+            streams.tried.mark(strange(tried, command, allowed), (command[0], path[:40]))
 
 
 def strange(tried, words, allowed):

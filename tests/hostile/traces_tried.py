@@ -42,7 +42,7 @@ def drawn(tried, data, status, text, search, note):
     got, out, trouble = tried.run(["draw"], data)
     if not trouble:
         trouble = f"status {got}" if got else problem_in_picture(out, len(search.nodes), search.turns)
-    tried.tell(trouble, ("draw", note, data[:300]))
+    tried.mark(trouble, ("draw", note, data[:300]))
 
 
 def try_each_byte(tried):

@@ -1,5 +1,5 @@
 // Standard input without an end: each read of it gives one line feed. To be loaded by LD_PRELOAD; the reads are counted in the first eight bytes
-// of the file that TOLD names, which is there and has as many.
+// of the file that NOTED names, which is there and has as many.
 #include <fcntl.h>
 #include <stdint.h>
 #include <stdlib.h>
@@ -11,7 +11,7 @@
 static uint64_t *reads;
 
 __attribute__((constructor)) static void begin(void) {
-    const char *path = getenv("TOLD");
+    const char *path = getenv("NOTED");
     int file = path == NULL ? -1 : open(path, O_RDWR);
     if (file >= 0) {
         void *shared = mmap(NULL, sizeof *reads, PROT_READ | PROT_WRITE, MAP_SHARED, file, 0);

@@ -1,4 +1,4 @@
-// Fails one call of the system that a program makes of one file, or ends the program there. To be loaded by LD_PRELOAD; what it does is told
+// Fails one call of the system that a program makes of one file, or ends the program there. To be loaded by LD_PRELOAD; what it does is set
 // by the environment. It stands in front of the calls of the C library that `invite store` makes.
 //
 //   FAULT_FILE   the file, by the path that the program gives. Its opening, its folder's, and each call on either is counted

@@ -1,10 +1,10 @@
-// Refuses one allocation, or ends the program at one of the calls that write to its file. To be loaded by LD_PRELOAD; what it does is told by
+// Refuses one allocation, or ends the program at one of the calls that write to its file. To be loaded by LD_PRELOAD; what it does is set by
 // the environment. Nothing is freed of what was refused, so a program that goes on has all that it had.
 //
 //   REFUSE_AT    the number of the allocation, from 1 on, that answers NULL; none does where it is 0 or left out
 //   REFUSE_ALL   each later allocation is refused, too
 //   END_AT       the number of the pwrite or fdatasync, from 1 on, in place of which the program is ended by SIGKILL
-//   TOLD         a file for what was called: a line `write SECTOR` or `sync` for each of the latter, and at the end `allocations N`
+//   NOTED        a file for what was called: a line `write SECTOR` or `sync` for each of the latter, and at the end `allocations N`
 #define _GNU_SOURCE
 #include <dlfcn.h>
 #include <errno.h>
@@ -24,7 +24,7 @@ static long allocations;
 static long refused_at = -1;
 static int refuses_all;
 static long calls;
-static int told = -1;
+static int noted = -1;
 
 static void learn(void) {
     const char *at = getenv("REFUSE_AT");
@@ -51,20 +51,20 @@ void *realloc(void *held, size_t size) {
     return is_refused() ? NULL : __libc_realloc(held, size);
 }
 
-static void tell(const char *line) {
-    const char *path = getenv("TOLD");
+static void note(const char *line) {
+    const char *path = getenv("NOTED");
     if (path == NULL)
         return;
-    if (told < 0)
-        told = open(path, O_WRONLY | O_CREAT | O_TRUNC, 0600);
-    (void)!write(told, line, strlen(line));
+    if (noted < 0)
+        noted = open(path, O_WRONLY | O_CREAT | O_TRUNC, 0600);
+    (void)!write(noted, line, strlen(line));
 }
 
 // Counts a call that writes, tells it, and ends the program in its place where that was asked.
 static void count(const char *line) {
     const char *at = getenv("END_AT");
     calls++;
-    tell(line);
+    note(line);
     if (at == NULL || atol(at) != calls)
         return;
     kill(getpid(), SIGKILL);
@@ -89,7 +89,7 @@ int fdatasync(int fd) {
 __attribute__((destructor)) static void tell_count(void) {
     char line[64];
     snprintf(line, sizeof line, "allocations %ld\n", allocations);
-    tell(line);
+    note(line);
 }
 
 // A program with threads ends so, and no destructor is run then.

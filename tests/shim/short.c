@@ -1,5 +1,5 @@
 // Lets each call that moves bytes of one file move a few of them alone, and interrupts every second one. To be loaded by LD_PRELOAD; what it does is
-// told by the environment. A call for no more bytes than that isn't shortened.
+// set by the environment. A call for no more bytes than that isn't shortened.
 //
 //   SHORT_FILE   the file, by the path that the program gives
 //   SHORT_MOST   how many bytes a read or a write moves at most. Where it is 0, each write answers that it took none

@@ -1,4 +1,4 @@
--- An act that is recorded: the room for it, and the report after it.
+-- An act that is reported: the room for it, and the report after it.
 use Rattle.std.proofs.Common.{◌≡◌, ◌⊎◌, inl, inr, ⊎_elim, ℕ, suc, ◌+◌, ◌<◌, ◌≤◌, Bool, true, false, List, [], ◌∷◌, ◌++◌, length, map, slice_get, refl, sym, ◌∙◌, ap, subst, arith, Option, Some, None, option_map}
 use Rattle.std.specs.Prelude.{slice_set, is_some as is_some_option}
 use Rattle.std.proofs.lemmas.List.{append-nil, length-set}
@@ -11,7 +11,7 @@ use Rattle.node_core.specs.State.{State, is_down}
 use Rattle.durable_node.specs.Node.{Node, Stands}
 use Rattle.histories.specs.NodeState.{NodeState}
 use Rattle.histories.specs.declared.what.What.{What}
-use Rattle.histories.specs.After.{found_at}
+use Rattle.histories.specs.After.{mounted_at}
 use Rattle.durable_node.proofs.PublicLaws.{is_some}
 use Rattle.schedule.specs.declared.act.Act.{Act}
 use Rattle.runs.specs.World.{World, node_in}
@@ -22,8 +22,8 @@ use Rattle.runs.specs.declared.tried.TriedAt.{TriedAt}
 use Rattle.cluster_sim.specs.Names.{node_named}
 use Rattle.cluster_sim.proofs.Names.{step_named}
 use Rattle.runs.specs.Growth.{IsLeft}
-use Rattle.cluster_sim.specs.Machine.{Machine, DeedOf, Performed, StandsFor, Shows, Tells}
-use Rattle.cluster_sim.specs.Recorded.{AreCounted, IsRecorded, Tells as Told, GoesOn, command_in, pending_room, recorded, report_in, moment_in, tried_as, tried_at, mounted_at, mounted_now, listed, with_deed}
+use Rattle.cluster_sim.specs.World.{WorldView, DeedOf, Performed, StandsFor, Shows, ReportsDeed}
+use Rattle.cluster_sim.specs.Cluster.{AreCounted, IsCluster, Reports, GoesOn, command_in, pending_room, cluster_with, report_in, moment_in, tried_as, tried_at, mounting_at, mounted_now, listed, with_deed}
 use Rattle.runs.specs.Numbered.{sent_under}
 use Rattle.cluster_sim.specs.declared.report.Moment.{Moment as KeptMoment}
 use Rattle.cluster_sim.specs.declared.report.Report.{Report as KeptReport}
@@ -33,8 +33,8 @@ use Rattle.histories.specs.declared.attempt.Attempt.{Attempt}
 use Rattle.histories.specs.Fates.{attempt_of}
 use Rattle.histories.specs.Possible.{IsPossible}
 use Rattle.runs.specs.Run.{IsAllowed}
-use Rattle.runs.proofs.PublicLaws.{runs_grow, step_length, counts_more, hands_grow, found_few, left_few, left_numbered, step_adds, step_numbered, at_place, node_there}
-use Rattle.cluster_sim.proofs.Telling.{AddsNothing, StepTold, quiet_told, takes_told}
+use Rattle.runs.proofs.PublicLaws.{runs_grow, step_length, counts_more, hands_grow, mounted_few, left_few, left_numbered, step_adds, step_numbered, at_place, node_there}
+use Rattle.cluster_sim.proofs.Reporting.{AddsNothing, StepReported, quiet_reported, takes_reported}
 
 -- the room for pending jobs is enough
 enough : (slots : ℕ) (d : Durable) (down : Bool) (kept : Option Durable) → (down ≡ false → kept ≡ Some d) → length d.pending ≤ slots → length d.pending ≤ pending_room slots down kept
@@ -78,20 +78,20 @@ record Taken (w : World) (step : Step) (n : ℕ) (deed : Deed) (node : Node Memo
   what : What
   is : step ≡ Takes n number what
   possible : IsPossible n (length w.states) s what
-  tells : DeedOf n (length w.states) s what deed
-  found : node.found ≡ found_at s what
+  reports : DeedOf n (length w.states) s what deed
+  mounted : node.mounted ≡ mounted_at s what
 
--- no node takes the step, and nothing is told
+-- no node takes the step, and nothing is reported
 record Quiet (w : World) (step : Step) (deed : Deed) : Type 0 where
   tried : deed.tried ≡ None
   mounted : deed.mounted ≡ false
   adds : (nodes : ℕ) → AddsNothing nodes w step
 
 -- the node that code names
-pub named_in : (old : Machine) (w : World) (a : Act) (n count : ℕ) (net : Network) → StandsFor old w → count ≡ length old.nodes → net ≡ old.net → n ≡ node_named count net.sent a → n ≡ node_named (length w.states) w.net.sent a
+pub named_in : (old : WorldView) (w : World) (a : Act) (n count : ℕ) (net : Network) → StandsFor old w → count ≡ length old.nodes → net ≡ old.net → n ≡ node_named count net.sent a → n ≡ node_named (length w.states) w.net.sent a
 named_in old w a n count net stands many same named = named ∙ (λ i. node_named ((many ∙ stands.count) i) ((same ∙ stands.net) i).sent a)
 
-module _ (old new : Machine) (w : World) (a : Act) (deed : Deed) (n : ℕ) (was node : Node Memory) (stands : StandsFor old w) (p : Performed w a deed new) (named : n ≡ node_named (length w.states) w.net.sent a)
+module _ (old new : WorldView) (w : World) (a : Act) (deed : Deed) (n : ℕ) (was node : Node Memory) (stands : StandsFor old w) (p : Performed w a deed new) (named : n ≡ node_named (length w.states) w.net.sent a)
     (at_was : slice_get old.nodes n ≡ Some was) (at : slice_get new.nodes n ≡ Some node) where
   moved : Moved w (world_after (length w.states) w p.acted.step) n was node
   moved =
@@ -101,12 +101,12 @@ module _ (old new : Machine) (w : World) (a : Act) (deed : Deed) (n : ℕ) (was 
       let s' = at_place (world_after (length w.states) w p.acted.step).states n (omega (arith, within, many)) in
       record { s = s.0; s' = s'.0; at_s = s.1; now = s'.1; stood = stands.each n was s.0 at_was s.1; stands = p.acted.stands.each n node s'.0 at s'.1 }
 
-  -- it took the step, or nothing is told
+  -- it took the step, or nothing is reported
   taken : Taken w p.acted.step n deed node moved.s ⊎ Quiet w p.acted.step deed
-  taken = by_step p.acted.step p.acted.next.of_act p.acted.next.allowed p.acted.shows p.tells
+  taken = by_step p.acted.step p.acted.next.of_act p.acted.next.allowed p.acted.shows p.reports
     where
-      by_step : (step : Step) → IsStepOf (length w.states) w a step → IsAllowed (length w.states) w step → Shows w step new → Tells w step deed → Taken w step n deed node moved.s ⊎ Quiet w step deed
-      by_step (Takes m number what) of may shows tells =
+      by_step : (step : Step) → IsStepOf (length w.states) w a step → IsAllowed (length w.states) w step → Shows w step new → ReportsDeed w step deed → Taken w step n deed node moved.s ⊎ Quiet w step deed
+      by_step (Takes m number what) of may shows reports =
           let same : m ≡ n = step_named (length w.states) w a (Takes m number what) of ∙ sym named in
           let at_s : slice_get w.states m ≡ Some moved.s = subst (λ (k : ℕ). slice_get w.states k ≡ Some moved.s) (sym same) moved.at_s in
           inl (subst (λ (k : ℕ). Taken w (Takes m number what) k deed node moved.s) same (record {
@@ -114,61 +114,61 @@ module _ (old new : Machine) (w : World) (a : Act) (deed : Deed) (n : ℕ) (was 
             what = what;
             is = refl;
             possible = subst (λ (x : NodeState). IsPossible m (length w.states) x what) (is_some may.0 moved.s (sym may.1 ∙ at_s)) may.2;
-            tells = tells moved.s at_s;
-            found = shows node moved.s (subst (λ (k : ℕ). slice_get new.nodes k ≡ Some node) (sym same) at) at_s;
+            reports = reports moved.s at_s;
+            mounted = shows node moved.s (subst (λ (k : ℕ). slice_get new.nodes k ≡ Some node) (sym same) at) at_s;
           }))
-      by_step _ of may shows tells = inr (record { tried = tells.0; mounted = tells.1; adds = λ nodes. record { commands = refl; mountings = λ before. refl } })
+      by_step _ of may shows reports = inr (record { tried = reports.0; mounted = reports.1; adds = λ nodes. record { commands = refl; mountings = λ before. refl } })
 
-  pub hand_fits : (report : Report) (limit : ℕ) → Told (record { machine = old; report = report }) w → length was.state.hand + pending_room old.slots (is_down was.state.phase) was.kept + 1 ≤ limit → length node.state.hand ≤ limit
-  hand_fits report limit tells fits =
-      let few : length moved.s.durable.pending ≤ old.slots = left_few (length old.nodes) old.slots w report tells.left n moved.s moved.at_s false in
+  pub hand_fits : (report : Report) (limit : ℕ) → Reports (record { world = old; report = report }) w → length was.state.hand + pending_room old.slots (is_down was.state.phase) was.kept + 1 ≤ limit → length node.state.hand ≤ limit
+  hand_fits report limit reports fits =
+      let few : length moved.s.durable.pending ≤ old.slots = left_few (length old.nodes) old.slots w report reports.left n moved.s moved.at_s false in
       let room = enough old.slots moved.s.durable (is_down was.state.phase) was.kept (λ up. (moved.stood.up up).0) few in
       let grows = hands_grow (length w.states) w p.acted.step p.acted.next.allowed n moved.s' moved.now moved.s moved.at_s in
       let before : length was.state.hand ≡ length moved.s.state.hand = ap (λ (x : State). length x.hand) moved.stood.state in
       let after : length node.state.hand ≡ length moved.s'.state.hand = ap (λ (x : State). length x.hand) moved.stands.state in
       omega (arith, room, grows, before, after, fits)
 
-  pub jobs_fit : (report : Report) (room : ℕ) (d : Durable) → Told (record { machine = old; report = report }) w → (is_down was.state.phase ≡ true → old.slots ≤ room)
-      → deed.mounted ≡ true → node.found ≡ Some d → length d.pending ≤ room
-  jobs_fit report room d tells fits mounting found = ⊎_elim
+  pub jobs_fit : (report : Report) (room : ℕ) (d : Durable) → Reports (record { world = old; report = report }) w → (is_down was.state.phase ≡ true → old.slots ≤ room)
+      → deed.mounted ≡ true → node.mounted ≡ Some d → length d.pending ≤ room
+  jobs_fit report room d reports fits mounts mounted = ⊎_elim
       (λ t.
-      (let few = found_few (length old.nodes) old.slots w report tells.left n moved.s moved.at_s (length w.states) t.what t.possible d (sym t.found ∙ found) in
+      (let few = mounted_few (length old.nodes) old.slots w report reports.left n moved.s moved.at_s (length w.states) t.what t.possible d (sym t.mounted ∙ mounted) in
       let enough = fits (ap (λ (x : State). is_down x.phase) moved.stood.state ∙ few.0) in
       omega (arith, few.1, enough)))
-      (λ none. absurd (let bad : true ≡ false = sym mounting ∙ none.mounted in cc)) taken
+      (λ none. absurd (let bad : true ≡ false = sym mounts ∙ none.mounted in cc)) taken
 
-  -- what the act adds is what is told of it
-  pub step_is_told : (r : Report) → StepTold (length w.states) w r a p.acted.step n deed node.found
-  step_is_told r = ⊎_elim
-      (λ t. subst (λ (x : Step). StepTold (length w.states) w r a x n deed node.found) (sym t.is)
-      (takes_told n (length w.states) t.number w r a t.what moved.s deed node.found moved.at_s (subst (λ (x : Step). IsStepOf (length w.states) w a x) t.is p.acted.next.of_act) t.tells t.found))
-      (λ none. quiet_told (length w.states) w r a p.acted.step n deed node.found (none.adds (length w.states)) none.tried none.mounted) taken
+  -- what the act adds is what is reported of it
+  pub step_reported : (r : Report) → StepReported (length w.states) w r a p.acted.step n deed node.mounted
+  step_reported r = ⊎_elim
+      (λ t. subst (λ (x : Step). StepReported (length w.states) w r a x n deed node.mounted) (sym t.is)
+      (takes_reported n (length w.states) t.number w r a t.what moved.s deed node.mounted moved.at_s (subst (λ (x : Step). IsStepOf (length w.states) w a x) t.is p.acted.next.of_act) t.reports t.mounted))
+      (λ none. quiet_reported (length w.states) w r a p.acted.step n deed node.mounted (none.adds (length w.states)) none.tried none.mounted) taken
 
   -- the report with the act is the grown one
   report_is : (r : Report) (before : ℕ) → before ≡ length (own_commands n r.commands) → with_deed new.net.sent n before a deed node r ≡ grown (length w.states) w a p.acted.step r
   report_is r before so_many =
       let nodes = length w.states in
       let step = p.acted.step in
-      let t = (step_is_told r).parts in
+      let t = (step_reported r).parts in
       let at_node : n ≡ node_of step = named ∙ sym (step_named nodes w a step p.acted.next.of_act) in
       let shown : node.state ≡ (node_in (world_after nodes w step).states n).state = moved.stands.state ∙ ap (λ (x : NodeState). x.state) (sym (node_there (world_after nodes w step).states n moved.s' moved.now)) in
       let sent : sent_under new.net.sent deed.outcome ≡ step_sent nodes w step =
-      (λ i. sent_under ((ap (λ (x : Network). x.sent) p.acted.stands.net ∙ sym (append-nil (world_after nodes w step).net.sent)) i) (p.acted.is_told i)) ∙ sym (step_numbered nodes w a step []) in
+      (λ i. sent_under ((ap (λ (x : Network). x.sent) p.acted.stands.net ∙ sym (append-nil (world_after nodes w step).net.sent)) i) (p.acted.outcome_is i)) ∙ sym (step_numbered nodes w a step []) in
       let moment : record { act = a; node = n; outcome = deed.outcome; sent = sent_under new.net.sent deed.outcome; state = node.state } ≡ moment_of nodes w a step =
-      (λ i. record { act = a; node = at_node i; outcome = p.acted.is_told i; sent = sent i; state = (shown ∙ ap (λ (k : ℕ). (node_in (world_after nodes w step).states k).state) at_node) i }) in
+      (λ i. record { act = a; node = at_node i; outcome = p.acted.outcome_is i; sent = sent i; state = (shown ∙ ap (λ (k : ℕ). (node_in (world_after nodes w step).states k).state) at_node) i }) in
       λ i. record {
         opening = r.opening;
         moments = r.moments ++ moment i ∷ [];
         groups = r.groups ++ sym t.given i;
         commands = r.commands ++ sym t.tried i;
-        mounted = r.mounted ++ (ap (λ (k : ℕ). listed (mounted_at n k (mounted_now deed.mounted node.found))) so_many ∙ sym t.mountings) i;
+        mounted = r.mounted ++ (ap (λ (k : ℕ). listed (mounting_at n k (mounted_now deed.mounted node.mounted))) so_many ∙ sym t.mountings) i;
       }
 
   -- as many nodes as before
   same_count : length new.nodes ≡ length old.nodes
   same_count = p.acted.stands.count ∙ step_length (length w.states) w p.acted.step ∙ sym stands.count
 
-  module _ (kept kept' : KeptReport) (before : ℕ) (tells : Told (recorded old kept) w) (same_slots : new.slots ≡ old.slots) (so_many : before ≡ length (own_commands n (recorded old kept).report.commands))
+  module _ (kept kept' : KeptReport) (before : ℕ) (reports : Reports (cluster_with old kept) w) (same_slots : new.slots ≡ old.slots) (so_many : before ≡ length (own_commands n (cluster_with old kept).report.commands))
       (is : report_in kept' new.net.sent ≡ with_deed new.net.sent n before a deed node (report_in kept new.net.sent)) where
     -- the moments before it have the messages that they had
     same_before : report_in kept new.net.sent ≡ report_in kept old.net.sent
@@ -176,35 +176,35 @@ module _ (old new : Machine) (w : World) (a : Act) (deed : Deed) (n : ℕ) (was 
         let nodes = length w.states in
         let same_net : old.net.sent ≡ w.net.sent = ap (λ (x : Network). x.sent) stands.net in
         let more : new.net.sent ≡ w.net.sent ++ step_sent nodes w p.acted.step = ap (λ (x : Network). x.sent) p.acted.stands.net ∙ step_adds nodes w p.acted.step p.acted.next.allowed in
-        let left : IsLeft (length old.nodes) old.slots w (report_in kept w.net.sent) = subst (λ (ms : List Envelope). IsLeft (length old.nodes) old.slots w (report_in kept ms)) same_net tells.left in
+        let left : IsLeft (length old.nodes) old.slots w (report_in kept w.net.sent) = subst (λ (ms : List Envelope). IsLeft (length old.nodes) old.slots w (report_in kept ms)) same_net reports.left in
         ap (report_in kept) more ∙ sym (same_report kept (length old.nodes) old.slots w (step_sent nodes w p.acted.step) left) ∙ ap (report_in kept) (sym same_net)
 
-    pub goes_on : GoesOn w a deed.outcome (recorded old kept) (recorded new kept')
+    pub goes_on : GoesOn w a deed.outcome (cluster_with old kept) (cluster_with new kept')
     goes_on =
         let nodes = length w.states in
         let step = p.acted.step in
         let r = report_in kept old.net.sent in
-        let left : IsLeft nodes new.slots w r = subst (λ (k : ℕ). IsLeft k new.slots w r) stands.count (subst (λ (k : ℕ). IsLeft (length old.nodes) k w r) (sym same_slots) tells.left) in
+        let left : IsLeft nodes new.slots w r = subst (λ (k : ℕ). IsLeft k new.slots w r) stands.count (subst (λ (k : ℕ). IsLeft (length old.nodes) k w r) (sym same_slots) reports.left) in
         let grows : report_in kept' new.net.sent ≡ grown nodes w a step r = is ∙ ap (with_deed new.net.sent n before a deed node) same_before ∙ report_is r before so_many in
         record {
           step = step;
           next = p.acted.next;
-          is_told = p.acted.is_told;
+          outcome_is = p.acted.outcome_is;
           grows = grows;
-          tells = record {
+          reports = record {
             stands = p.acted.stands;
             left = rw (grows, same_count ∙ stands.count) (runs_grow nodes new.slots w r a step left p.acted.next);
           };
         }
 
-    pub recorded_on : (counts counts' : List ℕ) → AreCounted (length old.nodes) (recorded old kept).report.commands counts → slice_get counts n ≡ Some before
-        → ((is_some_option deed.tried ≡ true) × (counts' ≡ slice_set counts n (before + 1))) ⊎ ((is_some_option deed.tried ≡ false) × (counts' ≡ counts)) → IsRecorded (recorded new kept') counts'
-    recorded_on counts counts' counted at_count either =
+    pub cluster_on : (counts counts' : List ℕ) → AreCounted (length old.nodes) (cluster_with old kept).report.commands counts → slice_get counts n ≡ Some before
+        → ((is_some_option deed.tried ≡ true) × (counts' ≡ slice_set counts n (before + 1))) ⊎ ((is_some_option deed.tried ≡ false) × (counts' ≡ counts)) → IsCluster (cluster_with new kept') counts'
+    cluster_on counts counts' counted at_count either =
         let r = report_in kept old.net.sent in
-        let whole = (step_is_told r).whole in
+        let whole = (step_reported r).whole in
         let commands : (report_in kept' new.net.sent).commands ≡ r.commands ++ listed (tried_at n (tried_as (command_in a deed.tried) deed.acked)) = ap (λ (x : Report). x.commands) is in
         record {
-          world = _;
-          tells = goes_on.tells;
+          last = _;
+          reports = goes_on.reports;
           counted = rw (same_count, commands, whole.is) (counted_on (length old.nodes) n before r.commands counts counts' deed.tried deed.acked whole.command whole.which counted at_count either);
         }

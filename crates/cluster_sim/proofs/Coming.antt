@@ -1,4 +1,4 @@
--- What came of a call of a node, as the cluster tells it.
+-- What came of a call of a node, as the cluster reports it.
 use Rattle.std.proofs.Common.{◌≡◌, ℕ, ◌+◌, ◌*◌, ◌≤◌, length, refl, sym, ◌∙◌, ap, subst, arith, Option, Some, None, Result, Ok, ◌≢◌, inl, inr, Err, IsSome, IsOk, IsErrOf, IfErr, ◌⊎◌, Bool, true, false, if◌then◌else◌}
 use Rattle.durable_node.proofs.PublicLaws.{steps_and_forgets, counts_and_forgets}
 use Rattle.sector_disk.specs.Memory.{Memory, state_of}
@@ -11,7 +11,7 @@ use Rattle.node_store.specs.Store.{slots_for}
 use Rattle.durable_node.specs.declared.fault.NodeFault.{NodeFault}
 use Rattle.durable_node.specs.declared.fault.NodeFault.TheVariants as node
 use Rattle.durable_node.specs.declared.came.Came.{Came}
-use Rattle.durable_node.specs.Faults.{fault_of, told as answered, told_as}
+use Rattle.durable_node.specs.Faults.{fault_of, answered, answered_as}
 use Rattle.node_core.specs.declared.fault.Refusal.TheVariants.{Full, Worn}
 use Rattle.durable_node.specs.Node.{Area, Node, Stands}
 use Rattle.histories.specs.NodeState.{NodeState}
@@ -24,10 +24,10 @@ use Rattle.runs.specs.declared.outcome.Outcome.TheVariants as outcome
 use Rattle.runs.specs.Acts.{what_outcome, IsCompaction}
 use Rattle.schedule.specs.declared.act.Act.{Act}
 use Rattle.schedule.specs.declared.act.Act.TheVariants as act
-use Rattle.cluster_sim.specs.Told.{came_told, compaction_told}
-use Rattle.cluster_sim.specs.Machine.{IsSettled, IsOfSize, IsSame, IsCounted, Comes, is_mounting, bare}
+use Rattle.cluster_sim.specs.Outcomes.{came_outcome, compaction_outcome}
+use Rattle.cluster_sim.specs.World.{MayHaveForgotten, IsOfSize, IsSame, IsCounted, Comes, is_mounting, bare}
 use Rattle.cluster_sim.specs.declared.deed.Deed.{Deed}
-use Rattle.durable_node.specs.Compacting.{CompactTold, IsMovedNode, IsFallenNode, StaysKept}
+use Rattle.durable_node.specs.Compacting.{CompactionAnswers, IsMovedNode, IsFallenNode, StaysKept}
 use Rattle.durable_node.specs.Refusing.{AnswersTo, compaction_refusal, is_last}
 use Rattle.cluster_sim.specs.Operated.{IsCompacted, IsLeftBy, IsRefusedAs}
 use Rattle.runs.specs.declared.outcome.Refusal.{Refusal as ActRefusal}
@@ -37,12 +37,12 @@ use Rattle.histories.specs.declared.what.Rest.TheVariants.{Nothing, Compacted}
 use Rattle.histories.specs.After.{after}
 use Rattle.runs.proofs.PublicLaws.{none_sent}
 
--- what came of an event is told as what comes of it
-pub what_told : (slots self nodes first : ℕ) (s : NodeState) (a : Act) (event : Event) (came : Came) (found : Option Durable) (fate : Fate) → Does slots self nodes s event came found (what_of event fate)
-    → came_told fate first came ≡ what_outcome self nodes first s (what_of event fate) a
-what_told slots self nodes first s a event came found Done does = λ i. outcome.Done (does.answer i) first (length (does.sent i))
-what_told slots self nodes first s a event came found (Recovered kept) does = λ i. outcome.Done (does.answer i) first (length (does.sent i))
-what_told slots self nodes first s a event came found _ does = refl
+-- what came of an event has the outcome of what comes of it
+pub what_outcome_is : (slots self nodes first : ℕ) (s : NodeState) (a : Act) (event : Event) (came : Came) (mounted : Option Durable) (fate : Fate) → Does slots self nodes s event came mounted (what_of event fate)
+    → came_outcome fate first came ≡ what_outcome self nodes first s (what_of event fate) a
+what_outcome_is slots self nodes first s a event came mounted Done does = λ i. outcome.Done (does.answer i) first (length (does.sent i))
+what_outcome_is slots self nodes first s a event came mounted (Recovered kept) does = λ i. outcome.Done (does.answer i) first (length (does.sent i))
+what_outcome_is slots self nodes first s a event came mounted _ does = refl
 
 -- ---- a node and its disk
 
@@ -58,20 +58,20 @@ same_by old new result id nodes counts = record {
 }
 
 -- an event was handled at the node, whose disk may then have forgotten the moments before
-abbrev pub Settles : Node Memory → Node Memory → Event → Came → Type 0
-Settles old last event came = IsSame old last × Steps state_of old last event came × CountsOf state_of old.disk last.disk (answered (Ok came))
+abbrev pub Leaves : Node Memory → Node Memory → Event → Came → Type 0
+Leaves old last event came = IsSame old last × Steps state_of old last event came × CountsOf state_of old.disk last.disk (answered (Ok came))
 
-pub settled : (old new last : Node Memory) (event : Event) (came : Came) → IsSettled new last → new.id ≡ old.id → new.nodes ≡ old.nodes → CountsOf state_of old.disk new.disk (answered (Ok came))
-    → Steps state_of old new event came → Settles old last event came
-settled old new last event came (inl same) id nodes counts steps = subst (λ (n : Node Memory). Settles old n event came) (sym same) (same_by old new _ id nodes counts, steps, counts)
-settled old new last event came (inr forgot) id nodes counts steps =
+pub left_so : (old new last : Node Memory) (event : Event) (came : Came) → MayHaveForgotten new last → new.id ≡ old.id → new.nodes ≡ old.nodes → CountsOf state_of old.disk new.disk (answered (Ok came))
+    → Steps state_of old new event came → Leaves old last event came
+left_so old new last event came (inl same) id nodes counts steps = subst (λ (n : Node Memory). Leaves old n event came) (sym same) (same_by old new _ id nodes counts, steps, counts)
+left_so old new last event came (inr forgot) id nodes counts steps =
     let later = counts_and_forgets old.disk new.disk last.disk (answered (Ok came)) (λ i. (forgot i).disk) counts in
     (same_by old last _ ((λ i. (forgot i).id) ∙ id) ((λ i. (forgot i).nodes) ∙ nodes) later, steps_and_forgets old new last event came forgot steps, later)
 
 pub comes_by : (event : Event) (old new : Node Memory) (net net' : Network) (came : Came) (deed : Deed) → IsSome old.disk → Steps state_of old new event came
-    → deed.tried ≡ came.tried → deed.acked ≡ came.answer → deed.mounted ≡ is_mounting (what_of event came.fate) → deed.outcome ≡ came_told came.fate (length net.sent) came → net' ≡ after_all_sent net came.sent.items
+    → deed.tried ≡ came.tried → deed.acked ≡ came.answer → deed.mounted ≡ is_mounting (what_of event came.fate) → deed.outcome ≡ came_outcome came.fate (length net.sent) came → net' ≡ after_all_sent net came.sent.items
     → (slots : ℕ) (s : NodeState) (a : Act) → slots ≤ 4096 → IsOfSize slots old.disk → Stands state_of old s → Comes slots old.id old.nodes a (IsOf event) s deed new net net'
-comes_by event old new net net' came deed has steps tried acked mounted is_told sent slots s a most size stands =
+comes_by event old new net net' came deed has steps tried acked mounted outcome_is sent slots s a most size stands =
     let was = some_of old.disk has in
     let step = steps was.0 s was.1 stands (λ _. refl) in
     let does = step.0 in
@@ -81,10 +81,10 @@ comes_by event old new net net' came deed has steps tried acked mounted is_told 
       is = does.of;
       possible = does.possible;
       of_slots = subst (λ (n : ℕ). IsOfSlots n old.id old.nodes s (what_of event came.fate)) (ap slots_for (size was.0 was.1) ∙ sized) does.of_slots;
-      is_told = is_told ∙ what_told (slots_for (state_of was.0).sectors) old.id old.nodes (length net.sent) s a event came new.found came.fate does;
-      tells = record { tried = tried ∙ does.tried.which; acked = acked ∙ does.answer; mounted = mounted };
+      outcome_is = outcome_is ∙ what_outcome_is (slots_for (state_of was.0).sectors) old.id old.nodes (length net.sent) s a event came new.mounted came.fate does;
+      reports = record { tried = tried ∙ does.tried.which; acked = acked ∙ does.answer; mounted = mounted };
       sent = sent ∙ (λ i. after_all_sent net (does.sent i));
-      found = does.mounted;
+      mounted = does.mounted;
       stands = step.1;
     }
 
@@ -97,7 +97,7 @@ counted_by old new result o so back counts was now before after =
     let c = counts.counts was now before after in
     record { sectors = c.sectors; honest = c.honest; later = c.later; unchanged = λ not. c.unchanged (λ bad. not (back bad)); cause = λ is. c.cause (so is) }
 
-pub came_counted : (old new : Option Memory) (came : Came) (first : ℕ) (fate : Fate) → CountsOf state_of old new (told_as came (fault_of fate)) → IsCounted old new (came_told fate first came)
+pub came_counted : (old new : Option Memory) (came : Came) (first : ℕ) (fate : Fate) → CountsOf state_of old new (answered_as came (fault_of fate)) → IsCounted old new (came_outcome fate first came)
 came_counted old new came first Faulted counts = counted_by old new _ _ (λ _. refl) (λ _. refl) counts
 came_counted old new came first MountFailed counts = counted_by old new _ _ (λ _. refl) (λ _. refl) counts
 came_counted old new came first (RaiseFailed kept) counts = counted_by old new _ _ (λ _. refl) (λ _. refl) counts
@@ -106,56 +106,56 @@ came_counted old new came first _ counts = counted_by old new _ _ (λ bad. absur
 
 -- ---- a compaction
 
--- it is told as what came of it
-pub told_so : {A : Type 0} (self nodes first n : ℕ) (s : NodeState) (what : What) (result : Result A NodeFault) → CompactTold what result
-    → IsCompaction what × (compaction_told first result ≡ what_outcome self nodes first s what (act.Compact n))
-told_so self nodes first n s (Rests Nothing) result is = absurd is
-told_so self nodes first n s (Rests Compacted) (Ok a) is = (tt, refl)
-told_so self nodes first n s (Rests Compacted) (Err fault) is = absurd cc
-told_so self nodes first n s (Rests _) result is = (tt, rw is refl)
-told_so self nodes first n s Crashed result is = (tt, rw is refl)
-told_so self nodes first n s _ result is = absurd is
+-- it has the outcome of what came of it
+pub outcome_so : {A : Type 0} (self nodes first n : ℕ) (s : NodeState) (what : What) (result : Result A NodeFault) → CompactionAnswers what result
+    → IsCompaction what × (compaction_outcome first result ≡ what_outcome self nodes first s what (act.Compact n))
+outcome_so self nodes first n s (Rests Nothing) result is = absurd is
+outcome_so self nodes first n s (Rests Compacted) (Ok a) is = (tt, refl)
+outcome_so self nodes first n s (Rests Compacted) (Err fault) is = absurd cc
+outcome_so self nodes first n s (Rests _) result is = (tt, rw is refl)
+outcome_so self nodes first n s Crashed result is = (tt, rw is refl)
+outcome_so self nodes first n s _ result is = absurd is
 
 pub compacted_comes : (slots n id nodes : ℕ) (s : NodeState) (o : Outcome) (new : Node Memory) (net : Network) (what : What) → IsCompaction what → IsPossible id nodes s what
-    → o ≡ what_outcome id nodes (length net.sent) s what (act.Compact n) → new.found ≡ None → Stands state_of new (after id nodes s what) → Comes slots id nodes (act.Compact n) IsCompaction s (bare o) new net net
+    → o ≡ what_outcome id nodes (length net.sent) s what (act.Compact n) → new.mounted ≡ None → Stands state_of new (after id nodes s what) → Comes slots id nodes (act.Compact n) IsCompaction s (bare o) new net net
 compacted_comes slots n id nodes s o new net (Rests rest) is may shown none stands =
-    record { what = Rests rest; is = is; possible = may; of_slots = tt; is_told = shown; tells = record { tried = refl; acked = refl; mounted = refl }; sent = sym (none_sent net); found = none; stands = stands }
+    record { what = Rests rest; is = is; possible = may; of_slots = tt; outcome_is = shown; reports = record { tried = refl; acked = refl; mounted = refl }; sent = sym (none_sent net); mounted = none; stands = stands }
 compacted_comes slots n id nodes s o new net Crashed is may shown none stands =
-    record { what = Crashed; is = is; possible = may; of_slots = tt; is_told = shown; tells = record { tried = refl; acked = refl; mounted = refl }; sent = sym (none_sent net); found = none; stands = stands }
+    record { what = Crashed; is = is; possible = may; of_slots = tt; outcome_is = shown; reports = record { tried = refl; acked = refl; mounted = refl }; sent = sym (none_sent net); mounted = none; stands = stands }
 compacted_comes slots n id nodes s o new net _ is may shown none stands = absurd is
 
 -- nothing is mounted
-pub nothing_found : (old new : Node Memory) (o : Outcome) → IsLeftBy o old new → new.found ≡ None
-nothing_found old new (outcome.Done answer first many) left = λ i. (left.is i).found
-nothing_found old new _ left = λ i. (left i).found
+pub nothing_mounted : (old new : Node Memory) (o : Outcome) → IsLeftBy o old new → new.mounted ≡ None
+nothing_mounted old new (outcome.Done answer first many) left = λ i. (left.is i).mounted
+nothing_mounted old new _ left = λ i. (left i).mounted
 
-pub compact_counted : {A : Type 0} (old new : Option Memory) (first : ℕ) (result : Result A NodeFault) → CountsOf state_of old new result → IsCounted old new (compaction_told first result)
+pub compact_counted : {A : Type 0} (old new : Option Memory) (first : ℕ) (result : Result A NodeFault) → CountsOf state_of old new result → IsCounted old new (compaction_outcome first result)
 compact_counted old new first (Err node.Device) counts = counted_by old new _ _ (λ _. refl) (λ _. refl) counts
 compact_counted old new first _ counts = counted_by old new _ _ (λ bad. absurd cc) (λ bad. absurd cc) counts
 
 -- ---- what a compaction leaves
 
 compacted_left : {A : Type 0} (old new : Node Memory) (first : ℕ) (result : Result A NodeFault) → (IsOk result → IsMovedNode old new) → (IsErrOf result node.Device → IsFallenNode old new)
-    → IfErr result (λ fault. fault ≢ node.Device → new ≡ record old { found = None }) → IsLeftBy (compaction_told first result) old new
+    → IfErr result (λ fault. fault ≢ node.Device → new ≡ record old { mounted = None }) → IsLeftBy (compaction_outcome first result) old new
 compacted_left old new first (Ok a) moved fallen refused = moved refl
 compacted_left old new first (Err node.Device) moved fallen refused = fallen refl
 compacted_left old new first (Err _) moved fallen refused = refused (λ bad. cc)
 
-never_refused : {A : Type 0} (first : ℕ) (result : Result A NodeFault) → IsOk result ⊎ IsErrOf result node.Device → (why : ActRefusal) → compaction_told first result ≢ outcome.Refused why
+never_refused : {A : Type 0} (first : ℕ) (result : Result A NodeFault) → IsOk result ⊎ IsErrOf result node.Device → (why : ActRefusal) → compaction_outcome first result ≢ outcome.Refused why
 never_refused first (Ok a) either why bad = cc
 never_refused first (Err node.Device) either why bad = cc
 never_refused first (Err _) (inl ok) why bad = absurd (let no = ok in cc)
 never_refused first (Err _) (inr device) why bad = absurd (let no = device in cc)
 
-compacted_refused : {A : Type 0} (area : Option Area) (first : ℕ) (result : Result A NodeFault) → AnswersTo (compaction_refusal area) result → IsRefusedAs (compaction_refusal area) (compaction_told first result)
+compacted_refused : {A : Type 0} (area : Option Area) (first : ℕ) (result : Result A NodeFault) → AnswersTo (compaction_refusal area) result → IsRefusedAs (compaction_refusal area) (compaction_outcome first result)
 compacted_refused None first result is = rw is refl
 compacted_refused (Some area) first result is = by_last (is_last area) is
   where
-    by_last : (b : Bool) → AnswersTo (if b then Some Worn else None) result → IsRefusedAs (if b then Some Worn else None) (compaction_told first result)
+    by_last : (b : Bool) → AnswersTo (if b then Some Worn else None) result → IsRefusedAs (if b then Some Worn else None) (compaction_outcome first result)
     by_last true is = rw is refl
     by_last false either = never_refused first result either
 
 pub compacted : {A : Type 0} (old new : Node Memory) (first : ℕ) (result : Result A NodeFault) → AnswersTo (compaction_refusal old.area) result → (IsOk result → IsMovedNode old new)
-    → (IsErrOf result node.Device → IsFallenNode old new) → IfErr result (λ fault. fault ≢ node.Device → new ≡ record old { found = None }) → StaysKept state_of old new → IsCompacted old new (compaction_told first result)
+    → (IsErrOf result node.Device → IsFallenNode old new) → IfErr result (λ fault. fault ≢ node.Device → new ≡ record old { mounted = None }) → StaysKept state_of old new → IsCompacted old new (compaction_outcome first result)
 compacted old new first result answers moved fallen refused kept =
     record { refused = compacted_refused old.area first result answers; left = compacted_left old new first result moved fallen refused; kept = kept }

@@ -3,7 +3,7 @@ use Rattle.std.proofs.Common.{◌≡◌, ◌≤◌, ℕ, Bool, true, List, [], l
 use Rattle.std.proofs.lemmas.Option.{slice_get_past}
 use Rattle.wire_msg.specs.Envelope.{Envelope}
 use Rattle.sim_net.specs.declared.fault.NetFault.{NetFault}
-use Rattle.sim_net.specs.Network.{Network, found, delivery, after_lost}
+use Rattle.sim_net.specs.Network.{Network, message_at, delivery, after_lost}
 use Rattle.node_core.specs.declared.event.Event.{Event}
 use Rattle.node_core.specs.declared.event.Event.TheVariants as on
 use Rattle.histories.specs.declared.what.What.{What}
@@ -24,7 +24,7 @@ use Rattle.sector_disk.specs.Memory.{Memory}
 use Rattle.durable_node.specs.Arming.{armed_disk}
 use Rattle.durable_node.specs.Node.{Node}
 use Rattle.durable_node.proofs.PublicLaws.{is_some}
-use Rattle.cluster_sim.specs.Machine.{FaultsAt, Machine, StandsFor, Performed, Makes, bare, disk_of}
+use Rattle.cluster_sim.specs.World.{FaultsAt, WorldView, StandsFor, Performed, Makes, bare, disk_of}
 use Rattle.cluster_sim.specs.Operated.{Operates, IsCompacted, OperatedAs, OperatesNode, operated_at}
 use Rattle.cluster_sim.specs.Names.{node_named, node_or_first}
 use Rattle.cluster_sim.specs.declared.deed.Deed.{Deed}
@@ -51,24 +51,24 @@ taken _ = tt
 
 -- ---- a step of an act
 
-pub performed : {E : Type 0} (Q : Step → Type 0) (w : World) (a : Act) (result : Result Deed E) (new : Machine)
+pub performed : {E : Type 0} (Q : Step → Type 0) (w : World) (a : Act) (result : Result Deed E) (new : WorldView)
     → ((step : Step) → Q step → IsStepOf (length w.states) w a step) → IfOk result (λ (d : Deed). Makes a Q w d new) → IfOk result (λ (d : Deed). Performed w a d new)
 performed Q w a (Ok d) new is_step makes = record {
   acted = record {
     step = makes.step;
     next = record { of_act = is_step makes.step makes.is; allowed = makes.allowed; of_slots = makes.of_slots };
-    is_told = makes.is_told;
+    outcome_is = makes.outcome_is;
     shows = makes.shows;
     stands = makes.stands;
   };
-  tells = makes.tells;
+  reports = makes.reports;
 }
 performed Q w a (Err e) new is_step makes = tt
 
 pub taken_as : (a : Act) (n : ℕ) (event : Event) → event_at a ≡ Some (n, event) → IsTakenAs a (n, event)
 taken_as a n event at = subst (λ (x : Option (ℕ × Event)). IfSome x (IsTakenAs a)) at (taken a)
 
-pub event_acted : {E : Type 0} (w : World) (a : Act) (n : ℕ) (event : Event) (result : Result Deed E) (new : Machine) → event_at a ≡ Some (n, event)
+pub event_acted : {E : Type 0} (w : World) (a : Act) (n : ℕ) (event : Event) (result : Result Deed E) (new : WorldView) → event_at a ≡ Some (n, event)
     → ((number : ℕ) → IsBrought w number (brought (Some event)) → AreAddressed n (brought (Some event)) → IfOk result (λ (d : Deed). Makes a (λ step. At (nat_lt n (length w.states)) n number (IsOf event) step) w d new))
     → IfOk result (λ (d : Deed). Performed w a d new)
 event_acted w a n event result new at makes =
@@ -76,14 +76,14 @@ event_acted w a n event result new at makes =
     performed (λ step. At (nat_lt n (length w.states)) n 0 (IsOf event) step) w a result new (is.is_step (length w.states) w)
     (makes 0 (rw is.quiet tt) (rw is.quiet tt))
 
-pub faults_named : {E : Type 0} (a : Act) (n : ℕ) (event : Event) (was now new : Machine) (result : Result Deed E) → was ≡ now → event_at a ≡ Some (n, event)
+pub faults_named : {E : Type 0} (a : Act) (n : ℕ) (event : Event) (was now new : WorldView) (result : Result Deed E) → was ≡ now → event_at a ≡ Some (n, event)
     → IfOk result (λ (d : Deed). FaultsAt (node_or_first (length was.nodes) n) was new d.outcome) → IfOk result (λ (d : Deed). FaultsAt (node_named (length now.nodes) now.net.sent a) now new d.outcome)
-faults_named a n event was now new result view is faults =
-    rw (← view, (taken_as a n event is).named (length was.nodes) was.net.sent) faults
+faults_named a n event was now new result viewed is faults =
+    rw (← viewed, (taken_as a n event is).named (length was.nodes) was.net.sent) faults
 
 -- ---- the network's acts
 
-pub delivered : {E : Type 0} (w : World) (k : ℕ) (m : Envelope) (result : Result Deed E) (new : Machine) → delivery w.net k ≡ Ok m
+pub delivered : {E : Type 0} (w : World) (k : ℕ) (m : Envelope) (result : Result Deed E) (new : WorldView) → delivery w.net k ≡ Ok m
     → (IsBrought w k (brought (Some (on.Deliver m))) → AreAddressed m.receiver (brought (Some (on.Deliver m)))
     → IfOk result (λ (d : Deed). Makes (act.Deliver k) (λ step. At (nat_lt m.receiver (length w.states)) m.receiver k (IsOf (on.Deliver m)) step) w d new))
     → IfOk result (λ (d : Deed). Performed w (act.Deliver k) d new)
@@ -95,54 +95,54 @@ no_err (Ok a) none = (a, refl)
 no_err (Err e) none = absurd (none e refl)
 
 -- nothing is done, for this reason
-pub denied : (w : World) (a : Act) (n : ℕ) (why : Refusal) (Q : Step → Type 0) (machine : Machine) → StandsFor machine w → Q (Denies n why) → Makes a Q w (bare (outcome.Refused why)) machine
-denied w a n why Q machine stands is = record { step = Denies n why; is = is; allowed = tt; of_slots = tt; is_told = refl; shows = tt; tells = (refl, refl); stands = stands }
+pub denied : (w : World) (a : Act) (n : ℕ) (why : Refusal) (Q : Step → Type 0) (view : WorldView) → StandsFor view w → Q (Denies n why) → Makes a Q w (bare (outcome.Refused why)) view
+denied w a n why Q view stands is = record { step = Denies n why; is = is; allowed = tt; of_slots = tt; outcome_is = refl; shows = tt; reports = (refl, refl); stands = stands }
 
-pub denies : (w : World) (a : Act) (n : ℕ) (why : Refusal) (machine : Machine) → StandsFor machine w → IsStepOf (length w.states) w a (Denies n why) → Performed w a (bare (outcome.Refused why)) machine
-denies w a n why machine stands of = performed {E = ℕ} (IsStepOf (length w.states) w a) w a (Ok _) machine (λ step at. at) (denied w a n why _ machine stands of)
+pub denies : (w : World) (a : Act) (n : ℕ) (why : Refusal) (view : WorldView) → StandsFor view w → IsStepOf (length w.states) w a (Denies n why) → Performed w a (bare (outcome.Refused why)) view
+denies w a n why view stands of = performed {E = ℕ} (IsStepOf (length w.states) w a) w a (Ok _) view (λ step at. at) (denied w a n why _ view stands of)
 
 -- the nodes stay, nothing is sent, and the network is what the step makes of it
-wired : (w : World) (a : Act) (machine now : Machine) (net net' : Network) (o : Outcome) → machine ≡ now → StandsFor now w → net.sent ≡ machine.net.sent → o ≡ outcome.Done None (length net.sent) 0
-    → (StandsFor machine w → IsStepOf (length w.states) w a (Changes net') × (net ≡ net')) → Performed w a (bare o) (record machine { net = net })
-wired w a machine now net net' o view stood same_sent is next =
-    let stands = subst (λ (m : Machine). StandsFor m w) (sym view) stood in
+wired : (w : World) (a : Act) (view now : WorldView) (net net' : Network) (o : Outcome) → view ≡ now → StandsFor now w → net.sent ≡ view.net.sent → o ≡ outcome.Done None (length net.sent) 0
+    → (StandsFor view w → IsStepOf (length w.states) w a (Changes net') × (net ≡ net')) → Performed w a (bare o) (record view { net = net })
+wired w a view now net net' o viewed stood same_sent is next =
+    let stands = subst (λ (m : WorldView). StandsFor m w) (sym viewed) stood in
     let sent : net.sent ≡ w.net.sent = same_sent ∙ (λ i. (stands.net i).sent) in
     performed {E = ℕ} (IsStepOf (length w.states) w a) w a (Ok _) _ (λ step at. at) (record {
       step = Changes net';
       is = (next stands).0;
       allowed = ap (λ (n : Network). n.sent) (sym (next stands).1) ∙ sent;
       of_slots = tt;
-      is_told = is ∙ (λ i. outcome.Done None (length (sent i)) 0);
+      outcome_is = is ∙ (λ i. outcome.Done None (length (sent i)) 0);
       shows = tt;
-      tells = (refl, refl);
+      reports = (refl, refl);
       stands = record { count = stands.count; net = (next stands).1; each = stands.each };
     })
 
-pub lost_by : (w : World) (k : ℕ) (machine now : Machine) (net' : Network) (o : Outcome) → machine ≡ now → StandsFor now w → ((fault : NetFault) → found machine.net k ≡ Err fault → ⊥)
-    → net' ≡ after_lost machine.net k → o ≡ outcome.Done None (length net'.sent) 0 → Performed w (act.Lose k) (bare o) (record machine { net = net' })
-lost_by w k machine now net' o view stands none same is = wired w (act.Lose k) machine now net' (after_lost w.net k) o view stands (ap (λ (n : Network). n.sent) same) is (λ before.
-    (let there = no_err (found machine.net k) none in
-    let at : found w.net k ≡ Ok there.0 = ap (λ (n : Network). found n k) (sym before.net) ∙ there.1 in
+pub lost_by : (w : World) (k : ℕ) (view now : WorldView) (net' : Network) (o : Outcome) → view ≡ now → StandsFor now w → ((fault : NetFault) → message_at view.net k ≡ Err fault → ⊥)
+    → net' ≡ after_lost view.net k → o ≡ outcome.Done None (length net'.sent) 0 → Performed w (act.Lose k) (bare o) (record view { net = net' })
+lost_by w k view now net' o viewed stands none same is = wired w (act.Lose k) view now net' (after_lost w.net k) o viewed stands (ap (λ (n : Network). n.sent) same) is (λ before.
+    (let there = no_err (message_at view.net k) none in
+    let at : message_at w.net k ≡ Ok there.0 = ap (λ (n : Network). message_at n k) (sym before.net) ∙ there.1 in
     (rw at refl, same ∙ ap (λ (n : Network). after_lost n k) before.net)))
 
-pub not_lost_by : (w : World) (k : ℕ) (fault : NetFault) (machine now : Machine) (net' : Network) (o : Outcome) → machine ≡ now → StandsFor now w → found machine.net k ≡ Err fault
-    → net' ≡ machine.net → o ≡ outcome.Refused (refusal.Net fault) → Performed w (act.Lose k) (bare o) (record machine { net = net' })
-not_lost_by w k fault machine now net' o view stood at same is =
-    let stands = subst (λ (m : Machine). StandsFor m w) (sym view) stood in
-    let there : found w.net k ≡ Err fault = ap (λ (n : Network). found n k) (sym stands.net) ∙ at in
-    rw (same, is) (denies w (act.Lose k) 0 (refusal.Net fault) machine stands (rw there refl))
+pub not_lost_by : (w : World) (k : ℕ) (fault : NetFault) (view now : WorldView) (net' : Network) (o : Outcome) → view ≡ now → StandsFor now w → message_at view.net k ≡ Err fault
+    → net' ≡ view.net → o ≡ outcome.Refused (refusal.Net fault) → Performed w (act.Lose k) (bare o) (record view { net = net' })
+not_lost_by w k fault view now net' o viewed stood at same is =
+    let stands = subst (λ (m : WorldView). StandsFor m w) (sym viewed) stood in
+    let there : message_at w.net k ≡ Err fault = ap (λ (n : Network). message_at n k) (sym stands.net) ∙ at in
+    rw (same, is) (denies w (act.Lose k) 0 (refusal.Net fault) view stands (rw there refl))
 
 -- whether both nodes are known
-pub known_step : (w : World) (a b : ℕ) (machine : Machine) (net : Network) (known : Bool) → StandsFor machine w → (nat_lt a (length machine.nodes) && nat_lt b (length machine.nodes)) ≡ known
+pub known_step : (w : World) (a b : ℕ) (view : WorldView) (net : Network) (known : Bool) → StandsFor view w → (nat_lt a (length view.nodes) && nat_lt b (length view.nodes)) ≡ known
     → (if known then Changes net else Denies 0 refusal.Stranger) ≡ (if nat_lt a (length w.states) && nat_lt b (length w.states) then Changes net else Denies 0 refusal.Stranger)
-known_step w a b machine net known stands is =
+known_step w a b view net known stands is =
     sym (ap (λ (x : Bool). if x then Changes net else Denies 0 refusal.Stranger) (ap (λ (c : ℕ). nat_lt a c && nat_lt b c) (sym stands.count) ∙ is))
 
-pub linked_by : (w : World) (act : Act) (a b : ℕ) (after : Network → Network) (machine now : Machine) (net' : Network) (o : Outcome)
+pub linked_by : (w : World) (act : Act) (a b : ℕ) (after : Network → Network) (view now : WorldView) (net' : Network) (o : Outcome)
     → ((step : Step) → step ≡ (if nat_lt a (length w.states) && nat_lt b (length w.states) then Changes (after w.net) else Denies 0 refusal.Stranger) → IsStepOf (length w.states) w act step)
-    → machine ≡ now → StandsFor now w → (nat_lt a (length now.nodes) && nat_lt b (length now.nodes)) ≡ true → net'.sent ≡ machine.net.sent → net' ≡ after machine.net
-    → o ≡ outcome.Done None (length net'.sent) 0 → Performed w act (bare o) (record machine { net = net' })
-linked_by w act a b after machine now net' o is_step view stands known sent same is = wired w act machine now net' (after w.net) o view stands sent is
+    → view ≡ now → StandsFor now w → (nat_lt a (length now.nodes) && nat_lt b (length now.nodes)) ≡ true → net'.sent ≡ view.net.sent → net' ≡ after view.net
+    → o ≡ outcome.Done None (length net'.sent) 0 → Performed w act (bare o) (record view { net = net' })
+linked_by w act a b after view now net' o is_step viewed stands known sent same is = wired w act view now net' (after w.net) o viewed stands sent is
     (λ before. (is_step _ (known_step w a b now (after w.net) true stands known), same ∙ ap after before.net))
 
 -- ---- an act of the operator
@@ -152,8 +152,8 @@ pub record OperatesAt (a : Act) (n : ℕ) : Type 0 where
   pub is_step : (nodes : ℕ) (w : World) (step : Step) → At (nat_lt n nodes) n 0 (OperatedAs a) step → IsStepOf nodes w a step
   pub brings : (what : What) → OperatedAs a what → brought (event_of what) ≡ []
   pub named : (nodes : ℕ) (sent : List Envelope) → node_named nodes sent a ≡ node_or_first nodes n
-  pub there : (old new : Machine) (was now : Node Memory) (o : Outcome) → slice_get old.nodes n ≡ Some was → slice_get new.nodes n ≡ Some now → OperatesNode a was now o → Operates a old new o
-  pub nowhere : (machine : Machine) (o : Outcome) → length machine.nodes ≤ n → Operates a machine machine o
+  pub there : (old new : WorldView) (was now : Node Memory) (o : Outcome) → slice_get old.nodes n ≡ Some was → slice_get new.nodes n ≡ Some now → OperatesNode a was now o → Operates a old new o
+  pub nowhere : (view : WorldView) (o : Outcome) → length view.nodes ≤ n → Operates a view view o
 
 compaction_brings : (what : What) → IsCompaction what → brought (event_of what) ≡ []
 compaction_brings (Rests rest) is = refl
@@ -166,14 +166,14 @@ operates_at (act.Arm n calls) = record {
   brings = λ what is. ap (λ (x : What). brought (event_of x)) is;
   named = λ nodes sent. refl;
   there = λ old new was now o at_was at_now is. ap disk_of at_now ∙ is ∙ ap (λ (x : Option (Node Memory)). armed_disk calls (disk_of x)) (sym at_was);
-  nowhere = λ machine o past. rw (slice_get_past machine.nodes n past) refl;
+  nowhere = λ view o past. rw (slice_get_past view.nodes n past) refl;
 }
 operates_at (act.Crash n fill) = record {
   is_step = λ nodes w step at. at;
   brings = λ what is. ap (λ (x : What). brought (event_of x)) is;
   named = λ nodes sent. refl;
   there = λ old new was now o at_was at_now is x y at_x at_y. is x y (ap disk_of (sym at_was) ∙ at_x) (ap disk_of (sym at_now) ∙ at_y);
-  nowhere = λ machine o past x y at_x at_y. absurd (let none : None ≡ Some x = ap disk_of (sym (slice_get_past machine.nodes n past)) ∙ at_x in cc);
+  nowhere = λ view o past x y at_x at_y. absurd (let none : None ≡ Some x = ap disk_of (sym (slice_get_past view.nodes n past)) ∙ at_x in cc);
 }
 operates_at (act.Compact n) = record {
   is_step = λ nodes w step at. at;
@@ -181,7 +181,7 @@ operates_at (act.Compact n) = record {
   named = λ nodes sent. refl;
   there = λ old new was now o at_was at_now is x y at_x at_y.
       subst (λ (z : Node Memory). IsCompacted z y o) (is_some was x (sym at_was ∙ at_x)) (subst (λ (z : Node Memory). IsCompacted was z o) (is_some now y (sym at_now ∙ at_y)) is);
-  nowhere = λ machine o past x y at_x at_y. absurd (let none : None ≡ Some x = sym (slice_get_past machine.nodes n past) ∙ at_x in cc);
+  nowhere = λ view o past x y at_x at_y. absurd (let none : None ≡ Some x = sym (slice_get_past view.nodes n past) ∙ at_x in cc);
 }
 operates_at _ = tt
 

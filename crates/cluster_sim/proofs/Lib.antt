@@ -2,7 +2,7 @@ mod Names
 mod Coming
 mod Members
 mod Doings
-mod Telling
+mod Reporting
 mod Advancing
 mod Opening
 mod Promised

@@ -8,7 +8,7 @@ use Rattle.durable_node.specs.Node.{Node, Stands}
 use Rattle.histories.specs.NodeState.{NodeState}
 use Rattle.histories.specs.declared.what.What.{What}
 use Rattle.histories.specs.What.{event_of, brought, AreAddressed}
-use Rattle.histories.specs.After.{after, sent_at, found_at}
+use Rattle.histories.specs.After.{after, sent_at, mounted_at}
 use Rattle.durable_node.proofs.PublicLaws.{is_some}
 use Rattle.runs.specs.declared.outcome.Outcome.TheVariants as outcome
 use Rattle.runs.specs.declared.outcome.Refusal.TheVariants as refusal
@@ -17,7 +17,7 @@ use Rattle.runs.specs.Step.{Takes, Denies}
 use Rattle.runs.specs.Run.{IsBrought}
 use Rattle.runs.specs.Acts.{At, what_outcome}
 use Rattle.schedule.specs.declared.act.Act.{Act}
-use Rattle.cluster_sim.specs.Machine.{Machine, IsMember, IsCluster, IsUntouched, IsUntouchedNode, StandsFor, IsSame, Comes, DeedOf, Makes, bare, IsCounted, FaultsAt}
+use Rattle.cluster_sim.specs.World.{WorldView, IsMember, IsWorld, IsUntouched, IsUntouchedNode, StandsFor, IsSame, Comes, DeedOf, Makes, bare, IsCounted, FaultsAt}
 use Rattle.cluster_sim.specs.declared.deed.Deed.{Deed}
 use Rattle.runs.proofs.PublicLaws.{at_place, get_set_same, get_set_other, node_there}
 use Rattle.histories.proofs.PublicLaws.{eq_nat}
@@ -35,13 +35,13 @@ at_each {A} P xs n old new was here all k x at = by_place (k == n) refl
     by_place : (b : Bool) → (k == n) ≡ b → P k x
     by_place true is =
         let same : k ≡ n = eq_nat k n is in
-        let found : Some new ≡ Some x = sym (get_set_same xs n old new was) ∙ ap (λ (j : ℕ). slice_get (slice_set xs n new) j) (sym same) ∙ at in
-        subst (λ (j : ℕ). P j x) (sym same) (subst (λ (y : A). P n y) (is_some new x found) here)
+        let here_now : Some new ≡ Some x = sym (get_set_same xs n old new was) ∙ ap (λ (j : ℕ). slice_get (slice_set xs n new) j) (sym same) ∙ at in
+        subst (λ (j : ℕ). P j x) (sym same) (subst (λ (y : A). P n y) (is_some new x here_now) here)
     by_place false is =
         let ne : k ≢ n = grind (arith, nat_tests) in
         all k x ne (sym (get_set_other xs k n new ne) ∙ at)
 
-pub still_cluster : (slots n : ℕ) (nodes : List (Node Memory)) (old new : Node Memory) → IsCluster slots nodes → slice_get nodes n ≡ Some old → IsSame old new → IsCluster slots (slice_set nodes n new)
+pub still_cluster : (slots n : ℕ) (nodes : List (Node Memory)) (old new : Node Memory) → IsWorld slots nodes → slice_get nodes n ≡ Some old → IsSame old new → IsWorld slots (slice_set nodes n new)
 still_cluster slots n nodes old new cluster at same = record {
   least_slots = cluster.least_slots;
   most_slots = cluster.most_slots;
@@ -71,7 +71,7 @@ moves slots n nodes old new net net' net'' w s s' at stands was is same_net = re
 pub true_within : (n count : ℕ) → n < count → nat_lt n count ≡ true
 true_within n count within = grind (arith, nat_tests)
 
-pub takes : {E : Type 0} (slots n number : ℕ) (a : Act) (P : What → Type 0) (nodes : List (Node Memory)) (old new : Node Memory) (net net' : Network) (result : Result Deed E) (w : World) → IsCluster slots nodes
+pub takes : {E : Type 0} (slots n number : ℕ) (a : Act) (P : What → Type 0) (nodes : List (Node Memory)) (old new : Node Memory) (net net' : Network) (result : Result Deed E) (w : World) → IsWorld slots nodes
     → slice_get nodes n ≡ Some old → StandsFor (record { slots = slots; nodes = nodes; net = net }) w
     → ((what : What) → P what → IsBrought w number (brought (event_of what)) × AreAddressed n (brought (event_of what)))
     → ((s : NodeState) → Stands state_of old s → IfOk result (λ (d : Deed). Comes slots old.id old.nodes a P s d new net net'))
@@ -91,10 +91,10 @@ takes slots n number a P nodes old new net net' (Ok deed) w cluster at stands br
       is = subst (λ (b : Bool). At b n number P (Takes n number came.what)) (sym (true_within n count within)) (came.what, refl, came.is);
       allowed = (was, was_at, came.possible, (brings came.what came.is).0, (brings came.what came.is).1);
       of_slots = rw it came.of_slots;
-      is_told = came.is_told ∙ (λ i. what_outcome n count (length (stands.net i).sent) (sym it i) came.what a);
-      shows = λ node s at_n was_n. ap (λ (x : Node Memory). x.found) (sym (is_some new node (sym (get_set_same nodes n old new at) ∙ at_n))) ∙ came.found
-          ∙ ap (λ (x : NodeState). found_at x came.what) (is_some was s (sym was_at ∙ was_n));
-      tells = λ s at_s. subst (λ (x : NodeState). DeedOf n count x came.what deed) (is_some was s (sym was_at ∙ at_s)) came.tells;
+      outcome_is = came.outcome_is ∙ (λ i. what_outcome n count (length (stands.net i).sent) (sym it i) came.what a);
+      shows = λ node s at_n was_n. ap (λ (x : Node Memory). x.mounted) (sym (is_some new node (sym (get_set_same nodes n old new at) ∙ at_n))) ∙ came.mounted
+          ∙ ap (λ (x : NodeState). mounted_at x came.what) (is_some was s (sym was_at ∙ was_n));
+      reports = λ s at_s. subst (λ (x : NodeState). DeedOf n count x came.what deed) (is_some was s (sym was_at ∙ at_s)) came.reports;
       stands = rw it (moves slots n nodes old new net net' _ w was (after n count was came.what) at stands was_at came.stands
           (came.sent ∙ ap (λ (before : Network). after_all_sent before (sent_at n count was came.what)) stands.net));
     }
@@ -130,19 +130,19 @@ untouched_if slots n nodes old new net net' (Err e) w at stands keeps same_net =
     }
 
 -- a node outside the cluster
-pub denied_at : (w : World) (id number : ℕ) (a : Act) (P : What → Type 0) (machine : Machine) → StandsFor machine w → length machine.nodes ≤ id
-    → Makes a (λ step. At (nat_lt id (length w.states)) id number P step) w (bare (outcome.Refused refusal.Stranger)) machine
-denied_at w id number a P machine stands beyond =
+pub denied_at : (w : World) (id number : ℕ) (a : Act) (P : What → Type 0) (view : WorldView) → StandsFor view w → length view.nodes ≤ id
+    → Makes a (λ step. At (nat_lt id (length w.states)) id number P step) w (bare (outcome.Refused refusal.Stranger)) view
+denied_at w id number a P view stands beyond =
     let many = stands.count in
     let stranger : nat_lt id (length w.states) ≡ false = grind (arith, nat_tests) in
-    denied w a 0 refusal.Stranger _ machine stands (subst (λ (b : Bool). At b id number P (Denies 0 refusal.Stranger)) (sym stranger) refl)
+    denied w a 0 refusal.Stranger _ view stands (subst (λ (b : Bool). At b id number P (Denies 0 refusal.Stranger)) (sym stranger) refl)
 
 -- ---- the failures of its disk
 
-pub faults_if : {E : Type 0} (slots n : ℕ) (nodes : List (Node Memory)) (old new : Node Memory) (net net' : Network) (result : Result Deed E) (now : Machine) → record { slots = slots; nodes = nodes; net = net } ≡ now
+pub faults_if : {E : Type 0} (slots n : ℕ) (nodes : List (Node Memory)) (old new : Node Memory) (net net' : Network) (result : Result Deed E) (now : WorldView) → record { slots = slots; nodes = nodes; net = net } ≡ now
     → slice_get nodes n ≡ Some old → IfOk result (λ (d : Deed). IsCounted old.disk new.disk d.outcome)
     → IfOk result (λ (d : Deed). FaultsAt (node_or_first (length now.nodes) n) now (record { slots = slots; nodes = slice_set nodes n new; net = net' }) d.outcome)
-faults_if slots n nodes old new net net' (Ok d) now view at counted =
+faults_if slots n nodes old new net net' (Ok d) now viewed at counted =
     let known : node_or_first (length nodes) n ≡ n = rw (true_within n (length nodes) (slice_get_within nodes n old at)) refl in
-    rw (← view, known) (record { here = rw (at, get_set_same nodes n old new at) counted; elsewhere = λ k other. get_set_other nodes k n new other })
-faults_if slots n nodes old new net net' (Err e) now view at counted = tt
+    rw (← viewed, known) (record { here = rw (at, get_set_same nodes n old new at) counted; elsewhere = λ k other. get_set_other nodes k n new other })
+faults_if slots n nodes old new net net' (Err e) now viewed at counted = tt

@@ -1,4 +1,4 @@
--- A step of an act is told of the node that the act names.
+-- A step of an act is reported of the node that the act names.
 use Rattle.std.proofs.Common.{◌≡◌, ℕ, Bool, true, false, nat_lt, slice_get, Option, refl, sym, ◌∙◌, ap, Result, Ok, Err, if◌then◌else◌, ◌&&◌, MatchResult}
 use Rattle.wire_msg.specs.Envelope.{Envelope}
 use Rattle.node_core.specs.declared.event.Event.TheVariants as on
@@ -6,7 +6,7 @@ use Rattle.histories.specs.declared.what.What.{What}
 use Rattle.schedule.specs.declared.act.Act.{Act}
 use Rattle.schedule.specs.declared.act.Act.TheVariants as act
 use Rattle.sim_net.specs.declared.fault.NetFault.{NetFault}
-use Rattle.sim_net.specs.Network.{Network, found, delivery, after_lost, after_cut, after_mend}
+use Rattle.sim_net.specs.Network.{Network, message_at, delivery, after_lost, after_cut, after_mend}
 use Rattle.runs.specs.World.{World}
 use Rattle.runs.specs.declared.outcome.Refusal.TheVariants.{Net as OfNet, Stranger}
 use Rattle.runs.specs.Step.{Step, Changes, Denies}
@@ -35,7 +35,7 @@ named_at_link false net step is = ap node_of is
 
 pub step_named : (nodes : ℕ) (w : World) (a : Act) (step : Step) → IsStepOf nodes w a step → node_of step ≡ node_named nodes w.net.sent a
 step_named nodes w (act.Deliver k) step of = named_by_message nodes k w.net (delivery w.net k) step refl of
-step_named nodes w (act.Lose k) step of = named_at_loss (after_lost w.net k) (found w.net k) step of
+step_named nodes w (act.Lose k) step of = named_at_loss (after_lost w.net k) (message_at w.net k) step of
 step_named nodes w (act.Cut x y) step of = named_at_link (nat_lt x nodes && nat_lt y nodes) (after_cut w.net x y) step of
 step_named nodes w (act.Mend x y) step of = named_at_link (nat_lt x nodes && nat_lt y nodes) (after_mend w.net x y) step of
 step_named nodes w _ step of = named_at _ _ 0 _ step of

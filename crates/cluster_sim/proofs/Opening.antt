@@ -6,9 +6,9 @@ use Rattle.sector_disk.specs.Memory.{Memory, state_of}
 use Rattle.durable_node.specs.Node.{Node, Stands}
 use Rattle.histories.specs.NodeState.{NodeState, opening}
 use Rattle.runs.specs.World.{start}
-use Rattle.cluster_sim.specs.Machine.{Machine, StandsFor, IsOfSize, IsMember, AreOpened}
+use Rattle.cluster_sim.specs.World.{WorldView, StandsFor, IsOfSize, IsMember, AreOpened}
 use Rattle.runs.specs.Reporting.{first_report, report_of}
-use Rattle.cluster_sim.specs.Recorded.{Recorded, with_opening, AreCounted, Tells}
+use Rattle.cluster_sim.specs.Cluster.{ClusterView, with_opening, AreCounted, Reports}
 use Rattle.runs.proofs.PublicLaws.{all_more, counts_opened, length_openings, opened, opened_more as report_more, runs_open, starts_opened}
 use Rattle.sim_net.specs.Network.{Network, silent}
 
@@ -36,14 +36,14 @@ pub opened_more : (k : ℕ) → with_opening k (opening k).state (first_report k
 opened_more k = report_more k ∙ ap first_report (let e : suc k ≡ k + 1 = omega arith in e)
 
 -- the vector of a node that opened
-pub opened_state : (machine : Machine) (nodes k : ℕ) (node : Node Memory) → StandsFor machine (start nodes) → k < nodes → slice_get machine.nodes k ≡ Some node → node.state ≡ (opening k).state
-opened_state machine nodes k node stands within at = (stands.each k node (opening k) at (starts_opened nodes k within)).state
+pub opened_state : (view : WorldView) (nodes k : ℕ) (node : Node Memory) → StandsFor view (start nodes) → k < nodes → slice_get view.nodes k ≡ Some node → node.state ≡ (opening k).state
+opened_state view nodes k node stands within at = (stands.each k node (opening k) at (starts_opened nodes k within)).state
 
 pub opened_counts : (nodes : ℕ) → AreCounted nodes (report_of nodes [] []).commands (replicate nodes 1)
 opened_counts nodes = record { as_many = length-replicate nodes 1; each = counts_opened nodes }
 
-pub opened_recorded : (c : Recorded) (nodes : ℕ) → StandsFor c.machine (start nodes) → c.report ≡ report_of nodes [] [] → Tells c (start nodes)
-opened_recorded c nodes stands told = record {
+pub opened_reports : (c : ClusterView) (nodes : ℕ) → StandsFor c.world (start nodes) → c.report ≡ report_of nodes [] [] → Reports c (start nodes)
+opened_reports c nodes stands reported = record {
   stands = stands;
-  left = rw (stands.count ∙ length_openings 0 nodes, told) (runs_open nodes c.machine.slots);
+  left = rw (stands.count ∙ length_openings 0 nodes, reported) (runs_open nodes c.world.slots);
 }

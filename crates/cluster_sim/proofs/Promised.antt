@@ -8,23 +8,23 @@ use Rattle.runs.specs.Reporting.{Moment, moment_of}
 use Rattle.runs.specs.Growth.{acts_in}
 use Rattle.runs.specs.Headline.{Headline}
 use Rattle.histories.specs.Counts.{IsShort}
-use Rattle.cluster_sim.specs.Recorded.{Recorded, Tells, GoesOn, HasRun}
+use Rattle.cluster_sim.specs.Cluster.{ClusterView, Reports, GoesOn, HasRun}
 use Rattle.runs.proofs.PublicLaws.{left_keeps, step_length}
 
-pub promised : (c : Recorded) (w : World) → Tells c w → length c.report.moments + 1 < 2 ^ 64 → Headline (length c.machine.nodes) c.machine.slots (acts_in c.report) c.report
-promised c w tells short =
+pub promised : (c : ClusterView) (w : World) → Reports c w → length c.report.moments + 1 < 2 ^ 64 → Headline (length c.world.nodes) c.world.slots (acts_in c.report) c.report
+promised c w reports short =
     let len : length (acts_in c.report) ≡ length c.report.moments = length-map c.report.moments (λ (m : Moment). m.act) in
     let few : IsShort (acts_in c.report) = omega (arith, len, short) in
-    left_keeps (length c.machine.nodes) c.machine.slots w c.report tells.left few
+    left_keeps (length c.world.nodes) c.world.slots w c.report reports.left few
 
 -- ---- one act after another
 
-pub one_done : (old new : Recorded) (nodes : ℕ) (acts : List Act) (a : Act) (o : Outcome) (h : HasRun nodes acts old) → GoesOn h.world a o old new → HasRun nodes (acts ++ a ∷ []) new
+pub one_done : (old new : ClusterView) (nodes : ℕ) (acts : List Act) (a : Act) (o : Outcome) (h : HasRun nodes acts old) → GoesOn h.last a o old new → HasRun nodes (acts ++ a ∷ []) new
 one_done old new nodes acts a o h on = record {
-  world = _;
-  tells = on.tells;
-  as_many = on.tells.stands.count ∙ step_length (length h.world.states) h.world on.step ∙ sym h.tells.stands.count ∙ h.as_many;
-  of_acts = ap acts_in on.grows ∙ map-append (λ (m : Moment). m.act) old.report.moments (moment_of (length h.world.states) h.world a on.step ∷ []) ∙ (λ i. h.of_acts i ++ a ∷ []);
+  last = _;
+  reports = on.reports;
+  as_many = on.reports.stands.count ∙ step_length (length h.last.states) h.last on.step ∙ sym h.reports.stands.count ∙ h.as_many;
+  of_acts = ap acts_in on.grows ∙ map-append (λ (m : Moment). m.act) old.report.moments (moment_of (length h.last.states) h.last a on.step ∷ []) ∙ (λ i. h.of_acts i ++ a ∷ []);
 }
 
 pub ok_here : {A E : Type 0} (P : A → Type 0) (r : Result A E) → is_err r ≡ false → IfOk r P → (a : A) × P a

@@ -1,6 +1,6 @@
-pub mod Told
+pub mod Outcomes
 pub mod Names
-pub mod Machine
+pub mod World
 pub mod Operated
-pub mod Recorded
+pub mod Cluster
 pub mod Deliveries

@@ -1,4 +1,4 @@
--- The node that an act is told of, as code finds it.
+-- The node that an act is reported of, as code names it.
 use Rattle.std.specs.Prelude.{ℕ, nat_lt, if◌then◌else◌, List, slice_get}
 use Rattle.wire_msg.specs.Envelope.{Envelope}
 use Rattle.schedule.specs.declared.act.Act.{Act}

@@ -17,10 +17,10 @@ use Rattle.runs.specs.declared.outcome.Refusal.TheVariants.{Node as OfNode}
 use Rattle.runs.specs.Acts.{IsCompaction}
 use Rattle.schedule.specs.declared.act.Act.{Act}
 use Rattle.schedule.specs.declared.act.Act.TheVariants as act
-use Rattle.cluster_sim.specs.Machine.{Machine, disk_of}
+use Rattle.cluster_sim.specs.World.{WorldView, disk_of}
 
-abbrev pub disk_at : Machine → ℕ → Option Memory
-disk_at machine n = disk_of (slice_get machine.nodes n)
+abbrev pub disk_at : WorldView → ℕ → Option Memory
+disk_at view n = disk_of (slice_get view.nodes n)
 
 -- a crash with these bytes leaves this of a disk
 abbrev pub IsLeftWith : List ℕ → Option Memory → Option Memory → Type 0
@@ -34,17 +34,17 @@ IsRefusedAs None o = (why : Refusal) → o ≢ outcome.Refused why
 -- what a compaction that ended so leaves: the jobs are in the other area, nothing has changed, or the node is down
 abbrev pub IsLeftBy : Outcome → Node Memory → Node Memory → Type 0
 IsLeftBy (outcome.Done answer first many) was now = IsMovedNode was now
-IsLeftBy (outcome.Refused why) was now = now ≡ record was { found = None }
+IsLeftBy (outcome.Refused why) was now = now ≡ record was { mounted = None }
 IsLeftBy outcome.Faulted was now = IsFallenNode was now
 
--- a compaction ended so: it is refused as the node's area tells, and meanwhile the disk of a node that is up stands for what it kept
+-- a compaction ended so: it is refused as the node's area says, and meanwhile the disk of a node that is up stands for what it kept
 pub record IsCompacted (was now : Node Memory) (o : Outcome) : Type 0 where
   pub refused : IsRefusedAs (compaction_refusal was.area) o
   pub left : IsLeftBy o was now
   pub kept : StaysKept state_of was now
 
 -- it is armed with so many calls, a crash leaves what it leaves with these bytes, or it is compacted
-abbrev pub Operates : Act → Machine → Machine → Outcome → Type 0
+abbrev pub Operates : Act → WorldView → WorldView → Outcome → Type 0
 Operates (act.Arm n calls) old new o = disk_at new n ≡ armed_disk calls (disk_at old n)
 Operates (act.Crash n fill) old new o = IsLeftWith fill (disk_at old n) (disk_at new n)
 Operates (act.Compact n) old new o = (was now : Node Memory) → slice_get old.nodes n ≡ Some was → slice_get new.nodes n ≡ Some now → IsCompacted was now o

@@ -1,20 +1,20 @@
 // A cluster that keeps a report of all its acts.
 ghost use Rattle.std.specs.Prelude.{◌≡◌, ◌≤◌, ◌<◌, ◌+◌, [], ◌++◌, map, length, slice_get, Some, IfOk, OnErr, OnOk, ℕ};
 ghost use Rattle.group_task.specs.declared.node.TheConstants.{NODES};
-ghost use Rattle.cluster_sim.specs.Machine.{FaultsAt, IsUntouched};
+ghost use Rattle.cluster_sim.specs.World.{FaultsAt, IsUntouched};
 ghost use Rattle.cluster_sim.specs.Operated.{Operates};
-ghost use Rattle.cluster_sim.specs.Recorded.{report_in, recorded, Tells, GoesOn, HasRun, IsRecorded};
+ghost use Rattle.cluster_sim.specs.Cluster.{report_in, cluster_with, Reports, GoesOn, HasRun, IsCluster};
 ghost use Rattle.runs.specs.Growth.{acts_in};
 ghost use Rattle.cluster_sim.specs.Names.{node_named};
 ghost use Rattle.runs.specs.Headline.{Headline};
 ghost use Rattle.runs.specs.Reporting.{report_of};
 ghost use Rattle.cluster_sim.specs.declared.report.Moment.{Moment as KeptMoment};
-ghost use Rattle.runs.specs.World.{World, start};
+ghost use Rattle.runs.specs.World.{World as RunWorld, start};
 
 use crate::naming::node_named;
 use crate::recording::{ones, opened};
 use crate::report::Report;
-use crate::simulation::Simulation;
+use crate::world::World;
 use durable_node::DurableNode;
 use group_task::NodeId;
 use runs::Outcome;
@@ -26,24 +26,24 @@ use std::marker::Model;
 
 /// A simulated cluster with a report of all that came of its acts.
 ///
-/// The report takes memory for each act: the act, what its node knows after it, and what a mounting finds.
+/// The report takes memory for each act: the act, what its node knows after it, and what it mounts.
 #[derive(Drop)]
 pub struct Cluster {
     alloc: Global,
-    simulation: Simulation,
+    world: World,
     report: Report,
     // how many commands each node tried so far
     counts: Vec<u64>,
 }
 
 impl Model for Cluster {
-    ghost use Rattle.cluster_sim.specs.Recorded.{Recorded, IsRecorded, recorded};
+    ghost use Rattle.cluster_sim.specs.Cluster.{ClusterView, IsCluster, cluster_with};
 
-    ghost Value = { Recorded };
+    ghost Value = { ClusterView };
 
-    ghost view = { λ a. recorded a.simulation a.report };
+    ghost view = { λ a. cluster_with a.world a.report };
 
-    ghost invariant = { λ a. IsRecorded (recorded a.simulation a.report) a.counts.items };
+    ghost invariant = { λ a. IsCluster (cluster_with a.world a.report) a.counts.items };
 }
 
 impl Cluster {
@@ -55,36 +55,36 @@ impl Cluster {
         requires most { nodes ≤ NODES }
         requires least_slots { 4 ≤ slots }
         requires most_slots { slots ≤ 4096 }
-        ensures slots { IfOk result (λ cluster. cluster.machine.slots ≡ slots) }
-        ensures nodes { IfOk result (λ cluster. length cluster.machine.nodes ≡ nodes) }
-        ensures opens { IfOk result (λ cluster. Tells cluster (start nodes)) }
+        ensures slots { IfOk result (λ cluster. cluster.world.slots ≡ slots) }
+        ensures nodes { IfOk result (λ cluster. length cluster.world.nodes ≡ nodes) }
+        ensures opens { IfOk result (λ cluster. Reports cluster (start nodes)) }
         ensures report { IfOk result (λ cluster. cluster.report ≡ report_of nodes [] []) }
     {
-        let simulation = Simulation::open(alloc, nodes, slots)?;
-        let report = opened(alloc, &simulation)?;
+        let world = World::open(alloc, nodes, slots)?;
+        let report = opened(alloc, &world)?;
         let counts = ones(alloc, nodes)?;
         Ok(Cluster {
             alloc,
-            simulation,
+            world,
             report,
             counts,
         })
     }
 
     /// One act. It is refused where it names a node outside the cluster, and else as the node or the network refuses it:
-    /// then nothing changed but the report, which tells it. An error says that there was no memory for it, and nothing
-    /// changed at all, but that a node may not tell any more what it mounted last.
+    /// then nothing changed but the report, which has it. An error says that there was no memory for it, and nothing
+    /// changed at all, but that a node may not show any more what it mounted last.
     pub fn step(&mut self, act: Act) -> Result<Outcome, AllocError>
-        ensures slots { self.new.machine.slots ≡ self.old.machine.slots }
-        ensures goes_on { (w : World) → Tells self.old w → IfOk result (λ outcome. GoesOn w act outcome self.old self.new) }
-        ensures faults { IfOk result (FaultsAt (node_named (length self.old.machine.nodes) self.old.machine.net.sent act) self.old.machine self.new.machine) }
-        ensures disk { IfOk result (Operates act self.old.machine self.new.machine) }
-        ensures memory { (w : World) → Tells self.old w → OnErr result (Tells self.new w) }
-        ensures untouched { OnErr result (IsUntouched self.old.machine self.new.machine × (self.new.report ≡ self.old.report)) }
+        ensures slots { self.new.world.slots ≡ self.old.world.slots }
+        ensures goes_on { (w : RunWorld) → Reports self.old w → IfOk result (λ outcome. GoesOn w act outcome self.old self.new) }
+        ensures faults { IfOk result (FaultsAt (node_named (length self.old.world.nodes) self.old.world.net.sent act) self.old.world self.new.world) }
+        ensures disk { IfOk result (Operates act self.old.world self.new.world) }
+        ensures memory { (w : RunWorld) → Reports self.old w → OnErr result (Reports self.new w) }
+        ensures untouched { OnErr result (IsUntouched self.old.world self.new.world × (self.new.report ≡ self.old.report)) }
     {
         advance(
             self.alloc,
-            &mut self.simulation,
+            &mut self.world,
             &mut self.report,
             &mut self.counts,
             act,
@@ -93,8 +93,8 @@ impl Cluster {
 
     /// All of these acts, one after another.
     fn step_all(&mut self, acts: Vec<Act>) -> Result<(), AllocError>
-        ensures slots { self.new.machine.slots ≡ self.old.machine.slots }
-        ensures run { (nodes : ℕ) (w : World) → length w.states ≡ nodes → Tells self.old w → OnOk result (HasRun nodes (acts_in self.old.report ++ acts.items) self.new) }
+        ensures slots { self.new.world.slots ≡ self.old.world.slots }
+        ensures run { (nodes : ℕ) (w : RunWorld) → length w.states ≡ nodes → Reports self.old w → OnOk result (HasRun nodes (acts_in self.old.report ++ acts.items) self.new) }
     {
         for act in acts {
             if self.step(act).is_err() {
@@ -106,78 +106,74 @@ impl Cluster {
 
     /// The report, and the network with all that was ever sent.
     fn into_parts(self) -> (Report, Net)
-        ensures report { report_in result.0 self.machine.net.sent ≡ self.report }
-        ensures net { result.1.network ≡ self.machine.net }
+        ensures report { report_in result.0 self.world.net.sent ≡ self.report }
+        ensures net { result.1.network ≡ self.world.net }
     {
-        let Cluster {
-            simulation,
-            report,
-            ..
-        } = self;
-        (report, simulation.into_net())
+        let Cluster { world, report, .. } = self;
+        (report, world.into_net())
     }
 
     /// What came of all acts so far, from the opening on.
     pub fn report(&self) -> &Report
-        ensures told { report_in result.now self.now.machine.net.sent ≡ self.now.report }
+        ensures report { report_in result.now self.now.world.net.sent ≡ self.now.report }
         // The nodes and the network are what the run left of which it is the report.
-        ensures run { HasRun (length self.now.machine.nodes) (acts_in self.now.report) self.now }
-        ensures keeps { Headline (length self.now.machine.nodes) self.now.machine.slots (acts_in self.now.report) self.now.report }
+        ensures run { HasRun (length self.now.world.nodes) (acts_in self.now.report) self.now }
+        ensures keeps { Headline (length self.now.world.nodes) self.now.world.slots (acts_in self.now.report) self.now.report }
     {
         &self.report
     }
 
     /// The node of this id.
     pub fn node(&self, id: NodeId) -> &DurableNode<MemDisk>
-        requires { id < length self.now.machine.nodes }
-        ensures { slice_get self.now.machine.nodes id ≡ Some result.now }
+        requires { id < length self.now.world.nodes }
+        ensures { slice_get self.now.world.nodes id ≡ Some result.now }
     {
-        self.simulation.node(id)
+        self.world.node(id)
     }
 
     /// The network, with all that was ever sent.
     pub fn net(&self) -> &Net
-        ensures { result.now.network ≡ self.now.machine.net }
+        ensures { result.now.network ≡ self.now.world.net }
     {
-        self.simulation.net()
+        self.world.net()
     }
 
     /// How many nodes there are.
     pub fn count(&self) -> u8
-        ensures value { result ≡ length self.now.machine.nodes }
+        ensures value { result ≡ length self.now.world.nodes }
         ensures most { result ≤ NODES }
     {
-        self.simulation.count()
+        self.world.count()
     }
 }
 
 /// One act, over the parts of a cluster.
 fn advance(
     alloc: Global,
-    simulation: &mut Simulation,
+    world: &mut World,
     report: &mut Report,
     counts: &mut Vec<u64>,
     act: Act,
 ) -> Result<Outcome, AllocError>
-    requires recorded { IsRecorded (recorded simulation.old report.old) counts.old.items }
-    ensures recorded { IsRecorded (recorded simulation.new report.new) counts.new.items }
-    ensures slots { simulation.new.slots ≡ simulation.old.slots }
-    ensures goes_on { (w : World) → Tells (recorded simulation.old report.old) w
-        → IfOk result (λ outcome. GoesOn w act outcome (recorded simulation.old report.old) (recorded simulation.new report.new)) }
-    ensures faults { IfOk result (FaultsAt (node_named (length simulation.old.nodes) simulation.old.net.sent act) simulation.old simulation.new) }
-    ensures disk { IfOk result (Operates act simulation.old simulation.new) }
-    ensures memory { (w : World) → Tells (recorded simulation.old report.old) w → OnErr result (Tells (recorded simulation.new report.new) w) }
-    ensures untouched { OnErr result (IsUntouched simulation.old simulation.new × ((recorded simulation.new report.new).report ≡ (recorded simulation.old report.old).report)) }
+    requires cluster { IsCluster (cluster_with world.old report.old) counts.old.items }
+    ensures cluster { IsCluster (cluster_with world.new report.new) counts.new.items }
+    ensures slots { world.new.slots ≡ world.old.slots }
+    ensures goes_on { (w : RunWorld) → Reports (cluster_with world.old report.old) w
+        → IfOk result (λ outcome. GoesOn w act outcome (cluster_with world.old report.old) (cluster_with world.new report.new)) }
+    ensures faults { IfOk result (FaultsAt (node_named (length world.old.nodes) world.old.net.sent act) world.old world.new) }
+    ensures disk { IfOk result (Operates act world.old world.new) }
+    ensures memory { (w : RunWorld) → Reports (cluster_with world.old report.old) w → OnErr result (Reports (cluster_with world.new report.new) w) }
+    ensures untouched { OnErr result (IsUntouched world.old world.new × ((cluster_with world.new report.new).report ≡ (cluster_with world.old report.old).report)) }
 {
-    let id = node_named(simulation.count(), simulation.net(), &act);
-    let room = report.reserve(alloc, simulation.node(id), simulation.slots())?;
-    let deed = simulation.perform(&act)?;
+    let id = node_named(world.count(), world.net(), &act);
+    let room = report.reserve(alloc, world.node(id), world.slots())?;
+    let deed = world.perform(&act)?;
     let place = usize::from(id.number());
     let before = counts[place];
     if deed.tried.is_some() {
         counts[place] = before + 1;
     }
-    report.add(simulation.node(id), id, before, act, deed, room);
+    report.add(world.node(id), id, before, act, deed, room);
     Ok(deed.outcome)
 }
 

@@ -2,7 +2,7 @@
 use histories::Attempt;
 use runs::Outcome;
 
-/// What came of an act, and what its node tells of its disk.
+/// What came of an act, and what its node says of its disk.
 #[derive(Clone, Copy)]
 pub(crate) struct Deed {
     pub outcome: Outcome,

@@ -11,9 +11,9 @@ mod naming;
 mod nodes;
 mod recording;
 mod report;
-mod simulation;
+mod world;
 
 pub use cluster::{Cluster, run};
 pub use report::{Moment, Mounted, Report};
 pub use runs::{Outcome, Refusal, TriedAt};
-pub use simulation::Simulation;
+pub use world::World;

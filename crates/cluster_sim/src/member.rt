@@ -9,12 +9,12 @@ ghost use Rattle.histories.specs.What.{IsOf};
 ghost use Rattle.histories.specs.Fates.{what_of};
 ghost use Rattle.histories.specs.declared.what.What.TheVariants.{Rests, Crashed};
 ghost use Rattle.histories.specs.declared.what.Rest.TheVariants.{Nothing};
-ghost use Rattle.cluster_sim.specs.Machine.{IsOfSize, IsSame, IsCounted, IsUntouchedNode, Comes, IsSettled, bare, is_mounting};
+ghost use Rattle.cluster_sim.specs.World.{IsOfSize, IsSame, IsCounted, IsUntouchedNode, Comes, MayHaveForgotten, bare, is_mounting};
 ghost use Rattle.cluster_sim.specs.Operated.{IsCompacted, IsLeftWith, OperatedAs, OperatesNode, operated_at};
 ghost use Rattle.schedule.specs.declared.act.Act.{Act as AnyAct};
 ghost use Rattle.schedule.specs.declared.act.Act.TheVariants as acts;
 ghost use Rattle.runs.specs.Acts.{IsCompaction};
-ghost use Rattle.cluster_sim.specs.Told.{came_told, compaction_told};
+ghost use Rattle.cluster_sim.specs.Outcomes.{came_outcome, compaction_outcome};
 
 use crate::deed::Deed;
 use durable_node::{Came, DurableNode, NodeFault};
@@ -63,7 +63,7 @@ pub(crate) fn handle(
 
 /// Lets a node's disk forget the moments before, where the event may have written on it: no other event adds to them.
 fn forget_written(node: &mut DurableNode<MemDisk>, came: &Came)
-    ensures { IsSettled node.old node.new }
+    ensures { MayHaveForgotten node.old node.new }
 {
     if came.tried.is_some() || matches!(came.fate, Fate::MountFailed) {
         node.forget();
@@ -80,9 +80,9 @@ fn is_mounting(fate: Fate) -> bool
     )
 }
 
-/// What is told of what came of an event, where the first message that it sends has this number.
+/// The outcome of what came of an event, where the first message that it sends has this number.
 fn outcome_of(came: &Came, first: u64) -> Outcome
-    ensures { result ≡ came_told came.now.fate first came.now }
+    ensures { result ≡ came_outcome came.now.fate first came.now }
 {
     match came.fate {
         Fate::Done | Fate::Recovered(_) => Outcome::Done {
@@ -157,12 +157,12 @@ fn compact(node: &mut DurableNode<MemDisk>, net: &Net) -> Outcome
     ensures compacted { IsCompacted node.old node.new result }
 {
     let answer = node.compact();
-    compaction_told(net, answer)
+    compaction_outcome(net, answer)
 }
 
-/// What is told of a compaction.
-fn compaction_told(net: &Net, answer: Result<(), NodeFault>) -> Outcome
-    ensures { result ≡ compaction_told (length net.now.network.sent) answer }
+/// The outcome of a compaction.
+fn compaction_outcome(net: &Net, answer: Result<(), NodeFault>) -> Outcome
+    ensures { result ≡ compaction_outcome (length net.now.network.sent) answer }
 {
     match answer {
         Ok(()) => nothing_sent(net),
@@ -172,7 +172,7 @@ fn compaction_told(net: &Net, answer: Result<(), NodeFault>) -> Outcome
     }
 }
 
-/// What is told of an act that is done and sends nothing.
+/// The outcome of an act that is done and sends nothing.
 pub(crate) fn nothing_sent(net: &Net) -> Outcome
     ensures { result ≡ Outcome.Done None (length net.now.network.sent) 0 }
 {

@@ -1,8 +1,8 @@
-// The node that an act is told of, and how much it may take in hand.
+// The node that an act is reported of, and how much it may take in hand.
 ghost use Rattle.std.specs.Prelude.{◌≡◌, ◌<◌, ◌≤◌, ◌+◌, IfOk, length};
 ghost use Rattle.node_core.specs.State.{is_down};
 ghost use Rattle.cluster_sim.specs.Names.{node_named, node_or_first};
-ghost use Rattle.cluster_sim.specs.Recorded.{pending_room};
+ghost use Rattle.cluster_sim.specs.Cluster.{pending_room};
 
 use durable_node::DurableNode;
 use group_task::NodeId;
@@ -30,7 +30,7 @@ pub(crate) fn hand_room(node: &DurableNode<MemDisk>, slots: u64) -> Result<usize
     room.ok_or(AllocError)
 }
 
-/// The node that an act is told of.
+/// The node that an act is reported of.
 pub(crate) fn node_named(nodes: u8, net: &Net, act: &Act) -> NodeId
     requires { 1 ≤ nodes }
     ensures named { result ≡ node_named nodes net.now.network.sent act.now }

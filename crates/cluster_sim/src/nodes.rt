@@ -6,7 +6,7 @@ ghost use Rattle.schedule.specs.declared.act.Act.{Act as AnyAct};
 ghost use Rattle.schedule.specs.declared.act.Act.TheVariants as acts;
 ghost use Rattle.runs.specs.Acts.{At};
 ghost use Rattle.runs.specs.Events.{event_at};
-ghost use Rattle.cluster_sim.specs.Machine.{AreOpened, IsUntouched, StandsFor, Makes, Performed, FaultsAt, bare};
+ghost use Rattle.cluster_sim.specs.World.{AreOpened, IsUntouched, StandsFor, Makes, Performed, FaultsAt, bare};
 ghost use Rattle.cluster_sim.specs.Operated.{Operates, operated_at};
 ghost use Rattle.cluster_sim.specs.Names.{node_named, node_or_first};
 ghost use Rattle.runs.specs.Run.{IsBrought};
@@ -33,13 +33,13 @@ pub(crate) struct Nodes {
 }
 
 impl Model for Nodes {
-    ghost use Rattle.cluster_sim.specs.Machine.{Machine, IsCluster};
+    ghost use Rattle.cluster_sim.specs.World.{WorldView, IsWorld};
 
-    ghost Value = { Machine };
+    ghost Value = { WorldView };
 
     ghost view = { λ a. record { slots = a.slots; nodes = a.nodes.items; net = a.net.network } };
 
-    ghost invariant = { λ a. IsCluster a.slots a.nodes.items };
+    ghost invariant = { λ a. IsWorld a.slots a.nodes.items };
 }
 
 impl Nodes {

@@ -4,15 +4,15 @@ ghost use Rattle.job_model.specs.Durable.{Durable};
 ghost use Rattle.wire_msg.specs.Envelope.{Envelope};
 ghost use Rattle.histories.specs.Fates.{command_with};
 ghost use Rattle.node_core.specs.State.{is_down, state_of};
-ghost use Rattle.cluster_sim.specs.Machine.{StandsFor};
+ghost use Rattle.cluster_sim.specs.World.{StandsFor};
 ghost use Rattle.runs.specs.Reporting.{report_of};
 ghost use Rattle.runs.specs.World.{start};
-ghost use Rattle.cluster_sim.specs.Recorded.{report_in, mounted_of, HasRoom, command_in, listed, with_deed, with_opening, given_in, mounted_at, pending_room, tried_as, tried_at, work_in};
+ghost use Rattle.cluster_sim.specs.Cluster.{report_in, mounted_of, HasRoom, command_in, listed, with_deed, with_opening, given_in, mounting_at, pending_room, tried_as, tried_at, work_in};
 
 use crate::deed::Deed;
 use crate::naming::hand_room;
 use crate::report::{Moment, Mounted, Report};
-use crate::simulation::Simulation;
+use crate::world::World;
 use durable_node::DurableNode;
 use group_task::{GroupNo, NodeId};
 use histories::{Attempt, Command, Tried};
@@ -23,7 +23,7 @@ use schedule::Act;
 use sector_disk::MemDisk;
 use std::alloc::{AllocError, Global};
 
-/// Room for what is told of one act.
+/// Room for what is reported of one act.
 #[derive(Drop)]
 pub(crate) struct Room {
     pub vector: Vector,
@@ -51,7 +51,7 @@ impl Report {
         node: &DurableNode<MemDisk>,
         slots: u64,
     ) -> Result<Room, AllocError>
-        ensures told { (sent : List Envelope) → report_in self.new sent ≡ report_in self.old sent }
+        ensures same { (sent : List Envelope) → report_in self.new sent ≡ report_in self.old sent }
         ensures room { OnOk result (HasRoom self.new) }
         ensures hand { IfOk result (λ room. length node.now.state.hand + pending_room slots (is_down node.now.state.phase) node.now.kept + 1 ≤ room.vector.hand.room) }
         ensures jobs { IfOk result (λ room. is_down node.now.state.phase ≡ true → slots ≤ vec_capacity room.pending) }
@@ -75,7 +75,7 @@ impl Report {
         })
     }
 
-    /// Adds what is told of one act that was done, in the room that was made for it: its node had tried so many commands
+    /// Adds what is reported of one act that was done, in the room that was made for it: its node had tried so many commands
     /// before.
     pub(crate) fn add(
         &mut self,
@@ -89,7 +89,7 @@ impl Report {
         requires room { HasRoom self.old }
         requires hand { length node.now.state.hand ≤ room.vector.hand.room }
         requires empty { room.pending.items ≡ [] }
-        requires jobs { (found : Durable) → deed.mounted ≡ true → node.now.found ≡ Some found → length found.pending ≤ vec_capacity room.pending }
+        requires jobs { (mounted : Durable) → deed.mounted ≡ true → node.now.mounted ≡ Some mounted → length mounted.pending ≤ vec_capacity room.pending }
         requires count { (count : ℕ) → deed.tried ≡ Some Attempt.Raise → deed.acked ≡ Some count → 1 ≤ count }
         ensures { (sent : List Envelope) → report_in self.new sent ≡ with_deed sent id before act deed node.now (report_in self.old sent) }
     {
@@ -219,8 +219,8 @@ pub(crate) fn mounted_by(
     mut pending: Vec<Job>,
 ) -> Option<Mounted>
     requires empty { pending.items ≡ [] }
-    requires room { (found : Durable) → node.now.found ≡ Some found → length found.pending ≤ vec_capacity pending }
-    ensures { option_map mounted_of result ≡ mounted_at id before node.now.found }
+    requires room { (mounted : Durable) → node.now.mounted ≡ Some mounted → length mounted.pending ≤ vec_capacity pending }
+    ensures { option_map mounted_of result ≡ mounting_at id before node.now.mounted }
 {
     let (count, table) = node.mounted()?;
     copy_jobs(&mut pending, table.pending());
@@ -246,13 +246,13 @@ fn copy_jobs(jobs: &mut Vec<Job>, more: &[Job])
 }
 
 /// The report of a cluster that just opened.
-pub(crate) fn opened(alloc: Global, simulation: &Simulation) -> Result<Report, AllocError>
-    ensures { (nodes : ℕ) → StandsFor simulation.now (start nodes) → IfOk result (λ report. (sent : List Envelope) → report_in report sent ≡ report_of nodes [] []) }
+pub(crate) fn opened(alloc: Global, world: &World) -> Result<Report, AllocError>
+    ensures { (nodes : ℕ) → StandsFor world.now (start nodes) → IfOk result (λ report. (sent : List Envelope) → report_in report sent ≡ report_of nodes [] []) }
 {
     let mut report = Report::new(alloc);
-    for number in 0..simulation.count() {
+    for number in 0..world.count() {
         let id = NodeId::numbered(number);
-        report.add_opening(alloc, id, simulation.node(id).vector())?;
+        report.add_opening(alloc, id, world.node(id).vector())?;
     }
     Ok(report)
 }

@@ -1,4 +1,4 @@
-// What is told of a run of a cluster.
+// The report of a run of a cluster.
 use group_task::{GroupNo, NodeId};
 use job_model::Job;
 use node_core::Vector;
@@ -27,13 +27,13 @@ pub struct Moment {
     /// The node that the act names, or the receiver of the message; node 0 where that is no node of the cluster, and for an act of the
     /// network alone.
     pub node: NodeId,
-    /// The messages that were sent have the numbers that are told here, in the network's list.
+    /// The messages that were sent have the numbers that stand here, in the network's list.
     pub outcome: Outcome,
     /// What that node knows after the act.
     pub vector: Vector,
 }
 
-/// What a node found when it mounted its disk.
+/// What a node mounted.
 #[derive(Drop)]
 pub struct Mounted {
     pub node: NodeId,

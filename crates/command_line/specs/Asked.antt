@@ -38,7 +38,7 @@ made making = record { place = placed making.place; slots = making.slots; first 
 abbrev pub asked_batch : Batch → Asked
 asked_batch (Answer place) = answers (placed place)
 asked_batch Show = shows
-asked_batch (Sim telling) = simulates telling.names telling.nodes
+asked_batch (Sim details) = simulates details.names details.nodes
 asked_batch (Store path) = stores (string_bytes path)
 asked_batch Trace = traces
 asked_batch Record = records

@@ -4,12 +4,12 @@ use Rattle.console_text.specs.Ends.{IsFixed, IsWhy, Outcome}
 use Rattle.console_text.specs.declared.ends.Ending.{Ending}
 use Rattle.invite_console.specs.Answer.{answer_text}
 use Rattle.invite_console.specs.Show.{show_text}
-use Rattle.invite_console.specs.Sim.{IsSimulation}
+use Rattle.invite_console.specs.Sim.{IsSimOutcome}
 use Rattle.invite_console.specs.Reasons.{answer_flaw, schedule_flaw, show_flaw}
 use Rattle.store_console.specs.Session.{IsSession}
 use Rattle.store_console.specs.Reasons.{session_flaw}
 use Rattle.trace_console.specs.Judged.{IsJudged}
-use Rattle.invite_console.specs.Recorded.{IsRecording}
+use Rattle.invite_console.specs.Recording.{IsRecording}
 use Rattle.threads_console.specs.Printed.{IsThreading}
 use Rattle.threads_console.specs.Reasons.{plans_flaw}
 use Rattle.trace_draw.specs.Drawn.{IsDrawn}
@@ -20,7 +20,7 @@ use Rattle.command_line.specs.declared.task.Batch.TheVariants.{Answer, Show, Sim
 abbrev pub IsOutcomeOf : Batch → List ℕ → Outcome → Type 0
 IsOutcomeOf (Answer place) = IsFixed (answer_text place.id place.nodes)
 IsOutcomeOf Show = IsFixed show_text
-IsOutcomeOf (Sim telling) = IsSimulation telling
+IsOutcomeOf (Sim details) = IsSimOutcome details
 IsOutcomeOf (Store path) = IsSession
 IsOutcomeOf Trace = IsJudged
 IsOutcomeOf Record = IsRecording
@@ -31,7 +31,7 @@ IsOutcomeOf Draw = IsDrawn
 abbrev pub IsWhyOf : Batch → Option (List ℕ) → Ending → List ℕ → Type 0
 IsWhyOf (Answer place) = IsWhy (answer_flaw place.id place.nodes)
 IsWhyOf Show = IsWhy show_flaw
-IsWhyOf (Sim telling) = IsWhy schedule_flaw
+IsWhyOf (Sim details) = IsWhy schedule_flaw
 IsWhyOf (Store path) = IsWhy session_flaw
 IsWhyOf Trace = λ input ending why. why ≡ []
 IsWhyOf Record = IsWhy schedule_flaw

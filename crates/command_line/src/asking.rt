@@ -6,7 +6,7 @@ ghost use Rattle.command_line.specs.Asked.{answers, asked, asked_by, format_of, 
 use crate::task::{Batch, Making, Place, Task};
 use clap::ArgMatches;
 use group_task::{NODES, NodeId};
-use invite_console::Telling;
+use invite_console::Details;
 use line_words::number;
 use node_console::{LEAST_SLOTS, MOST_SLOTS};
 use std::alloc::{AllocError, Global};
@@ -20,7 +20,7 @@ pub fn task(alloc: Global, name: &str, words: &ArgMatches<'_>) -> Result<Option<
     } else if is(name, "show") {
         Ok(Some(Task::Batch(Batch::Show)))
     } else if is(name, "sim") {
-        Ok(Some(Task::Batch(Batch::Sim(telling(words)))))
+        Ok(Some(Task::Batch(Batch::Sim(sim_details(words)))))
     } else if is(name, "store") {
         store(alloc, words)
     } else if is(name, "trace") {
@@ -46,11 +46,11 @@ fn answer(words: &ArgMatches<'_>) -> Option<Task>
     Some(Task::Batch(Batch::Answer(place(words)?)))
 }
 
-fn telling(words: &ArgMatches<'_>) -> Telling
+fn sim_details(words: &ArgMatches<'_>) -> Details
     ensures names { result.names ≡ is_set (first_value (found_of words.now) (codes "names")) }
     ensures nodes { result.nodes ≡ is_set (first_value (found_of words.now) (codes "nodes")) }
 {
-    Telling {
+    Details {
         names: is_set(words, "names"),
         nodes: is_set(words, "nodes"),
     }
@@ -103,7 +103,7 @@ fn making(words: &ArgMatches<'_>) -> Option<Making>
     })
 }
 
-/// The node that SELF and NODES tell.
+/// The node that SELF and NODES name.
 fn place(words: &ArgMatches<'_>) -> Option<Place>
     ensures { option_map placed result ≡ place_of (λ id. first_value (found_of words.now) id) }
 {

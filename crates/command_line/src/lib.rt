@@ -37,7 +37,7 @@ pub fn run<T: Threads + Wait + Sync>(rt: &HostRuntime, threads: &T) -> ExitCode 
     }
 }
 
-/// Want of memory is told as the commands tell it, and any other error on standard error.
+/// Want of memory is printed as the commands print it, and any other error on standard error.
 fn failed(rt: &HostRuntime, error: &io::Error) -> ExitCode {
     if error.kind() == ErrorKind::OutOfMemory {
         let _ = rt.println("no memory");
@@ -113,7 +113,7 @@ fn node(rt: &HostRuntime, path: &str, place: Place) -> io::Result<u8> {
         explain(rt, Reason::Unwritten(output.fault()))?;
         return Ok(status.code());
     }
-    tell(rt, status)
+    explain_status(rt, status)
 }
 
 /// Makes the file of a node, and answers the exit status.
@@ -127,11 +127,11 @@ fn format(rt: &HostRuntime, path: &str, making: &Making) -> io::Result<u8> {
         place.nodes,
         making.first,
     );
-    tell(rt, status)
+    explain_status(rt, status)
 }
 
 /// Where a command of a node didn't end well, says why on standard error. Answers the exit status.
-fn tell(rt: &HostRuntime, status: Status) -> io::Result<u8> {
+fn explain_status(rt: &HostRuntime, status: Status) -> io::Result<u8> {
     if status != Status::Done {
         rt.eprint("invite: ")?;
         rt.eprint(status.word())?;

@@ -54,7 +54,7 @@ fn carry_out<T: Threads + Wait + Sync, R: Read, W: Write>(
             invite_console::answer(alloc, place.id, place.nodes, input, output)
         }
         Batch::Show => invite_console::show(alloc, input, output),
-        Batch::Sim(telling) => invite_console::sim(alloc, *telling, input, output),
+        Batch::Sim(details) => invite_console::sim(alloc, *details, input, output),
         Batch::Store(path) => store_console::store(rt, alloc, path.as_str(), input, output),
         Batch::Trace => Ended {
             ending: trace_console::trace(alloc, input, output),

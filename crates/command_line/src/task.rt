@@ -4,7 +4,7 @@ ghost use Rattle.group_task.specs.declared.node.TheConstants.{NODES};
 ghost use Rattle.node_console.specs.declared.making.TheConstants.{LEAST_SLOTS, MOST_SLOTS};
 
 use group_task::NodeId;
-use invite_console::Telling;
+use invite_console::Details;
 
 /// What the command line asks for.
 #[derive(Drop)]
@@ -22,7 +22,7 @@ pub enum Task {
 pub enum Batch {
     Answer(Place),
     Show,
-    Sim(Telling),
+    Sim(Details),
     /// Over the file of this path.
     Store(String),
     Trace,

@@ -6,7 +6,7 @@ use Rattle.console_text.specs.declared.ends.Ending.TheVariants.{Done, Refused, N
 use Rattle.console_text.specs.declared.ends.Trouble.{Trouble}
 use Rattle.console_text.specs.declared.ends.Trouble.TheVariants as trouble
 use Rattle.console_text.specs.declared.ends.Printout.{Printout}
-use Rattle.console_text.specs.declared.ends.Told.{Told}
+use Rattle.console_text.specs.declared.ends.Explained.{Explained}
 
 -- a text, ended as a line
 abbrev pub line : List ℕ → List ℕ
@@ -51,17 +51,17 @@ PrintsIt (Ok printout) old new ending = PrintsText printout.text.items old new (
 PrintsIt (Err trouble.NoMemory) old new ending = PrintsText (line (codes "no memory")) old new NoMemory ending
 PrintsIt (Err trouble.Unread) old new ending = (ending ≡ Unread) × Keeps old new
 
--- what is told is printed
-abbrev pub TellsIt : Result Told Trouble → Option (List ℕ) → Option (List ℕ) → Ending → Type 0
-TellsIt (Ok told) old new ending = PrintsIt (Ok told.printout) old new ending
-TellsIt (Err trouble) old new ending = PrintsIt (Err trouble) old new ending
+-- the printout is printed
+abbrev pub PrintsExplained : Result Explained Trouble → Option (List ℕ) → Option (List ℕ) → Ending → Type 0
+PrintsExplained (Ok explained) old new ending = PrintsIt (Ok explained.printout) old new ending
+PrintsExplained (Err trouble) old new ending = PrintsIt (Err trouble) old new ending
 
 -- what was wrong with the input is handed on
-abbrev pub HandsOn : Result Told Trouble → List ℕ → Type 0
-HandsOn (Ok told) why = why ≡ told.why.items
+abbrev pub HandsOn : Result Explained Trouble → List ℕ → Type 0
+HandsOn (Ok explained) why = why ≡ explained.why.items
 HandsOn (Err trouble) why = why ≡ []
 
--- this is what is wrong with the bytes that were read; where the reader tells its bytes, they are these
+-- this is what is wrong with the bytes that were read; where the reader says its bytes, they are these
 abbrev pub IsFlawOf : (List ℕ → List ℕ) → Option (List ℕ) → List ℕ → Type 0
 IsFlawOf flaw input why = (bytes : List ℕ) × IfSome input (λ known. known ≡ bytes) × (why ≡ flaw bytes)
 
@@ -77,7 +77,7 @@ IsWhy flaw input Unwritten why = Unit {0}
 abbrev pub IsFixed : (List ℕ → Outcome) → List ℕ → Outcome → Type 0
 IsFixed fixed bytes outcome = outcome ≡ fixed bytes
 
--- The text of an outcome for the bytes that were read, and nothing else, is written. Where the reader tells its bytes, they are these.
+-- The text of an outcome for the bytes that were read, and nothing else, is written. Where the reader says its bytes, they are these.
 abbrev pub Answered : (List ℕ → Outcome → Type 0) → Option (List ℕ) → Option (List ℕ) → Option (List ℕ) → Ending → Type 0
 Answered Is input old new ending =
     (bytes : List ℕ) × (outcome : Outcome) × IfSome input (λ known. known ≡ bytes) × Is bytes outcome × (ending ≡ ending_of outcome.good) × Appends old new outcome.text

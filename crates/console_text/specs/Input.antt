@@ -6,6 +6,6 @@ pub record Feed (Reader : Type 0) : Type 0 where
   pub reader : Reader
   pub left : ℕ
 
--- the bytes are all that a reader had left, where the reader tells that
+-- the bytes are all that a reader had left, where the reader says that
 abbrev pub HoldsAll : Option (List ℕ) → List ℕ → Type 0
 HoldsAll remaining bytes = IfSome remaining (λ known. known ≡ bytes)

@@ -7,7 +7,7 @@ use Rattle.hex.specs.Hex.{encode_lower}
 abbrev pub line_head : ℕ → List ℕ
 line_head number = codes "line " ++ decimal number ++ codes ": "
 
--- a byte as it may stand on a terminal: what isn't printed by itself is told in hex
+-- a byte as it may stand on a terminal: what isn't printed by itself stands in hex
 abbrev pub byte_shown : ℕ → List ℕ
 byte_shown b = if nat_lt 32 b && nat_lt b 127 then b ∷ [] else codes "\\x" ++ encode_lower (b ∷ [])
 

@@ -35,7 +35,7 @@ pub struct Printout {
 
 /// What a command prints for an input, and what is wrong with the input: a line without its line feed, empty where nothing is.
 #[derive(Debug, Drop)]
-pub struct Told {
+pub struct Explained {
     pub printout: Printout,
     pub why: Vec<u8>,
 }
@@ -52,11 +52,11 @@ impl Printout {
     ghost use Rattle.console_text.specs.Ends.{outcome_of};
 
     /// What is printed where nothing is wrong with the input.
-    pub fn without_why(self, alloc: Global) -> Told
+    pub fn without_why(self, alloc: Global) -> Explained
         ensures outcome { outcome_of result.printout ≡ outcome_of self }
         ensures why { result.why.items ≡ [] }
     {
-        Told {
+        Explained {
             printout: self,
             why: Vec::new(alloc),
         }

@@ -9,10 +9,10 @@ mod reasons;
 mod source;
 mod words;
 
-pub use ends::{Ended, Ending, Printout, Told, Trouble};
+pub use ends::{Ended, Ending, Explained, Printout, Trouble};
 pub use input::read_source;
 pub use pages::{Unprinted, new_page, print_full, print_page, print_part};
-pub use printing::{bad_line, print, tell};
+pub use printing::{bad_line, print, print_explained};
 pub use reasons::{line_reason, push_unknown};
 pub use source::{MAX_READS, Sink, Source};
 pub use words::{push_bytes_text, push_hex, push_number, push_text, push_work};

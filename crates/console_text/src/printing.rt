@@ -1,7 +1,7 @@
 ghost use Rattle.std.specs.Prelude.{◌≡◌, ◌++◌, IfOk, codes, decimal};
-ghost use Rattle.console_text.specs.Ends.{HandsOn, PrintsIt, TellsIt, outcome_of, refused};
+ghost use Rattle.console_text.specs.Ends.{HandsOn, PrintsIt, PrintsExplained, outcome_of, refused};
 
-use crate::ends::{Ended, Ending, Printout, Told, Trouble};
+use crate::ends::{Ended, Ending, Explained, Printout, Trouble};
 use crate::words::{push_number, push_text};
 use std::alloc::{AllocError, Global};
 use std::io::Write;
@@ -23,13 +23,17 @@ pub fn print<W: Write>(output: &mut W, outcome: Result<Printout, Trouble>) -> En
 }
 
 /// Prints what a command came to, as `print` does, and hands on what was wrong with the input.
-pub fn tell<W: Write>(alloc: Global, output: &mut W, outcome: Result<Told, Trouble>) -> Ended
-    ensures prints { TellsIt outcome (W.contents output.old) (W.contents output.new) result.ending }
+pub fn print_explained<W: Write>(
+    alloc: Global,
+    output: &mut W,
+    outcome: Result<Explained, Trouble>,
+) -> Ended
+    ensures prints { PrintsExplained outcome (W.contents output.old) (W.contents output.new) result.ending }
     ensures why { HandsOn outcome result.why.items }
 {
     match outcome {
-        Ok(told) => {
-            let Told { printout, why } = told;
+        Ok(explained) => {
+            let Explained { printout, why } = explained;
             Ended {
                 ending: print(output, Ok(printout)),
                 why,

@@ -20,7 +20,7 @@ pub fn line_reason(alloc: Global, number: u64) -> Result<Vec<u8>, AllocError>
     Ok(text)
 }
 
-/// Adds a word of an input, as it may stand on a terminal: a byte that isn't printed by itself is told in hex, and a long word is cut.
+/// Adds a word of an input, as it may stand on a terminal: a byte that isn't printed by itself stands in hex, and a long word is cut.
 #[tactic(auto, unfolding(crate::specs::Reasons::word_shown))]
 fn push_word(text: &mut Vec<u8>, word: &[u8]) -> Result<(), AllocError>
     ensures { OnOk result (text.new.items ≡ text.old.items ++ word_shown word.now) }

@@ -4,7 +4,7 @@ ghost use Rattle.std.specs.Prelude.{◌≢◌, ◌<◌, ◌≤◌};
 use crate::groups::members;
 use group_task::{GroupNo, Members, NodeId, Task, share};
 use job_model::{Command, JobTable, Payload, Queue, Work};
-use node_core::{CoreFault, Durable, Event, InHand, NodeCore, Phase, Standing, Timer};
+use node_core::{CoreFault, Event, InHand, NodeCore, Phase, Standing, Timer, Wanted};
 use std::alloc::Global;
 use std::process::Abort;
 use wire_msg::{Body, Message};
@@ -36,7 +36,7 @@ impl Node {
     }
 
     /// Expects that an event wants this command, which is answered so, and sends these messages.
-    fn step(&mut self, rt: &impl Abort, event: &Event, command: (Durable, u64), sends: &[Message])
+    fn step(&mut self, rt: &impl Abort, event: &Event, command: (Wanted, u64), sends: &[Message])
         requires { 1 ≤ command.1 }
     {
         let (wants, answer) = command;
@@ -56,12 +56,12 @@ impl Node {
 
     /// Expects that a timer wants no command and sends these messages.
     fn fire(&mut self, rt: &impl Abort, timer: Timer, sends: &[Message]) {
-        self.step(rt, &Event::Timer(timer), (Durable::None, 1), sends);
+        self.step(rt, &Event::Timer(timer), (Wanted::None, 1), sends);
     }
 
     /// Expects that a message wants no command and is answered with these.
     fn hear(&mut self, rt: &impl Abort, message: &Message, answers: &[Message]) {
-        self.step(rt, &Event::Deliver(*message), (Durable::None, 1), answers);
+        self.step(rt, &Event::Deliver(*message), (Wanted::None, 1), answers);
     }
 
     /// Expects that an event is refused so.
@@ -157,7 +157,7 @@ fn inviting(rt: &impl Abort, alloc: Global) -> Node {
     assert_eq!(rt; node.core.merge_wait(), Some(1));
     let invites = to_one(Body::Invitation(group(0, 2)));
     let merge = Event::Timer(Timer::Merge);
-    node.step(rt, &merge, (Durable::Raise, 2), &[invites]);
+    node.step(rt, &merge, (Wanted::Raise, 2), &[invites]);
     node
 }
 
@@ -174,7 +174,7 @@ fn reorganizing(rt: &impl Abort, alloc: Global) -> Node {
 #[test]
 fn ready_timer(rt: HostRuntime) {
     let mut node = reorganizing(&rt, rt.alloc());
-    node.step(&rt, &Event::Timer(Timer::Ready), (Durable::Raise, 9), &[]);
+    node.step(&rt, &Event::Timer(Timer::Ready), (Wanted::Raise, 9), &[]);
     node.expect(&rt, &leading(&rt, 9, &[0]), &[]);
     node.fire(&rt, Timer::Ready, &[]);
     node.expect(&rt, &leading(&rt, 9, &[0]), &[]);
@@ -236,9 +236,9 @@ fn recover_while_up_empties_the_hand(rt: HostRuntime) {
     let mut node = Node::new(&rt, rt.alloc(), 0);
     let job = job(&rt, 6, 5, 9);
     let submit = Event::Submit(job.work);
-    node.step(&rt, &submit, (Durable::Put(job.work), 6), &[]);
+    node.step(&rt, &submit, (Wanted::Put(job.work), 6), &[]);
     node.expect(&rt, &leading(&rt, 1, &[0]), &[job]);
-    node.step(&rt, &Event::Recover, (Durable::Raise, 9), &[]);
+    node.step(&rt, &Event::Recover, (Wanted::Raise, 9), &[]);
     node.expect(&rt, &leading(&rt, 9, &[0]), &[]);
 }
 
@@ -276,7 +276,7 @@ fn down_until_it_recovers(rt: HostRuntime) {
     node.refuse(&rt, &Event::Submit(job.work), CoreFault::Down);
     node.refuse(&rt, &Event::Finish(job.origin, 0), CoreFault::Down);
     node.expect(&rt, &down(), &[]);
-    node.step(&rt, &Event::Recover, (Durable::Raise, 2), &[]);
+    node.step(&rt, &Event::Recover, (Wanted::Raise, 2), &[]);
     node.expect(&rt, &leading(&rt, 2, &[0]), &[]);
 }
 
@@ -293,7 +293,7 @@ fn finish_of_an_unknown_job(rt: HostRuntime) {
     }
     node.expect(&rt, &leading(&rt, 1, &[0]), &[job]);
     let finish = Event::Finish(NodeId::numbered(0), 0);
-    node.step(&rt, &finish, (Durable::Done(0), 1), &[]);
+    node.step(&rt, &finish, (Wanted::Done(0), 1), &[]);
     node.refuse(&rt, &finish, CoreFault::UnknownJob);
     node.expect(&rt, &leading(&rt, 1, &[0]), &[]);
 }

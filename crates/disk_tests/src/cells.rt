@@ -69,7 +69,7 @@ fn seal_over(rt: &impl Abort, disk: &mut MemDisk, slot: u64, body: &Sector)
     slot_gate::store(disk, slot, false, body).expect(rt, "a sealed slot");
 }
 
-// What a raise answers that was stopped, what a mounting found then, and what the next raise answered.
+// What a raise answers that was stopped, what a mounting gave then, and what the next raise answered.
 type Stopped = (Result<u64, CellFault>, u64, u64);
 
 // Raises over this value in so many device calls at most, crashes, mounts and raises.
@@ -90,8 +90,8 @@ fn expect_stopped(
     fill: &[u8],
     want: Stopped,
 ) {
-    let found = stop(rt, alloc, before, calls, fill);
-    assert!(rt; found == want, "{calls} calls from {before}");
+    let actual = stop(rt, alloc, before, calls, fill);
+    assert!(rt; actual == want, "{calls} calls from {before}");
 }
 
 // From 0 a raise takes four device calls, over a slot that is sealed six. Its last two write and
@@ -145,13 +145,13 @@ fn unsealed_slot_stays(rt: HostRuntime) {
         (3, Err(CellFault::Device), &[0xa5][..]),
         (7, Ok(2), &[][..]),
     ] {
-        let found = mount_and_raise_within(&rt, &mut disk, calls);
-        assert!(rt; found == Ok((1, answer)), "{calls} calls");
+        let actual = mount_and_raise_within(&rt, &mut disk, calls);
+        assert!(rt; actual == Ok((1, answer)), "{calls} calls");
         disk.crash(fill);
     }
 }
 
-// Mounts in so many device calls at most: whether that was enough. It is found once the disk fails no more.
+// Mounts in so many device calls at most: whether that was enough. It is known once the disk fails no more.
 fn is_mounted_within(rt: &impl Abort, alloc: Global, value: u64, calls: u64) -> bool {
     let mut disk = raised(rt, alloc, value);
     disk.arm(calls);
@@ -179,7 +179,7 @@ fn mounting_fails_at_each_call(rt: HostRuntime) {
     }
 }
 
-// Whether a cell is formatted in so many device calls, or else the device is told to have failed.
+// Whether a cell is formatted in so many device calls, or else the device is said to have failed.
 fn is_formatted_within(rt: &impl Abort, alloc: Global, calls: u64) -> bool {
     let mut disk = raised(rt, alloc, 1);
     match format_within(rt, &mut disk, calls) {
@@ -207,12 +207,12 @@ fn body_as_written(rt: HostRuntime) {
     disk.arm(1);
     let mut expected = [0; 512];
     expected[7] = 2;
-    let mut found = [0xff; 512];
-    disk.read(4, &mut found).expect(&rt, "a sector");
-    assert_eq!(rt; found, expected);
+    let mut actual = [0xff; 512];
+    disk.read(4, &mut actual).expect(&rt, "a sector");
+    assert_eq!(rt; actual, expected);
 }
 
-// What a mounting tells of a cell whose slots have these bodies, where they are sealed.
+// What a mounting answers of a cell whose slots have these bodies, where they are sealed.
 fn value_of(
     rt: &impl Abort,
     alloc: Global,
@@ -230,10 +230,10 @@ fn value_of(
 }
 
 #[test]
-fn what_a_mounting_tells(rt: HostRuntime) {
+fn what_a_mounting_answers(rt: HostRuntime) {
     let damaged = body(9, 1, 0);
     let torn = body(9, 0, 1);
-    for (row, first, second, told) in [
+    for (row, first, second, want) in [
         (1, None, None, Err(CellFault::NotFormatted)),
         (2, Some(body(7, 0, 0)), None, Ok(7)),
         (3, None, Some(body(7, 0, 0)), Ok(7)),
@@ -256,8 +256,8 @@ fn what_a_mounting_tells(rt: HostRuntime) {
         (10, None, Some(torn), Err(CellFault::Damaged(6))),
         (11, Some(torn), Some(damaged), Err(CellFault::Damaged(4))),
     ] {
-        let found = value_of(&rt, rt.alloc(), &first, &second);
-        assert!(rt; found == told, "row {row}");
+        let actual = value_of(&rt, rt.alloc(), &first, &second);
+        assert!(rt; actual == want, "row {row}");
     }
 }
 

@@ -73,8 +73,8 @@ fn is_sealed_by(rt: &impl Abort, alloc: Global, first: u8, others: u8) -> bool {
     let mut gate = [others; 512];
     gate[0] = first;
     disk.write(3, &gate).expect(rt, "a gate");
-    let found = make(rt, &mut disk, Call::Look).expect(rt, "a slot");
-    found.is_some()
+    let content = make(rt, &mut disk, Call::Look).expect(rt, "a slot");
+    content.is_some()
 }
 
 // Only the first byte of a gate is looked at, and it is 0xA5 where the slot is sealed.
@@ -87,8 +87,8 @@ fn gates(rt: HostRuntime) {
         (0x5a, 0x00, false),
         (0xff, 0xff, false),
     ] {
-        let found = is_sealed_by(&rt, rt.alloc(), first, others);
-        assert!(rt; found == is_sealed, "a gate of {first} and {others}");
+        let actual = is_sealed_by(&rt, rt.alloc(), first, others);
+        assert!(rt; actual == is_sealed, "a gate of {first} and {others}");
     }
 }
 

@@ -64,8 +64,8 @@ fn keep(table: &mut JobTable, job: Job) -> Option<u64> {
 // Makes these calls, compares their answers, and expects then that these jobs are pending.
 fn run(rt: &impl Abort, table: &mut JobTable, rows: &[(Call, Option<u64>)], pending: &[Job]) {
     for (call, want) in rows {
-        let found = make(rt, table, *call);
-        assert!(rt; found == *want, "{call:?}");
+        let actual = make(rt, table, *call);
+        assert!(rt; actual == *want, "{call:?}");
     }
     assert!(rt; table.pending() == pending);
 }

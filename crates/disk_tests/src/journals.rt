@@ -60,10 +60,10 @@ fn check_sector(rt: &impl Abort, disk: &mut MemDisk, at: u64, bytes: &[u8])
     requires { at < 24 }
 {
     assert!(rt; disk.sectors() == 24);
-    let mut found = [0; 512];
+    let mut actual = [0; 512];
     disk.arm(u64::MAX);
-    disk.read(at, &mut found).expect(rt, "a sector");
-    assert!(rt; found == sector(bytes), "sector {at}");
+    disk.read(at, &mut actual).expect(rt, "a sector");
+    assert!(rt; actual == sector(bytes), "sector {at}");
 }
 
 // Mounts, and finds these jobs pending.
@@ -126,8 +126,8 @@ type Row = (Call, u64, Result<u64, JournalFault>);
 // Makes these calls, each after a mounting, and compares their answers.
 fn run(rt: &impl Abort, alloc: Global, disk: &mut MemDisk, rows: &[Row]) {
     for (call, calls, want) in rows {
-        let found = call_within(rt, alloc, disk, *call, *calls);
-        assert!(rt; found == *want, "{call:?}");
+        let actual = call_within(rt, alloc, disk, *call, *calls);
+        assert!(rt; actual == *want, "{call:?}");
     }
 }
 
@@ -138,8 +138,8 @@ fn check_mounted(
     disk: &mut MemDisk,
     want: Result<(u64, usize), JournalFault>,
 ) {
-    let found = mounted_within(rt, alloc, disk, u64::MAX);
-    assert!(rt; found == want);
+    let actual = mounted_within(rt, alloc, disk, u64::MAX);
+    assert!(rt; actual == want);
 }
 
 fn seal_greatest_area(rt: &impl Abort, disk: &mut MemDisk) {
@@ -175,9 +175,9 @@ fn append_stopped_at_each_call(rt: HostRuntime) {
     ] {
         for k in 0..=4 {
             let is_kept = k == 4 || (seals && k >= 2);
-            let found = stopped_append(&rt, rt.alloc(), k, fill);
+            let actual = stopped_append(&rt, rt.alloc(), k, fill);
             let want = (k == 4, u64::from(is_kept), usize::from(is_kept));
-            assert!(rt; found == want, "{k} calls");
+            assert!(rt; actual == want, "{k} calls");
         }
     }
 }
@@ -261,8 +261,8 @@ fn stops_in_a_compaction(rt: HostRuntime) {
     ] {
         for k in 0..=28 {
             let pending = if k == 28 || (seals && k >= 26) { 1 } else { 2 };
-            let found = stopped_compaction(&rt, rt.alloc(), k, fill);
-            assert!(rt; found == (k == 28, 3, pending), "{k} calls");
+            let actual = stopped_compaction(&rt, rt.alloc(), k, fill);
+            assert!(rt; actual == (k == 28, 3, pending), "{k} calls");
         }
     }
 }
@@ -385,7 +385,7 @@ fn second_area(rt: HostRuntime) {
     check_mounted(&rt, rt.alloc(), &mut disk, Ok((4, 1)));
 }
 
-// Whether an empty journal is mounted in so many device calls, or else the device is told to have failed.
+// Whether an empty journal is mounted in so many device calls, or else the device is said to have failed.
 fn is_mounted_within(rt: &impl Abort, alloc: Global, calls: u64) -> bool {
     let mut disk = formatted(rt, alloc);
     match mounted_within(rt, alloc, &mut disk, calls) {

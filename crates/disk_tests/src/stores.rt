@@ -86,8 +86,8 @@ type Row = (Call, Result<u64, StoreFault>);
 fn after(rt: &impl Abort, alloc: Global, sectors: u64, rows: &[Row]) -> NodeStore<MemDisk> {
     let mut store = opened(rt, alloc, sectors);
     for (call, want) in rows {
-        let found = make(rt, &mut store, *call);
-        assert!(rt; found == *want, "{call:?}");
+        let actual = make(rt, &mut store, *call);
+        assert!(rt; actual == *want, "{call:?}");
     }
     store
 }
@@ -175,8 +175,8 @@ fn format_stopped_at_each_call(rt: HostRuntime) {
             } else {
                 Err(StoreFault::NotFormatted)
             };
-            let found = stopped_on_a_new_disk(&rt, rt.alloc(), k, fill);
-            assert!(rt; found == (k == 25, want), "{k} calls");
+            let actual = stopped_on_a_new_disk(&rt, rt.alloc(), k, fill);
+            assert!(rt; actual == (k == 25, want), "{k} calls");
         }
     }
 }
@@ -198,7 +198,7 @@ fn stopped_on_a_used_disk(rt: &impl Abort, alloc: Global, calls: u64) -> (bool, 
     (answer.is_ok(), mounts_as(alloc, disk))
 }
 
-// What is found of a disk in use that was being formatted again, and stopped after so many calls.
+// What is mounted of a disk in use that was being formatted again, and stopped after so many calls.
 fn left_after(calls: u64) -> Mounting {
     match calls {
         0..=8 => Ok((2, 1, 1)),
@@ -215,8 +215,8 @@ fn left_after(calls: u64) -> Mounting {
 #[test]
 fn used_disk_formatted_again(rt: HostRuntime) {
     for k in 0..=25 {
-        let found = stopped_on_a_used_disk(&rt, rt.alloc(), k);
-        assert!(rt; found == (k == 25, left_after(k)), "{k} calls");
+        let actual = stopped_on_a_used_disk(&rt, rt.alloc(), k);
+        assert!(rt; actual == (k == 25, left_after(k)), "{k} calls");
     }
 }
 

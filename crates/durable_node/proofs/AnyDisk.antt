@@ -1,40 +1,40 @@
 -- How a recovery that mounts its disk ends over any disk, honest or not.
 use Rattle.std.proofs.Common.{inl, inr, ℕ, Bool, Option, Some, None, Err, ap, refl}
 use Rattle.job_model.specs.Durable.{Durable}
-use Rattle.node_core.specs.declared.durable.Durable.{Durable as Wanted}
+use Rattle.node_core.specs.declared.wanted.Wanted.{Wanted}
 use Rattle.node_core.specs.Core.{Core}
 use Rattle.node_store.specs.declared.fault.StoreFault.{StoreFault}
 use Rattle.node_store.specs.Store.{StoreState, durable_of}
-use Rattle.node_store.specs.Told.{IsMountFault, IsReadFault}
+use Rattle.node_store.specs.Mounting.{IsMountFault, IsReadFault}
 use Rattle.node_store.specs.declared.fault.StoreFault.TheVariants as by_store
 use Rattle.histories.specs.declared.fate.Fate.{Fate}
 use Rattle.histories.specs.declared.fate.Fate.TheVariants as fate
 use Rattle.durable_node.specs.declared.came.Came.{Came}
-use Rattle.durable_node.specs.Faults.{fault_for, fault_of, told_as}
+use Rattle.durable_node.specs.Faults.{fault_for, fault_of, answered_as}
 use Rattle.durable_node.specs.declared.node_disk.NodeDisk.{NodeDisk}
 use Rattle.durable_node.specs.declared.node_disk.NodeDisk.TheVariants.{Bare, Mounted}
 use Rattle.durable_node.specs.Node.{node_with}
 use Rattle.durable_node.specs.Remounting.{HasRisen, IsUnmounted, Remounted}
 
-read_told : (fault : StoreFault) → IsReadFault fault → IsUnmounted (fault_for fault)
-read_told by_store.Device is = tt
-read_told by_store.NotFormatted is = tt
-read_told (by_store.Damaged sector) is = tt
-read_told fault is = absurd is
+read_answered : (fault : StoreFault) → IsReadFault fault → IsUnmounted (fault_for fault)
+read_answered by_store.Device is = tt
+read_answered by_store.NotFormatted is = tt
+read_answered (by_store.Damaged sector) is = tt
+read_answered fault is = absurd is
 
-told_by : (fault : StoreFault) → IsMountFault fault → IsUnmounted (fault_for fault)
-told_by fault (inl small) = rw small tt
-told_by fault (inr (inl memory)) = rw memory refl
-told_by fault (inr (inr is)) = read_told fault is
+mount_answered : (fault : StoreFault) → IsMountFault fault → IsUnmounted (fault_for fault)
+mount_answered fault (inl small) = rw small tt
+mount_answered fault (inr (inl memory)) = rw memory refl
+mount_answered fault (inr (inr is)) = read_answered fault is
 
 pub unmounted_at : {Disk : Type 0} (id nodes : ℕ) (core : Core) (disk : NodeDisk Disk) (back : Disk) (doubt : Option (Wanted × ℕ)) (before : Option ℕ) (fault : StoreFault) → IsMountFault fault
     → Remounted (node_with id nodes core disk doubt before) (node_with id nodes core (Bare back) doubt None) (Err (fault_for fault)) None
-unmounted_at id nodes core disk back doubt before fault of_mount = (told_by fault of_mount, refl, refl)
+unmounted_at id nodes core disk back doubt before fault of_mount = (mount_answered fault of_mount, refl, refl)
 
 -- what a raise leaves, by what came of it
 module _ {Disk : Type 0} (id nodes : ℕ) (core core' : Core) (disk : NodeDisk Disk) (mid end : StoreState Disk) (doubt doubt' : Option (Wanted × ℕ)) (before : Option ℕ) (kept : Bool) (came : Came) where
   pub remounted_at : (w : Fate) → HasRisen id kept core core' mid end doubt doubt' came w
-      → Remounted (node_with id nodes core disk doubt before) (node_with id nodes core' (Mounted end) doubt' (Some (durable_of mid).counter)) (told_as came (fault_of w)) (Some (durable_of mid))
+      → Remounted (node_with id nodes core disk doubt before) (node_with id nodes core' (Mounted end) doubt' (Some (durable_of mid).counter)) (answered_as came (fault_of w)) (Some (durable_of mid))
   remounted_at (fate.Recovered k) is = (let risen = is.1 in (rw risen.state (ap (λ (d : Durable). Some d) risen.kept), risen.state, risen.doubt, risen.sent, risen.answer, risen.fits))
   remounted_at (fate.RaiseFailed k) is = (is.1.state, inl (refl, is.1.doubt, is.1.fits))
   remounted_at (fate.RaiseRefused k) is = (is.3.same_state, inr (refl, is.1, is.3.same_doubt))

@@ -3,7 +3,7 @@ use Rattle.std.proofs.Common.{◌≡◌, ◌⊎◌, inl, inr, ⊎_elim, ℕ, tru
 use Rattle.sector_disk.specs.Disk.{DiskState}
 use Rattle.sector_disk.specs.Run.{Each}
 use Rattle.job_model.specs.Durable.{Durable}
-use Rattle.node_core.specs.declared.durable.Durable.{Durable as Wanted}
+use Rattle.node_core.specs.declared.wanted.Wanted.{Wanted}
 use Rattle.node_core.specs.declared.fault.CoreFault.TheVariants.{Down}
 use Rattle.node_core.specs.Core.{Core}
 use Rattle.node_core.specs.declared.fault.Refusal.TheVariants.{Worn}

@@ -5,7 +5,7 @@ use Rattle.sector_disk.specs.Memory.{Memory, all_synced, state_of}
 use Rattle.sector_disk.proofs.PublicLaws.{only_image}
 use Rattle.job_model.specs.Durable.{Durable}
 use Rattle.job_journal.specs.Journal.{IsSound}
-use Rattle.node_core.specs.declared.durable.Durable.{Durable as Wanted}
+use Rattle.node_core.specs.declared.wanted.Wanted.{Wanted}
 use Rattle.node_core.specs.Core.{Core}
 use Rattle.node_core.specs.Start.{down}
 use Rattle.node_core.specs.State.{is_down}
@@ -17,7 +17,7 @@ use Rattle.durable_node.specs.Arming.{armed_disk, armed_in}
 use Rattle.durable_node.specs.Forgetting.{forgotten_disk, forgotten_in}
 use Rattle.durable_node.specs.declared.node_disk.NodeDisk.{NodeDisk}
 use Rattle.durable_node.specs.declared.node_disk.NodeDisk.TheVariants.{Bare, Mounted}
-use Rattle.durable_node.specs.Node.{IsLeft, Stands, Node, disk_in, kept_in, area_in, found_in, node_with}
+use Rattle.durable_node.specs.Node.{IsLeft, Stands, Node, disk_in, kept_in, area_in, mounted_in, node_with}
 use Rattle.durable_node.proofs.Parts.{at_some, stands_down}
 
 -- what a crash leaves has one image
@@ -35,44 +35,44 @@ settled_still id nodes false s = refl
 left_after : (id nodes : ℕ) (was now : Memory) (s : NodeState) → IsImage (state_of was) now.contents → now ≡ all_synced now.contents was.failures → IsLeft (state_of was) s → IsLeft (state_of now) (after id nodes s Crashed)
 left_after id nodes was now s left anew is = record {
   sectors = omega (arith, left.size, is.sectors);
-  images = λ honest image im. (let found = is.images refl now.contents left in
-      (found.0, found.1, rw (the_image now was.failures image anew im, left.size) (found.2 ∙ ap (λ (d : Durable). Some d) (settled_still id nodes found.0 s))));
+  images = λ honest image im. (let choice = is.images refl now.contents left in
+      (choice.0, choice.1, rw (the_image now was.failures image anew im, left.size) (choice.2 ∙ ap (λ (d : Durable). Some d) (settled_still id nodes choice.0 s))));
   sound = sound_left was now left anew is.sound;
 }
 
 -- a node that crashed
-pub crashes : (id nodes : ℕ) (core core' : Core) (disk : NodeDisk Memory) (was now : Memory) (doubt : Option (Wanted × ℕ)) (found : Option ℕ) (s : NodeState)
+pub crashes : (id nodes : ℕ) (core core' : Core) (disk : NodeDisk Memory) (was now : Memory) (doubt : Option (Wanted × ℕ)) (mounted : Option ℕ) (s : NodeState)
     → disk_in disk ≡ Some was → core'.state ≡ down id → IsImage (state_of was) now.contents → now ≡ all_synced now.contents was.failures
-    → Stands state_of (node_with id nodes core disk doubt found) s → Stands state_of (node_with id nodes core' (Bare now) doubt None) (after id nodes s Crashed)
-crashes id nodes core core' disk was now doubt found s there fallen left anew stands =
+    → Stands state_of (node_with id nodes core disk doubt mounted) s → Stands state_of (node_with id nodes core' (Bare now) doubt None) (after id nodes s Crashed)
+crashes id nodes core core' disk was now doubt mounted s there fallen left anew stands =
     stands_down state_of _ (after id nodes s Crashed) now id fallen refl (left_after id nodes was now s left anew (stands.disk was there)) fallen stands.doubt
 
 -- ---- an arming, and a forgetting
 
 -- a store shows the same over a disk that changed
-shown_still : (b : Bool) (found : Option ℕ) (st : StoreState Memory) (d : Memory)
-    → (kept_in b (Some (record st { disk = d })) ≡ kept_in b (Some st)) × (area_in b (Some (record st { disk = d })) ≡ area_in b (Some st)) × (found_in found (Some (record st { disk = d })) ≡ found_in found (Some st))
+shown_still : (b : Bool) (mounted : Option ℕ) (st : StoreState Memory) (d : Memory)
+    → (kept_in b (Some (record st { disk = d })) ≡ kept_in b (Some st)) × (area_in b (Some (record st { disk = d })) ≡ area_in b (Some st)) × (mounted_in mounted (Some (record st { disk = d })) ≡ mounted_in mounted (Some st))
 shown_still true None st d = (refl, refl, refl)
 shown_still true (Some count) st d = (refl, refl, refl)
 shown_still false None st d = (refl, refl, refl)
 shown_still false (Some count) st d = (refl, refl, refl)
 
-pub node_is_armed : (id nodes calls : ℕ) (core : Core) (disk : NodeDisk Memory) (doubt : Option (Wanted × ℕ)) (found : Option ℕ)
-    → node_with id nodes core (armed_in calls disk) doubt None ≡ record (node_with id nodes core disk doubt found) { disk = armed_disk calls (disk_in disk); found = None }
-node_is_armed id nodes calls core (Mounted st) doubt found = (let same = shown_still (is_down core.state.phase) None st (record st.disk { left = Some calls }) in rw (same.0, same.1))
-node_is_armed id nodes calls core disk doubt found = refl
+pub node_is_armed : (id nodes calls : ℕ) (core : Core) (disk : NodeDisk Memory) (doubt : Option (Wanted × ℕ)) (mounted : Option ℕ)
+    → node_with id nodes core (armed_in calls disk) doubt None ≡ record (node_with id nodes core disk doubt mounted) { disk = armed_disk calls (disk_in disk); mounted = None }
+node_is_armed id nodes calls core (Mounted st) doubt mounted = (let same = shown_still (is_down core.state.phase) None st (record st.disk { left = Some calls }) in rw (same.0, same.1))
+node_is_armed id nodes calls core disk doubt mounted = refl
 
-pub node_forgot : (id nodes : ℕ) (core : Core) (disk : NodeDisk Memory) (doubt : Option (Wanted × ℕ)) (found : Option ℕ)
-    → node_with id nodes core (forgotten_in disk) doubt found ≡ record (node_with id nodes core disk doubt found) { disk = forgotten_disk (disk_in disk) }
-node_forgot id nodes core (Mounted st) doubt found = (let same = shown_still (is_down core.state.phase) found st (record st.disk { spans = [] }) in rw (same.0, same.1, same.2))
+pub node_forgot : (id nodes : ℕ) (core : Core) (disk : NodeDisk Memory) (doubt : Option (Wanted × ℕ)) (mounted : Option ℕ)
+    → node_with id nodes core (forgotten_in disk) doubt mounted ≡ record (node_with id nodes core disk doubt mounted) { disk = forgotten_disk (disk_in disk) }
+node_forgot id nodes core (Mounted st) doubt mounted = (let same = shown_still (is_down core.state.phase) mounted st (record st.disk { spans = [] }) in rw (same.0, same.1, same.2))
 node_forgot id nodes core (Bare d) doubt None = refl
 node_forgot id nodes core (Bare d) doubt (Some count) = refl
-node_forgot id nodes core disk doubt found = refl
+node_forgot id nodes core disk doubt mounted = refl
 
 left_armed : (calls : ℕ) (disk : Option Memory) (s : NodeState) → ((d : Memory) → disk ≡ Some d → IsLeft (state_of d) s) → (d : Memory) → armed_disk calls disk ≡ Some d → IsLeft (state_of d) s
 left_armed calls None s left d e = absurd cc
 left_armed calls (Some was) s left d e = at_some (λ (m : Memory). IsLeft (state_of m) s) (record was { left = Some calls }) d e (left was refl)
 
 -- an armed node stands for what it stood for
-pub arms : (calls : ℕ) (old new : Node Memory) (s : NodeState) → new ≡ record old { disk = armed_disk calls old.disk; found = None } → Stands state_of old s → Stands state_of new s
+pub arms : (calls : ℕ) (old new : Node Memory) (s : NodeState) → new ≡ record old { disk = armed_disk calls old.disk; mounted = None } → Stands state_of old s → Stands state_of new s
 arms calls old new s is stands = rw is (assumption (left_armed calls old.disk s stands.disk, stands))

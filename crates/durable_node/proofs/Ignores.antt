@@ -3,7 +3,7 @@ use Rattle.std.proofs.Common.{◌≡◌, ◌≢◌, ◌≤◌, ℕ, arith, lengt
 use Rattle.sector_disk.specs.Disk.{DiskState}
 use Rattle.job_model.specs.declared.node_command.NodeCommand.{NodeCommand as Command}
 use Rattle.job_model.specs.Fold.{after_wanted}
-use Rattle.node_core.specs.declared.durable.Durable.{Durable as Wanted}
+use Rattle.node_core.specs.declared.wanted.Wanted.{Wanted}
 use Rattle.node_core.specs.declared.event.Event.{Event}
 use Rattle.node_core.specs.declared.event.Event.TheVariants.{Recover}
 use Rattle.node_core.specs.declared.fault.CoreFault.{CoreFault}
@@ -25,7 +25,7 @@ use Rattle.durable_node.specs.declared.came.Came.{Came}
 use Rattle.durable_node.specs.declared.node_disk.NodeDisk.{NodeDisk}
 use Rattle.durable_node.specs.Node.{node_with, Stands}
 use Rattle.durable_node.specs.Stepping.{Does, IsIgnored, Steps, Stuck}
-use Rattle.durable_node.specs.Faults.{fault_of, told, told_as}
+use Rattle.durable_node.specs.Faults.{fault_of, answered, answered_as}
 use Rattle.durable_node.specs.declared.fault.NodeFault.TheVariants as node
 use Rattle.durable_node.proofs.Parts.{does, not_up}
 
@@ -64,16 +64,16 @@ module _ {Disk : Type 0} (disks : Disk → DiskState) (id nodes : ℕ) (core cor
   ignored_stuck same (Ok came) is = tt
   ignored_stuck same (Err fault) is = rw is (refl, rw same)
 
--- ---- what a caller is told of it
+-- ---- what a caller is answered
 
-quiet_as : (why : Option CoreFault) (came : Came) (end : Fate) → IsIgnored why came end → (IsErrOf (told_as came (fault_of end)) node.Device → ⊥) × (came.sent.items ≡ [])
+quiet_as : (why : Option CoreFault) (came : Came) (end : Fate) → IsIgnored why came end → (IsErrOf (answered_as came (fault_of end)) node.Device → ⊥) × (came.sent.items ≡ [])
 quiet_as why came fate.Done is = (λ device. cc, is.1.0)
 quiet_as why came (fate.Refused (refusal.Core f)) is = (λ device. cc, is.1.0)
 quiet_as why came end is = absurd is
 
 -- no device was called
 pub no_device : (why : Option CoreFault) (result : Result Came NodeFault) → IfOk result (λ came. IsIgnored why came came.fate) → IfErr result (λ fault. fault ≡ node.Core NoMemory)
-    → IsErrOf (told result) node.Device → ⊥
+    → IsErrOf (answered result) node.Device → ⊥
 no_device why (Ok came) is stuck device = (quiet_as why came came.fate is).0 device
 no_device why (Err fault) is stuck device = cc
 

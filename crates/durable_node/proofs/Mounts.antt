@@ -6,7 +6,7 @@ use Rattle.safe_cell.specs.Cell.{cell_at}
 use Rattle.job_model.specs.declared.node_command.NodeCommand.{NodeCommand as Command}
 use Rattle.job_model.specs.Durable.{Durable}
 use Rattle.job_journal.specs.Journal.{jobs_by, jobs_in, IsSound, ImagesSince}
-use Rattle.job_journal.proofs.PublicLaws.{SameFrom, cell_same_from, found_same_from}
+use Rattle.job_journal.proofs.PublicLaws.{SameFrom, cell_same_from, replay_same_from}
 use Rattle.node_store.specs.Store.{StoreState, durable_by, durable_of, stands_for, slots_for, AllStandFor, Lasts, BeforeOrAfter as StoreBeforeOrAfter}
 use Rattle.node_store.proofs.PublicLaws.{sound_kept}
 use Rattle.histories.specs.NodeState.{NodeState, settled}
@@ -22,7 +22,7 @@ quiet_same at many d c same = record { same = λ k le lt. same.same k (λ no. no
 pub stands_same : (slots : ℕ) (d c : Image) → SameBut nothing d c → stands_for slots c ≡ stands_for slots d
 stands_same slots d c same =
     ap (λ (v : Option ℕ). durable_by v (jobs_in slots c)) (cell_same_from 0 d c (quiet_same 0 4 d c same))
-    ∙ ap (λ f. durable_by (cell_at d 0) (jobs_by f)) (found_same_from slots d c (quiet_same 4 (4 + 4 * slots) d c same))
+    ∙ ap (λ f. durable_by (cell_at d 0) (jobs_by f)) (replay_same_from slots d c (quiet_same 4 (4 + 4 * slots) d c same))
 
 -- a store that wasn't called
 pub unwritten : {Disk : Type 0} (disks : Disk → DiskState) (store : StoreState Disk) (wants : Option Command) (done : Type 0)
@@ -42,7 +42,7 @@ quiet_image : (old new : DiskState) (s : NodeState) → IsLeft old s → IsTrue 
     → (kept : Bool) × IsSettling kept s.doubt × (stands_for (slots_for old.sectors) image ≡ Some (settled kept s))
 quiet_image old new s left honest run image is =
     let from = run.follows image (run.ends image is) in
-    let found = left.images honest from.0 from.1 in (found.0, found.1, stands_same (slots_for old.sectors) from.0 image from.2 ∙ found.2)
+    let choice = left.images honest from.0 from.1 in (choice.0, choice.1, stands_same (slots_for old.sectors) from.0 image from.2 ∙ choice.2)
 
 pub left_quiet : (old new : DiskState) (s : NodeState) → new.sectors ≡ old.sectors → new.honest ≡ old.honest → (IsTrue old.honest → Run nothing old new) → IsLeft old s → IsLeft new s
 left_quiet old new s sectors same run left = record {
@@ -51,16 +51,16 @@ left_quiet old new s sectors same run left = record {
   sound = rw sectors (sound_kept (slots_for old.sectors) old new same run left.sound);
 }
 
--- a mounting finds what was kept, with the command in doubt or without it
+-- a mounting gives what was kept, with the command in doubt or without it
 pub settles : (old new : DiskState) (s : NodeState) (d : Durable) → IsTrue old.honest → Run nothing old new → IsLeft old s → AllStandFor (slots_for old.sectors) d new
     → (kept : Bool) × IsSettling kept s.doubt × (d ≡ settled kept s)
 settles old new s d honest run left all =
     let is : IsImage new new.contents = record { size = refl; same = λ at still. refl } in
-    let found = quiet_image old new s left honest run new.contents is in (found.0, found.1, is_some d (settled found.0 s) (sym (all new.contents is) ∙ found.2))
+    let choice = quiet_image old new s left honest run new.contents is in (choice.0, choice.1, is_some d (settled choice.0 s) (sym (all new.contents is) ∙ choice.2))
 
 -- with no doubt each image stands for what is kept
 pub stands_all : (disk : DiskState) (s : NodeState) → s.doubt ≡ None → IsLeft disk s → IsTrue disk.honest → AllStandFor (slots_for disk.sectors) s.durable disk
-stands_all disk s none left honest image is = (let found = left.images honest image is in of_choice found.0 found.1 found.2)
+stands_all disk s none left honest image is = (let choice = left.images honest image is in of_choice choice.0 choice.1 choice.2)
   where
     of_choice : (kept : Bool) → IsSettling kept s.doubt → stands_for (slots_for disk.sectors) image ≡ Some (settled kept s) → stands_for (slots_for disk.sectors) image ≡ Some s.durable
     of_choice true wanted h = (let some : IsSome s.doubt = wanted refl in absurd cc (none, some))

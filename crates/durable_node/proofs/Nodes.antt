@@ -2,7 +2,7 @@
 use Rattle.std.proofs.Common.{◌≡◌, ◌⊎◌, arith, inl, inr, ⊎_elim, ℕ, false, Bool, Option, Some, None, Result, Ok, Err, ◌∙◌, ap, refl, IsFalse, IfOk, IfErr, IsErrOf, IsSome}
 use Rattle.sector_disk.specs.Disk.{DiskState, Counts}
 use Rattle.job_journal.specs.Journal.{IsSound}
-use Rattle.node_core.specs.declared.durable.Durable.{Durable as Wanted}
+use Rattle.node_core.specs.declared.wanted.Wanted.{Wanted}
 use Rattle.node_core.specs.declared.event.Event.{Event}
 use Rattle.node_core.specs.declared.fault.CoreFault.TheVariants.{NoMemory}
 use Rattle.node_core.specs.Core.{Core}
@@ -35,8 +35,8 @@ over disks id nodes core store is up = record {
 }
 
 -- the core is up over a store that isn't broken, or down in the one state of a node that is down
-abbrev pub IsSettled : {Disk : Type 0} → ℕ → Core → StoreState Disk → Type 0
-IsSettled id core store = ((is_down core.state.phase ≡ false) × IsFalse store.broken) ⊎ (core.state ≡ down id)
+abbrev pub IsUpOrDown : {Disk : Type 0} → ℕ → Core → StoreState Disk → Type 0
+IsUpOrDown id core store = ((is_down core.state.phase ≡ false) × IsFalse store.broken) ⊎ (core.state ≡ down id)
 
 module _ {Disk : Type 0} (disks : Disk → DiskState) (id nodes : ℕ) (core core' : Core) (disk : NodeDisk Disk) (is : IsNode disks id nodes core disk) (of : IsCoreOf id nodes core') where
   -- down over a disk that isn't mounted
@@ -54,7 +54,7 @@ module _ {Disk : Type 0} (disks : Disk → DiskState) (id nodes : ℕ) (core cor
   }
 
   -- what a call of a store left
-  pub node_over : (mid end : StoreState Disk) (failed : Type 0) → mid.journal.slots ≡ slots_for (disks mid.disk).sectors → KeepsSound disks mid end failed → IsSettled id core' end → IsNode disks id nodes core' (Mounted end)
+  pub node_over : (mid end : StoreState Disk) (failed : Type 0) → mid.journal.slots ≡ slots_for (disks mid.disk).sectors → KeepsSound disks mid end failed → IsUpOrDown id core' end → IsNode disks id nodes core' (Mounted end)
   node_over mid end failed at keeps settled =
       let slots = slots_kept disks mid end failed keeps at in record {
         core_id = of.id;
@@ -69,10 +69,10 @@ module _ {Disk : Type 0} (disks : Disk → DiskState) (id nodes : ℕ) (core cor
       }
 
 module _ {Disk : Type 0} (id nodes : ℕ) (core core' : Core) (store store' : StoreState Disk) (doubt doubt' : Option (Wanted × ℕ)) where
-  pub as_before : IsSettled id core store → IsAsBefore core core' store store' doubt doubt' → IsSettled id core' store'
+  pub as_before : IsUpOrDown id core store → IsAsBefore core core' store store' doubt doubt' → IsUpOrDown id core' store'
   as_before settled same = rw (same.same_state, same.same_store) settled
 
-  served_by : (event : Event) (came : Came) (end : Fate) → is_down core.state.phase ≡ false → IsFalse store.broken → IsServed nodes id core core' store store' doubt doubt' event came end → IsSettled id core' store'
+  served_by : (event : Event) (came : Came) (end : Fate) → is_down core.state.phase ≡ false → IsFalse store.broken → IsServed nodes id core core' store store' doubt doubt' event came end → IsUpOrDown id core' store'
   served_by event came fate.Done up whole is = inl (done_up store.journal.slots nodes id core.state core'.state (durable_of store) (durable_of store') event came up is.0, is.1)
   served_by event came (fate.Refused why) up whole is = as_before (inl (up, whole)) is.2
   served_by event came fate.Faulted up whole is = inr is.2
@@ -81,12 +81,12 @@ module _ {Disk : Type 0} (id nodes : ℕ) (core core' : Core) (store store' : St
   -- after an event
   pub served : (event : Event) (result : Result Came NodeFault) → is_down core.state.phase ≡ false → IsFalse store.broken
       → IfOk result (λ came. IsServed nodes id core core' store store' doubt doubt' event came came.fate)
-      → IfErr result (λ fault. (fault ≡ node.Core NoMemory) × IsAsBefore core core' store store' doubt doubt') → IsSettled id core' store'
+      → IfErr result (λ fault. (fault ≡ node.Core NoMemory) × IsAsBefore core core' store store' doubt doubt') → IsUpOrDown id core' store'
   served event (Ok came) up whole is stuck = served_by event came came.fate up whole is
   served event (Err fault) up whole is stuck = as_before (inl (up, whole)) stuck.1
 
   -- after a raise
-  pub risen : (kept : Bool) (came : Came) (end : Fate) → core.state ≡ down id → HasRisen id kept core core' store store' doubt doubt' came end → IsSettled id core' store'
+  pub risen : (kept : Bool) (came : Came) (end : Fate) → core.state ≡ down id → HasRisen id kept core core' store store' doubt doubt' came end → IsUpOrDown id core' store'
   risen kept came (fate.Recovered k) fallen is = inl (ap (λ (s : State). is_down s.phase) is.1.state, is.2)
   risen kept came (fate.RaiseFailed k) fallen is = inr (is.1.state ∙ fallen)
   risen kept came (fate.RaiseRefused k) fallen is = inr (is.3.same_state ∙ fallen)

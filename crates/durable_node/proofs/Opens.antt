@@ -24,17 +24,17 @@ abbrev fresh : ℕ → NodeState
 fresh id = record { state = down id; durable = formatted; doubt = None }
 
 abbrev pub new_node : ℕ → ℕ → Memory → Node Memory
-new_node id nodes disk = record { id = id; nodes = nodes; state = down id; disk = Some disk; kept = None; area = None; doubt = None; found = None }
+new_node id nodes disk = record { id = id; nodes = nodes; state = down id; disk = Some disk; kept = None; area = None; doubt = None; mounted = None }
 
 -- no command was in doubt
-none_kept : (slots id nodes : ℕ) (new : Node Memory) (came : Came) (end : Fate) (kept : Bool) → end ≡ fate.Recovered kept → Does slots id nodes (fresh id) Recover came new.found (what_of Recover end)
-    → Stands state_of new (after id nodes (fresh id) (what_of Recover end)) → Stands state_of (record new { found = None }) (opening id)
+none_kept : (slots id nodes : ℕ) (new : Node Memory) (came : Came) (end : Fate) (kept : Bool) → end ≡ fate.Recovered kept → Does slots id nodes (fresh id) Recover came new.mounted (what_of Recover end)
+    → Stands state_of new (after id nodes (fresh id) (what_of Recover end)) → Stands state_of (record new { mounted = None }) (opening id)
 none_kept slots id nodes new came (fate.Recovered true) kept is does stands = (let none : false ≡ true = does.possible.1 refl in absurd cc)
 none_kept slots id nodes new came (fate.Recovered false) kept is does stands = assumption stands
 none_kept slots id nodes new came end kept is does stands = absurd cc
 
 pub opens : (id nodes : ℕ) (disk : Memory) (new : Node Memory) (came : Came) (kept : Bool) → came.fate ≡ fate.Recovered kept → IsFresh disk → Steps state_of (new_node id nodes disk) new Recover came
-    → Stands state_of (record new { found = None }) (opening id)
+    → Stands state_of (record new { mounted = None }) (opening id)
 opens id nodes disk new came kept is new_disk steps =
     let left = left_by (state_of disk) (fresh id) new_disk.enough (λ honest. new_disk.formatted) new_disk.sound in
     let did = steps disk (fresh id) refl (stands_at state_of (new_node id nodes disk) (fresh id) disk refl left refl refl (λ up. absurd cc)) (λ _. refl) in

@@ -6,5 +6,5 @@ pub use Rattle.durable_node.proofs.Forgets.{counts_and_forgets, steps_and_forget
 pub use Rattle.durable_node.proofs.Nodes.{is_some}
 -- What a node that is up does with an event.
 pub use Rattle.durable_node.proofs.Serves.{is_device}
--- Whether the command in doubt is in what a mounting found.
+-- Whether the command in doubt is in what was mounted.
 pub use Rattle.durable_node.proofs.Settling.{settled_so}

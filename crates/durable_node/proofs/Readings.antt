@@ -5,7 +5,7 @@ use Rattle.sector_disk.specs.Run.{Run}
 use Rattle.job_model.specs.Durable.{Durable}
 use Rattle.node_store.specs.declared.fault.StoreFault.{StoreFault}
 use Rattle.node_store.specs.Store.{slots_for, stands_for}
-use Rattle.node_store.specs.Told.{IsRefusedFor}
+use Rattle.node_store.specs.Mounting.{IsRefusedFor}
 use Rattle.node_store.specs.declared.fault.StoreFault.TheVariants as by_store
 use Rattle.durable_node.specs.declared.fault.NodeFault.{NodeFault}
 use Rattle.durable_node.specs.declared.came.Came.{Came}

@@ -3,7 +3,7 @@ use Rattle.std.proofs.Common.{◌≡◌, ◌≢◌, ◌⊎◌, inl, inr, ℕ, fa
 use Rattle.sector_disk.specs.Disk.{DiskState}
 use Rattle.job_model.specs.declared.node_command.NodeCommand.{NodeCommand as Command}
 use Rattle.job_model.specs.Durable.{Durable}
-use Rattle.node_core.specs.declared.durable.Durable.{Durable as Wanted}
+use Rattle.node_core.specs.declared.wanted.Wanted.{Wanted}
 use Rattle.node_core.specs.declared.event.Event.{Event}
 use Rattle.node_core.specs.Core.{Core}
 use Rattle.node_core.specs.State.{State, is_down}
@@ -23,7 +23,7 @@ use Rattle.durable_node.specs.Carrying.{KeepsSound, Writes}
 use Rattle.durable_node.specs.declared.node_disk.NodeDisk.TheVariants.{Mounted}
 use Rattle.durable_node.specs.Node.{node_with, IsLeft, Stands}
 use Rattle.durable_node.specs.Stepping.{IsDone, IsServed, Does, Steps, command_by}
-use Rattle.durable_node.specs.Faults.{fault_of, told, told_as}
+use Rattle.durable_node.specs.Faults.{fault_of, answered, answered_as}
 use Rattle.durable_node.specs.declared.fault.NodeFault.TheVariants as node
 use Rattle.durable_node.proofs.Parts.{does, is_some, stands_at, stands_down}
 use Rattle.durable_node.proofs.Mounts.{left_cut, left_done, stands_all}
@@ -51,7 +51,7 @@ module _ {Disk : Type 0} (disks : Disk → DiskState) (id nodes : ℕ) (core cor
     stood honest = rw at (stands_all (disks store.disk) (up_at core store) refl left honest)
 
     by_fate : (end : Fate) → IsServed nodes id core core' store store' doubt doubt' event came end → came.tried ≡ option_map attempt_of (command_by wants end)
-        → Writes disks store store' wants (IsOk (told_as came (fault_of end))) → Does store.journal.slots id nodes (up_at core store) event came None (what_of event end)
+        → Writes disks store store' wants (IsOk (answered_as came (fault_of end))) → Does store.journal.slots id nodes (up_at core store) event came None (what_of event end)
         × Stands disks (node_with id nodes core' (Mounted store') doubt' None) (after id nodes (up_at core store) (what_of event end))
     by_fate fate.Done is tried writes =
         let end = after id nodes (up_at core store) (Did event) in
@@ -74,7 +74,7 @@ module _ {Disk : Type 0} (disks : Disk → DiskState) (id nodes : ℕ) (core cor
     by_fate end is tried writes = absurd is
 
   pub serves : (was : Option ℕ) (result : Result Came NodeFault) → IfOk result (λ came. IsServed nodes id core core' store store' doubt doubt' event came came.fate)
-      → IfOk result (λ came. came.tried ≡ option_map attempt_of (command_by wants came.fate)) → Writes disks store store' wants (IsOk (told result))
+      → IfOk result (λ came. came.tried ≡ option_map attempt_of (command_by wants came.fate)) → Writes disks store store' wants (IsOk (answered result))
       → IfOk result (Steps disks (node_with id nodes core (Mounted store) doubt was) (node_with id nodes core' (Mounted store') doubt' None) event)
   serves was (Err fault) served tried writes = tt
   serves was (Ok came) served tried writes = λ disk s on stands mounting.

@@ -1,4 +1,4 @@
--- Whether the command in doubt is in what a mounting found.
+-- Whether the command in doubt is in what was mounted.
 use Rattle.std.proofs.Common.{◌≡◌, ◌+◌, ◌||◌, ℕ, Bool, true, false, not, cond, eqb, List, [], ◌∷◌, Option, Some, None, refl, sym, ap, subst, ◌∙◌, arith, ◌==◌}
 use Rattle.std.proofs.lemmas.Bool.Decides.{nat_tests}
 use Rattle.job_model.specs.declared.node_command.NodeCommand.{NodeCommand as Command}
@@ -9,7 +9,7 @@ use Rattle.job_model.specs.declared.job.Job.{Job}
 use Rattle.node_core.specs.State.{State}
 use Rattle.histories.specs.NodeState.{NodeState, settled}
 use Rattle.histories.specs.Possible.{IsSettling}
-use Rattle.durable_node.specs.Node.{told_doubt}
+use Rattle.durable_node.specs.Node.{shown_doubt}
 use Rattle.durable_node.specs.Remounting.{IsKeptIn}
 
 -- where no job has this id, none goes
@@ -43,27 +43,27 @@ module _ (state : State) (e d : Durable) where
   abbrev Settles : Option Command → Bool → Type 0
   Settles doubt kept = IsSettling kept doubt × (d ≡ settled kept (at doubt))
 
-  -- the flag is the one that was found
+  -- the flag is the one of what was mounted
   same : (c : Command) (flag kept : Bool) → flag ≡ kept → d ≡ settled kept (at (Some c)) → Settles (Some c) flag
-  same c flag true is found = subst (λ (b : Bool). Settles (Some c) b) (sym is) (λ kept. refl, found)
-  same c flag false is found = subst (λ (b : Bool). Settles (Some c) b) (sym is) (λ kept. refl, found)
+  same c flag true is is_so = subst (λ (b : Bool). Settles (Some c) b) (sym is) (λ kept. refl, is_so)
+  same c flag false is is_so = subst (λ (b : Bool). Settles (Some c) b) (sym is) (λ kept. refl, is_so)
 
   done_so : (id : ℕ) (flag b : Bool) → flag ≡ not (is_pending d.pending id) → is_pending e.pending id ≡ b → d ≡ e → Settles (Some (Done id)) flag
-  done_so id flag true is pending found = same (Done id) flag false (is ∙ ap not (ap (λ (x : Durable). is_pending x.pending id) found ∙ pending)) found
-  done_so id flag false is pending found =
-      same (Done id) flag true (is ∙ ap not (ap (λ (x : Durable). is_pending x.pending id) found ∙ pending))
-      (found ∙ (λ i. record { counter = e.counter; next = e.next; pending = sym (without_none e.pending id pending) i }))
+  done_so id flag true is pending is_so = same (Done id) flag false (is ∙ ap not (ap (λ (x : Durable). is_pending x.pending id) is_so ∙ pending)) is_so
+  done_so id flag false is pending is_so =
+      same (Done id) flag true (is ∙ ap not (ap (λ (x : Durable). is_pending x.pending id) is_so ∙ pending))
+      (is_so ∙ (λ i. record { counter = e.counter; next = e.next; pending = sym (without_none e.pending id pending) i }))
 
-  by_doubt : (doubt : Option Command) (flag kept : Bool) → IsKeptIn (told_doubt e doubt) d flag → IsSettling kept doubt → d ≡ settled kept (at doubt) → Settles doubt flag
-  by_doubt None flag true is settling found = (let none : false ≡ true = settling refl in absurd cc)
-  by_doubt None flag false is settling found = subst (λ (b : Bool). Settles None b) (sym is) (λ kept. absurd cc, found)
-  by_doubt (Some Raise) flag true is settling found = same Raise flag true (is ∙ went_on d.counter e.counter (ap (λ (x : Durable). x.counter) found)) found
-  by_doubt (Some Raise) flag false is settling found = same Raise flag false (is ∙ stayed d.counter e.counter (ap (λ (x : Durable). x.counter) found)) found
-  by_doubt (Some (Put work)) flag true is settling found = same (Put work) flag true (is ∙ went_on d.next e.next (ap (λ (x : Durable). x.next) found)) found
-  by_doubt (Some (Put work)) flag false is settling found = same (Put work) flag false (is ∙ stayed d.next e.next (ap (λ (x : Durable). x.next) found)) found
-  by_doubt (Some (Done id)) flag true is settling found = same (Done id) flag true (is ∙ ap not (ap (λ (x : Durable). is_pending x.pending id) found ∙ gone e.pending id)) found
-  by_doubt (Some (Done id)) flag false is settling found = done_so id flag (is_pending e.pending id) is refl found
+  by_doubt : (doubt : Option Command) (flag kept : Bool) → IsKeptIn (shown_doubt e doubt) d flag → IsSettling kept doubt → d ≡ settled kept (at doubt) → Settles doubt flag
+  by_doubt None flag true is settling is_so = (let none : false ≡ true = settling refl in absurd cc)
+  by_doubt None flag false is settling is_so = subst (λ (b : Bool). Settles None b) (sym is) (λ kept. absurd cc, is_so)
+  by_doubt (Some Raise) flag true is settling is_so = same Raise flag true (is ∙ went_on d.counter e.counter (ap (λ (x : Durable). x.counter) is_so)) is_so
+  by_doubt (Some Raise) flag false is settling is_so = same Raise flag false (is ∙ stayed d.counter e.counter (ap (λ (x : Durable). x.counter) is_so)) is_so
+  by_doubt (Some (Put work)) flag true is settling is_so = same (Put work) flag true (is ∙ went_on d.next e.next (ap (λ (x : Durable). x.next) is_so)) is_so
+  by_doubt (Some (Put work)) flag false is settling is_so = same (Put work) flag false (is ∙ stayed d.next e.next (ap (λ (x : Durable). x.next) is_so)) is_so
+  by_doubt (Some (Done id)) flag true is settling is_so = same (Done id) flag true (is ∙ ap not (ap (λ (x : Durable). is_pending x.pending id) is_so ∙ gone e.pending id)) is_so
+  by_doubt (Some (Done id)) flag false is settling is_so = done_so id flag (is_pending e.pending id) is refl is_so
 
--- what the flag tells is so, whichever of both was found
-pub settled_so : (s : NodeState) (d : Durable) (flag kept : Bool) → IsKeptIn (told_doubt s.durable s.doubt) d flag → IsSettling kept s.doubt → d ≡ settled kept s → IsSettling flag s.doubt × (d ≡ settled flag s)
+-- what the flag says is so, whichever of both was mounted
+pub settled_so : (s : NodeState) (d : Durable) (flag kept : Bool) → IsKeptIn (shown_doubt s.durable s.doubt) d flag → IsSettling kept s.doubt → d ≡ settled kept s → IsSettling flag s.doubt × (d ≡ settled flag s)
 settled_so s d flag kept = by_doubt s.state s.durable d s.doubt flag kept

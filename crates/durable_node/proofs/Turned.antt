@@ -1,4 +1,4 @@
--- How a refusal is told.
+-- How a refusal is answered.
 use Rattle.std.proofs.Common.{◌≡◌, ℕ, inl, inr, ap, ◌∙◌, Option, Some, None, Err}
 use Rattle.job_model.specs.declared.node_command.NodeCommand.{NodeCommand as Command}
 use Rattle.job_model.specs.Durable.{Durable}
@@ -22,7 +22,7 @@ cant_refuse : (nodes self : ℕ) (s : State) (d : Durable) (event : Event) (why 
 cant_refuse nodes self s d event (refusal.Core fault) none cant = absurd cant
 cant_refuse nodes self s d event why none cant = (none, cant)
 
--- the store can't take the event's command, and the code told why
+-- the store can't take the event's command, and the code said why
 pub turned_as : (slots nodes self : ℕ) (s : State) (d : Durable) (event : Event) (fault : NodeFault) (why : Refusal) → refusal_of nodes self event s ≡ None
     → (cant : CantCarry slots d (wants_of self d.pending event s) fault) → why ≡ cant.why → IsTurnedAway slots nodes self s d event why
 turned_as slots nodes self s d event fault why none cant so = rw so (record { refused = cant_refuse nodes self s d event cant.why none cant.cant; of_slots = cant.of_slots })

@@ -57,7 +57,7 @@ pub record IsCut {Disk : Type 0} (old new : StoreState Disk) (wants : Option Com
   pub wanted : IsSome wants
   pub kept : durable_of new ≡ durable_of old
 
--- the store can't take the command, and this is how it is told
+-- the store can't take the command, and this is how it is answered
 pub record CantCarry (slots : ℕ) (d : Durable) (wants : Option Command) (fault : NodeFault) : Type 0 where
   pub why : Refusal
   pub is_shown : fault ≡ shown why

@@ -1,4 +1,4 @@
--- What a compaction of a node's journal does, and how it is told.
+-- What a compaction of a node's journal does, and how it is answered.
 use Rattle.std.specs.Prelude.{ℕ, ◌≡◌, ◌+◌, length, IsTrue, IsOk, Some, None, Result, Err}
 use Rattle.sector_disk.specs.Disk.{DiskState, Image}
 use Rattle.sector_disk.specs.Run.{Each}
@@ -19,30 +19,30 @@ use Rattle.histories.specs.Possible.{IsPossible}
 use Rattle.durable_node.specs.Node.{Node, Area, IsCoreOf, Stands}
 
 -- what a compaction that rests answers
-abbrev pub RestTold : {A : Type 0} → Rest → Result A NodeFault → Type 0
-RestTold Nothing result = ⊥
-RestTold Compacted result = IsOk result
-RestTold CompactDown result = result ≡ Err (node.Core Down)
-RestTold CompactWorn result = result ≡ Err node.Exhausted
+abbrev pub RestAnswers : {A : Type 0} → Rest → Result A NodeFault → Type 0
+RestAnswers Nothing result = ⊥
+RestAnswers Compacted result = IsOk result
+RestAnswers CompactDown result = result ≡ Err (node.Core Down)
+RestAnswers CompactWorn result = result ≡ Err node.Exhausted
 
 -- what a compaction answers, by what came of it: where the device fails in it, the node falls as in a crash
-abbrev pub CompactTold : {A : Type 0} → What → Result A NodeFault → Type 0
-CompactTold (Did event) result = ⊥
-CompactTold (Refused event fault) result = ⊥
-CompactTold (Faulted event) result = ⊥
-CompactTold (Rests rest) result = RestTold rest result
-CompactTold Crashed result = result ≡ Err node.Device
-CompactTold (Recovered kept) result = ⊥
-CompactTold MountFailed result = ⊥
-CompactTold (RaiseFailed kept) result = ⊥
-CompactTold (RaiseRefused kept) result = ⊥
+abbrev pub CompactionAnswers : {A : Type 0} → What → Result A NodeFault → Type 0
+CompactionAnswers (Did event) result = ⊥
+CompactionAnswers (Refused event fault) result = ⊥
+CompactionAnswers (Faulted event) result = ⊥
+CompactionAnswers (Rests rest) result = RestAnswers rest result
+CompactionAnswers Crashed result = result ≡ Err node.Device
+CompactionAnswers (Recovered kept) result = ⊥
+CompactionAnswers MountFailed result = ⊥
+CompactionAnswers (RaiseFailed kept) result = ⊥
+CompactionAnswers (RaiseRefused kept) result = ⊥
 
 -- whatever state the node stood for, one of the things that may come of a compaction came of it, and the node stands for the
 -- state after it
 abbrev pub Compacts : {Disk A : Type 0} → (Disk → DiskState) → Node Disk → Node Disk → Result A NodeFault → Type 0
 Compacts {Disk} disks old new result =
     (disk : Disk) (s : NodeState) → old.disk ≡ Some disk → Stands disks old s →
-    (what : What) × CompactTold what result × IsPossible old.id old.nodes s what × Stands disks new (after old.id old.nodes s what)
+    (what : What) × CompactionAnswers what result × IsPossible old.id old.nodes s what × Stands disks new (after old.id old.nodes s what)
 
 -- the other area, which holds a Base and the pending jobs alone
 abbrev pub moved : Durable → Area → Area
@@ -56,12 +56,12 @@ StaysKept {Disk} disks old new =
 
 -- it was done: the jobs are in the other area, and nothing else that the node shows has changed
 pub record IsMovedNode {Disk : Type 0} (old new : Node Disk) : Type 0 where
-  pub is : new ≡ record old { disk = new.disk; area = new.area; found = None }
+  pub is : new ≡ record old { disk = new.disk; area = new.area; mounted = None }
   pub area : (d : Durable) (area : Area) → old.kept ≡ Some d → old.area ≡ Some area → new.area ≡ Some (moved d area)
 
 -- the device failed in it: the node is down, and what was in doubt is as before, so no command of a node that was up
 abbrev pub IsFallenNode : {Disk : Type 0} → Node Disk → Node Disk → Type 0
-IsFallenNode old new = new ≡ record old { state = down old.id; disk = new.disk; kept = None; area = None; found = None }
+IsFallenNode old new = new ≡ record old { state = down old.id; disk = new.disk; kept = None; area = None; mounted = None }
 
 -- the core goes down where the device fails, and else it stays
 pub record IsRewrittenCore {A : Type 0} (self nodes : ℕ) (old new : Core) (result : Result A NodeFault) : Type 0 where

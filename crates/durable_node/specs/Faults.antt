@@ -1,4 +1,4 @@
--- How the faults of the layers below are told.
+-- How the faults of the layers below are answered.
 use Rattle.std.specs.Prelude.{Option, Some, None, Result, Ok, Err}
 use Rattle.node_core.specs.declared.fault.CoreFault.TheVariants as core
 use Rattle.node_core.specs.declared.fault.Refusal.{Refusal}
@@ -11,14 +11,14 @@ use Rattle.durable_node.specs.declared.came.Came.{Came}
 use Rattle.histories.specs.declared.fate.Fate.{Fate}
 use Rattle.histories.specs.declared.fate.Fate.TheVariants.{Done, Refused, Faulted, Recovered, MountFailed, RaiseFailed, RaiseRefused}
 
--- why an event is refused, as it is told: a caller sees no areas
+-- why an event is refused, as it is answered: a caller sees no areas
 abbrev pub shown : Refusal → NodeFault
 shown (Core fault) = node.Core fault
 shown Full = node.Full
 shown Exhausted = node.Exhausted
 shown Worn = node.Exhausted
 
--- a fault of the store, as it is told: a node that is up has no broken store, and asks for no job that isn't pending
+-- a fault of the store, as it is answered: a node that is up has no broken store, and asks for no job that isn't pending
 abbrev pub fault_for : StoreFault → NodeFault
 fault_for store.Device = node.Device
 fault_for store.Broken = node.Device
@@ -40,11 +40,11 @@ fault_of MountFailed = Some node.Device
 fault_of (RaiseFailed kept) = Some node.Device
 fault_of (RaiseRefused kept) = Some node.Exhausted
 
-abbrev pub told_as : Came → Option NodeFault → Result Came NodeFault
-told_as came None = Ok came
-told_as came (Some fault) = Err fault
+abbrev pub answered_as : Came → Option NodeFault → Result Came NodeFault
+answered_as came None = Ok came
+answered_as came (Some fault) = Err fault
 
 -- what a call answers, where what wasn't done is a fault
-abbrev pub told : Result Came NodeFault → Result Came NodeFault
-told (Ok came) = told_as came (fault_of came.fate)
-told (Err fault) = Err fault
+abbrev pub answered : Result Came NodeFault → Result Came NodeFault
+answered (Ok came) = answered_as came (fault_of came.fate)
+answered (Err fault) = Err fault

@@ -4,8 +4,8 @@ use Rattle.sector_disk.specs.Disk.{Image, DiskState, IsImage}
 use Rattle.job_model.specs.declared.node_command.NodeCommand.{NodeCommand as Command}
 use Rattle.job_model.specs.declared.node_command.NodeCommand.TheVariants.{Raise, Put, Done}
 use Rattle.job_model.specs.Durable.{Durable}
-use Rattle.node_core.specs.declared.durable.Durable.{Durable as Wanted}
-use Rattle.node_core.specs.declared.durable.Durable.TheVariants as wanted
+use Rattle.node_core.specs.declared.wanted.Wanted.{Wanted}
+use Rattle.node_core.specs.declared.wanted.Wanted.TheVariants as wanted
 use Rattle.group_task.specs.declared.node.TheConstants.{NODES}
 use Rattle.node_core.specs.Core.{Core}
 use Rattle.node_core.specs.Start.{down}
@@ -18,12 +18,12 @@ use Rattle.durable_node.specs.Carrying.{IsReady}
 use Rattle.durable_node.specs.declared.node_disk.NodeDisk.{NodeDisk}
 use Rattle.durable_node.specs.declared.node_disk.NodeDisk.TheVariants.{Bare, Mounted, Taken}
 
--- a command in doubt as the node tells it, with the count, or for a job the next id, from before it
-abbrev pub told_doubt : Durable → Option Command → Option (Wanted × ℕ)
-told_doubt d None = None
-told_doubt d (Some Raise) = Some (wanted.Raise, d.counter)
-told_doubt d (Some (Put work)) = Some (wanted.Put work, d.next)
-told_doubt d (Some (Done id)) = Some (wanted.Done id, d.next)
+-- a command in doubt as the node shows it, with the count, or for a job the next id, from before it
+abbrev pub shown_doubt : Durable → Option Command → Option (Wanted × ℕ)
+shown_doubt d None = None
+shown_doubt d (Some Raise) = Some (wanted.Raise, d.counter)
+shown_doubt d (Some (Put work)) = Some (wanted.Put work, d.next)
+shown_doubt d (Some (Done id)) = Some (wanted.Done id, d.next)
 
 -- the area of the journal that a node writes in: the number of its cell, how many slots it has, and how many of them hold
 -- a record
@@ -45,7 +45,7 @@ pub record Node (Disk : Type 0) : Type 0 where
   -- the command in doubt
   pub doubt : Option (Wanted × ℕ)
   -- what the last call mounted
-  pub found : Option Durable
+  pub mounted : Option Durable
 
 -- the disk, wherever it stands
 abbrev pub disk_in : {Disk : Type 0} → NodeDisk Disk → Option Disk
@@ -73,14 +73,14 @@ area_in false None = None
 area_in false (Some store) = Some (area_of store)
 
 -- a store mounted with this count, whatever came of the raise: it left the jobs as they were
-abbrev pub found_in : {Disk : Type 0} → Option ℕ → Option (StoreState Disk) → Option Durable
-found_in None store = None
-found_in (Some count) None = None
-found_in (Some count) (Some store) = Some (record { counter = count; next = store.journal.table.next; pending = store.journal.table.pending })
+abbrev pub mounted_in : {Disk : Type 0} → Option ℕ → Option (StoreState Disk) → Option Durable
+mounted_in None store = None
+mounted_in (Some count) None = None
+mounted_in (Some count) (Some store) = Some (record { counter = count; next = store.journal.table.next; pending = store.journal.table.pending })
 
 -- a node of these parts
 abbrev pub node_with : {Disk : Type 0} → ℕ → ℕ → Core → NodeDisk Disk → Option (Wanted × ℕ) → Option ℕ → Node Disk
-node_with id nodes core disk doubt found = record {
+node_with id nodes core disk doubt mounted = record {
   id = id;
   nodes = nodes;
   state = core.state;
@@ -88,7 +88,7 @@ node_with id nodes core disk doubt found = record {
   kept = kept_in (is_down core.state.phase) (store_in disk);
   area = area_in (is_down core.state.phase) (store_in disk);
   doubt = doubt;
-  found = found_in found (store_in disk);
+  mounted = mounted_in mounted (store_in disk);
 }
 
 -- Each image that a crash now may leave stands for what is kept, with or without the command in doubt.
@@ -100,7 +100,7 @@ pub record IsLeft (disk : DiskState) (s : NodeState) : Type 0 where
 -- The node is in this state, and its disk too.
 pub record Stands {Disk : Type 0} (disks : Disk → DiskState) (n : Node Disk) (s : NodeState) : Type 0 where
   pub state : n.state ≡ s.state
-  pub doubt : n.doubt ≡ told_doubt s.durable s.doubt
+  pub doubt : n.doubt ≡ shown_doubt s.durable s.doubt
   pub up : is_down n.state.phase ≡ false → (n.kept ≡ Some s.durable) × (s.doubt ≡ None)
   pub disk : (disk : Disk) → n.disk ≡ Some disk → IsLeft (disks disk) s
 

@@ -4,8 +4,8 @@ use Rattle.job_model.specs.declared.node_command.NodeCommand.{NodeCommand as Com
 use Rattle.job_model.specs.declared.node_command.NodeCommand.TheVariants.{Raise}
 use Rattle.job_model.specs.Durable.{Durable}
 use Rattle.job_model.specs.Fold.{after_command, is_pending}
-use Rattle.node_core.specs.declared.durable.Durable.{Durable as Wanted}
-use Rattle.node_core.specs.declared.durable.Durable.TheVariants as wanted
+use Rattle.node_core.specs.declared.wanted.Wanted.{Wanted}
+use Rattle.node_core.specs.declared.wanted.Wanted.TheVariants as wanted
 use Rattle.node_core.specs.declared.fault.CoreFault.TheVariants.{NoMemory}
 use Rattle.node_core.specs.Core.{Core}
 use Rattle.node_core.specs.Start.{alone}
@@ -18,23 +18,23 @@ use Rattle.histories.specs.declared.fate.Fate.TheVariants.{Recovered, MountFaile
 use Rattle.durable_node.specs.Node.{Node}
 use Rattle.durable_node.specs.Stepping.{IsAsBefore, IsSilent}
 
--- the counter that was found is raised, and the node is alone in the group of the new count
-pub record IsRisen (self : ℕ) (found now : Durable) (core : Core) (told : Option (Wanted × ℕ)) (came : Came) : Type 0 where
-  pub fits : found.counter + 1 < 2 ^ 64
-  pub kept : now ≡ after_command found Raise
-  pub state : core.state ≡ alone self (found.counter + 1)
-  pub doubt : told ≡ None
+-- the counter that was mounted is raised, and the node is alone in the group of the new count
+pub record IsRisen (self : ℕ) (mounted now : Durable) (core : Core) (in_doubt : Option (Wanted × ℕ)) (came : Came) : Type 0 where
+  pub fits : mounted.counter + 1 < 2 ^ 64
+  pub kept : now ≡ after_command mounted Raise
+  pub state : core.state ≡ alone self (mounted.counter + 1)
+  pub doubt : in_doubt ≡ None
   pub sent : came.sent.items ≡ []
-  pub answer : came.answer ≡ Some (found.counter + 1)
+  pub answer : came.answer ≡ Some (mounted.counter + 1)
 
 -- the device failed in the raise: it is in doubt, and the node stays down
-pub record IsRiseFailed (found now : Durable) (old new : Core) (told : Option (Wanted × ℕ)) : Type 0 where
-  pub fits : found.counter + 1 < 2 ^ 64
-  pub kept : now ≡ found
+pub record IsRiseFailed (mounted now : Durable) (old new : Core) (in_doubt : Option (Wanted × ℕ)) : Type 0 where
+  pub fits : mounted.counter + 1 < 2 ^ 64
+  pub kept : now ≡ mounted
   pub state : new.state ≡ old.state
-  pub doubt : told ≡ Some (wanted.Raise, found.counter)
+  pub doubt : in_doubt ≡ Some (wanted.Raise, mounted.counter)
 
--- what came of the raise and what it left, where the command that was in doubt was found, or wasn't
+-- what came of the raise and what it left, where the command that was in doubt was mounted, or wasn't
 abbrev pub HasRisen : {Disk : Type 0} → ℕ → Bool → Core → Core → StoreState Disk → StoreState Disk → Option (Wanted × ℕ) → Option (Wanted × ℕ) → Came → Fate → Type 0
 HasRisen self kept core core' store store' doubt doubt' came (Recovered k) =
     (k ≡ kept) × IsRisen self (durable_of store) (durable_of store') core' doubt' came × IsFalse store'.broken
@@ -50,25 +50,25 @@ raise_by (Recovered kept) = Some Raise
 raise_by (RaiseFailed kept) = Some Raise
 raise_by fate = None
 
--- whether what was found has a command that was in doubt: the count or the next id went on, or the job is gone
+-- whether what was mounted has a command that was in doubt: the count or the next id went on, or the job is gone
 abbrev pub has_command : Wanted → ℕ → Durable → Bool
 has_command wanted.None before d = false
 has_command wanted.Raise before d = not (d.counter == before)
 has_command (wanted.Put work) before d = not (d.next == before)
 has_command (wanted.Done id) before d = not (is_pending d.pending id)
 
--- the flag tells whether the command in doubt was found
+-- the flag says whether the command in doubt was mounted
 abbrev pub IsKeptIn : Option (Wanted × ℕ) → Durable → Bool → Type 0
 IsKeptIn None d kept = kept ≡ false
 IsKeptIn (Some doubt) d kept = kept ≡ has_command doubt.0 doubt.1 d
 
--- what came of a mounting over any disk, by what was in doubt and what was found
-abbrev pub IsFoundBy : Option (Wanted × ℕ) → Fate → Option Durable → Type 0
-IsFoundBy doubt MountFailed None = Unit {0}
-IsFoundBy doubt (Recovered kept) (Some d) = IsKeptIn doubt d kept
-IsFoundBy doubt (RaiseFailed kept) (Some d) = IsKeptIn doubt d kept
-IsFoundBy doubt (RaiseRefused kept) (Some d) = IsKeptIn doubt d kept
-IsFoundBy doubt fate found = ⊥
+-- what came of a mounting over any disk, by what was in doubt and what was mounted
+abbrev pub IsMountedBy : Option (Wanted × ℕ) → Fate → Option Durable → Type 0
+IsMountedBy doubt MountFailed None = Unit {0}
+IsMountedBy doubt (Recovered kept) (Some d) = IsKeptIn doubt d kept
+IsMountedBy doubt (RaiseFailed kept) (Some d) = IsKeptIn doubt d kept
+IsMountedBy doubt (RaiseRefused kept) (Some d) = IsKeptIn doubt d kept
+IsMountedBy doubt fate mounted = ⊥
 
 -- a disk that isn't mounted is refused with one of these
 abbrev pub IsUnmounted : NodeFault → Type 0
@@ -80,11 +80,11 @@ IsUnmounted node.NotFormatted = Unit {0}
 IsUnmounted (node.Damaged sector) = Unit {0}
 IsUnmounted node.TooSmall = Unit {0}
 
--- what a recovery that mounts leaves over any disk, by what it found there
+-- what a recovery that mounts leaves over any disk, by what it mounted
 abbrev pub Remounted : {Disk : Type 0} → Node Disk → Node Disk → Result Came NodeFault → Option Durable → Type 0
 Remounted old new (Ok came) None = ⊥
-Remounted old new (Ok came) (Some found) =
-    (new.kept ≡ Some (after_command found Raise)) × (new.state ≡ alone old.id (found.counter + 1)) × (new.doubt ≡ None) × (came.sent.items ≡ []) × (came.answer ≡ Some (found.counter + 1)) × (found.counter + 1 < 2 ^ 64)
+Remounted old new (Ok came) (Some mounted) =
+    (new.kept ≡ Some (after_command mounted Raise)) × (new.state ≡ alone old.id (mounted.counter + 1)) × (new.doubt ≡ None) × (came.sent.items ≡ []) × (came.answer ≡ Some (mounted.counter + 1)) × (mounted.counter + 1 < 2 ^ 64)
 Remounted old new (Err fault) None = IsUnmounted fault × (new.state ≡ old.state) × (new.doubt ≡ old.doubt)
-Remounted old new (Err fault) (Some found) =
-    (new.state ≡ old.state) × (((fault ≡ node.Device) × (new.doubt ≡ Some (wanted.Raise, found.counter)) × (found.counter + 1 < 2 ^ 64)) ⊎ ((fault ≡ node.Exhausted) × (found.counter ≡ 2 ^ 64 - 1) × (new.doubt ≡ old.doubt)))
+Remounted old new (Err fault) (Some mounted) =
+    (new.state ≡ old.state) × (((fault ≡ node.Device) × (new.doubt ≡ Some (wanted.Raise, mounted.counter)) × (mounted.counter + 1 < 2 ^ 64)) ⊎ ((fault ≡ node.Exhausted) × (mounted.counter ≡ 2 ^ 64 - 1) × (new.doubt ≡ old.doubt)))

@@ -1,9 +1,9 @@
--- What a call of a node does, and how it is told.
+-- What a call of a node does, and how it is answered.
 use Rattle.std.specs.Prelude.{ℕ, ◌≡◌, ◌+◌, Bool, true, false, IsTrue, IsFalse, IsSome, IsErrOf, [], Option, Some, None, option_map, Result}
 use Rattle.sector_disk.specs.Disk.{DiskState, Counts}
 use Rattle.job_model.specs.Answer.{answer_of}
 use Rattle.job_model.specs.Durable.{Durable}
-use Rattle.node_core.specs.declared.durable.Durable.{Durable as Wanted}
+use Rattle.node_core.specs.declared.wanted.Wanted.{Wanted}
 use Rattle.node_core.specs.declared.event.Event.{Event}
 use Rattle.node_core.specs.declared.event.Event.TheVariants as on
 use Rattle.node_core.specs.Core.{Core}
@@ -20,7 +20,7 @@ use Rattle.histories.specs.NodeState.{NodeState, wants_at, settled}
 use Rattle.histories.specs.What.{IsOf}
 use Rattle.histories.specs.declared.what.What.{What}
 use Rattle.histories.specs.declared.what.What.TheVariants.{Did, Faulted, Recovered, RaiseFailed}
-use Rattle.histories.specs.After.{after, sent_at, found_at}
+use Rattle.histories.specs.After.{after, sent_at, mounted_at}
 use Rattle.histories.specs.Possible.{IsPossible, IsOfSlots, FitsSlots}
 use Rattle.histories.specs.Fates.{IsTriedAt, what_of}
 use Rattle.histories.specs.declared.fate.Fate.{Fate}
@@ -31,7 +31,7 @@ use Rattle.job_model.specs.declared.node_command.NodeCommand.{NodeCommand as Com
 use Rattle.job_model.specs.declared.node_command.NodeCommand.TheVariants.{Raise}
 use Rattle.node_core.specs.declared.fault.CoreFault.{CoreFault}
 use Rattle.node_core.specs.declared.fault.CoreFault.TheVariants.{NoMemory}
-use Rattle.durable_node.specs.Node.{Node, Stands, told_doubt}
+use Rattle.durable_node.specs.Node.{Node, Stands, shown_doubt}
 
 -- the event Recover
 abbrev pub is_recover : Event → Bool
@@ -75,7 +75,7 @@ IsServed nodes self core core' store store' doubt doubt' event came (fate.Refuse
     IsTurnedAway store.journal.slots nodes self core.state (durable_of store) event why × IsSilent came × IsAsBefore core core' store store' doubt doubt'
 IsServed nodes self core core' store store' doubt doubt' event came fate.Faulted =
     IsFailed store.journal.slots nodes self core.state (durable_of store) event × IsSilent came × (core'.state ≡ down self)
-    × (doubt' ≡ told_doubt (durable_of store) (wants_of self (durable_of store).pending event core.state))
+    × (doubt' ≡ shown_doubt (durable_of store) (wants_of self (durable_of store).pending event core.state))
 IsServed nodes self core core' store store' doubt doubt' event came other = ⊥
 
 -- the command that was tried, of one that was wanted
@@ -108,35 +108,35 @@ answer_at self nodes s (Did event) = option_map (answer_of s.durable) (wants_at 
 answer_at self nodes s (Recovered kept) = Some ((settled kept s).counter + 1)
 answer_at self nodes s what = None
 
--- this came of the event, and so the call tells it
-pub record Does (slots self nodes : ℕ) (s : NodeState) (event : Event) (came : Came) (found : Option Durable) (what : What) : Type 0 where
+-- this came of the event, and so the call answers it
+pub record Does (slots self nodes : ℕ) (s : NodeState) (event : Event) (came : Came) (shown : Option Durable) (what : What) : Type 0 where
   pub of : IsOf event what
   pub possible : IsPossible self nodes s what
   pub of_slots : IsOfSlots slots self nodes s what
   pub tried : IsTriedAt event came.tried (command_at self nodes s what)
   pub answer : came.answer ≡ answer_at self nodes s what
   pub sent : came.sent.items ≡ sent_at self nodes s what
-  pub mounted : found ≡ found_at s what
+  pub mounted : shown ≡ mounted_at s what
 
 -- the node is down, and the event makes it mount its disk
 abbrev pub IsMounting : State → Event → Type 0
 IsMounting s event = (is_down s.phase ≡ true) × (is_recover event ≡ true)
 
--- whatever state the node stood for, what is told is what came of the event, and the node stands for the state after it
+-- whatever state the node stood for, what is answered is what came of the event, and the node stands for the state after it
 abbrev pub Steps : {Disk : Type 0} → (Disk → DiskState) → Node Disk → Node Disk → Event → Came → Type 0
 Steps {Disk} disks old new event came =
     (disk : Disk) (s : NodeState) → old.disk ≡ Some disk → Stands disks old s → (IsMounting old.state event → IsTrue (disks disk).honest) →
-    Does (slots_for (disks disk).sectors) old.id old.nodes s event came new.found (what_of event came.fate) × Stands disks new (after old.id old.nodes s (what_of event came.fate))
+    Does (slots_for (disks disk).sectors) old.id old.nodes s event came new.mounted (what_of event came.fate) × Stands disks new (after old.id old.nodes s (what_of event came.fate))
 
 -- the disk can't be mounted, which no disk of a node's history is, and nothing but the disk has changed
 pub record IsUnmountable {Disk : Type 0} (disks : Disk → DiskState) (old new : Node Disk) (event : Event) : Type 0 where
   pub mounting : IsMounting old.state event
   pub strange : (disk : Disk) (s : NodeState) → old.disk ≡ Some disk → Stands disks old s → IsTrue (disks disk).honest → ⊥
-  pub same : new ≡ record old { disk = new.disk; found = None }
+  pub same : new ≡ record old { disk = new.disk; mounted = None }
 
 -- the event came to nothing, for want of memory or of a disk that can be mounted, and left the node as it was
 abbrev pub Stuck : {Disk : Type 0} → (Disk → DiskState) → Node Disk → Node Disk → Event → NodeFault → Type 0
-Stuck disks old new event (node.Core fault) = (fault ≡ NoMemory) × (new ≡ record old { found = None })
+Stuck disks old new event (node.Core fault) = (fault ≡ NoMemory) × (new ≡ record old { mounted = None })
 Stuck disks old new event node.Full = ⊥
 Stuck disks old new event node.Exhausted = ⊥
 Stuck disks old new event node.Device = ⊥
@@ -145,7 +145,7 @@ Stuck disks old new event (node.Damaged sector) = IsUnmountable disks old new ev
 Stuck disks old new event node.TooSmall = IsUnmountable disks old new event
 
 -- The disk before a call and after it is there, and so is its count of failures: every answer but `Device` leaves that as it is, and
--- `Device` is told only where it rose, or stands at its greatest value.
+-- `Device` is answered only where it rose, or stands at its greatest value.
 pub record CountsOf {Disk A : Type 0} (disks : Disk → DiskState) (old new : Option Disk) (result : Result A NodeFault) : Type 0 where
   pub was_there : IsSome old
   pub is_there : IsSome new

@@ -1,11 +1,11 @@
 ghost use Rattle.std.specs.Prelude.{◌≡◌, ◌≢◌, ◌≤◌, Option, ℕ, IfOk, IfErr, Some, None, Err, length, true, false, IsTrue};
 ghost use Rattle.node_core.specs.declared.event.Event.TheVariants as on;
 ghost use Rattle.node_core.specs.State.{is_down};
-ghost use Rattle.durable_node.specs.Faults.{told};
-ghost use Rattle.durable_node.specs.Node.{disk_in, store_in, kept_in, found_in, IsNode, node_with};
+ghost use Rattle.durable_node.specs.Faults.{answered};
+ghost use Rattle.durable_node.specs.Node.{disk_in, store_in, kept_in, mounted_in, IsNode, node_with};
 ghost use Rattle.durable_node.specs.Refusing.{Answers};
 ghost use Rattle.durable_node.specs.Reading.{ReadsDisk};
-ghost use Rattle.durable_node.specs.Remounting.{IsFoundBy, Remounted};
+ghost use Rattle.durable_node.specs.Remounting.{IsMountedBy, Remounted};
 ghost use Rattle.durable_node.specs.Stepping.{CountsOf, Steps, Stuck, most_by};
 
 use crate::came::Came;
@@ -15,7 +15,7 @@ use crate::ignore::ignore;
 use crate::node_disk::NodeDisk;
 use crate::remount::remount;
 use group_task::NodeId;
-use node_core::{Durable, Event, NodeCore, Phase};
+use node_core::{Event, NodeCore, Phase, Wanted};
 use sector_disk::SectorDisk;
 use std::alloc::Global;
 
@@ -26,28 +26,28 @@ pub(crate) fn advance<D: SectorDisk + Drop>(
     nodes: u8,
     core: &mut NodeCore,
     disk: &mut NodeDisk<D>,
-    doubt: &mut Option<(Durable, u64)>,
-    found: &mut Option<u64>,
+    doubt: &mut Option<(Wanted, u64)>,
+    mounted: &mut Option<u64>,
     event: &Event,
 ) -> Result<Came, NodeFault>
     requires node { IsNode D.state id nodes core.old disk.old }
     ensures node { IsNode D.state id nodes core.new disk.new }
-    ensures step { IfOk result (Steps D.state (node_with id nodes core.old disk.old doubt.old found.old) (node_with id nodes core.new disk.new doubt.new found.new) event.now) }
-    ensures stuck { IfErr result (Stuck D.state (node_with id nodes core.old disk.old doubt.old found.old) (node_with id nodes core.new disk.new doubt.new found.new) event.now) }
-    ensures answers { Answers (node_with id nodes core.old disk.old doubt.old found.old) event.now (told result) }
-    ensures counts { CountsOf D.state (disk_in disk.old) (disk_in disk.new) (told result) }
+    ensures step { IfOk result (Steps D.state (node_with id nodes core.old disk.old doubt.old mounted.old) (node_with id nodes core.new disk.new doubt.new mounted.new) event.now) }
+    ensures stuck { IfErr result (Stuck D.state (node_with id nodes core.old disk.old doubt.old mounted.old) (node_with id nodes core.new disk.new doubt.new mounted.new) event.now) }
+    ensures answers { Answers (node_with id nodes core.old disk.old doubt.old mounted.old) event.now (answered result) }
+    ensures counts { CountsOf D.state (disk_in disk.old) (disk_in disk.new) (answered result) }
     ensures mounting { is_down core.old.state.phase ≡ true → event.now ≡ Event.Recover
-        → Remounted (node_with id nodes core.old disk.old doubt.old found.old) (node_with id nodes core.new disk.new doubt.new found.new) (told result) (found_in found.new (store_in disk.new)) }
-    ensures kept { is_down core.old.state.phase ≡ true → event.now ≡ Event.Recover → IfOk result (λ came. IsFoundBy doubt.old came.fate (found_in found.new (store_in disk.new))) }
-    ensures reads { is_down core.old.state.phase ≡ true → event.now ≡ Event.Recover → ReadsDisk D.state (disk_in disk.old) (disk_in disk.new) (told result) (found_in found.new (store_in disk.new)) }
+        → Remounted (node_with id nodes core.old disk.old doubt.old mounted.old) (node_with id nodes core.new disk.new doubt.new mounted.new) (answered result) (mounted_in mounted.new (store_in disk.new)) }
+    ensures kept { is_down core.old.state.phase ≡ true → event.now ≡ Event.Recover → IfOk result (λ came. IsMountedBy doubt.old came.fate (mounted_in mounted.new (store_in disk.new))) }
+    ensures reads { is_down core.old.state.phase ≡ true → event.now ≡ Event.Recover → ReadsDisk D.state (disk_in disk.old) (disk_in disk.new) (answered result) (mounted_in mounted.new (store_in disk.new)) }
     ensures few { IfOk result (λ came. length came.sent.items ≤ most_by nodes (kept_in (is_down core.old.state.phase) (store_in disk.old))) }
 {
     match disk {
         NodeDisk::Mounted(store) if !is_down(core) => {
-            *found = None;
+            *mounted = None;
             handle(alloc, id, nodes, core, store, doubt, event)
         }
-        _ => while_down(alloc, id, nodes, core, disk, doubt, found, event),
+        _ => while_down(alloc, id, nodes, core, disk, doubt, mounted, event),
     }
 }
 
@@ -58,27 +58,27 @@ fn while_down<D: SectorDisk + Drop>(
     nodes: u8,
     core: &mut NodeCore,
     disk: &mut NodeDisk<D>,
-    doubt: &mut Option<(Durable, u64)>,
-    found: &mut Option<u64>,
+    doubt: &mut Option<(Wanted, u64)>,
+    mounted: &mut Option<u64>,
     event: &Event,
 ) -> Result<Came, NodeFault>
     requires node { IsNode D.state id nodes core.old disk.old }
     requires down { is_down core.old.state.phase ≡ true }
     ensures node { IsNode D.state id nodes core.new disk.new }
-    ensures step { IfOk result (Steps D.state (node_with id nodes core.old disk.old doubt.old found.old) (node_with id nodes core.new disk.new doubt.new found.new) event.now) }
-    ensures stuck { IfErr result (Stuck D.state (node_with id nodes core.old disk.old doubt.old found.old) (node_with id nodes core.new disk.new doubt.new found.new) event.now) }
-    ensures answers { Answers (node_with id nodes core.old disk.old doubt.old found.old) event.now (told result) }
-    ensures counts { CountsOf D.state (disk_in disk.old) (disk_in disk.new) (told result) }
+    ensures step { IfOk result (Steps D.state (node_with id nodes core.old disk.old doubt.old mounted.old) (node_with id nodes core.new disk.new doubt.new mounted.new) event.now) }
+    ensures stuck { IfErr result (Stuck D.state (node_with id nodes core.old disk.old doubt.old mounted.old) (node_with id nodes core.new disk.new doubt.new mounted.new) event.now) }
+    ensures answers { Answers (node_with id nodes core.old disk.old doubt.old mounted.old) event.now (answered result) }
+    ensures counts { CountsOf D.state (disk_in disk.old) (disk_in disk.new) (answered result) }
     ensures mounting { event.now ≡ Event.Recover
-        → Remounted (node_with id nodes core.old disk.old doubt.old found.old) (node_with id nodes core.new disk.new doubt.new found.new) (told result) (found_in found.new (store_in disk.new)) }
-    ensures found { event.now ≡ Event.Recover
-        → IfOk result (λ came. IsFoundBy doubt.old came.fate (found_in found.new (store_in disk.new))) × ReadsDisk D.state (disk_in disk.old) (disk_in disk.new) (told result) (found_in found.new (store_in disk.new)) }
+        → Remounted (node_with id nodes core.old disk.old doubt.old mounted.old) (node_with id nodes core.new disk.new doubt.new mounted.new) (answered result) (mounted_in mounted.new (store_in disk.new)) }
+    ensures mounted { event.now ≡ Event.Recover
+        → IfOk result (λ came. IsMountedBy doubt.old came.fate (mounted_in mounted.new (store_in disk.new))) × ReadsDisk D.state (disk_in disk.old) (disk_in disk.new) (answered result) (mounted_in mounted.new (store_in disk.new)) }
     ensures few { IfOk result (λ came. length came.sent.items ≤ most_by nodes (kept_in (is_down core.old.state.phase) (store_in disk.old))) }
 {
     match event {
-        Event::Recover => remount(alloc, id, nodes, core, disk, doubt, found),
+        Event::Recover => remount(alloc, id, nodes, core, disk, doubt, mounted),
         _ => {
-            *found = None;
+            *mounted = None;
             ignore(alloc, core, disk, event)
         }
     }

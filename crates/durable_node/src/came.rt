@@ -1,4 +1,4 @@
-// What a call of a node tells.
+// What a call of a node answers.
 ghost use Rattle.std.specs.Prelude.{◌≡◌, option_map};
 ghost use Rattle.histories.specs.Fates.{attempt_of};
 ghost use Rattle.node_core.specs.Planned.{lent_by};
@@ -7,7 +7,7 @@ ghost use Rattle.durable_node.specs.Stepping.{IsSilent};
 
 use crate::fault::NodeFault;
 use histories::{Attempt, Fate, Refusal};
-use node_core::Wanted;
+use node_core::WantedRef;
 use std::alloc::Global;
 use wire_msg::Message;
 
@@ -53,7 +53,7 @@ impl Came {
     }
 }
 
-/// Why an event is refused, as a caller is told.
+/// Why an event is refused, as a caller is answered.
 pub(crate) fn shown(why: Refusal) -> NodeFault
     ensures { result ≡ shown why }
 {
@@ -64,14 +64,14 @@ pub(crate) fn shown(why: Refusal) -> NodeFault
     }
 }
 
-/// Which command an event wants, as it is told.
-pub(crate) fn attempt_in(wants: &Wanted<'_>) -> Option<Attempt>
+/// Which command an event wants, as it is answered.
+pub(crate) fn attempt_in(wants: &WantedRef<'_>) -> Option<Attempt>
     ensures { result ≡ option_map attempt_of (lent_by wants.now) }
 {
     match wants {
-        Wanted::None => None,
-        Wanted::Raise => Some(Attempt::Raise),
-        Wanted::Put(_) => Some(Attempt::Put),
-        Wanted::Done(id) => Some(Attempt::Done(*id)),
+        WantedRef::None => None,
+        WantedRef::Raise => Some(Attempt::Raise),
+        WantedRef::Put(_) => Some(Attempt::Put),
+        WantedRef::Done(id) => Some(Attempt::Done(*id)),
     }
 }

@@ -9,7 +9,7 @@ ghost use Rattle.durable_node.specs.Node.{area_of};
 ghost use Rattle.durable_node.specs.Refusing.{AnswersTo, disk_refusal};
 
 use crate::fault::{NodeFault, node_fault};
-use node_core::Wanted;
+use node_core::WantedRef;
 use node_store::{NodeStore, StoreFault};
 use sector_disk::SectorDisk;
 
@@ -17,7 +17,7 @@ use sector_disk::SectorDisk;
 #[inline(always)]
 pub(crate) fn carry<D: SectorDisk>(
     store: &mut NodeStore<D>,
-    wants: &Wanted<'_>,
+    wants: &WantedRef<'_>,
 ) -> Result<Option<u64>, NodeFault>
     requires ready { IsReady D.state store.old }
     requires pending { (id : ℕ) → lent_by wants.now ≡ Some (Done id) → is_pending (durable_of store.old).pending id ≡ true }
@@ -29,7 +29,7 @@ pub(crate) fn carry<D: SectorDisk>(
     ensures disk { Writes D.state store.old store.new (lent_by wants.now) (IsOk result) }
 {
     match wants {
-        Wanted::None => Ok(None),
+        WantedRef::None => Ok(None),
         _ => write(store, wants),
     }
 }
@@ -38,7 +38,7 @@ pub(crate) fn carry<D: SectorDisk>(
 #[inline(never)]
 fn write<D: SectorDisk>(
     store: &mut NodeStore<D>,
-    wants: &Wanted<'_>,
+    wants: &WantedRef<'_>,
 ) -> Result<Option<u64>, NodeFault>
     requires ready { IsReady D.state store.old }
     requires pending { (id : ℕ) → lent_by wants.now ≡ Some (Done id) → is_pending (durable_of store.old).pending id ≡ true }
@@ -50,13 +50,13 @@ fn write<D: SectorDisk>(
     ensures disk { Writes D.state store.old store.new (lent_by wants.now) (IsOk result) }
 {
     match wants {
-        Wanted::None => Ok(None),
-        Wanted::Raise => told(store.raise()),
-        Wanted::Put(work) => {
+        WantedRef::None => Ok(None),
+        WantedRef::Raise => node_answer(store.raise()),
+        WantedRef::Put(work) => {
             ids_fit(store);
-            told(store.put(**work))
+            node_answer(store.put(**work))
         }
-        Wanted::Done(id) => told(store.done(*id)),
+        WantedRef::Done(id) => node_answer(store.done(*id)),
     }
 }
 
@@ -67,8 +67,8 @@ fn ids_fit<D: SectorDisk>(store: &NodeStore<D>)
     let _ = store.table().next();
 }
 
-/// What the store answers, as the node tells it.
-fn told(answer: Result<u64, StoreFault>) -> Result<Option<u64>, NodeFault>
+/// What the store answers, as the node answers it.
+fn node_answer(answer: Result<u64, StoreFault>) -> Result<Option<u64>, NodeFault>
     ensures ok { IfOk answer (λ number. result ≡ Ok (Some number)) }
     ensures err { IfErr answer (λ fault. result ≡ Err (fault_for fault)) }
 {

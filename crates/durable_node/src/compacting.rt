@@ -13,7 +13,7 @@ use crate::advance::is_down;
 use crate::fault::{NodeFault, node_fault};
 use crate::node_disk::NodeDisk;
 use group_task::NodeId;
-use node_core::{CoreFault, Durable, NodeCore};
+use node_core::{CoreFault, NodeCore, Wanted};
 use node_store::NodeStore;
 use sector_disk::SectorDisk;
 use std::alloc::Global;
@@ -25,21 +25,21 @@ pub(crate) fn compact<D: SectorDisk>(
     nodes: u8,
     core: &mut NodeCore,
     disk: &mut NodeDisk<D>,
-    doubt: &Option<(Durable, u64)>,
-    found: &mut Option<u64>,
+    doubt: &Option<(Wanted, u64)>,
+    mounted: &mut Option<u64>,
 ) -> Result<(), NodeFault>
     requires node { IsNode D.state id nodes core.old disk.old }
     ensures node { IsNode D.state id nodes core.new disk.new }
     ensures answers { AnswersTo (compaction_refusal (area_in (is_down core.old.state.phase) (store_in disk.old))) result }
-    ensures step { Compacts D.state (node_with id nodes core.old disk.old doubt.now found.old) (node_with id nodes core.new disk.new doubt.now found.new) result }
-    ensures moved { IsOk result → IsMovedNode (node_with id nodes core.old disk.old doubt.now found.old) (node_with id nodes core.new disk.new doubt.now found.new) }
-    ensures fallen { IsErrOf result NodeFault.Device → IsFallenNode (node_with id nodes core.old disk.old doubt.now found.old) (node_with id nodes core.new disk.new doubt.now found.new) }
+    ensures step { Compacts D.state (node_with id nodes core.old disk.old doubt.now mounted.old) (node_with id nodes core.new disk.new doubt.now mounted.new) result }
+    ensures moved { IsOk result → IsMovedNode (node_with id nodes core.old disk.old doubt.now mounted.old) (node_with id nodes core.new disk.new doubt.now mounted.new) }
+    ensures fallen { IsErrOf result NodeFault.Device → IsFallenNode (node_with id nodes core.old disk.old doubt.now mounted.old) (node_with id nodes core.new disk.new doubt.now mounted.new) }
     ensures refused { IfErr result (λ fault. fault ≢ NodeFault.Device
-        → node_with id nodes core.new disk.new doubt.now found.new ≡ node_with id nodes core.old disk.old doubt.now None) }
-    ensures images { StaysKept D.state (node_with id nodes core.old disk.old doubt.now found.old) (node_with id nodes core.new disk.new doubt.now found.new) }
+        → node_with id nodes core.new disk.new doubt.now mounted.new ≡ node_with id nodes core.old disk.old doubt.now None) }
+    ensures images { StaysKept D.state (node_with id nodes core.old disk.old doubt.now mounted.old) (node_with id nodes core.new disk.new doubt.now mounted.new) }
     ensures counts { CountsOf D.state (disk_in disk.old) (disk_in disk.new) result }
 {
-    *found = None;
+    *mounted = None;
     match disk {
         NodeDisk::Mounted(store) if !is_down(core) => rewrite(alloc, id, nodes, core, store),
         _ => Err(NodeFault::Core(CoreFault::Down)),

@@ -19,13 +19,13 @@ pub enum NodeFault {
     Device,
     /// The disk was never formatted. Only a mounting answers this, and what follows.
     NotFormatted,
-    /// What is found with its body in this sector isn't allowed there.
+    /// What has its body in this sector isn't allowed there.
     Damaged(u64),
     /// The disk has too few sectors.
     TooSmall,
 }
 
-/// A fault of the store, as a node tells it.
+/// A fault of the store, as a node answers it.
 pub(crate) fn node_fault(fault: StoreFault) -> NodeFault
     ensures { result ≡ fault_for fault }
 {

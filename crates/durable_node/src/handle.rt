@@ -9,8 +9,8 @@ ghost use Rattle.node_core.specs.Wants.{wants_of};
 ghost use Rattle.node_store.specs.Store.{durable_of};
 ghost use Rattle.histories.specs.Fates.{attempt_of};
 ghost use Rattle.durable_node.specs.Carrying.{CantCarry, KeepsSound, Writes};
-ghost use Rattle.durable_node.specs.Faults.{told};
-ghost use Rattle.durable_node.specs.Node.{IsCoreOf, IsOver, area_of, told_doubt};
+ghost use Rattle.durable_node.specs.Faults.{answered};
+ghost use Rattle.durable_node.specs.Node.{IsCoreOf, IsOver, area_of, shown_doubt};
 ghost use Rattle.durable_node.specs.Refusing.{AnswersEvent, disk_refusal};
 ghost use Rattle.durable_node.specs.Stepping.{IsAsBefore, IsServed, command_by};
 
@@ -20,7 +20,7 @@ use crate::fault::NodeFault;
 use group_task::NodeId;
 use histories::{Fate, Refusal};
 use job_model::JobTable;
-use node_core::{CoreFault, Durable, Event, NodeCore, Plan, Wanted};
+use node_core::{CoreFault, Event, NodeCore, Plan, Wanted, WantedRef};
 use node_store::NodeStore;
 use sector_disk::SectorDisk;
 use std::alloc::Global;
@@ -34,7 +34,7 @@ pub(crate) fn handle<D: SectorDisk>(
     nodes: u8,
     core: &mut NodeCore,
     store: &mut NodeStore<D>,
-    doubt: &mut Option<(Durable, u64)>,
+    doubt: &mut Option<(Wanted, u64)>,
     event: &Event,
 ) -> Result<Came, NodeFault>
     requires over { IsOver D.state id nodes core.old store.old }
@@ -45,9 +45,9 @@ pub(crate) fn handle<D: SectorDisk>(
     ensures few { IfOk result (λ came. length came.sent.items ≤ most_of nodes (durable_of store.old).pending) }
     ensures stuck { IfErr result (λ fault. (fault ≡ NodeFault.Core NoMemory) × IsAsBefore core.old core.new store.old store.new doubt.old doubt.new) }
     ensures answers { AnswersEvent (refusal_of nodes id event.now core.old.state)
-        (disk_refusal (durable_of store.old) (area_of store.old) (wants_of id (durable_of store.old).pending event.now core.old.state)) (told result) }
-    ensures store { KeepsSound D.state store.old store.new (IsErrOf (told result) NodeFault.Device) }
-    ensures disk { Writes D.state store.old store.new (wants_of id (durable_of store.old).pending event.now core.old.state) (IsOk (told result)) }
+        (disk_refusal (durable_of store.old) (area_of store.old) (wants_of id (durable_of store.old).pending event.now core.old.state)) (answered result) }
+    ensures store { KeepsSound D.state store.old store.new (IsErrOf (answered result) NodeFault.Device) }
+    ensures disk { Writes D.state store.old store.new (wants_of id (durable_of store.old).pending event.now core.old.state) (IsOk (answered result)) }
 {
     let plan = match planned(alloc, core, event, store.table()) {
         Ok(plan) => plan,
@@ -102,8 +102,8 @@ fn planned(
     }
 }
 
-/// Why the disk can't take a command, by how it is told.
-fn refusal<D: SectorDisk>(store: &NodeStore<D>, wants: &Wanted<'_>, fault: NodeFault) -> Refusal
+/// Why the disk can't take a command, by how it is answered.
+fn refusal<D: SectorDisk>(store: &NodeStore<D>, wants: &WantedRef<'_>, fault: NodeFault) -> Refusal
     ensures { (slots : ℕ) (cant : CantCarry slots (durable_of store.now) (lent_by wants.now) fault) → result ≡ cant.why }
 {
     match fault {
@@ -114,13 +114,13 @@ fn refusal<D: SectorDisk>(store: &NodeStore<D>, wants: &Wanted<'_>, fault: NodeF
 }
 
 /// Whether the numbers that a command takes are used up.
-fn is_spent<D: SectorDisk>(store: &NodeStore<D>, wants: &Wanted<'_>) -> bool
+fn is_spent<D: SectorDisk>(store: &NodeStore<D>, wants: &WantedRef<'_>) -> bool
     ensures { IsTrue result ↔ IsSpent (durable_of store.now) (lent_by wants.now) }
 {
     match wants {
-        Wanted::Raise => store.counter() == u64::MAX,
-        Wanted::Put(_) => store.table().next() == u64::MAX,
-        Wanted::None | Wanted::Done(_) => false,
+        WantedRef::Raise => store.counter() == u64::MAX,
+        WantedRef::Put(_) => store.table().next() == u64::MAX,
+        WantedRef::None | WantedRef::Done(_) => false,
     }
 }
 
@@ -129,15 +129,15 @@ fn is_spent<D: SectorDisk>(store: &NodeStore<D>, wants: &Wanted<'_>) -> bool
 #[inline(never)]
 fn put_in_doubt<D: SectorDisk>(
     store: &NodeStore<D>,
-    wants: &Wanted<'_>,
-    doubt: &mut Option<(Durable, u64)>,
+    wants: &WantedRef<'_>,
+    doubt: &mut Option<(Wanted, u64)>,
 )
-    ensures { doubt.new ≡ told_doubt (durable_of store.now) (lent_by wants.now) }
+    ensures { doubt.new ≡ shown_doubt (durable_of store.now) (lent_by wants.now) }
 {
     *doubt = match wants {
-        Wanted::None => None,
-        Wanted::Raise => Some((Durable::Raise, store.counter())),
-        Wanted::Put(work) => Some((Durable::Put(**work), store.table().next())),
-        Wanted::Done(id) => Some((Durable::Done(*id), store.table().next())),
+        WantedRef::None => None,
+        WantedRef::Raise => Some((Wanted::Raise, store.counter())),
+        WantedRef::Put(work) => Some((Wanted::Put(**work), store.table().next())),
+        WantedRef::Done(id) => Some((Wanted::Done(*id), store.table().next())),
     };
 }

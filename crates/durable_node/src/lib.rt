@@ -1,6 +1,6 @@
 //! A node over its disk.
 //!
-//! [`DurableNode`] joins the state machine of a node with the store on its disk. Each call tells one entry of the node's history,
+//! [`DurableNode`] joins the state machine of a node with the store on its disk. Each call answers one entry of the node's history,
 //! as the crate `histories` defines it: the list of what came of a node's events, crashes and recoveries. The laws of all
 //! histories, which stand there, so hold of every node.
 #![tactic(auto)]

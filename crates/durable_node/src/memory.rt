@@ -39,7 +39,7 @@ impl DurableNode<MemDisk> {
         ensures opens { IfOk result (λ node. Stands state_of node (opening id)) }
         ensures sectors { IfOk result (λ node. (disk : Memory) → node.disk ≡ Some disk → (state_of disk).sectors ≡ 8 + 4 * slots) }
         ensures failures { IfOk result (λ node. (disk : Memory) → node.disk ≡ Some disk → disk.failures ≡ 0) }
-        ensures found { IfOk result (λ node. node.found ≡ None) }
+        ensures mounted { IfOk result (λ node. node.mounted ≡ None) }
     {
         let disk = formatted_disk(alloc, slots)?;
         DurableNode::open_on(alloc, id, nodes, disk)
@@ -61,7 +61,7 @@ impl DurableNode<MemDisk> {
         ensures opens { IfOk result (λ node. Stands state_of node (opening id)) }
         ensures sectors { IfOk result (λ node. (held : Memory) → node.disk ≡ Some held → (state_of held).sectors ≡ (state_of disk.now).sectors) }
         ensures failures { IfOk result (λ node. (held : Memory) → node.disk ≡ Some held → held.failures ≡ 0) }
-        ensures found { IfOk result (λ node. node.found ≡ None) }
+        ensures mounted { IfOk result (λ node. node.mounted ≡ None) }
     {
         let copy = disk.copy(alloc)?;
         DurableNode::open_on(alloc, id, nodes, copy)
@@ -82,7 +82,7 @@ impl DurableNode<MemDisk> {
         ensures opens { IfOk result (λ node. Stands state_of node (opening id)) }
         ensures sectors { IfOk result (λ node. (held : Memory) → node.disk ≡ Some held → (state_of held).sectors ≡ (state_of disk).sectors) }
         ensures failures { IfOk result (λ node. (held : Memory) → node.disk ≡ Some held → held.failures ≡ 0) }
-        ensures found { IfOk result (λ node. node.found ≡ None) }
+        ensures mounted { IfOk result (λ node. node.mounted ≡ None) }
     {
         let mut node = DurableNode::down(alloc, id, nodes, disk);
         let Ok(came) = node.recover() else {
@@ -91,17 +91,17 @@ impl DurableNode<MemDisk> {
         let Fate::Recovered(_) = came.fate else {
             return Err(AllocError);
         };
-        node.found = None;
+        node.mounted = None;
         Ok(node)
     }
 
     /// Lets so many more calls of the disk pass, and fails all later ones, until it is armed anew or crashes.
     pub fn arm(&mut self, calls: u64)
-        ensures armed { self.new ≡ record self.old { disk = armed_disk calls self.old.disk; found = None } }
+        ensures armed { self.new ≡ record self.old { disk = armed_disk calls self.old.disk; mounted = None } }
         ensures stands { (s : NodeState) → Stands state_of self.old s → Stands state_of self.new s }
     {
         self.disk.arm(calls);
-        self.found = None;
+        self.mounted = None;
     }
 
     /// Lets the disk forget the moments before this one, as [`MemDisk::forget`] does.
@@ -116,7 +116,7 @@ impl DurableNode<MemDisk> {
     /// [`MemDisk::crash`] says. What is in doubt stays in doubt.
     pub fn crash(&mut self, fill: &[u8])
         ensures there { IsSome self.old.disk }
-        ensures down { self.new ≡ record self.old { state = down self.old.id; disk = self.new.disk; kept = None; area = None; found = None } }
+        ensures down { self.new ≡ record self.old { state = down self.old.id; disk = self.new.disk; kept = None; area = None; mounted = None } }
         ensures disk { (was now : Memory) → self.old.disk ≡ Some was → self.new.disk ≡ Some now
             → IsCrashed was fill.now now.contents × (now ≡ all_synced now.contents was.failures) }
         ensures stands { (s : NodeState) → Stands state_of self.old s → Stands state_of self.new (after self.old.id self.old.nodes s Crashed) }
@@ -125,7 +125,7 @@ impl DurableNode<MemDisk> {
         disk.crash(fill);
         self.disk = NodeDisk::Bare(disk);
         self.core = NodeCore::down(self.alloc, self.id, self.nodes);
-        self.found = None;
+        self.mounted = None;
     }
 }
 

@@ -7,10 +7,10 @@ ghost use Rattle.node_core.specs.Start.{down};
 ghost use Rattle.node_core.specs.State.{state_of, is_down};
 ghost use Rattle.node_store.specs.Store.{slots_for};
 ghost use Rattle.durable_node.specs.Compacting.{Compacts, StaysKept, IsMovedNode, IsFallenNode};
-ghost use Rattle.durable_node.specs.Faults.{told};
+ghost use Rattle.durable_node.specs.Faults.{answered};
 ghost use Rattle.durable_node.specs.Reading.{ReadsDisk};
 ghost use Rattle.durable_node.specs.Refusing.{Answers, AnswersTo, compaction_refusal};
-ghost use Rattle.durable_node.specs.Remounting.{IsFoundBy, Remounted};
+ghost use Rattle.durable_node.specs.Remounting.{IsMountedBy, Remounted};
 ghost use Rattle.durable_node.specs.Stepping.{CountsOf, Steps, Stuck, most_by};
 
 use crate::advance::{advance, is_down};
@@ -20,7 +20,7 @@ use crate::fault::NodeFault;
 use crate::node_disk::NodeDisk;
 use group_task::NodeId;
 use job_model::JobTable;
-use node_core::{Durable, Event, NodeCore, Vector};
+use node_core::{Event, NodeCore, Vector, Wanted};
 use sector_disk::SectorDisk;
 use std::alloc::Global;
 use std::marker::Model;
@@ -34,7 +34,7 @@ use std::marker::Model;
 /// 3. The change is made, and only now the messages are handed out.
 ///
 /// Where the device fails in the second step, the node is Down and nothing is sent: whether the command is on the disk is
-/// in doubt, until a recovery mounts the disk and finds out.
+/// in doubt, until a recovery mounts the disk.
 #[derive(Drop)]
 pub struct DurableNode<D: SectorDisk> {
     pub(crate) alloc: Global,
@@ -42,9 +42,9 @@ pub struct DurableNode<D: SectorDisk> {
     pub(crate) nodes: u8,
     pub(crate) core: NodeCore,
     pub(crate) disk: NodeDisk<D>,
-    pub(crate) doubt: Option<(Durable, u64)>,
-    // The counter that the last call found by mounting.
-    pub(crate) found: Option<u64>,
+    pub(crate) doubt: Option<(Wanted, u64)>,
+    // The counter that the last call mounted.
+    pub(crate) mounted: Option<u64>,
 }
 
 impl<D: SectorDisk> Model for DurableNode<D> {
@@ -52,7 +52,7 @@ impl<D: SectorDisk> Model for DurableNode<D> {
 
     ghost Value = { Node D };
 
-    ghost view = { λ a. node_with a.id a.nodes a.core a.disk a.doubt a.found };
+    ghost view = { λ a. node_with a.id a.nodes a.core a.disk a.doubt a.mounted };
 
     ghost invariant = { λ a. IsNode D.state a.id a.nodes a.core a.disk };
 }
@@ -63,7 +63,7 @@ impl<D: SectorDisk> DurableNode<D> {
         requires within { id < nodes }
         requires most { nodes ≤ NODES }
         requires sound { IsSound (slots_for (D.state disk).sectors) (D.state disk) }
-        ensures { result ≡ record { id = id; nodes = nodes; state = down id; disk = Some disk; kept = None; area = None; doubt = None; found = None } }
+        ensures { result ≡ record { id = id; nodes = nodes; state = down id; disk = Some disk; kept = None; area = None; doubt = None; mounted = None } }
     {
         DurableNode {
             alloc,
@@ -72,7 +72,7 @@ impl<D: SectorDisk> DurableNode<D> {
             core: NodeCore::down(alloc, id, nodes),
             disk: NodeDisk::Bare(disk),
             doubt: None,
-            found: None,
+            mounted: None,
         }
     }
 
@@ -104,13 +104,13 @@ impl<D: SectorDisk> DurableNode<D> {
         }
     }
 
-    /// What the last call that could change the node mounted: the counter from before the raise, and the jobs. It is told
+    /// What the last call that could change the node mounted: the counter from before the raise, and the jobs. It is shown
     /// also where that raise was refused or failed. None where that call mounted nothing.
     pub fn mounted(&self) -> Option<(u64, &JobTable)>
-        ensures some { IfSome result (λ shown. self.now.found ≡ Some (durable_of shown.0 shown.1.now)) }
-        ensures none { IsNone result → self.now.found ≡ None }
+        ensures some { IfSome result (λ shown. self.now.mounted ≡ Some (durable_of shown.0 shown.1.now)) }
+        ensures none { IsNone result → self.now.mounted ≡ None }
     {
-        match (self.found, &self.disk) {
+        match (self.mounted, &self.disk) {
             (Some(count), NodeDisk::Mounted(store)) => Some((count, store.table())),
             _ => None,
         }
@@ -129,7 +129,7 @@ impl<D: SectorDisk> DurableNode<D> {
 
     /// The command in which the device failed, with the count, or for a job the next id, from before it. It is kept until a
     /// recovery settles it; one that is refused, or whose mounting fails, doesn't.
-    pub fn doubt(&self) -> Option<(Durable, u64)>
+    pub fn doubt(&self) -> Option<(Wanted, u64)>
         ensures { result ≡ self.now.doubt }
     {
         self.doubt
@@ -153,12 +153,12 @@ impl<D: SectorDisk + Drop> DurableNode<D> {
         // What came of it, the command that was tried with its answer, and the messages.
         ensures step { IfOk result (Steps D.state self.old self.new event.now) }
         ensures stuck { IfErr result (Stuck D.state self.old self.new event.now) }
-        ensures answers { Answers self.old event.now (told result) }
-        ensures counts { CountsOf D.state self.old.disk self.new.disk (told result) }
+        ensures answers { Answers self.old event.now (answered result) }
+        ensures counts { CountsOf D.state self.old.disk self.new.disk (answered result) }
         // Over any disk, honest or not.
-        ensures mounting { is_down self.old.state.phase ≡ true → event.now ≡ Event.Recover → Remounted self.old self.new (told result) self.new.found }
-        ensures kept { is_down self.old.state.phase ≡ true → event.now ≡ Event.Recover → IfOk result (λ came. IsFoundBy self.old.doubt came.fate self.new.found) }
-        ensures reads { is_down self.old.state.phase ≡ true → event.now ≡ Event.Recover → ReadsDisk D.state self.old.disk self.new.disk (told result) self.new.found }
+        ensures mounting { is_down self.old.state.phase ≡ true → event.now ≡ Event.Recover → Remounted self.old self.new (answered result) self.new.mounted }
+        ensures kept { is_down self.old.state.phase ≡ true → event.now ≡ Event.Recover → IfOk result (λ came. IsMountedBy self.old.doubt came.fate self.new.mounted) }
+        ensures reads { is_down self.old.state.phase ≡ true → event.now ≡ Event.Recover → ReadsDisk D.state self.old.disk self.new.disk (answered result) self.new.mounted }
         ensures few { IfOk result (λ came. length came.sent.items ≤ most_by self.old.nodes self.old.kept) }
     {
         advance(
@@ -168,7 +168,7 @@ impl<D: SectorDisk + Drop> DurableNode<D> {
             &mut self.core,
             &mut self.disk,
             &mut self.doubt,
-            &mut self.found,
+            &mut self.mounted,
             event,
         )
     }
@@ -180,11 +180,11 @@ impl<D: SectorDisk + Drop> DurableNode<D> {
         // What came of it, the command that was tried with its answer, and the messages.
         ensures step { IfOk result (Steps D.state self.old self.new Event.Recover) }
         ensures stuck { IfErr result (Stuck D.state self.old self.new Event.Recover) }
-        ensures answers { Answers self.old Event.Recover (told result) }
-        ensures counts { CountsOf D.state self.old.disk self.new.disk (told result) }
-        ensures mounting { is_down self.old.state.phase ≡ true → Remounted self.old self.new (told result) self.new.found }
-        ensures kept { is_down self.old.state.phase ≡ true → IfOk result (λ came. IsFoundBy self.old.doubt came.fate self.new.found) }
-        ensures reads { is_down self.old.state.phase ≡ true → ReadsDisk D.state self.old.disk self.new.disk (told result) self.new.found }
+        ensures answers { Answers self.old Event.Recover (answered result) }
+        ensures counts { CountsOf D.state self.old.disk self.new.disk (answered result) }
+        ensures mounting { is_down self.old.state.phase ≡ true → Remounted self.old self.new (answered result) self.new.mounted }
+        ensures kept { is_down self.old.state.phase ≡ true → IfOk result (λ came. IsMountedBy self.old.doubt came.fate self.new.mounted) }
+        ensures reads { is_down self.old.state.phase ≡ true → ReadsDisk D.state self.old.disk self.new.disk (answered result) self.new.mounted }
         ensures few { IfOk result (λ came. length came.sent.items ≤ most_by self.old.nodes self.old.kept) }
     {
         self.step(&Event::Recover)
@@ -202,7 +202,7 @@ impl<D: SectorDisk + Drop> DurableNode<D> {
         ensures step { Compacts D.state self.old self.new result }
         ensures moved { IsOk result → IsMovedNode self.old self.new }
         ensures fallen { IsErrOf result NodeFault.Device → IsFallenNode self.old self.new }
-        ensures refused { IfErr result (λ fault. fault ≢ NodeFault.Device → self.new ≡ record self.old { found = None }) }
+        ensures refused { IfErr result (λ fault. fault ≢ NodeFault.Device → self.new ≡ record self.old { mounted = None }) }
         ensures images { StaysKept D.state self.old self.new }
         ensures counts { CountsOf D.state self.old.disk self.new.disk result }
     {
@@ -213,7 +213,7 @@ impl<D: SectorDisk + Drop> DurableNode<D> {
             &mut self.core,
             &mut self.disk,
             &self.doubt,
-            &mut self.found,
+            &mut self.mounted,
         )
     }
 

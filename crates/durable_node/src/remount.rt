@@ -5,10 +5,10 @@ ghost use Rattle.node_core.specs.State.{is_down};
 ghost use Rattle.node_store.specs.Store.{durable_of};
 ghost use Rattle.histories.specs.Fates.{attempt_of};
 ghost use Rattle.durable_node.specs.Carrying.{KeepsSound, Writes};
-ghost use Rattle.durable_node.specs.Faults.{told};
-ghost use Rattle.durable_node.specs.Node.{disk_in, store_in, found_in, IsCoreOf, IsNode, IsOver, node_with};
+ghost use Rattle.durable_node.specs.Faults.{answered};
+ghost use Rattle.durable_node.specs.Node.{disk_in, store_in, mounted_in, IsCoreOf, IsNode, IsOver, node_with};
 ghost use Rattle.durable_node.specs.Reading.{ReadsDisk};
-ghost use Rattle.durable_node.specs.Remounting.{HasRisen, IsFoundBy, IsKeptIn, Remounted, raise_by};
+ghost use Rattle.durable_node.specs.Remounting.{HasRisen, IsMountedBy, IsKeptIn, Remounted, raise_by};
 ghost use Rattle.durable_node.specs.Stepping.{CountsOf, IsSilent, Steps, Stuck};
 
 use crate::came::Came;
@@ -17,7 +17,7 @@ use crate::fault::{NodeFault, node_fault};
 use crate::node_disk::NodeDisk;
 use group_task::NodeId;
 use histories::{Attempt, Fate};
-use node_core::{Durable, NodeCore, Wanted};
+use node_core::{NodeCore, Wanted, WantedRef};
 use node_store::NodeStore;
 use sector_disk::SectorDisk;
 use std::alloc::Global;
@@ -29,38 +29,38 @@ pub(crate) fn remount<D: SectorDisk + Drop>(
     nodes: u8,
     core: &mut NodeCore,
     disk: &mut NodeDisk<D>,
-    doubt: &mut Option<(Durable, u64)>,
-    found: &mut Option<u64>,
+    doubt: &mut Option<(Wanted, u64)>,
+    mounted: &mut Option<u64>,
 ) -> Result<Came, NodeFault>
     requires node { IsNode D.state id nodes core.old disk.old }
     requires down { is_down core.old.state.phase ≡ true }
     ensures node { IsNode D.state id nodes core.new disk.new }
-    ensures step { IfOk result (Steps D.state (node_with id nodes core.old disk.old doubt.old found.old) (node_with id nodes core.new disk.new doubt.new found.new) Recover) }
-    ensures stuck { IfErr result (Stuck D.state (node_with id nodes core.old disk.old doubt.old found.old) (node_with id nodes core.new disk.new doubt.new found.new) Recover) }
-    ensures counts { CountsOf D.state (disk_in disk.old) (disk_in disk.new) (told result) }
-    ensures mounting { Remounted (node_with id nodes core.old disk.old doubt.old found.old) (node_with id nodes core.new disk.new doubt.new found.new) (told result) (found_in found.new (store_in disk.new)) }
-    ensures kept { IfOk result (λ came. IsFoundBy doubt.old came.fate (found_in found.new (store_in disk.new))) }
-    ensures reads { ReadsDisk D.state (disk_in disk.old) (disk_in disk.new) (told result) (found_in found.new (store_in disk.new)) }
+    ensures step { IfOk result (Steps D.state (node_with id nodes core.old disk.old doubt.old mounted.old) (node_with id nodes core.new disk.new doubt.new mounted.new) Recover) }
+    ensures stuck { IfErr result (Stuck D.state (node_with id nodes core.old disk.old doubt.old mounted.old) (node_with id nodes core.new disk.new doubt.new mounted.new) Recover) }
+    ensures counts { CountsOf D.state (disk_in disk.old) (disk_in disk.new) (answered result) }
+    ensures mounting { Remounted (node_with id nodes core.old disk.old doubt.old mounted.old) (node_with id nodes core.new disk.new doubt.new mounted.new) (answered result) (mounted_in mounted.new (store_in disk.new)) }
+    ensures kept { IfOk result (λ came. IsMountedBy doubt.old came.fate (mounted_in mounted.new (store_in disk.new))) }
+    ensures reads { ReadsDisk D.state (disk_in disk.old) (disk_in disk.new) (answered result) (mounted_in mounted.new (store_in disk.new)) }
     ensures quiet { IfOk result (λ came. came.sent.items ≡ []) }
 {
-    let mut mounted = match NodeStore::mount(alloc, disk.take()) {
-        Ok(mounted) => mounted,
+    let mut store = match NodeStore::mount(alloc, disk.take()) {
+        Ok(store) => store,
         Err(refused) => {
             *disk = NodeDisk::Bare(refused.disk);
-            *found = None;
+            *mounted = None;
             return unmounted(alloc, node_fault(refused.fault));
         }
     };
-    *found = Some(mounted.counter());
-    let kept = is_in(doubt, &mounted);
-    let came = rise(alloc, id, nodes, core, &mut mounted, doubt, kept);
-    *disk = NodeDisk::Mounted(mounted);
+    *mounted = Some(store.counter());
+    let kept = is_in(doubt, &store);
+    let came = rise(alloc, id, nodes, core, &mut store, doubt, kept);
+    *disk = NodeDisk::Mounted(store);
     Ok(came)
 }
 
 /// What came of a disk that can't be mounted.
 fn unmounted(alloc: Global, fault: NodeFault) -> Result<Came, NodeFault>
-    ensures told { told result ≡ Err fault }
+    ensures answered { answered result ≡ Err fault }
     ensures stuck { IfErr result (λ why. (why ≡ fault) × (fault ≢ NodeFault.Device)) }
     ensures what { IfOk result (λ came. (came.fate ≡ Fate.MountFailed) × (fault ≡ NodeFault.Device)) }
     ensures quiet { IfOk result IsSilent }
@@ -78,36 +78,36 @@ fn unmounted(alloc: Global, fault: NodeFault) -> Result<Came, NodeFault>
 }
 
 /// Whether the command in doubt is in what was mounted: the count or the next id went on, or the job is gone.
-fn is_in<D: SectorDisk>(doubt: &Option<(Durable, u64)>, mounted: &NodeStore<D>) -> bool
-    ensures kept { IsKeptIn doubt.now (durable_of mounted.now) result }
+fn is_in<D: SectorDisk>(doubt: &Option<(Wanted, u64)>, store: &NodeStore<D>) -> bool
+    ensures kept { IsKeptIn doubt.now (durable_of store.now) result }
 {
     match doubt {
-        Some((Durable::Raise, count)) => mounted.counter() != *count,
-        Some((Durable::Put(_), next)) => mounted.table().next() != *next,
-        Some((Durable::Done(id), _)) => !mounted.table().contains(*id),
-        Some((Durable::None, _)) | None => false,
+        Some((Wanted::Raise, count)) => store.counter() != *count,
+        Some((Wanted::Put(_), next)) => store.table().next() != *next,
+        Some((Wanted::Done(id), _)) => !store.table().contains(*id),
+        Some((Wanted::None, _)) | None => false,
     }
 }
 
-/// Raises the counter that was found.
+/// Raises the counter that was mounted.
 fn rise<D: SectorDisk>(
     alloc: Global,
     id: NodeId,
     nodes: u8,
     core: &mut NodeCore,
     store: &mut NodeStore<D>,
-    doubt: &mut Option<(Durable, u64)>,
+    doubt: &mut Option<(Wanted, u64)>,
     kept: bool,
 ) -> Came
     requires over { IsOver D.state id nodes core.old store.old }
     ensures core { IsCoreOf id nodes core.new }
     ensures what { HasRisen id kept core.old core.new store.old store.new doubt.old doubt.new result result.fate }
     ensures tried { result.tried ≡ option_map attempt_of (raise_by result.fate) }
-    ensures store { KeepsSound D.state store.old store.new (IsErrOf (told (Ok result)) NodeFault.Device) }
-    ensures disk { Writes D.state store.old store.new (Some Raise) (IsOk (told (Ok result))) }
+    ensures store { KeepsSound D.state store.old store.new (IsErrOf (answered (Ok result)) NodeFault.Device) }
+    ensures disk { Writes D.state store.old store.new (Some Raise) (IsOk (answered (Ok result))) }
 {
     let count = store.counter();
-    match carry(store, &Wanted::Raise) {
+    match carry(store, &WantedRef::Raise) {
         Ok(answer) => {
             *core = NodeCore::new(alloc, id, nodes, store.counter());
             *doubt = None;
@@ -119,7 +119,7 @@ fn rise<D: SectorDisk>(
             }
         }
         Err(NodeFault::Device) => {
-            *doubt = Some((Durable::Raise, count));
+            *doubt = Some((Wanted::Raise, count));
             Came {
                 fate: Fate::RaiseFailed(kept),
                 tried: Some(Attempt::Raise),

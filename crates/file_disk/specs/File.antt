@@ -19,14 +19,14 @@ pub record FileState : Type 0 where
   -- how many calls have failed
   pub failures : ℕ
 
--- No contract knows what a file does, so the disk isn't honest: nothing is said of what reads give, and no sector counts as settled.
+-- No contract knows what a file does, so the disk isn't honest: nothing is said of what reads give, and no sector counts as synced.
 abbrev pub state_of : FileState → DiskState
 state_of disk = record {
   sectors = disk.sectors;
   failures = disk.failures;
   honest = false;
   contents = [];
-  settled = nothing;
+  synced = nothing;
   moment = 0;
   left_since = λ _ _. ⊥;
 }

@@ -1,13 +1,13 @@
 // A disk of sectors over a file.
 ghost use Rattle.std.specs.Prelude.{◌≡◌, ◌≤◌, ◌<◌, ◌↔◌, ◌*◌, ◌/◌, ◌^◌, IsOk, IsErrOf, IfOk, IsOkUnless, IsTrue, false, true};
-ghost use Rattle.sector_disk.specs.Disk.{Counts, Touches, AllSettled, nothing, sector_at};
+ghost use Rattle.sector_disk.specs.Disk.{Counts, Touches, AllSynced, nothing, sector_at};
 ghost use Rattle.sector_disk.specs.Memory.{risen};
 ghost use Rattle.sector_disk.specs.declared.fault.DiskFault.TheVariants.{Device, OutOfRange};
 ghost use Rattle.file_disk.specs.declared.stride.Stride.TheVariants.{Packed};
 ghost use Rattle.file_disk.specs.File.{state_of, unfailed, bytes_of, laws};
 
 use crate::fault::OpenFault;
-use crate::making::{Found, made, opened};
+use crate::making::{Existing, made, opened};
 use crate::places::{overwrite, read_at};
 use crate::stride::Stride;
 use sector_disk::{DiskFault, Sector, SectorDisk};
@@ -57,7 +57,7 @@ impl FileDisk {
         // No file is so long.
         ensures too_long { 2 ^ 63 ≤ sectors * 512 → IsErrOf result OpenFault.Device }
     {
-        make(rt, path, sectors, Stride::Packed, Found::Replaced)
+        make(rt, path, sectors, Stride::Packed, Existing::Replaced)
     }
 
     /// As [`FileDisk::create`], with sectors so far apart, and only where there is nothing of this name: else `Exists`, and what is there is left
@@ -71,18 +71,18 @@ impl FileDisk {
         ensures ok { IfOk result (λ disk. disk ≡ unfailed sectors stride) }
         ensures too_long { 2 ^ 63 ≤ sectors * bytes_of stride → IsErrOf result OpenFault.Device }
     {
-        make(rt, path, sectors, stride, Found::Refused)
+        make(rt, path, sectors, stride, Existing::Refused)
     }
 
     /// Opens a file as a disk of the whole sectors that it has: 512 bytes each, and what is left at its end belongs to none. Refused where the
-    /// file can't be opened to read and write, or be locked, or its length isn't told.
+    /// file can't be opened to read and write, or be locked, or its length isn't known.
     pub fn open<P: AsPath>(rt: &impl Files<File = File>, path: P) -> Result<FileDisk, OpenFault>
         ensures ok { IfOk result (λ disk. disk ≡ unfailed disk.sectors Packed) }
     {
         FileDisk::open_with(rt, path, Stride::Packed)
     }
 
-    /// As [`FileDisk::open`], with sectors so far apart: as far as they were when the file was made, which the file doesn't tell.
+    /// As [`FileDisk::open`], with sectors so far apart: as far as they were when the file was made, which the file doesn't say.
     pub fn open_with<P: AsPath>(
         rt: &impl Files<File = File>,
         path: P,
@@ -188,7 +188,7 @@ impl SectorDisk for FileDisk {
         ensures counts { Counts (state_of self.old) (state_of self.new) (IsErrOf result Device) (IsOk result) }
         ensures refused { IsErrOf result OutOfRange ↔ ⊥ }
         ensures touches { IsTrue false → Touches nothing (state_of self.old) (state_of self.new) }
-        ensures settles { IsTrue false → IsOk result → AllSettled (state_of self.new) }
+        ensures syncs_all { IsTrue false → IsOk result → AllSynced (state_of self.new) }
 
         // Each sync that fails is counted once, and spends the disk.
         ensures spent { IsTrue self.old.spent → IsErrOf result Device }
@@ -208,7 +208,7 @@ fn make<P: AsPath>(
     path: P,
     sectors: u64,
     stride: Stride,
-    found: Found,
+    existing: Existing,
 ) -> Result<FileDisk, OpenFault>
     ensures ok { IfOk result (λ disk. disk ≡ unfailed sectors stride) }
     ensures too_long { 2 ^ 63 ≤ sectors * bytes_of stride → IsErrOf result OpenFault.Device }
@@ -216,7 +216,7 @@ fn make<P: AsPath>(
     let Some(length) = sectors.checked_mul(stride.bytes()) else {
         return Err(OpenFault::Device);
     };
-    let file = made(rt, path, length, found)?;
+    let file = made(rt, path, length, existing)?;
     Ok(over(file, length, stride))
 }
 

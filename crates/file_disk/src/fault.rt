@@ -14,7 +14,7 @@ pub enum OpenFault {
     /// Another disk holds the file's lock, in this process or in another one.
     #[error("the file is locked by another disk")]
     Locked,
-    /// `create_new` found something of this name.
+    /// Something of this name is there, where `create_new` was asked for.
     #[error("the file exists")]
     Exists,
     /// There is no file of this name, or no folder to make it in.
@@ -26,7 +26,7 @@ pub enum OpenFault {
     /// A folder, a pipe, a terminal or another device.
     #[error("not a regular file")]
     NotAFile,
-    /// Whatever else the system tells: a length that no file can have, no room, a device that failed.
+    /// Whatever else the system answers: a length that no file can have, no room, a device that failed.
     #[error("the device failed")]
     Device,
 }

@@ -10,7 +10,7 @@ use std::path::{AsPath, Path};
 
 /// What is done where something of the name is there already.
 #[derive(Clone, Copy, PartialEq, Eq)]
-pub enum Found {
+pub enum Existing {
     Replaced,
     Refused,
 }
@@ -22,7 +22,7 @@ pub fn made<P: AsPath>(
     rt: &impl Files<File = File>,
     path: P,
     length: u64,
-    found: Found,
+    existing: Existing,
 ) -> Result<File, OpenFault>
     ensures too_long { 2 ^ 63 ≤ length → IsErrOf result Device }
 {
@@ -31,9 +31,9 @@ pub fn made<P: AsPath>(
     }
     let mut options = File::options();
     options.read(true).write(true);
-    match found {
-        Found::Replaced => options.create(true),
-        Found::Refused => options.create_new(true),
+    match existing {
+        Existing::Replaced => options.create(true),
+        Existing::Refused => options.create_new(true),
     };
     let mut file = locked(options.open(rt, &path)?)?;
     file.set_len(length)?;

@@ -1,4 +1,4 @@
--- Which command was tried is told without the work of a job, and with the event it is the whole command.
+-- Which command was tried is said without the work of a job, and with the event it is the whole command.
 use Rattle.std.proofs.Common.{◌≡◌, ◌∙◌, ℕ, List, refl, ap, Option, Some, None, option_map}
 use Rattle.job_model.specs.declared.job.Job.{Job}
 use Rattle.job_model.specs.declared.work.Work.{Work}
@@ -12,7 +12,7 @@ use Rattle.histories.specs.declared.attempt.Attempt.TheVariants as attempt
 use Rattle.histories.specs.Fates.{IsTriedAt, attempt_of, command_for, command_with, work_of}
 use Rattle.histories.proofs.Wanted.{MayWant, wants_none, raises, puts, ends, may_want}
 
--- what is told of a command, with this work beside it, is all of it
+-- what is said of a command, with this work beside it, is all of it
 abbrev IsWhole : Option Work → Option Command → Type 0
 IsWhole work command = command_with work (option_map attempt_of command) ≡ command
 

@@ -64,7 +64,7 @@ raises (Some Raise) = 1
 raises (Some (Put work)) = 0
 raises (Some (Done id)) = 0
 
--- the greatest counter that a mounting may find
+-- the greatest counter that a mounting may give
 abbrev pub highest : NodeState → ℕ
 highest s = s.durable.counter + raises s.doubt
 

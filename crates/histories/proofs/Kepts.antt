@@ -15,7 +15,7 @@ use Rattle.histories.specs.Possible.{Takes, IsSettling, IsPossible}
 use Rattle.histories.specs.History.{Follows}
 use Rattle.histories.specs.Kept.{CountsOnce, Mounting, counted, stands_after}
 use Rattle.histories.specs.declared.tried.Tried.{Tried}
-use Rattle.histories.specs.Marks.{Mark, Acknowledged, Unanswered, Mounted, commands_of, mountings_of, MayFind, IsNone, KeptFrom, StepByStep, EachKept, marks_at, marks_from, marks_of, tried_marks, failed_marks}
+use Rattle.histories.specs.Marks.{Mark, Acknowledged, Unanswered, Mounted, commands_of, mountings_of, MayMount, IsNone, KeptFrom, StepByStep, EachKept, marks_at, marks_from, marks_of, tried_marks, failed_marks}
 use Rattle.histories.proofs.Downs.{at_down}
 use Rattle.histories.proofs.Counts.{highest, settled_highest, highest_after}
 
@@ -26,7 +26,7 @@ record KeptAfter (d : Durable) (b : ℕ) (commands : List Tried) (mountings : Li
   only_unacknowledged : (k : ℕ) (t : Tried) → slice_get counts k ≡ Some false → slice_get commands k ≡ Some t → t.acked ≡ None
   last_of_life : (k : ℕ) (t : Tried) → slice_get commands k ≡ Some t → t.acked ≡ None →
       (k + 1 ≡ length commands) ⊎ ((j : ℕ) × (w : Mounting) × (slice_get mountings j ≡ Some w) × (w.before ≡ b + (k + 1)))
-  found : (j : ℕ) (w : Mounting) → slice_get mountings j ≡ Some w → (r : ℕ) × (w.before ≡ b + r) × (r ≤ length commands) × (w.state ≡ after_commands d (counted counts (take r commands)))
+  mounted : (j : ℕ) (w : Mounting) → slice_get mountings j ≡ Some w → (r : ℕ) × (w.before ≡ b + r) × (r ≤ length commands) × (w.state ≡ after_commands d (counted counts (take r commands)))
   answered : (k : ℕ) (t : Tried) (a : ℕ) → slice_get commands k ≡ Some t → t.acked ≡ Some a → a ≡ answer_of (after_commands d (counted counts (take k commands))) t.command
 
 -- the command in doubt stands before the others
@@ -75,7 +75,7 @@ one_before flag d b t ts ws dropped last answer rest = record {
       | inr m ↦ inr (m.0, m.1, m.2, omega (arith, m.3))
     ]
   ];
-  found = λ j w at. (let it = rest.found j w at in
+  mounted = λ j w at. (let it = rest.mounted j w at in
       (suc it.0, omega (arith, it.1), omega (arith, it.2), it.3 ∙ fold_flag flag d t rest.counts (take it.0 ts)));
   answered = elim [
     | zero ↦ λ u a e f. (let same : t ≡ u = cc e in
@@ -84,7 +84,7 @@ one_before flag d b t ts ws dropped last answer rest = record {
   ];
 }
 
--- one more mounting before the others, which finds what is settled
+-- one more mounting before the others, which gives what is settled
 mounted_before : (d : Durable) (b : ℕ) (ts : List Tried) (w : Mounting) (ws : List Mounting) → w.before ≡ b → w.state ≡ d
     → KeptAfter d b ts ws → KeptAfter d b ts (w ∷ ws)
 mounted_before d b ts w ws before state rest = record {
@@ -92,14 +92,14 @@ mounted_before d b ts w ws before state rest = record {
   as_many = rest.as_many;
   only_unacknowledged = rest.only_unacknowledged;
   last_of_life = λ k t e none. elim (rest.last_of_life k t e none) [ inl end ↦ inl end | inr m ↦ inr (suc m.0, m.1, m.2, m.3) ];
-  found = elim [
+  mounted = elim [
     | zero ↦ λ v at. (let same : w ≡ v = cc at in (
       0,
       ap (λ (x : Mounting). x.before) (sym same) ∙ omega (arith, before),
       omega arith,
       rw (counted_none rest.counts) (ap (λ (x : Mounting). x.state) (sym same) ∙ state),
     ))
-    | suc j ↦ λ v at. rest.found j v at
+    | suc j ↦ λ v at. rest.mounted j v at
   ];
   answered = rest.answered;
 }
@@ -110,7 +110,7 @@ nothing_after d b = record {
   as_many = refl;
   only_unacknowledged = λ k t e f. absurd cc;
   last_of_life = λ k t e none. absurd cc;
-  found = λ j w at. absurd cc;
+  mounted = λ j w at. absurd cc;
   answered = λ k t a e f. absurd cc;
 }
 
@@ -146,7 +146,7 @@ step_by_step ms kept =
       as_many = all.as_many;
       only_unacknowledged = all.only_unacknowledged;
       last_of_life = λ k t e none. elim (all.last_of_life k t e none) [ inl end ↦ inl end | inr m ↦ inr (m.0, m.1, m.2, omega (arith, m.3)) ];
-      found = λ j w at. (let it = all.found j w at in
+      mounted = λ j w at. (let it = all.mounted j w at in
           let number : it.0 ≡ w.before = omega (arith, it.1) in
           subst (λ (r : ℕ). (r ≤ length (commands_of ms)) × (w.state ≡ stands_after all.counts (commands_of ms) r)) number (it.2, it.3));
       answered = all.answered;
@@ -167,11 +167,11 @@ doubt_after self nodes s MountFailed may h = h
 doubt_after self nodes s (RaiseFailed kept) may h = inr refl
 doubt_after self nodes s (RaiseRefused kept) may h = h
 
-may_find : (kept : Bool) (s : NodeState) (doubt : Option Command) → s.doubt ≡ doubt → IsSettling kept doubt → MayFind s.durable doubt (settled kept s)
-may_find true s None is h = absurd (let none : false ≡ true = h refl in cc)
-may_find true s (Some c) is h = rw is (inr refl)
-may_find false s None is h = refl
-may_find false s (Some c) is h = inl refl
+may_mount : (kept : Bool) (s : NodeState) (doubt : Option Command) → s.doubt ≡ doubt → IsSettling kept doubt → MayMount s.durable doubt (settled kept s)
+may_mount true s None is h = absurd (let none : false ≡ true = h refl in cc)
+may_mount true s (Some c) is h = rw is (inr refl)
+may_mount false s None is h = refl
+may_mount false s (Some c) is h = inl refl
 
 -- a command that was tried
 tried_kept : (d : Durable) (wants doubt : Option Command) (n : ℕ) (rest : List Mark) → IsNone doubt ⊎ (wants ≡ None)
@@ -204,9 +204,9 @@ history_kept self nodes s n (e ∷ es) short follows h = entry_kept e.what follo
     entry_kept (Rests why) may kept = rw add-zero at kept
     entry_kept (Faulted event) may kept = failed_kept s.durable (wants_at self nodes s event) s.doubt n _ (free_row self nodes s event may.0 h) may.1 kept
     entry_kept Crashed may kept = rw add-zero at kept
-    entry_kept (Recovered kept') may kept = (refl, may_find kept' s s.doubt refl may.1, (tt, refl, kept))
+    entry_kept (Recovered kept') may kept = (refl, may_mount kept' s s.doubt refl may.1, (tt, refl, kept))
     entry_kept MountFailed may kept = rw add-zero at kept
-    entry_kept (RaiseFailed kept') may kept = (refl, may_find kept' s s.doubt refl may.1, (tt, kept))
+    entry_kept (RaiseFailed kept') may kept = (refl, may_mount kept' s s.doubt refl may.1, (tt, kept))
     entry_kept (RaiseRefused kept') may kept = absurd (omega (arith, short, may.2, settled_highest kept' s))
 
 pub each_kept : EachKept
@@ -214,6 +214,6 @@ each_kept self nodes h follows short = step_by_step (marks_of self nodes h) (ref
 
 pub counts_once : CountsOnce
 counts_once j k ne kept =
-    let first = (kept.found 0 _ refl).1 in
-    let second = (kept.found 1 _ refl).1 in
+    let first = (kept.mounted 0 _ refl).1 in
+    let second = (kept.mounted 1 _ refl).1 in
     ne (ap (λ (d : Durable). d.counter) (first ∙ sym second))

@@ -69,13 +69,13 @@ below_limit self limit (x ∷ ts) t ordered i = elim i [
   | inr j ↦ (let rest = below_limit self x.group.count ts t ordered.2 j in (rest.0, omega (arith, rest.1, ordered.1)))
 ]
 
--- each of the tasks is found under its group
-found : (self limit : ℕ) (ts us : List Assignment) (t : Assignment) → Ordered self limit ts → IsAmong t ts → members_in (ts ++ us) t.group ≡ Some t.members
-found self limit [] us t ordered i = absurd i
-found self limit (x ∷ ts) us t ordered i = elim i [
+-- each of the tasks stands under its group
+under_group : (self limit : ℕ) (ts us : List Assignment) (t : Assignment) → Ordered self limit ts → IsAmong t ts → members_in (ts ++ us) t.group ≡ Some t.members
+under_group self limit [] us t ordered i = absurd i
+under_group self limit (x ∷ ts) us t ordered i = elim i [
   | inl e ↦ (let same : same_group x.group t.group ≡ true = rw e (same_group_self x.group) in rw same (ap (λ (y : Assignment). Some y.members) (sym e)))
   | inr j ↦ (let other : same_group x.group t.group ≡ false = other_count x.group t.group (below_limit self x.group.count ts t ordered.2 j).1 in
-      rw other (found self x.group.count ts us t ordered.2 j))
+      rw other (under_group self x.group.count ts us t ordered.2 j))
 ]
 
 -- a history's life, whose tasks stand in the book
@@ -101,7 +101,7 @@ page_of n nodes (x ∷ hs) lives zero h at m is =
     let same : x ≡ h = cc at in
     let first : Page (all_tasks n nodes (x ∷ hs) lives) n nodes x = record {
       lived = lives.0;
-      in_book = λ t i. found n (lives.0.last + 1) lives.0.all (all_tasks (suc n) nodes hs lives.1) t lives.0.ordered i;
+      in_book = λ t i. under_group n (lives.0.last + 1) lives.0.all (all_tasks (suc n) nodes hs lives.1) t lives.0.ordered i;
     } in
     let number : n ≡ m = omega (arith, is) in
     subst (λ (j : ℕ). Page (all_tasks n nodes (x ∷ hs) lives) j nodes h) number (subst (λ (y : List Entry). Page (all_tasks n nodes (x ∷ hs) lives) n nodes y) same first)

@@ -155,7 +155,7 @@ module _ (histories : List (List Entry)) (bundle : Bundle histories) where
   out_at : (A B : Type 0) (n : ℕ) (h : List Entry) → slice_get histories n ≡ Some h → AreOfOthers A B n (brought_in h) → AreToOthers A B n (sent_in h)
   out_at A B n h at came = history_out A B n (length histories) (opening n) h (bundle.follows n h at) came (alone_out B n 1)
 
-  -- what holds of all that is sent tells of all that is brought
+  -- what holds of all that is sent holds of all that is brought
   brought_at : (A B C D : Type 0) → ((n k : ℕ) (m : Envelope) → m.sender ≡ k → m.receiver ≡ n → ToOther A B k m.receiver m.body → OfOther C D n m.sender m.body)
       → ((n : ℕ) (h : List Entry) → slice_get histories n ≡ Some h → AreToOthers A B n (sent_in h)) → (n : ℕ) (h : List Entry) → slice_get histories n ≡ Some h → AreOfOthers C D n (brought_in h)
   brought_at A B C D next sent n h at = each_of (λ (m : Envelope). OfOther C D n m.sender m.body) (brought_in h)

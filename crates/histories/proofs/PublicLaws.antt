@@ -4,7 +4,7 @@
 pub use Rattle.histories.proofs.Among.{among_either, among_left, among_right, each_append, each_at, each_more, each_of, each_split, sent_of_one}
 -- Claims that hold of anything.
 pub use Rattle.histories.proofs.Anything.{AnyWork, any_pending}
--- Which command was tried is told without the work of a job, and with the event it is the whole command.
+-- Which command was tried is said without the work of a job, and with the event it is the whole command.
 pub use Rattle.histories.proofs.Attempts.{tried_none, tried_raise, tried_wanted, wanted_whole}
 -- The counts that a node gives rise, since its durable counter never falls.
 pub use Rattle.histories.proofs.Counts.{counts_rise, each_bundle_rises}

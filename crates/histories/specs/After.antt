@@ -44,9 +44,9 @@ given_at self nodes s (Did event) = raised s.durable (wants_at self nodes s even
 given_at self nodes s (Recovered kept) = ((settled kept s).counter + 1) ∷ []
 given_at self nodes s what = []
 
--- what an entry finds by mounting
-abbrev pub found_at : NodeState → What → Option Durable
-found_at s (Recovered kept) = Some (settled kept s)
-found_at s (RaiseFailed kept) = Some (settled kept s)
-found_at s (RaiseRefused kept) = Some (settled kept s)
-found_at s what = None
+-- what an entry mounts
+abbrev pub mounted_at : NodeState → What → Option Durable
+mounted_at s (Recovered kept) = Some (settled kept s)
+mounted_at s (RaiseFailed kept) = Some (settled kept s)
+mounted_at s (RaiseRefused kept) = Some (settled kept s)
+mounted_at s what = None

@@ -9,6 +9,6 @@ use Rattle.histories.specs.History.{replay}
 abbrev pub IsShort : {A : Type 0} → List A → Type 0
 IsShort xs = length xs + 1 < 2 ^ 64
 
--- the counter that is kept, or that the next mounting finds, is at most one more than the number of entries
+-- the counter that is kept, or that the next mounting gives, is at most one more than the number of entries
 abbrev pub FewCounts : Type 0
 FewCounts = (self nodes : ℕ) (h : List Entry) (kept : Bool) → (settled kept (replay self nodes (opening self) h)).counter ≤ length h + 1

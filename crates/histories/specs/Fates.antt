@@ -1,4 +1,4 @@
--- What came of an event, and which command was tried at it, as they are told without the event.
+-- What came of an event, and which command was tried at it, as they are said without the event.
 use Rattle.std.specs.Prelude.{◌≡◌, Option, Some, None, option_map}
 use Rattle.job_model.specs.declared.work.Work.{Work}
 use Rattle.job_model.specs.declared.node_command.NodeCommand.{NodeCommand as Command}
@@ -12,7 +12,7 @@ use Rattle.histories.specs.declared.fate.Fate.TheVariants as fate
 use Rattle.histories.specs.declared.attempt.Attempt.{Attempt}
 use Rattle.histories.specs.declared.attempt.Attempt.TheVariants as attempt
 
--- what came of this event: what a mounting tells is the same whatever the event
+-- what came of this event: what a mounting says is the same whatever the event
 abbrev pub what_of : Event → Fate → What
 what_of event fate.Done = Did event
 what_of event (fate.Refused why) = Refused event why
@@ -46,7 +46,7 @@ work_of event = None
 abbrev pub command_for : Event → Option Attempt → Option Command
 command_for event tried = command_with (work_of event) tried
 
--- this command was tried at the event: which one is told, and with the event that is all of it
+-- this command was tried at the event: which one is said, and with the event that is all of it
 pub record IsTriedAt (event : Event) (tried : Option Attempt) (command : Option Command) : Type 0 where
   pub which : tried ≡ option_map attempt_of command
   pub whole : command_for event tried ≡ command

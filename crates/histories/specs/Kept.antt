@@ -1,4 +1,4 @@
--- What the mountings of a node find: the fold of its commands, but for some that weren't acknowledged.
+-- What the mountings of a node give: the fold of its commands, but for some that weren't acknowledged.
 use Rattle.std.specs.Prelude.{ℕ, ◌+◌, ◌≤◌, ◌≡◌, ◌≢◌, ◌⊎◌, Bool, true, false, List, [], ◌∷◌, length, take, slice_get, Option, Some, None}
 use Rattle.job_model.specs.declared.node_command.NodeCommand.{NodeCommand as Command}
 use Rattle.job_model.specs.declared.node_command.NodeCommand.TheVariants.{Raise}
@@ -7,7 +7,7 @@ use Rattle.job_model.specs.Fold.{after_commands}
 use Rattle.job_model.specs.Answer.{answer_of}
 use Rattle.histories.specs.declared.tried.Tried.{Tried}
 
--- what a mounting found: so many commands came before it
+-- what was mounted: so many commands came before it
 pub record Mounting : Type 0 where
   pub before : ℕ
   pub state : Durable
@@ -33,8 +33,8 @@ pub record Kept (commands : List Tried) (mountings : List Mounting) : Type 0 whe
   -- a command that wasn't acknowledged is the last of its life: no other follows, or a mounting comes between
   pub last_of_life : (k : ℕ) (t : Tried) → slice_get commands k ≡ Some t → t.acked ≡ None →
       (k + 1 ≡ length commands) ⊎ ((j : ℕ) × (w : Mounting) × (slice_get mountings j ≡ Some w) × (w.before ≡ k + 1))
-  -- each mounting finds the fold of the commands before it
-  pub found : (j : ℕ) (w : Mounting) → slice_get mountings j ≡ Some w → (w.before ≤ length commands) × (w.state ≡ stands_after counts commands w.before)
+  -- each mounting gives the fold of the commands before it
+  pub mounted : (j : ℕ) (w : Mounting) → slice_get mountings j ≡ Some w → (w.before ≤ length commands) × (w.state ≡ stands_after counts commands w.before)
   -- each answer is the one that the fold gives at its place: the count, the new id, or the id that is done
   pub answered : (k : ℕ) (t : Tried) (a : ℕ) → slice_get commands k ≡ Some t → t.acked ≡ Some a → a ≡ answer_of (stands_after counts commands k) t.command
 

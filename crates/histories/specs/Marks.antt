@@ -1,4 +1,4 @@
--- The commands and mountings of a node in one list, in the order in which they came, and what each may find.
+-- The commands and mountings of a node in one list, in the order in which they came, and what each may give.
 use Rattle.std.specs.Prelude.{ℕ, ◌+◌, ◌≡◌, ◌⊎◌, List, [], ◌∷◌, ◌++◌, length, Option, Some, None}
 use Rattle.job_model.specs.declared.node_command.NodeCommand.{NodeCommand as Command}
 use Rattle.job_model.specs.declared.node_command.NodeCommand.TheVariants.{Raise}
@@ -34,23 +34,23 @@ mountings_of [] = []
 mountings_of (Mounted w ∷ ms) = w ∷ mountings_of ms
 mountings_of (m ∷ ms) = mountings_of ms
 
--- the state that a mounting may find: what is settled, with or without the command in doubt
-abbrev pub MayFind : Durable → Option Command → Durable → Type 0
-MayFind d None found = found ≡ d
-MayFind d (Some c) found = (found ≡ d) ⊎ (found ≡ after_command d c)
+-- the state that a mounting may give: what is settled, with or without the command in doubt
+abbrev pub MayMount : Durable → Option Command → Durable → Type 0
+MayMount d None mounted = mounted ≡ d
+MayMount d (Some c) mounted = (mounted ≡ d) ⊎ (mounted ≡ after_command d c)
 
 -- no command is in doubt
 abbrev pub IsNone : Option Command → Type 0
 IsNone None = Unit {0}
 IsNone (Some c) = ⊥
 
--- kept step by step: d is settled, at most one command is in doubt, n commands came so far. What a mounting finds is
+-- kept step by step: d is settled, at most one command is in doubt, n commands came so far. What a mounting gives is
 -- settled from then on
 abbrev pub KeptFrom : Durable → Option Command → ℕ → List Mark → Type 0
 KeptFrom d doubt n [] = Unit {0}
 KeptFrom d doubt n (Acknowledged c a ∷ ms) = IsNone doubt × (a ≡ answer_of d c) × KeptFrom (after_command d c) None (n + 1) ms
 KeptFrom d doubt n (Unanswered c ∷ ms) = IsNone doubt × KeptFrom d (Some c) (n + 1) ms
-KeptFrom d doubt n (Mounted w ∷ ms) = (w.before ≡ n) × MayFind d doubt w.state × KeptFrom w.state None n ms
+KeptFrom d doubt n (Mounted w ∷ ms) = (w.before ≡ n) × MayMount d doubt w.state × KeptFrom w.state None n ms
 
 -- the mark of a command that an event wants, where the device took it
 abbrev pub tried_marks : Durable → Option Command → List Mark

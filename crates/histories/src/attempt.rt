@@ -1,4 +1,4 @@
-// Which command was tried, told without the work of a job.
+// Which command was tried, without the work of a job.
 ghost use Rattle.std.specs.Prelude.{◌≡◌, Some};
 ghost use Rattle.histories.specs.Fates.{command_with, work_of};
 

@@ -1,4 +1,4 @@
-// What became of an event, told without it.
+// What became of an event, without the event.
 ghost use Rattle.std.specs.Prelude.{◌≡◌};
 ghost use Rattle.histories.specs.Fates.{what_of};
 
@@ -15,14 +15,14 @@ pub enum Fate {
     Refused(Refusal),
     /// The device failed in the command that the event wants.
     Faulted,
-    /// The node was Down: it mounted its disk and recovered. Whether the command in doubt was found there.
+    /// The node was Down: it mounted its disk and recovered. Whether the command in doubt was on it.
     Recovered(bool),
     /// The node was Down, and couldn't mount its disk, since the device failed.
     MountFailed,
-    /// The node was Down: it mounted its disk, and the device failed in the raise. Whether the command in doubt was found
+    /// The node was Down: it mounted its disk, and the device failed in the raise. Whether the command in doubt was on
     /// there, as in what follows.
     RaiseFailed(bool),
-    /// The node was Down: it mounted its disk, and found the greatest counter there is.
+    /// The node was Down: it mounted its disk, which had the greatest counter there is.
     RaiseRefused(bool),
 }
 

@@ -2,7 +2,7 @@
 //!
 //! A history lists what came of a node's events, crashes and recoveries. The definitions stand in `specs/`, over the table of
 //! the node's state machine, and speak of no disk: which command was kept is part of an entry. The laws are contracts of
-//! functions that do nothing. [`What`] is what came of an event, as code tells it; [`Fate`] and [`Attempt`] tell it to who has
+//! functions that do nothing. [`What`] is what came of an event, as code has it; [`Fate`] and [`Attempt`] say it to who has
 //! the event, in a few bytes.
 #![tactic(auto)]
 

@@ -14,14 +14,14 @@ pub enum What {
     Rests(Rest),
     /// The node crashed, or the device failed in a compaction.
     Crashed,
-    /// A node that was Down mounted its disk and recovered. Whether the command in doubt was found there.
+    /// A node that was Down mounted its disk and recovered. Whether the command in doubt was on it.
     Recovered(bool),
     /// A node that was Down couldn't mount its disk, since the device failed.
     MountFailed,
-    /// A node that was Down mounted its disk, and the device failed in the raise. Whether the command in doubt was found
+    /// A node that was Down mounted its disk, and the device failed in the raise. Whether the command in doubt was on
     /// there, as in what follows.
     RaiseFailed(bool),
-    /// A node that was Down mounted its disk, and found the greatest counter there is.
+    /// A node that was Down mounted its disk, which had the greatest counter there is.
     RaiseRefused(bool),
 }
 

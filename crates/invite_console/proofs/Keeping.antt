@@ -9,16 +9,16 @@ use Rattle.node_core.specs.State.{is_down}
 use Rattle.histories.specs.NodeState.{NodeState}
 use Rattle.schedule.specs.declared.act.Act.{Act}
 use Rattle.runs.specs.declared.outcome.Outcome.{Outcome}
-use Rattle.cluster_sim.specs.Machine.{Machine, Acted, StandsFor}
+use Rattle.cluster_sim.specs.World.{WorldView, Acted, StandsFor}
 use Rattle.runs.proofs.PublicLaws.{step_adds}
 use Rattle.runs.specs.World.{World, start}
 use Rattle.runs.specs.Step.{step_sent}
 use Rattle.runs.specs.Growth.{RunsGrow, RunsOpen}
 use Rattle.invite_console.specs.declared.running.Kept.{Kept}
-use Rattle.invite_console.specs.declared.telling.Telling.{Telling}
+use Rattle.invite_console.specs.declared.details.Details.{Details}
 use Rattle.invite_console.specs.Acts.{act_line, sent_text}
-use Rattle.invite_console.specs.Kept.{AreKept, IsKept, IsKeptSoFar, IsRun, act_head, between, lines, lines_of, run_text, sent_at, sent_by, told_at, told_by}
-use Rattle.invite_console.specs.Sim.{AddsNodes, AddsRowBy, AddsRows, IsSoFar, TellsRun}
+use Rattle.invite_console.specs.Kept.{AreKept, IsKept, IsKeptSoFar, IsRun, act_head, between, lines, lines_of, run_text, sent_at, sent_by, written_at, written_by}
+use Rattle.invite_console.specs.Sim.{AddsNodes, AddsRowBy, AddsRows, IsSoFar, PrintsRun}
 use Rattle.invite_console.proofs.Sims.{begins, ends, further, line_is}
 
 -- ---- a list that grows
@@ -47,10 +47,10 @@ get_seam [] x = refl
 get_seam (y ∷ xs) x = get_seam xs x
 
 get_either : {A : Type 0} (xs : List A) (x y : A) (i : ℕ) → slice_get (xs ++ x ∷ []) i ≡ Some y → (slice_get xs i ≡ Some y) ⊎ ((i ≡ length xs) × (x ≡ y))
-get_either [] x y zero found = inr (refl, cc)
-get_either [] x y (suc i) found = absurd cc
-get_either (z ∷ xs) x y zero found = inl found
-get_either (z ∷ xs) x y (suc i) found = elim (get_either xs x y i found) [
+get_either [] x y zero at_i = inr (refl, cc)
+get_either [] x y (suc i) at_i = absurd cc
+get_either (z ∷ xs) x y zero at_i = inl at_i
+get_either (z ∷ xs) x y (suc i) at_i = elim (get_either xs x y i at_i) [
   | inl there ↦ inl there
   | inr here ↦ inr (ap suc here.0, here.1)
 ]
@@ -71,19 +71,19 @@ sent_front : (kept kept' : List Kept) (i : ℕ) → Front kept kept' → i ≤ l
 sent_front kept kept' zero front on = refl
 sent_front kept kept' (suc i) front on = ap sent_by (get_front kept kept' i front (omega (arith, on)))
 
-told_front : (kept kept' : List Kept) (i : ℕ) → Front kept kept' → i ≤ length kept → told_at kept' i ≡ told_at kept i
-told_front kept kept' zero front on = refl
-told_front kept kept' (suc i) front on = ap told_by (get_front kept kept' i front (omega (arith, on)))
+written_front : (kept kept' : List Kept) (i : ℕ) → Front kept kept' → i ≤ length kept → written_at kept' i ≡ written_at kept i
+written_front kept kept' zero front on = refl
+written_front kept kept' (suc i) front on = ap written_by (get_front kept kept' i front (omega (arith, on)))
 
 -- the line of an act is the same, whatever was added behind
-line_stays : (names : Bool) (sent told : ℕ) (k : Option Kept) (text text' : List ℕ) (ms ms' : List Envelope) → Front text text' → Front ms ms'
-    → ((kept : Kept) → k ≡ Some kept → IsKept sent told (length ms) (length text) kept)
-    → lines_of names k sent told text' ms' ≡ lines_of names k sent told text ms
-line_stays names sent told None text text' ms ms' front_t front_m is = refl
-line_stays names sent told (Some k) text text' ms ms' front_t front_m is =
+line_stays : (names : Bool) (sent written : ℕ) (k : Option Kept) (text text' : List ℕ) (ms ms' : List Envelope) → Front text text' → Front ms ms'
+    → ((kept : Kept) → k ≡ Some kept → IsKept sent written (length ms) (length text) kept)
+    → lines_of names k sent written text' ms' ≡ lines_of names k sent written text ms
+line_stays names sent written None text text' ms ms' front_t front_m is = refl
+line_stays names sent written (Some k) text text' ms ms' front_t front_m is =
     let it = is k refl in
-    ap (λ t. t ++ (sent_text names sent (between sent k.sent ms') ++ codes "\n")) (between_front told k.told text text' front_t it.told_grows it.told_within)
-    ∙ ap (λ m. between told k.told text ++ (sent_text names sent m ++ codes "\n")) (between_front sent k.sent ms ms' front_m it.sent_grows it.sent_within)
+    ap (λ t. t ++ (sent_text names sent (between sent k.sent ms') ++ codes "\n")) (between_front written k.written text text' front_t it.written_grows it.written_within)
+    ∙ ap (λ m. between written k.written text ++ (sent_text names sent m ++ codes "\n")) (between_front sent k.sent ms ms' front_m it.sent_grows it.sent_within)
 
 lines_stay : (names : Bool) (kept kept' : List Kept) (text text' : List ℕ) (ms ms' : List Envelope) (n : ℕ)
     → AreKept kept (length ms) (length text) → Front kept kept' → Front text text' → Front ms ms' → n ≤ length kept
@@ -91,11 +91,11 @@ lines_stay : (names : Bool) (kept kept' : List Kept) (text text' : List ℕ) (ms
 lines_stay names kept kept' text text' ms ms' zero are fk ft fm on = refl
 lines_stay names kept kept' text text' ms ms' (suc i) are fk ft fm on =
     let last = lines names kept text ms i in
-    ap (λ l. l ++ lines_of names (slice_get kept' i) (sent_at kept' i) (told_at kept' i) text' ms') (lines_stay names kept kept' text text' ms ms' i are fk ft fm (omega (arith, on)))
-    ∙ ap (λ k. last ++ lines_of names k (sent_at kept' i) (told_at kept' i) text' ms') (get_front kept kept' i fk (omega (arith, on)))
-    ∙ ap (λ s. last ++ lines_of names (slice_get kept i) s (told_at kept' i) text' ms') (sent_front kept kept' i fk (omega (arith, on)))
-    ∙ ap (λ s. last ++ lines_of names (slice_get kept i) (sent_at kept i) s text' ms') (told_front kept kept' i fk (omega (arith, on)))
-    ∙ ap (λ l. last ++ l) (line_stays names (sent_at kept i) (told_at kept i) (slice_get kept i) text text' ms ms' ft fm (are i))
+    ap (λ l. l ++ lines_of names (slice_get kept' i) (sent_at kept' i) (written_at kept' i) text' ms') (lines_stay names kept kept' text text' ms ms' i are fk ft fm (omega (arith, on)))
+    ∙ ap (λ k. last ++ lines_of names k (sent_at kept' i) (written_at kept' i) text' ms') (get_front kept kept' i fk (omega (arith, on)))
+    ∙ ap (λ s. last ++ lines_of names (slice_get kept i) s (written_at kept' i) text' ms') (sent_front kept kept' i fk (omega (arith, on)))
+    ∙ ap (λ s. last ++ lines_of names (slice_get kept i) (sent_at kept i) s text' ms') (written_front kept kept' i fk (omega (arith, on)))
+    ∙ ap (λ l. last ++ l) (line_stays names (sent_at kept i) (written_at kept i) (slice_get kept i) text text' ms ms' ft fm (are i))
 
 -- ---- the table, behind any text
 
@@ -139,94 +139,94 @@ between_end from xs = take_rest xs from
 -- ---- one act further
 
 lines_more : (names : Bool) (kept : List Kept) (k : Kept) (text text' : List ℕ) (ms ms' : List Envelope)
-    → AreKept kept (length ms) (length text) → Front text text' → Front ms ms' → sent_at kept (length kept) ≡ length ms → told_at kept (length kept) ≡ length text
-    → k.sent ≡ length ms' → k.told ≡ length text'
+    → AreKept kept (length ms) (length text) → Front text text' → Front ms ms' → sent_at kept (length kept) ≡ length ms → written_at kept (length kept) ≡ length text
+    → k.sent ≡ length ms' → k.written ≡ length text'
     → lines names (kept ++ k ∷ []) text' ms' (suc (length kept)) ≡ lines names kept text ms (length kept) ++ (drop (length text) text' ++ (sent_text names (length ms) (drop (length ms) ms') ++ codes "\n"))
-lines_more names kept k text text' ms ms' are ft fm all_sent all_told is_sent is_told =
+lines_more names kept k text text' ms ms' are ft fm all_sent all_written is_sent is_written =
     let n = length kept in
     let kept' = kept ++ k ∷ [] in
     let fk = front_of kept kept' (k ∷ []) refl in
     let before = lines names kept text ms n in
     let sent : sent_at kept' n ≡ length ms = sent_front kept kept' n fk (omega arith) ∙ all_sent in
-    let told : told_at kept' n ≡ length text = told_front kept kept' n fk (omega arith) ∙ all_told in
-    let front : between (length text) k.told text' ≡ drop (length text) text' = ap (λ (to : ℕ). between (length text) to text') is_told ∙ between_end (length text) text' in
+    let written : written_at kept' n ≡ length text = written_front kept kept' n fk (omega arith) ∙ all_written in
+    let front : between (length text) k.written text' ≡ drop (length text) text' = ap (λ (to : ℕ). between (length text) to text') is_written ∙ between_end (length text) text' in
     let said : between (length ms) k.sent ms' ≡ drop (length ms) ms' = ap (λ (to : ℕ). between (length ms) to ms') is_sent ∙ between_end (length ms) ms' in
-    ap (λ l. l ++ lines_of names (slice_get kept' n) (sent_at kept' n) (told_at kept' n) text' ms') (lines_stay names kept kept' text text' ms ms' n are fk ft fm (omega arith))
-    ∙ ap (λ x. before ++ lines_of names x (sent_at kept' n) (told_at kept' n) text' ms') (get_seam kept k)
-    ∙ ap (λ x. before ++ lines_of names (Some k) x (told_at kept' n) text' ms') sent
-    ∙ ap (λ x. before ++ lines_of names (Some k) (length ms) x text' ms') told
+    ap (λ l. l ++ lines_of names (slice_get kept' n) (sent_at kept' n) (written_at kept' n) text' ms') (lines_stay names kept kept' text text' ms ms' n are fk ft fm (omega arith))
+    ∙ ap (λ x. before ++ lines_of names x (sent_at kept' n) (written_at kept' n) text' ms') (get_seam kept k)
+    ∙ ap (λ x. before ++ lines_of names (Some k) x (written_at kept' n) text' ms') sent
+    ∙ ap (λ x. before ++ lines_of names (Some k) (length ms) x text' ms') written
     ∙ ap (λ x. before ++ (x ++ (sent_text names (length ms) (between (length ms) k.sent ms') ++ codes "\n"))) front
     ∙ ap (λ x. before ++ (drop (length text) text' ++ (sent_text names (length ms) x ++ codes "\n"))) said
 
 -- one more is kept
-one_kept : (kept : List Kept) (k : Kept) (m t m' t' : ℕ) → AreKept kept m t → m ≤ m' → t ≤ t' → sent_at kept (length kept) ≡ m → told_at kept (length kept) ≡ t
-    → k.sent ≡ m' → k.told ≡ t' → AreKept (kept ++ k ∷ []) m' t'
-one_kept kept k m t m' t' are more_m more_t all_sent all_told is_sent is_told = λ i x found.
+one_kept : (kept : List Kept) (k : Kept) (m t m' t' : ℕ) → AreKept kept m t → m ≤ m' → t ≤ t' → sent_at kept (length kept) ≡ m → written_at kept (length kept) ≡ t
+    → k.sent ≡ m' → k.written ≡ t' → AreKept (kept ++ k ∷ []) m' t'
+one_kept kept k m t m' t' are more_m more_t all_sent all_written is_sent is_written = λ i x at_i.
     let fk = front_of kept (kept ++ k ∷ []) (k ∷ []) refl in
-    elim (get_either kept k x i found) [
+    elim (get_either kept k x i at_i) [
       | inl there ↦
           let on = slice_get_within kept i x there in
           let old = are i x there in
           let o1 = old.sent_within in
-          let o2 = old.told_within in
-          subst (λ s. IsKept s (told_at (kept ++ k ∷ []) i) m' t' x) (sym (sent_front kept (kept ++ k ∷ []) i fk (omega (arith, on))))
-          (subst (λ s. IsKept (sent_at kept i) s m' t' x) (sym (told_front kept (kept ++ k ∷ []) i fk (omega (arith, on))))
-          (record { sent_grows = old.sent_grows; sent_within = omega (arith, o1, more_m); told_grows = old.told_grows; told_within = omega (arith, o2, more_t) }))
+          let o2 = old.written_within in
+          subst (λ s. IsKept s (written_at (kept ++ k ∷ []) i) m' t' x) (sym (sent_front kept (kept ++ k ∷ []) i fk (omega (arith, on))))
+          (subst (λ s. IsKept (sent_at kept i) s m' t' x) (sym (written_front kept (kept ++ k ∷ []) i fk (omega (arith, on))))
+          (record { sent_grows = old.sent_grows; sent_within = omega (arith, o1, more_m); written_grows = old.written_grows; written_within = omega (arith, o2, more_t) }))
       | inr here ↦
           let end : i ≤ length kept = (let e = here.0 in omega (arith, e)) in
-          subst (λ y. IsKept (sent_at (kept ++ k ∷ []) i) (told_at (kept ++ k ∷ []) i) m' t' y) here.1
-          (subst (λ s. IsKept s (told_at (kept ++ k ∷ []) i) m' t' k) (sym (sent_front kept (kept ++ k ∷ []) i fk end ∙ ap (λ j. sent_at kept j) here.0 ∙ all_sent))
-          (subst (λ s. IsKept m s m' t' k) (sym (told_front kept (kept ++ k ∷ []) i fk end ∙ ap (λ j. told_at kept j) here.0 ∙ all_told))
-          (record { sent_grows = omega (arith, is_sent, more_m); sent_within = omega (arith, is_sent); told_grows = omega (arith, is_told, more_t); told_within = omega (arith, is_told) })))
+          subst (λ y. IsKept (sent_at (kept ++ k ∷ []) i) (written_at (kept ++ k ∷ []) i) m' t' y) here.1
+          (subst (λ s. IsKept s (written_at (kept ++ k ∷ []) i) m' t' k) (sym (sent_front kept (kept ++ k ∷ []) i fk end ∙ ap (λ j. sent_at kept j) here.0 ∙ all_sent))
+          (subst (λ s. IsKept m s m' t' k) (sym (written_front kept (kept ++ k ∷ []) i fk end ∙ ap (λ j. written_at kept j) here.0 ∙ all_written))
+          (record { sent_grows = omega (arith, is_sent, more_m); sent_within = omega (arith, is_sent); written_grows = omega (arith, is_written, more_t); written_within = omega (arith, is_written) })))
     ]
 
 -- the messages of a step stand behind those before it
-sent_grows : (old new : Machine) (w : World) (a : Act) (outcome : Outcome) → StandsFor old w → Acted w a outcome new → Front old.net.sent new.net.sent
+sent_grows : (old new : WorldView) (w : World) (a : Act) (outcome : Outcome) → StandsFor old w → Acted w a outcome new → Front old.net.sent new.net.sent
 sent_grows old new w a outcome stands acted =
     let n = length w.states in
     front_of old.net.sent new.net.sent (step_sent n w acted.step)
     (ap (λ (net : Network). net.sent) acted.stands.net ∙ step_adds n w acted.step acted.next.allowed ∙ ap (λ (net : Network). net.sent ++ step_sent n w acted.step) (sym stands.net))
 
 -- an act was done, and what came of it was kept
-pub act_kept : RunsGrow → (telling : Telling) (nodes slots : ℕ) (old new : Machine) (before : List Act) (a : Act) (outcome : Outcome) (kept kept' : List Kept) (k : Kept) (text shown text' : List ℕ)
-    → ((w : World) → StandsFor old w → Acted w a outcome new) → new.slots ≡ old.slots → ((w : World) → StandsFor old w → AddsNodes telling.nodes w.states text shown)
-    → text' ≡ shown ++ act_head (length kept) a outcome → k.sent ≡ length new.net.sent → k.told ≡ length text' → kept' ≡ kept ++ k ∷ []
-    → IsKeptSoFar telling nodes slots old before kept text → IsKeptSoFar telling nodes slots new (before ++ a ∷ []) kept' text'
-act_kept grow telling nodes slots old new before a outcome kept kept' k text shown text' acted same rows head is_sent is_told is_more so =
+pub act_kept : RunsGrow → (details : Details) (nodes slots : ℕ) (old new : WorldView) (before : List Act) (a : Act) (outcome : Outcome) (kept kept' : List Kept) (k : Kept) (text shown text' : List ℕ)
+    → ((w : World) → StandsFor old w → Acted w a outcome new) → new.slots ≡ old.slots → ((w : World) → StandsFor old w → AddsNodes details.nodes w.states text shown)
+    → text' ≡ shown ++ act_head (length kept) a outcome → k.sent ≡ length new.net.sent → k.written ≡ length text' → kept' ≡ kept ++ k ∷ []
+    → IsKeptSoFar details nodes slots old before kept text → IsKeptSoFar details nodes slots new (before ++ a ∷ []) kept' text'
+act_kept grow details nodes slots old new before a outcome kept kept' k text shown text' acted same rows head is_sent is_written is_more so =
     let w = so.so.world in
     let stands = so.so.stands in
     let did = acted w stands in
     let n = length kept in
     let sent = length old.net.sent in
-    let told = lines telling.names kept text old.net.sent n in
-    let adds = nodes_by telling.nodes w.states text shown (rows w stands) in
+    let written = lines details.names kept text old.net.sent n in
+    let adds = nodes_by details.nodes w.states text shown (rows w stands) in
     let t = drop (length text) shown in
     let front = act_head n a outcome in
-    let said = sent_text telling.names sent (drop sent new.net.sent) ++ codes "\n" in
+    let said = sent_text details.names sent (drop sent new.net.sent) ++ codes "\n" in
     let whole : text' ≡ text ++ (t ++ front) =
-    head ∙ ap (λ l. l ++ front) (adds.whole ∙ ap (λ l. text ++ l) (added_is (AddsNodes telling.nodes w.states) text shown adds)) ∙ append_assoc text t front in
+    head ∙ ap (λ l. l ++ front) (adds.whole ∙ ap (λ l. text ++ l) (added_is (AddsNodes details.nodes w.states) text shown adds)) ∙ append_assoc text t front in
     let ft = front_of text text' (t ++ front) whole in
     let fm = sent_grows old new w a outcome stands did in
     let last : drop (length text) text' ≡ t ++ front = ap (λ l. drop (length text) l) whole ∙ drop-append_seam text (t ++ front) in
-    let line : lines telling.names (kept ++ k ∷ []) text' new.net.sent (suc n) ≡ (told ++ t) ++ act_line telling.names (length before) a outcome (drop sent new.net.sent) =
-    lines_more telling.names kept k text text' old.net.sent new.net.sent so.are ft fm so.all_sent so.all_told is_sent is_told
-    ∙ ap (λ l. told ++ (l ++ said)) last
-    ∙ ap (λ l. told ++ l) (append_assoc t front said)
-    ∙ sym (append_assoc told t (front ++ said))
-    ∙ ap (λ l. (told ++ t) ++ l) (line_is telling.names n old new w a outcome stands did)
-    ∙ ap (λ (i : ℕ). (told ++ t) ++ act_line telling.names i a outcome (drop sent new.net.sent)) so.count in
+    let line : lines details.names (kept ++ k ∷ []) text' new.net.sent (suc n) ≡ (written ++ t) ++ act_line details.names (length before) a outcome (drop sent new.net.sent) =
+    lines_more details.names kept k text text' old.net.sent new.net.sent so.are ft fm so.all_sent so.all_written is_sent is_written
+    ∙ ap (λ l. written ++ (l ++ said)) last
+    ∙ ap (λ l. written ++ l) (append_assoc t front said)
+    ∙ sym (append_assoc written t (front ++ said))
+    ∙ ap (λ l. (written ++ t) ++ l) (line_is details.names n old new w a outcome stands did)
+    ∙ ap (λ (i : ℕ). (written ++ t) ++ act_line details.names i a outcome (drop sent new.net.sent)) so.count in
     let more : suc n ≡ length (kept ++ k ∷ []) = (let l = length-append kept (k ∷ []) in omega (arith, l)) in
     let seam = get_seam kept k in
     let longer = length-append before (a ∷ []) in
     let count = so.count in
-    subst (λ (ks : List Kept). IsKeptSoFar telling nodes slots new (before ++ a ∷ []) ks text') (sym is_more) (record {
+    subst (λ (ks : List Kept). IsKeptSoFar details nodes slots new (before ++ a ∷ []) ks text') (sym is_more) (record {
       count = omega (arith, more, longer, count);
-      are = one_kept kept k sent (length text) (length new.net.sent) (length text') so.are (front_length old.net.sent new.net.sent fm) (front_length text text' ft) so.all_sent so.all_told is_sent is_told;
+      are = one_kept kept k sent (length text) (length new.net.sent) (length text') so.are (front_length old.net.sent new.net.sent fm) (front_length text text' ft) so.all_sent so.all_written is_sent is_written;
       all_sent = subst (λ (i : ℕ). sent_at (kept ++ k ∷ []) i ≡ length new.net.sent) more (ap sent_by seam ∙ is_sent);
-      all_told = subst (λ (i : ℕ). told_at (kept ++ k ∷ []) i ≡ length text') more (ap told_by seam ∙ is_told);
-      so = subst (λ (i : ℕ). IsSoFar telling nodes slots new (before ++ a ∷ []) (lines telling.names (kept ++ k ∷ []) text' new.net.sent i)) more
-          (further grow telling nodes slots old new before a outcome told (told ++ t) (lines telling.names (kept ++ k ∷ []) text' new.net.sent (suc n)) so.so acted same
-          (λ w' st. behind_any (AddsNodes telling.nodes w'.states) text shown told (nodes_by telling.nodes w'.states text shown (rows w' st))) line);
+      all_written = subst (λ (i : ℕ). written_at (kept ++ k ∷ []) i ≡ length text') more (ap written_by seam ∙ is_written);
+      so = subst (λ (i : ℕ). IsSoFar details nodes slots new (before ++ a ∷ []) (lines details.names (kept ++ k ∷ []) text' new.net.sent i)) more
+          (further grow details nodes slots old new before a outcome written (written ++ t) (lines details.names (kept ++ k ∷ []) text' new.net.sent (suc n)) so.so acted same
+          (λ w' st. behind_any (AddsNodes details.nodes w'.states) text shown written (nodes_by details.nodes w'.states text shown (rows w' st))) line);
     })
 
 pub on_ok : {T F A B C : Type 0} (result : Result T F) → OnOk result A → OnOk result B → (A → B → C) → OnOk result C
@@ -236,29 +236,29 @@ on_ok (Err e) a b both = tt
 -- ---- the beginning, and the end
 
 -- a cluster that was opened has kept nothing
-pub begins_kept : RunsOpen → (telling : Telling) (nodes slots : ℕ) (machine : Machine) → machine.slots ≡ slots → StandsFor machine (start nodes) → IsKeptSoFar telling nodes slots machine [] [] []
-begins_kept opens telling nodes slots machine same stands = record {
+pub begins_kept : RunsOpen → (details : Details) (nodes slots : ℕ) (view : WorldView) → view.slots ≡ slots → StandsFor view (start nodes) → IsKeptSoFar details nodes slots view [] [] []
+begins_kept opens details nodes slots view same stands = record {
   count = refl;
-  are = λ i k found. absurd cc;
+  are = λ i k at_i. absurd cc;
   all_sent = sym (ap (λ (net : Network). length net.sent) stands.net);
-  all_told = refl;
-  so = begins opens telling nodes slots machine same stands;
+  all_written = refl;
+  so = begins opens details nodes slots view same stands;
 }
 
 -- all acts were done, and the nodes were added
-pub run_kept : (telling : Telling) (nodes slots : ℕ) (machine : Machine) (acts : List Act) (kept : List Kept) (text text' : List ℕ) → IsKeptSoFar telling nodes slots machine acts kept text
-    → ((w : World) → StandsFor machine w → AddsRows 0 w.states text text') → IsRun telling nodes slots acts kept text' machine.net.sent
-run_kept telling nodes slots machine acts kept text text' so rows =
-    let told = lines telling.names kept text machine.net.sent (length kept) in
+pub run_kept : (details : Details) (nodes slots : ℕ) (view : WorldView) (acts : List Act) (kept : List Kept) (text text' : List ℕ) → IsKeptSoFar details nodes slots view acts kept text
+    → ((w : World) → StandsFor view w → AddsRows 0 w.states text text') → IsRun details nodes slots acts kept text' view.net.sent
+run_kept details nodes slots view acts kept text text' so rows =
+    let written = lines details.names kept text view.net.sent (length kept) in
     let t = drop (length text) text' in
     let ft = grown_by (AddsRows 0 so.so.world.states) text text' (rows_by 0 so.so.world.states text text' (rows so.so.world so.so.stands)) in
     let longer = front_length text text' ft in
-    let whole : told ++ t ≡ run_text telling.names kept text' machine.net.sent =
-    ap (λ l. l ++ t) (sym (lines_stay telling.names kept kept text text' machine.net.sent machine.net.sent (length kept) so.are (same_front kept) ft (same_front machine.net.sent) (omega arith)))
-    ∙ ap (λ l. lines telling.names kept text' machine.net.sent (length kept) ++ l) (sym (ap (λ (from : ℕ). between from (length text') text') so.all_told ∙ between_end (length text) text')) in
+    let whole : written ++ t ≡ run_text details.names kept text' view.net.sent =
+    ap (λ l. l ++ t) (sym (lines_stay details.names kept kept text text' view.net.sent view.net.sent (length kept) so.are (same_front kept) ft (same_front view.net.sent) (omega arith)))
+    ∙ ap (λ l. lines details.names kept text' view.net.sent (length kept) ++ l) (sym (ap (λ (from : ℕ). between from (length text') text') so.all_written ∙ between_end (length text) text')) in
     record {
-      are = λ i k found. let it = so.are i k found in let within = it.told_within in
-          record { sent_grows = it.sent_grows; sent_within = it.sent_within; told_grows = it.told_grows; told_within = omega (arith, within, longer) };
-      told = subst (λ l. TellsRun telling nodes slots acts l) whole
-          (ends telling nodes slots machine acts told (told ++ t) so.so (λ w st. behind_any (AddsRows 0 w.states) text text' told (rows_by 0 w.states text text' (rows w st))));
+      are = λ i k at_i. let it = so.are i k at_i in let within = it.written_within in
+          record { sent_grows = it.sent_grows; sent_within = it.sent_within; written_grows = it.written_grows; written_within = omega (arith, within, longer) };
+      printed = subst (λ l. PrintsRun details nodes slots acts l) whole
+          (ends details nodes slots view acts written (written ++ t) so.so (λ w st. behind_any (AddsRows 0 w.states) text text' written (rows_by 0 w.states text text' (rows w st))));
     }

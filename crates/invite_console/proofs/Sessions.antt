@@ -46,5 +46,5 @@ takes_taken old new m false known on step end rest = absurd cc
 -- it was refused
 pub takes_refused : (old new : Progress) (m : Envelope) (taken : Bool) → is_strange old.nodes old.id m old.state ≡ not taken → taken ≡ false
     → new.text ≡ old.text ++ line (codes "refused Stranger") → TakesNext old m new taken
-takes_refused old new m true strange off told end rest = absurd cc
-takes_refused old new m false strange off told end rest = onward_refused old end m rest strange ∙ ap (λ (t : List ℕ). record { text = t; good = false }) (sym told)
+takes_refused old new m true strange off written end rest = absurd cc
+takes_refused old new m false strange off written end rest = onward_refused old end m rest strange ∙ ap (λ (t : List ℕ). record { text = t; good = false }) (sym written)

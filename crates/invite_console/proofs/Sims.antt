@@ -1,4 +1,4 @@
--- A simulation told one act further.
+-- A run printed one act further.
 use Rattle.std.proofs.Common.{◌≡◌, ℕ, zero, suc, ◌+◌, Bool, true, false, List, [], ◌∷◌, ◌++◌, ◌<◌, length, map, drop, Option, Some, None, codes, decimal, slice_get, refl, sym, ap, subst, ◌∙◌, append_assoc, add-one, arith}
 use Rattle.std.proofs.lemmas.List.{drop_all, map-append, length-map}
 use Rattle.std.proofs.Math.Seq.{drop-append_seam}
@@ -23,11 +23,11 @@ use Rattle.runs.specs.Run.{IsAllowed}
 use Rattle.histories.specs.After.{sent_at}
 use Rattle.runs.specs.Reporting.{Moment, grown, moment_of, report_of}
 use Rattle.runs.specs.Growth.{IsNext, RunsGrow, RunsOpen}
-use Rattle.cluster_sim.specs.Machine.{Machine, Acted, StandsFor}
-use Rattle.invite_console.specs.declared.telling.Telling.{Telling}
+use Rattle.cluster_sim.specs.World.{WorldView, Acted, StandsFor}
+use Rattle.invite_console.specs.declared.details.Details.{Details}
 use Rattle.invite_console.specs.Acts.{act_line, answer_text, moment_line, sent_text}
 use Rattle.invite_console.specs.Kept.{act_head}
-use Rattle.invite_console.specs.Sim.{AddsNodes, AddsRow, AddsRows, IsSoFar, nothing, one_more, TellsRun}
+use Rattle.invite_console.specs.Sim.{AddsNodes, AddsRow, AddsRows, IsSoFar, nothing, one_more, PrintsRun}
 
 -- ---- what was sent
 
@@ -37,20 +37,20 @@ messages_part names (Done answer first many) sent = sent_text names first sent
 messages_part names (outcome.Refused why) sent = []
 messages_part names outcome.Faulted sent = []
 
--- An act that was done tells how many messages had been sent before it, and another one sends none.
-told_said : (names : Bool) (n nodes first : ℕ) (s : NodeState) (what : What) (a : Act)
+-- An act that was done says how many messages had been sent before it, and another one sends none.
+outcome_said : (names : Bool) (n nodes first : ℕ) (s : NodeState) (what : What) (a : Act)
     → messages_part names (what_outcome n nodes first s what a) (sent_at n nodes s what) ≡ sent_text names first (sent_at n nodes s what)
-told_said names n nodes first s (Rests Nothing) a = refl
-told_said names n nodes first s (Rests Compacted) a = refl
-told_said names n nodes first s (Rests CompactDown) a = refl
-told_said names n nodes first s (Rests CompactWorn) a = refl
-told_said names n nodes first s Crashed (an.Compact m) = refl
-told_said names n nodes first s Crashed _ = refl
-told_said names n nodes first s _ a = refl
+outcome_said names n nodes first s (Rests Nothing) a = refl
+outcome_said names n nodes first s (Rests Compacted) a = refl
+outcome_said names n nodes first s (Rests CompactDown) a = refl
+outcome_said names n nodes first s (Rests CompactWorn) a = refl
+outcome_said names n nodes first s Crashed (an.Compact m) = refl
+outcome_said names n nodes first s Crashed _ = refl
+outcome_said names n nodes first s _ a = refl
 
 step_said : (names : Bool) (nodes : ℕ) (w : World) (a : Act) (step : Step)
     → messages_part names (act_outcome nodes w a step) (step_sent nodes w step) ≡ sent_text names (length w.net.sent) (step_sent nodes w step)
-step_said names nodes w a (Takes n number what) = told_said names n nodes (length w.net.sent) (node_in w.states n) what a
+step_said names nodes w a (Takes n number what) = outcome_said names n nodes (length w.net.sent) (node_in w.states n) what a
 step_said names nodes w a (Changes net) = refl
 step_said names nodes w a (Denies n why) = refl
 
@@ -62,39 +62,39 @@ last_sent nodes w step allowed =
 -- ---- one act further
 
 -- the line of the act, as its moment has it
-told_line : (names : Bool) (nodes k : ℕ) (w : World) (a : Act) (step : Step) (new : Machine) (outcome : Outcome) → IsAllowed nodes w step → outcome ≡ act_outcome nodes w a step → StandsFor new (world_after nodes w step)
+outcome_line : (names : Bool) (nodes k : ℕ) (w : World) (a : Act) (step : Step) (new : WorldView) (outcome : Outcome) → IsAllowed nodes w step → outcome ≡ act_outcome nodes w a step → StandsFor new (world_after nodes w step)
     → act_line names k a outcome (drop (length w.net.sent) new.net.sent) ≡ moment_line names k (moment_of nodes w a step)
-told_line names nodes k w a step new outcome allowed is_told stands =
-    ap (λ (o : Outcome). act_line names k a o (drop (length w.net.sent) new.net.sent)) is_told
+outcome_line names nodes k w a step new outcome allowed outcome_is stands =
+    ap (λ (o : Outcome). act_line names k a o (drop (length w.net.sent) new.net.sent)) outcome_is
     ∙ ap (λ (sent : List Envelope). act_line names k a (act_outcome nodes w a step) sent) (ap (λ (net : Network). drop (length w.net.sent) net.sent) stands.net ∙ last_sent nodes w step allowed)
 
 numbered : (acts : List Act) (ms : List Moment) → map (λ (m : Moment). m.act) ms ≡ acts → length acts ≡ length ms
 numbered acts ms same = ap length (sym same) ∙ length-map ms (λ (m : Moment). m.act)
 
 -- the line that was added is that of one moment more
-line_further : (names : Bool) (nodes : ℕ) (w : World) (ms : List Moment) (old new : Machine) (acts : List Act) (a : Act) (outcome : Outcome) (step : Step) (found behind : List ℕ)
+line_further : (names : Bool) (nodes : ℕ) (w : World) (ms : List Moment) (old new : WorldView) (acts : List Act) (a : Act) (outcome : Outcome) (step : Step) (headed behind : List ℕ)
     → IsAllowed nodes w step → map (λ (m : Moment). m.act) ms ≡ acts → old.net ≡ w.net
     → outcome ≡ act_outcome nodes w a step → StandsFor new (world_after nodes w step)
-    → behind ≡ found ++ act_line names (length acts) a outcome (drop (length old.net.sent) new.net.sent)
-    → behind ≡ found ++ moment_line names (length ms) (moment_of nodes w a step)
-line_further names nodes w ms old new acts a outcome step found behind allowed acts_are net is_told stands added =
-    added ∙ (ap (λ (net : Network). found ++ act_line names (length acts) a outcome (drop (length net.sent) new.net.sent)) net
-    ∙ (ap (λ (l : List ℕ). found ++ l) (told_line names nodes (length acts) w a step new outcome allowed is_told stands)
-    ∙ ap (λ (k : ℕ). found ++ moment_line names k (moment_of nodes w a step)) (numbered acts ms acts_are)))
+    → behind ≡ headed ++ act_line names (length acts) a outcome (drop (length old.net.sent) new.net.sent)
+    → behind ≡ headed ++ moment_line names (length ms) (moment_of nodes w a step)
+line_further names nodes w ms old new acts a outcome step headed behind allowed acts_are net outcome_is stands added =
+    added ∙ (ap (λ (net : Network). headed ++ act_line names (length acts) a outcome (drop (length net.sent) new.net.sent)) net
+    ∙ (ap (λ (l : List ℕ). headed ++ l) (outcome_line names nodes (length acts) w a step new outcome allowed outcome_is stands)
+    ∙ ap (λ (k : ℕ). headed ++ moment_line names k (moment_of nodes w a step)) (numbered acts ms acts_are)))
 
 -- the acts so far, one act further
-pub further : RunsGrow → (telling : Telling) (nodes slots : ℕ) (old new : Machine) (acts : List Act) (a : Act) (outcome : Outcome) (text found behind : List ℕ)
-    → IsSoFar telling nodes slots old acts text → ((w : World) → StandsFor old w → Acted w a outcome new) → new.slots ≡ old.slots
-    → ((w : World) → StandsFor old w → AddsNodes telling.nodes w.states text found)
-    → behind ≡ found ++ act_line telling.names (length acts) a outcome (drop (length old.net.sent) new.net.sent)
-    → IsSoFar telling nodes slots new (acts ++ a ∷ []) behind
-further grow telling nodes slots old new acts a outcome text found behind so acted same rows added =
+pub further : RunsGrow → (details : Details) (nodes slots : ℕ) (old new : WorldView) (acts : List Act) (a : Act) (outcome : Outcome) (text headed behind : List ℕ)
+    → IsSoFar details nodes slots old acts text → ((w : World) → StandsFor old w → Acted w a outcome new) → new.slots ≡ old.slots
+    → ((w : World) → StandsFor old w → AddsNodes details.nodes w.states text headed)
+    → behind ≡ headed ++ act_line details.names (length acts) a outcome (drop (length old.net.sent) new.net.sent)
+    → IsSoFar details nodes slots new (acts ++ a ∷ []) behind
+further grow details nodes slots old new acts a outcome text headed behind so acted same rows added =
     let w = so.world in
     let act = acted w so.stands in
     let next : IsNext nodes slots w a act.step =
     subst (λ (n : ℕ). IsNext n slots w a act.step) so.count (subst (λ (k : ℕ). IsNext (length w.states) k w a act.step) (same ∙ so.slots_are) act.next) in
     let stands : StandsFor new (world_after nodes w act.step) = subst (λ (n : ℕ). StandsFor new (world_after n w act.step)) so.count act.stands in
-    let is_told : outcome ≡ act_outcome nodes w a act.step = act.is_told ∙ ap (λ (n : ℕ). act_outcome n w a act.step) so.count in
+    let outcome_is : outcome ≡ act_outcome nodes w a act.step = act.outcome_is ∙ ap (λ (n : ℕ). act_outcome n w a act.step) so.count in
     record {
       world = world_after nodes w act.step;
       report = grown nodes w a act.step so.report;
@@ -103,13 +103,13 @@ further grow telling nodes slots old new acts a outcome text found behind so act
       slots_are = same ∙ so.slots_are;
       stands = stands;
       acts_are = map-append (λ (m : Moment). m.act) so.report.moments (moment_of nodes w a act.step ∷ []) ∙ ap (λ (xs : List Act). xs ++ a ∷ []) so.acts_are;
-      told = one_more w so.report a act.step text found behind so.told next (rows w so.stands)
-          (line_further telling.names nodes w so.report.moments old new acts a outcome act.step found behind next.allowed so.acts_are so.stands.net is_told stands added);
+      printed = one_more w so.report a act.step text headed behind so.printed next (rows w so.stands)
+          (line_further details.names nodes w so.report.moments old new acts a outcome act.step headed behind next.allowed so.acts_are so.stands.net outcome_is stands added);
     }
 
 -- ---- what the line of an act says
 
-said_of : (names : Bool) (old new : Machine) (w : World) (a : Act) (outcome : Outcome) → StandsFor old w → Acted w a outcome new
+said_of : (names : Bool) (old new : WorldView) (w : World) (a : Act) (outcome : Outcome) → StandsFor old w → Acted w a outcome new
     → messages_part names outcome (drop (length old.net.sent) new.net.sent) ≡ sent_text names (length old.net.sent) (drop (length old.net.sent) new.net.sent)
 said_of names old new w a outcome stands acted =
     let n = length w.states in
@@ -117,7 +117,7 @@ said_of names old new w a outcome stands acted =
     let sent : drop (length w.net.sent) new.net.sent ≡ step_sent n w step = ap (λ (net : Network). drop (length w.net.sent) net.sent) acted.stands.net ∙ last_sent n w step acted.next.allowed in
     subst (λ (k : ℕ). messages_part names outcome (drop k new.net.sent) ≡ sent_text names k (drop k new.net.sent)) (ap (λ (net : Network). length net.sent) (sym stands.net))
     (subst (λ (ms : List Envelope). messages_part names outcome ms ≡ sent_text names (length w.net.sent) ms) (sym sent)
-    (subst (λ (o : Outcome). messages_part names o (step_sent n w step) ≡ sent_text names (length w.net.sent) (step_sent n w step)) (sym acted.is_told)
+    (subst (λ (o : Outcome). messages_part names o (step_sent n w step) ≡ sent_text names (length w.net.sent) (step_sent n w step)) (sym acted.outcome_is)
     (step_said names n w a step)))
 
 line_parts : (names : Bool) (number : ℕ) (a : Act) (outcome : Outcome) (sent : List Envelope)
@@ -129,7 +129,7 @@ line_parts names number a (outcome.Refused why) sent = refl
 line_parts names number a outcome.Faulted sent = refl
 
 -- its front, its messages, and a line feed
-pub line_is : (names : Bool) (number : ℕ) (old new : Machine) (w : World) (a : Act) (outcome : Outcome) → StandsFor old w → Acted w a outcome new
+pub line_is : (names : Bool) (number : ℕ) (old new : WorldView) (w : World) (a : Act) (outcome : Outcome) → StandsFor old w → Acted w a outcome new
     → act_head number a outcome ++ (sent_text names (length old.net.sent) (drop (length old.net.sent) new.net.sent) ++ codes "\n") ≡ act_line names number a outcome (drop (length old.net.sent) new.net.sent)
 line_is names number old new w a outcome stands acted =
     ap (λ (l : List ℕ). act_head number a outcome ++ (l ++ codes "\n")) (sym (said_of names old new w a outcome stands acted))
@@ -137,9 +137,9 @@ line_is names number old new w a outcome stands acted =
 
 -- ---- the beginning, and the end
 
--- a cluster that was opened has told nothing
-pub begins : RunsOpen → (telling : Telling) (nodes slots : ℕ) (machine : Machine) → machine.slots ≡ slots → StandsFor machine (start nodes) → IsSoFar telling nodes slots machine [] []
-begins opens telling nodes slots machine same stands = record {
+-- of a cluster that was opened nothing is printed
+pub begins : RunsOpen → (details : Details) (nodes slots : ℕ) (view : WorldView) → view.slots ≡ slots → StandsFor view (start nodes) → IsSoFar details nodes slots view [] []
+begins opens details nodes slots view same stands = record {
   world = start nodes;
   report = report_of nodes [] [];
   left = opens nodes slots;
@@ -147,19 +147,19 @@ begins opens telling nodes slots machine same stands = record {
   slots_are = same;
   stands = stands;
   acts_are = refl;
-  told = nothing;
+  printed = nothing;
 }
 
--- all acts were told, and then the nodes
-pub ends : (telling : Telling) (nodes slots : ℕ) (machine : Machine) (acts : List Act) (text all : List ℕ) → IsSoFar telling nodes slots machine acts text
-    → ((w : World) → StandsFor machine w → AddsRows 0 w.states text all) → TellsRun telling nodes slots acts all
-ends telling nodes slots machine acts text all so rows = record {
+-- all acts were printed, and then the nodes
+pub ends : (details : Details) (nodes slots : ℕ) (view : WorldView) (acts : List Act) (text all : List ℕ) → IsSoFar details nodes slots view acts text
+    → ((w : World) → StandsFor view w → AddsRows 0 w.states text all) → PrintsRun details nodes slots acts all
+ends details nodes slots view acts text all so rows = record {
   world = so.world;
   report = so.report;
   left = so.left;
   acts_are = so.acts_are;
   front = text;
-  told = so.told;
+  printed = so.printed;
   ended = rows so.world so.stands;
 }
 
@@ -171,17 +171,17 @@ one_there (x ∷ xs) zero within = (x, refl, refl)
 one_there (x ∷ xs) (suc k) within = let rest = one_there xs k (omega arith) in (rest.0, rest.1, rest.2)
 
 -- one line more
-pub row_more : (w : World) (machine : Machine) (k : ℕ) (node : Node Memory) (first text behind end : List ℕ) → StandsFor machine w → k < length machine.nodes → slice_get machine.nodes k ≡ Some node
+pub row_more : (w : World) (view : WorldView) (k : ℕ) (node : Node Memory) (first text behind end : List ℕ) → StandsFor view w → k < length view.nodes → slice_get view.nodes k ≡ Some node
     → ((s : NodeState) → Stands state_of node s → AddsRow k s text behind)
     → ((e : List ℕ) → AddsRows k (drop k w.states) text e → AddsRows 0 w.states first e)
     → AddsRows (k + 1) (drop (k + 1) w.states) behind end → AddsRows 0 w.states first end
-row_more w machine k node first text behind end stands within found row before rest =
+row_more w view k node first text behind end stands within headed row before rest =
     let here = one_there w.states k (omega (arith, stands.count)) in
     let left : drop k w.states ≡ here.0 ∷ drop (k + 1) w.states = here.2 ∙ ap (λ (m : ℕ). here.0 ∷ drop m w.states) (sym (add-one k)) in
-    before end (subst (λ (states : List NodeState). AddsRows k states text end) (sym left) (behind, row here.0 (stands.each k node here.0 found here.1), rest))
+    before end (subst (λ (states : List NodeState). AddsRows k states text end) (sym left) (behind, row here.0 (stands.each k node here.0 headed here.1), rest))
 
 -- the last line
-pub rows_end : (w : World) (machine : Machine) (k : ℕ) (first text : List ℕ) → StandsFor machine w → k ≡ length machine.nodes
+pub rows_end : (w : World) (view : WorldView) (k : ℕ) (first text : List ℕ) → StandsFor view w → k ≡ length view.nodes
     → ((e : List ℕ) → AddsRows k (drop k w.states) text e → AddsRows 0 w.states first e) → AddsRows 0 w.states first text
-rows_end w machine k first text stands all before =
+rows_end w view k first text stands all before =
     before text (subst (λ (states : List NodeState). AddsRows k states text text) (sym (drop_all k w.states (omega (arith, stands.count, all)))) refl)

@@ -58,7 +58,7 @@ abbrev pub id_text : Option ℕ → List ℕ
 id_text None = []
 id_text (Some id) = codes " id " ++ decimal id
 
--- the id of a submitted job, which no other act tells
+-- the id of a submitted job, which no other act has
 abbrev pub answer_text : Act → Option ℕ → List ℕ
 answer_text (act.Submit n work) answer = id_text answer
 answer_text a answer = []

@@ -4,11 +4,11 @@ use Rattle.wire_msg.specs.Envelope.{Envelope}
 use Rattle.schedule.specs.declared.act.Act.{Act}
 use Rattle.runs.specs.declared.outcome.Outcome.{Outcome}
 use Rattle.runs.specs.declared.outcome.Outcome.TheVariants.{Done, Refused, Faulted}
-use Rattle.cluster_sim.specs.Machine.{Machine}
+use Rattle.cluster_sim.specs.World.{WorldView}
 use Rattle.invite_console.specs.declared.running.Kept.{Kept}
-use Rattle.invite_console.specs.declared.telling.Telling.{Telling}
+use Rattle.invite_console.specs.declared.details.Details.{Details}
 use Rattle.invite_console.specs.Acts.{answer_text, refusal_name, sent_text}
-use Rattle.invite_console.specs.Sim.{IsSoFar, TellsRun}
+use Rattle.invite_console.specs.Sim.{IsSoFar, PrintsRun}
 
 -- the part of a list from a place on, up to another
 abbrev pub between : {A : Type 0} → ℕ → ℕ → List A → List A
@@ -30,9 +30,9 @@ abbrev pub sent_by : Option Kept → ℕ
 sent_by None = 0
 sent_by (Some kept) = kept.sent
 
-abbrev pub told_by : Option Kept → ℕ
-told_by None = 0
-told_by (Some kept) = kept.told
+abbrev pub written_by : Option Kept → ℕ
+written_by None = 0
+written_by (Some kept) = kept.written
 
 -- how many messages had been sent before an act
 abbrev pub sent_at : List Kept → ℕ → ℕ
@@ -40,43 +40,43 @@ sent_at kept zero = 0
 sent_at kept (suc i) = sent_by (slice_get kept i)
 
 -- how long the text was before an act
-abbrev pub told_at : List Kept → ℕ → ℕ
-told_at kept zero = 0
-told_at kept (suc i) = told_by (slice_get kept i)
+abbrev pub written_at : List Kept → ℕ → ℕ
+written_at kept zero = 0
+written_at kept (suc i) = written_by (slice_get kept i)
 
 -- What is kept of an act, where so many messages had been sent before it, and the text was so long: both only grow.
-pub record IsKept (sent told messages text : ℕ) (kept : Kept) : Type 0 where
+pub record IsKept (sent written messages text : ℕ) (kept : Kept) : Type 0 where
   pub sent_grows : sent ≤ kept.sent
   pub sent_within : kept.sent ≤ messages
-  pub told_grows : told ≤ kept.told
-  pub told_within : kept.told ≤ text
+  pub written_grows : written ≤ kept.written
+  pub written_within : kept.written ≤ text
 
 abbrev pub AreKept : List Kept → ℕ → ℕ → Type 0
-AreKept kept messages text = (i : ℕ) (k : Kept) → slice_get kept i ≡ Some k → IsKept (sent_at kept i) (told_at kept i) messages text k
+AreKept kept messages text = (i : ℕ) (k : Kept) → slice_get kept i ≡ Some k → IsKept (sent_at kept i) (written_at kept i) messages text k
 
--- the nodes as an act found them, where they are asked for, and its line
+-- the nodes as they were before an act, where they are asked for, and its line
 abbrev pub lines_of : Bool → Option Kept → ℕ → ℕ → List ℕ → List Envelope → List ℕ
-lines_of names None sent told text messages = []
-lines_of names (Some k) sent told text messages = between told k.told text ++ (sent_text names sent (between sent k.sent messages) ++ codes "\n")
+lines_of names None sent written text messages = []
+lines_of names (Some k) sent written text messages = between written k.written text ++ (sent_text names sent (between sent k.sent messages) ++ codes "\n")
 
 -- the lines of the first acts, so many
 abbrev pub lines : Bool → List Kept → List ℕ → List Envelope → ℕ → List ℕ
 lines names kept text messages zero = []
-lines names kept text messages (suc i) = lines names kept text messages i ++ lines_of names (slice_get kept i) (sent_at kept i) (told_at kept i) text messages
+lines names kept text messages (suc i) = lines names kept text messages i ++ lines_of names (slice_get kept i) (sent_at kept i) (written_at kept i) text messages
 
 -- the lines of all acts, and then the nodes at their end
 abbrev pub run_text : Bool → List Kept → List ℕ → List Envelope → List ℕ
-run_text names kept text messages = lines names kept text messages (length kept) ++ between (told_at kept (length kept)) (length text) text
+run_text names kept text messages = lines names kept text messages (length kept) ++ between (written_at kept (length kept)) (length text) text
 
 -- this is kept of some run of these acts
-pub record IsRun (telling : Telling) (nodes slots : ℕ) (acts : List Act) (kept : List Kept) (text : List ℕ) (messages : List Envelope) : Type 0 where
+pub record IsRun (details : Details) (nodes slots : ℕ) (acts : List Act) (kept : List Kept) (text : List ℕ) (messages : List Envelope) : Type 0 where
   pub are : AreKept kept (length messages) (length text)
-  pub told : TellsRun telling nodes slots acts (run_text telling.names kept text messages)
+  pub printed : PrintsRun details nodes slots acts (run_text details.names kept text messages)
 
 -- the acts so far were done, and this is kept of them
-pub record IsKeptSoFar (telling : Telling) (nodes slots : ℕ) (machine : Machine) (acts : List Act) (kept : List Kept) (text : List ℕ) : Type 0 where
+pub record IsKeptSoFar (details : Details) (nodes slots : ℕ) (view : WorldView) (acts : List Act) (kept : List Kept) (text : List ℕ) : Type 0 where
   pub count : length kept ≡ length acts
-  pub are : AreKept kept (length machine.net.sent) (length text)
-  pub all_sent : sent_at kept (length kept) ≡ length machine.net.sent
-  pub all_told : told_at kept (length kept) ≡ length text
-  pub so : IsSoFar telling nodes slots machine acts (lines telling.names kept text machine.net.sent (length kept))
+  pub are : AreKept kept (length view.net.sent) (length text)
+  pub all_sent : sent_at kept (length kept) ≡ length view.net.sent
+  pub all_written : written_at kept (length kept) ≡ length text
+  pub so : IsSoFar details nodes slots view acts (lines details.names kept text view.net.sent (length kept))

@@ -6,5 +6,5 @@ pub mod Acts
 pub mod Rows
 pub mod Sim
 pub mod Reasons
-pub mod Recorded
+pub mod Recording
 pub mod Kept

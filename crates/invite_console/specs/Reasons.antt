@@ -36,15 +36,15 @@ schedule_flaw input = line_flaw (λ n. act_flaw (line_numbered n (lines_of input
 abbrev pub hex_flaw : List ℕ
 hex_flaw = codes "neither pairs of hex digits nor a dash"
 
--- what is wrong with the messages of a stream that is told so: its last line says it
+-- what is wrong with the messages of a stream that is shown so: its last line says it
 abbrev pub stream_flaw : Outcome → List ℕ
 stream_flaw outcome =
     if outcome.good then [] else
     if ends_with (λ (a b : ℕ). a == b) outcome.text (codes "malformed\n") then codes "a message can't be read" else codes "a message is for another node, or names one outside of the cluster"
 
 abbrev pub messages_flaw : (List ℕ → Outcome) → Result (List ℕ) ℕ → List ℕ
-messages_flaw told (Ok bytes) = stream_flaw (told bytes)
-messages_flaw told (Err n) = line_head n ++ hex_flaw
+messages_flaw shown (Ok bytes) = stream_flaw (shown bytes)
+messages_flaw shown (Err n) = line_head n ++ hex_flaw
 
 abbrev pub show_flaw : List ℕ → List ℕ
 show_flaw input = messages_flaw shown_of (hex_lines_of input)

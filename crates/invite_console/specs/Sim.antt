@@ -8,9 +8,9 @@ use Rattle.runs.specs.World.{World, start}
 use Rattle.runs.specs.Step.{Step, world_after}
 use Rattle.runs.specs.Reporting.{Report, grown, moment_of, report_of}
 use Rattle.runs.specs.Growth.{IsLeft, IsNext, acts_in}
-use Rattle.cluster_sim.specs.Machine.{Machine, StandsFor}
+use Rattle.cluster_sim.specs.World.{WorldView, StandsFor}
 use Rattle.console_text.specs.Ends.{Outcome, line, refused}
-use Rattle.invite_console.specs.declared.telling.Telling.{Telling}
+use Rattle.invite_console.specs.declared.details.Details.{Details}
 use Rattle.invite_console.specs.Acts.{moment_line}
 use Rattle.invite_console.specs.Rows.{HasRow, down_row}
 
@@ -36,47 +36,47 @@ AddsNodes true states old new = AddsRows 0 states old new
 
 -- ---- the whole text
 
--- A run and its report, with the text that tells it so far: in front of the line of each act, where they are asked for, the nodes as it
--- finds them.
-pub data Tells (telling : Telling) (nodes slots : ℕ) : World → Report → List ℕ → Type 0 where
-  nothing : Tells telling nodes slots (start nodes) (report_of nodes [] []) []
-  one_more : (w : World) (r : Report) (a : Act) (step : Step) (text found behind : List ℕ) → Tells telling nodes slots w r text
-      → IsNext nodes slots w a step → AddsNodes telling.nodes w.states text found
-      → behind ≡ found ++ moment_line telling.names (length r.moments) (moment_of nodes w a step)
-      → Tells telling nodes slots (world_after nodes w step) (grown nodes w a step r) behind
+-- A run and its report, with its text so far: in front of the line of each act, where they are asked for, the nodes as they
+-- are before it.
+pub data PrintsSoFar (details : Details) (nodes slots : ℕ) : World → Report → List ℕ → Type 0 where
+  nothing : PrintsSoFar details nodes slots (start nodes) (report_of nodes [] []) []
+  one_more : (w : World) (r : Report) (a : Act) (step : Step) (text headed behind : List ℕ) → PrintsSoFar details nodes slots w r text
+      → IsNext nodes slots w a step → AddsNodes details.nodes w.states text headed
+      → behind ≡ headed ++ moment_line details.names (length r.moments) (moment_of nodes w a step)
+      → PrintsSoFar details nodes slots (world_after nodes w step) (grown nodes w a step r) behind
 
--- Some run of these acts is told act by act, and then the nodes as it leaves them. Whatever is promised of every run of a
+-- Some run of these acts is printed act by act, and then the nodes as it leaves them. Whatever is promised of every run of a
 -- schedule is promised of this one.
-pub record TellsRun (telling : Telling) (nodes slots : ℕ) (acts : List Act) (text : List ℕ) : Type 0 where
+pub record PrintsRun (details : Details) (nodes slots : ℕ) (acts : List Act) (text : List ℕ) : Type 0 where
   pub world : World
   pub report : Report
   pub left : IsLeft nodes slots world report
   pub acts_are : acts_in report ≡ acts
   pub front : List ℕ
-  pub told : Tells telling nodes slots world report front
+  pub printed : PrintsSoFar details nodes slots world report front
   pub ended : AddsRows 0 world.states front text
 
-abbrev pub TellsPlan : Telling → Result Plan ℕ → Outcome → Type 0
-TellsPlan telling (Err n) outcome = outcome ≡ refused (codes "bad line " ++ decimal n)
-TellsPlan telling (Ok plan) outcome = (outcome.good ≡ true) × TellsRun telling plan.size.nodes plan.size.slots plan.acts outcome.text
+abbrev pub PrintsPlan : Details → Result Plan ℕ → Outcome → Type 0
+PrintsPlan details (Err n) outcome = outcome ≡ refused (codes "bad line " ++ decimal n)
+PrintsPlan details (Ok plan) outcome = (outcome.good ≡ true) × PrintsRun details plan.size.nodes plan.size.slots plan.acts outcome.text
 
 -- what `sim` prints for an input
-abbrev pub IsSimulation : Telling → List ℕ → Outcome → Type 0
-IsSimulation telling input outcome = TellsPlan telling (plan_of input) outcome
+abbrev pub IsSimOutcome : Details → List ℕ → Outcome → Type 0
+IsSimOutcome details input outcome = PrintsPlan details (plan_of input) outcome
 
 -- ---- on the way
 
--- the acts so far were told, and the cluster is as they left it
-pub record IsSoFar (telling : Telling) (nodes slots : ℕ) (machine : Machine) (acts : List Act) (text : List ℕ) : Type 0 where
+-- the acts so far were printed, and the cluster is as they left it
+pub record IsSoFar (details : Details) (nodes slots : ℕ) (view : WorldView) (acts : List Act) (text : List ℕ) : Type 0 where
   pub world : World
   pub report : Report
   pub left : IsLeft nodes slots world report
   pub count : length world.states ≡ nodes
-  pub slots_are : machine.slots ≡ slots
-  pub stands : StandsFor machine world
+  pub slots_are : view.slots ≡ slots
+  pub stands : StandsFor view world
   pub acts_are : acts_in report ≡ acts
-  pub told : Tells telling nodes slots world report text
+  pub printed : PrintsSoFar details nodes slots world report text
 
 -- the cluster stands for some world
-abbrev pub HasWorld : Machine → Type 0
-HasWorld machine = (w : World) × StandsFor machine w
+abbrev pub HasWorld : WorldView → Type 0
+HasWorld view = (w : World) × StandsFor view w

@@ -43,7 +43,7 @@ fn push_outcome(text: &mut Vec<u8>, act: &Act, outcome: Outcome) -> Result<(), A
     }
 }
 
-/// Adds the id of a submitted job, which no other act tells.
+/// Adds the id of a submitted job, which no other act has.
 fn push_answer(text: &mut Vec<u8>, act: &Act, answer: Option<u64>) -> Result<(), AllocError>
     ensures { OnOk result (text.new.items ≡ text.old.items ++ answer_text act.now answer) }
 {

@@ -11,7 +11,7 @@ ghost use Rattle.invite_console.specs.Answer.{answer_text, answers_to, first_cou
 use crate::lines::hex_lines;
 use crate::reasons::{bad_hex, with_reason};
 use crate::session::Session;
-use console_text::{Ended, Printout, Source, Told, Trouble, read_source, tell};
+use console_text::{Ended, Explained, Printout, Source, Trouble, print_explained, read_source};
 use group_task::NodeId;
 use line_words::LineFault;
 use std::alloc::{AllocError, Global};
@@ -37,15 +37,20 @@ pub fn answer<R: Read, W: Write>(
         Ok(bytes) => answer_to(alloc, id, nodes, bytes).map_err(Trouble::from),
         Err(trouble) => Err(trouble),
     };
-    tell(alloc, output, outcome)
+    print_explained(alloc, output, outcome)
 }
 
 /// What `answer` prints for an input, and what is wrong with it. The text is written in the input's memory.
-fn answer_to(alloc: Global, id: NodeId, nodes: u8, mut input: Vec<u8>) -> Result<Told, AllocError>
+fn answer_to(
+    alloc: Global,
+    id: NodeId,
+    nodes: u8,
+    mut input: Vec<u8>,
+) -> Result<Explained, AllocError>
     requires within { id < nodes }
     requires limit { nodes ≤ NODES }
-    ensures printed { IfOk result (λ told. outcome_of told.printout ≡ answer_text id nodes input.items) }
-    ensures why { IfOk result (λ told. told.why.items ≡ answer_flaw id nodes input.items) }
+    ensures printed { IfOk result (λ explained. outcome_of explained.printout ≡ answer_text id nodes input.items) }
+    ensures why { IfOk result (λ explained. explained.why.items ≡ answer_flaw id nodes input.items) }
 {
     match hex_lines(alloc, &input) {
         Ok(bytes) => {

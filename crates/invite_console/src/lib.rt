@@ -7,6 +7,7 @@
 
 mod acts;
 mod answers;
+mod details;
 mod lines;
 mod printing;
 mod reasons;
@@ -16,12 +17,11 @@ mod running;
 mod session;
 mod showing;
 mod simulating;
-mod telling;
 mod words;
 
 pub use answers::{answer, needs_no_disk};
 pub use console_text::Ending;
+pub use details::Details;
 pub use recording::record;
 pub use showing::show;
 pub use simulating::sim;
-pub use telling::Telling;

@@ -19,21 +19,21 @@ pub(crate) fn print_run<W: Write>(
     names: bool,
     run: &Run,
 ) -> Result<(), Unprinted>
-    requires { AreKept run.now.kept.items (length run.now.cluster.net.sent) (length run.now.text.items) }
-    ensures { OnOk result (Hands (W.contents output.old) page.old.items (W.contents output.new) page.new.items (run_text names run.now.kept.items run.now.text.items run.now.cluster.net.sent)) }
+    requires { AreKept run.now.kept.items (length run.now.world.net.sent) (length run.now.text.items) }
+    ensures { OnOk result (Hands (W.contents output.old) page.old.items (W.contents output.new) page.new.items (run_text names run.now.kept.items run.now.text.items run.now.world.net.sent)) }
 {
-    let messages = run.cluster.net().sent();
+    let messages = run.world.net().sent();
     let mut sent = 0;
-    let mut told = 0;
+    let mut written = 0;
     for number in 0..run.kept.len() {
         let kept = run.kept[number];
-        print_part(output, page, text_in(&run.text, told, kept.told))?;
+        print_part(output, page, text_in(&run.text, written, kept.written))?;
         print_sent(output, page, bytes, names, messages, sent, kept.sent)?;
         push_text(page, "\n")?;
         sent = kept.sent;
-        told = kept.told;
+        written = kept.written;
     }
-    print_part(output, page, text_in(&run.text, told, run.text.len()))?;
+    print_part(output, page, text_in(&run.text, written, run.text.len()))?;
     Ok(())
 }
 

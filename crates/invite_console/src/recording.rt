@@ -2,10 +2,12 @@
 ghost use Rattle.std.specs.Prelude.{◌≡◌, ◌≤◌, ◌+◌, IfOk};
 ghost use Rattle.console_text.specs.Ends.{outcome_of, IsWhy, Prints};
 ghost use Rattle.invite_console.specs.Reasons.{schedule_flaw};
-ghost use Rattle.invite_console.specs.Recorded.{IsRecording};
+ghost use Rattle.invite_console.specs.Recording.{IsRecording};
 
 use crate::reasons::bad_schedule;
-use console_text::{Ended, Printout, Source, Told, Trouble, push_text, read_source, tell};
+use console_text::{
+    Ended, Explained, Printout, Source, Trouble, print_explained, push_text, read_source,
+};
 use line_words::LineFault;
 use run_trace::trace_of;
 use schedule::read_schedule;
@@ -23,13 +25,13 @@ pub fn record<R: Read, W: Write>(alloc: Global, input: &mut Source<R>, output: &
         Ok(bytes) => record_text(alloc, &bytes).map_err(Trouble::from),
         Err(trouble) => Err(trouble),
     };
-    tell(alloc, output, outcome)
+    print_explained(alloc, output, outcome)
 }
 
 /// What `record` prints for an input, and what is wrong with it.
-fn record_text(alloc: Global, input: &[u8]) -> Result<Told, AllocError>
-    ensures printed { IfOk result (λ told. IsRecording input.now (outcome_of told.printout)) }
-    ensures why { IfOk result (λ told. told.why.items ≡ schedule_flaw input.now) }
+fn record_text(alloc: Global, input: &[u8]) -> Result<Explained, AllocError>
+    ensures printed { IfOk result (λ explained. IsRecording input.now (outcome_of explained.printout)) }
+    ensures why { IfOk result (λ explained. explained.why.items ≡ schedule_flaw input.now) }
 {
     match read_schedule(alloc, input) {
         Ok(schedule) => {

@@ -3,15 +3,15 @@
 ghost use Rattle.std.specs.Prelude.{◌≡◌, ◌≤◌, ◌++◌, [], ◌∷◌, ℕ, List, IfOk, OnOk, length};
 ghost use Rattle.group_task.specs.declared.node.TheConstants.{NODES};
 ghost use Rattle.schedule.specs.declared.act.Act.{Act as ActValue};
-ghost use Rattle.cluster_sim.specs.Machine.{StandsFor};
-ghost use Rattle.runs.specs.World.{World};
+ghost use Rattle.cluster_sim.specs.World.{StandsFor};
+ghost use Rattle.runs.specs.World.{World as RunWorld};
 ghost use Rattle.invite_console.specs.Kept.{act_head, IsKeptSoFar, IsRun};
 ghost use Rattle.invite_console.specs.Sim.{AddsNodes, AddsRows, HasWorld};
 
 use crate::acts::push_head;
+use crate::details::Details;
 use crate::rows::push_row;
-use crate::telling::Telling;
-use cluster_sim::{Outcome, Simulation};
+use cluster_sim::{Outcome, World};
 use group_task::NodeId;
 use runs::left_by_a_run;
 use schedule::{Act, Schedule};
@@ -26,15 +26,15 @@ pub(crate) struct Kept {
     /// How many messages had been sent by then.
     pub sent: usize,
     /// How long the text was by then.
-    pub told: usize,
+    pub written: usize,
 }
 
 /// A schedule that was run.
 #[derive(Drop)]
 pub(crate) struct Run {
-    pub cluster: Simulation,
+    pub world: World,
     pub kept: Vec<Kept>,
-    /// Of each act the nodes as it found them, where they are asked for, and its line without the messages; and then the nodes as
+    /// Of each act the nodes as they were before it, where they are asked for, and its line without the messages; and then the nodes as
     /// the last act left them.
     pub text: Vec<u8>,
 }
@@ -42,50 +42,46 @@ pub(crate) struct Run {
 /// A cluster through a schedule.
 pub(crate) fn run_schedule(
     alloc: Global,
-    telling: Telling,
+    details: Details,
     schedule: &Schedule,
 ) -> Result<Run, AllocError>
     requires least { 1 ≤ schedule.now.size.nodes }
     requires most { schedule.now.size.nodes ≤ NODES }
     requires least_slots { 4 ≤ schedule.now.size.slots }
     requires most_slots { schedule.now.size.slots ≤ 4096 }
-    ensures { IfOk result (λ run. IsRun telling schedule.now.size.nodes schedule.now.size.slots schedule.now.acts.items run.kept.items run.text.items run.cluster.net.sent) }
+    ensures { IfOk result (λ run. IsRun details schedule.now.size.nodes schedule.now.size.slots schedule.now.acts.items run.kept.items run.text.items run.world.net.sent) }
 {
     left_by_a_run();
-    let mut cluster = Simulation::open(alloc, schedule.size.nodes, schedule.size.slots)?;
+    let mut world = World::open(alloc, schedule.size.nodes, schedule.size.slots)?;
     let mut kept = Vec::with_capacity(alloc, schedule.acts.len())?;
     let mut text = Vec::with_capacity(alloc, schedule.acts.len().saturating_mul(LINE))?;
     keep_acts(
         alloc,
-        telling,
+        details,
         &mut text,
         &mut kept,
-        &mut cluster,
+        &mut world,
         &schedule.acts,
     )?;
-    push_table(alloc, &mut text, &cluster)?;
-    Ok(Run {
-        cluster,
-        kept,
-        text,
-    })
+    push_table(alloc, &mut text, &world)?;
+    Ok(Run { world, kept, text })
 }
 
 /// Does acts, and keeps what came of each.
 fn keep_acts(
     alloc: Global,
-    telling: Telling,
+    details: Details,
     text: &mut Vec<u8>,
     kept: &mut Vec<Kept>,
-    cluster: &mut Simulation,
+    world: &mut World,
     acts: &[Act],
 ) -> Result<(), AllocError>
-    requires { HasWorld cluster.old }
-    ensures { (nodes slots : ℕ) → IsKeptSoFar telling nodes slots cluster.old [] kept.old.items text.old.items
-        → OnOk result (IsKeptSoFar telling nodes slots cluster.new acts.now kept.new.items text.new.items) }
+    requires { HasWorld world.old }
+    ensures { (nodes slots : ℕ) → IsKeptSoFar details nodes slots world.old [] kept.old.items text.old.items
+        → OnOk result (IsKeptSoFar details nodes slots world.new acts.now kept.new.items text.new.items) }
 {
     for act in acts {
-        keep_act(alloc, telling, text, kept, cluster, act)?;
+        keep_act(alloc, details, text, kept, world, act)?;
     }
     Ok(())
 }
@@ -93,21 +89,21 @@ fn keep_acts(
 /// Does one act, and keeps what came of it.
 fn keep_act(
     alloc: Global,
-    telling: Telling,
+    details: Details,
     text: &mut Vec<u8>,
     kept: &mut Vec<Kept>,
-    cluster: &mut Simulation,
+    world: &mut World,
     act: &Act,
 ) -> Result<(), AllocError>
-    requires { HasWorld cluster.old }
-    ensures world { OnOk result (HasWorld cluster.new) }
-    ensures kept { (nodes slots : ℕ) (before : List ActValue) → IsKeptSoFar telling nodes slots cluster.old before kept.old.items text.old.items
-        → OnOk result (IsKeptSoFar telling nodes slots cluster.new (before ++ act.now ∷ []) kept.new.items text.new.items) }
+    requires { HasWorld world.old }
+    ensures world { OnOk result (HasWorld world.new) }
+    ensures kept { (nodes slots : ℕ) (before : List ActValue) → IsKeptSoFar details nodes slots world.old before kept.old.items text.old.items
+        → OnOk result (IsKeptSoFar details nodes slots world.new (before ++ act.now ∷ []) kept.new.items text.new.items) }
 {
     left_by_a_run();
-    push_nodes(alloc, telling, text, cluster)?;
-    match cluster.step(act) {
-        Ok(outcome) => keep(text, kept, cluster.net().sent().len(), act, outcome),
+    push_nodes(alloc, details, text, world)?;
+    match world.step(act) {
+        Ok(outcome) => keep(text, kept, world.net().sent().len(), act, outcome),
         Err(error) => Err(error),
     }
 }
@@ -121,12 +117,12 @@ fn keep(
     outcome: Outcome,
 ) -> Result<(), AllocError>
     ensures head { OnOk result (text.new.items ≡ text.old.items ++ act_head (length kept.old.items) act.now outcome) }
-    ensures kept { OnOk result (kept.new.items ≡ kept.old.items ++ record { sent = sent; told = length text.new.items } ∷ []) }
+    ensures kept { OnOk result (kept.new.items ≡ kept.old.items ++ record { sent = sent; written = length text.new.items } ∷ []) }
 {
     push_head(text, kept.len() as u64, act, outcome)?;
     kept.push(Kept {
         sent,
-        told: text.len(),
+        written: text.len(),
     })?;
     Ok(())
 }
@@ -134,25 +130,25 @@ fn keep(
 /// Adds the line of each node, where they are asked for.
 fn push_nodes(
     alloc: Global,
-    telling: Telling,
+    details: Details,
     text: &mut Vec<u8>,
-    cluster: &Simulation,
+    world: &World,
 ) -> Result<(), AllocError>
-    ensures { (w : World) → StandsFor cluster.now w → OnOk result (AddsNodes telling.nodes w.states text.old.items text.new.items) }
+    ensures { (w : RunWorld) → StandsFor world.now w → OnOk result (AddsNodes details.nodes w.states text.old.items text.new.items) }
 {
-    if telling.nodes {
-        return push_table(alloc, text, cluster);
+    if details.nodes {
+        return push_table(alloc, text, world);
     }
     Ok(())
 }
 
 /// Adds the line of each node.
-fn push_table(alloc: Global, text: &mut Vec<u8>, cluster: &Simulation) -> Result<(), AllocError>
-    ensures { (w : World) → StandsFor cluster.now w → OnOk result (AddsRows 0 w.states text.old.items text.new.items) }
+fn push_table(alloc: Global, text: &mut Vec<u8>, world: &World) -> Result<(), AllocError>
+    ensures { (w : RunWorld) → StandsFor world.now w → OnOk result (AddsRows 0 w.states text.old.items text.new.items) }
 {
-    for number in 0..cluster.count() {
+    for number in 0..world.count() {
         let id = NodeId::numbered(number);
-        push_row(alloc, text, id, cluster.node(id))?;
+        push_row(alloc, text, id, world.node(id))?;
     }
     Ok(())
 }

@@ -8,7 +8,8 @@ use crate::lines::hex_lines;
 use crate::reasons::{bad_hex, with_reason};
 use crate::words::{push_group, push_ids, push_truth};
 use console_text::{
-    Ended, Printout, Source, Told, Trouble, push_number, push_text, push_work, read_source, tell,
+    Ended, Explained, Printout, Source, Trouble, print_explained, push_number, push_text,
+    push_work, read_source,
 };
 use group_task::{GroupNo, Task};
 use job_model::Work;
@@ -28,13 +29,13 @@ pub fn show<R: Read, W: Write>(alloc: Global, input: &mut Source<R>, output: &mu
         Ok(bytes) => show_to(alloc, bytes).map_err(Trouble::from),
         Err(trouble) => Err(trouble),
     };
-    tell(alloc, output, outcome)
+    print_explained(alloc, output, outcome)
 }
 
 /// What `show` prints for an input, and what is wrong with it. The text is written in the input's memory.
-fn show_to(alloc: Global, mut input: Vec<u8>) -> Result<Told, AllocError>
-    ensures printed { IfOk result (λ told. outcome_of told.printout ≡ show_text input.items) }
-    ensures why { IfOk result (λ told. told.why.items ≡ show_flaw input.items) }
+fn show_to(alloc: Global, mut input: Vec<u8>) -> Result<Explained, AllocError>
+    ensures printed { IfOk result (λ explained. outcome_of explained.printout ≡ show_text input.items) }
+    ensures why { IfOk result (λ explained. explained.why.items ≡ show_flaw input.items) }
 {
     match hex_lines(alloc, &input) {
         Ok(bytes) => {

@@ -6,14 +6,14 @@ ghost use Rattle.schedule.specs.Text.{plan};
 ghost use Rattle.console_text.specs.Ends.{IsWhy, Prints};
 ghost use Rattle.invite_console.specs.Kept.{run_text, AreKept};
 ghost use Rattle.invite_console.specs.Reasons.{schedule_flaw};
-ghost use Rattle.invite_console.specs.Sim.{IsSimulation, TellsPlan};
+ghost use Rattle.invite_console.specs.Sim.{IsSimOutcome, PrintsPlan};
 
+use crate::details::Details;
 use crate::printing::print_run;
 use crate::reasons::bad_schedule;
 use crate::running::{Run, run_schedule};
-use crate::telling::Telling;
 use console_text::{
-    Ended, Ending, Source, Trouble, new_page, print, print_page, read_source, tell,
+    Ended, Ending, Source, Trouble, new_page, print, print_explained, print_page, read_source,
 };
 use line_words::LineFault;
 use schedule::{Schedule, read_schedule};
@@ -27,45 +27,45 @@ const LONGEST_SPELLING: usize = BODY_CAPACITY + 6;
 /// Reads a schedule, runs it on a simulated cluster, and prints a line for each act and then one for each node.
 pub fn sim<R: Read, W: Write>(
     alloc: Global,
-    telling: Telling,
+    details: Details,
     input: &mut Source<R>,
     output: &mut W,
 ) -> Ended
-    ensures prints { Prints (IsSimulation telling) (R.remaining input.old.reader) (W.contents output.old) (W.contents output.new) result.ending }
+    ensures prints { Prints (IsSimOutcome details) (R.remaining input.old.reader) (W.contents output.old) (W.contents output.new) result.ending }
     ensures why { IsWhy schedule_flaw (R.remaining input.old.reader) result.ending result.why.items }
     ensures reads { input.old.left ≤ input.new.left + 16777216 }
 {
     match read_source(alloc, input) {
-        Ok(bytes) => sim_to(alloc, telling, bytes, output),
-        Err(trouble) => tell(alloc, output, Err(trouble)),
+        Ok(bytes) => sim_to(alloc, details, bytes, output),
+        Err(trouble) => print_explained(alloc, output, Err(trouble)),
     }
 }
 
 /// Prints what `sim` prints for the bytes of an input. They are let go before the run.
-fn sim_to<W: Write>(alloc: Global, telling: Telling, input: Vec<u8>, output: &mut W) -> Ended
-    ensures prints { Prints (IsSimulation telling) (Some input.items) (W.contents output.old) (W.contents output.new) result.ending }
+fn sim_to<W: Write>(alloc: Global, details: Details, input: Vec<u8>, output: &mut W) -> Ended
+    ensures prints { Prints (IsSimOutcome details) (Some input.items) (W.contents output.old) (W.contents output.new) result.ending }
     ensures why { IsWhy schedule_flaw (Some input.items) result.ending result.why.items }
 {
     match read_schedule(alloc, &input) {
         Ok(schedule) => {
             drop(input);
             Ended {
-                ending: simulate(alloc, telling, &schedule, output),
+                ending: simulate(alloc, details, &schedule, output),
                 why: Vec::new(alloc),
             }
         }
         Err(LineFault::BadLine(number)) => match bad_schedule(alloc, &input, number) {
-            Ok(told) => tell(alloc, output, Ok(told)),
-            Err(_) => tell(alloc, output, Err(Trouble::NoMemory)),
+            Ok(explained) => print_explained(alloc, output, Ok(explained)),
+            Err(_) => print_explained(alloc, output, Err(Trouble::NoMemory)),
         },
-        Err(LineFault::NoMemory) => tell(alloc, output, Err(Trouble::NoMemory)),
+        Err(LineFault::NoMemory) => print_explained(alloc, output, Err(Trouble::NoMemory)),
     }
 }
 
 /// Runs a schedule, and prints its run.
 fn simulate<W: Write>(
     alloc: Global,
-    telling: Telling,
+    details: Details,
     schedule: &Schedule,
     output: &mut W,
 ) -> Ending
@@ -73,18 +73,18 @@ fn simulate<W: Write>(
     requires most { schedule.now.size.nodes ≤ NODES }
     requires least_slots { 4 ≤ schedule.now.size.slots }
     requires most_slots { schedule.now.size.slots ≤ 4096 }
-    ensures { Prints (λ _ outcome. TellsPlan telling (Ok (plan schedule.now.size schedule.now.acts.items)) outcome) None (W.contents output.old) (W.contents output.new) result }
+    ensures { Prints (λ _ outcome. PrintsPlan details (Ok (plan schedule.now.size schedule.now.acts.items)) outcome) None (W.contents output.old) (W.contents output.new) result }
 {
-    match run_schedule(alloc, telling, schedule) {
-        Ok(run) => print_pages(alloc, output, telling.names, &run),
+    match run_schedule(alloc, details, schedule) {
+        Ok(run) => print_pages(alloc, output, details.names, &run),
         Err(_) => print(output, Err(Trouble::NoMemory)),
     }
 }
 
 /// Prints a run. All memory for it is taken first, so that nothing is printed where there is none.
 fn print_pages<W: Write>(alloc: Global, output: &mut W, names: bool, run: &Run) -> Ending
-    requires { AreKept run.now.kept.items (length run.now.cluster.net.sent) (length run.now.text.items) }
-    ensures { Prints (λ _ outcome. outcome ≡ record { text = run_text names run.now.kept.items run.now.text.items run.now.cluster.net.sent; good = true }) None
+    requires { AreKept run.now.kept.items (length run.now.world.net.sent) (length run.now.text.items) }
+    ensures { Prints (λ _ outcome. outcome ≡ record { text = run_text names run.now.kept.items run.now.text.items run.now.world.net.sent; good = true }) None
         (W.contents output.old) (W.contents output.new) result }
 {
     let Ok(mut page) = new_page(alloc) else {

@@ -2,10 +2,10 @@
 -- written slot by slot, what it reads as in the end, and the area cell's raise.
 use Rattle.job_journal.proofs.Common.{◌≡◌, ◌+◌, ◌*◌, ◌<◌, ◌⊎◌, inl, inr, ⊎_elim, ℕ, List, [], ◌∷◌, length, get_or, set, Bool, false, Some, None, is_some, sym, ◌∙◌, ap, subst, subst₂, refl}
 use Rattle.job_journal.proofs.Common.{arith, IsTrue, Result, Ok, Err, IfOk, ◌-◌, ◌≤◌, zero, suc, ◌++◌, map, slice_get, Option, length-append, append-nil, append_assoc, length-map, nat_tests}
-use Rattle.job_journal.proofs.Common.{Image, DiskState, SameBut, AllSettled, Laws, Counts, sector_at, IsImage, Run, Each, run_widen, each_of_two, slot_at, InSlot, InSlots, run_on, Erased}
+use Rattle.job_journal.proofs.Common.{Image, DiskState, SameBut, AllSynced, Laws, Counts, sector_at, IsImage, Run, Each, run_widen, each_of_two, slot_at, InSlot, InSlots, run_on, Erased}
 use Rattle.job_journal.proofs.Common.{erased_start, slot_same, Stands, CellState, IsCellAt, AllStand, raised, stands_same, cell_at, Command, record_of, Table, Job, Record, IsInOrder}
-use Rattle.job_journal.proofs.Common.{jobs_of, jobs_after, id_of, Jobs, Reads, fresh, taken, found_at, then_slot, replayed, JournalFault, slots_from, sealed_prefix, IsPrefix, first_of}
-use Rattle.job_journal.proofs.Common.{jobs_in, IsSound, IsSoundImage, ImagesSince, InJournal, found_from, JournalState, Holds, AllHold, IsJournal, first_sector, next_slot, Admitted}
+use Rattle.job_journal.proofs.Common.{jobs_of, jobs_after, id_of, Jobs, Reads, fresh, taken, replay_at, then_slot, replayed, JournalFault, slots_from, sealed_prefix, IsPrefix, first_of}
+use Rattle.job_journal.proofs.Common.{jobs_in, IsSound, IsSoundImage, ImagesSince, InJournal, replay_from, JournalState, Holds, AllHold, IsJournal, first_sector, next_slot, Admitted}
 use Rattle.job_journal.proofs.Common.{BeforeOrAfter, appended, record_for, with_slot, KeepsJobs, HasAppended, IsWritten, records_for, other_sector}
 use Rattle.std.proofs.lemmas.Option.{slice_get-map, slice_get_read}
 use Rattle.std.specs.Prelude.{option_map}
@@ -14,7 +14,7 @@ use Rattle.slot_gate.specs.Stored.{Knows, IsStored, Follows}
 use Rattle.safe_cell.proofs.PublicLaws.{raised_way}
 use Rattle.job_journal.specs.declared.place.Place.TheVariants.{Running, Keeping}
 use Rattle.job_journal.proofs.Commands.{leaves_room, command_taken, kept, room_for, keep_taken}
-use Rattle.job_journal.proofs.Frames.{synced_image, first_between, Stays, stays_by, stays_now, told_of, images_of, slots_same_from, stands_same_from, Told, told_at}
+use Rattle.job_journal.proofs.Frames.{synced_image, first_between, Stays, stays_by, stays_now, jobs_held, images_of, slots_same_from, stands_same_from, HoldsJobs, jobs_held_at}
 use Rattle.job_journal.proofs.Areas.{size, free_slot, put_some, length_slots, nth_slots, slot_kept, slots_put, replayed_more, none_sealed, all_unsealed}
 
 -- the slot behind the journal is unsealed
@@ -70,8 +70,8 @@ holds_more {journal = journal} {command = command} {content = content} {d = d} i
         reads = ap (λ bs. replayed slots first (Reads fresh) bs) bodies
             ∙ replayed_more slots first last (Reads fresh) (sealed_prefix xs) content refl
             ∙ (λ i. then_slot slots last (h.reads i) content)
-            ∙ ap (λ r. found_at last (taken slots (record { jobs = jobs_of journal.table; place = h.place }) r)) written
-            ∙ ap (λ r. found_at last r) (command_taken slots (jobs_of journal.table) h.place command (leaves_room slots (jobs_of journal.table) command is.pending can.fits) can.known can.ids);
+            ∙ ap (λ r. replay_at last (taken slots (record { jobs = jobs_of journal.table; place = h.place }) r)) written
+            ∙ ap (λ r. replay_at last r) (command_taken slots (jobs_of journal.table) h.place command (leaves_room slots (jobs_of journal.table) command is.pending can.fits) can.known can.ids);
         used = ap length bodies ∙ omega (arith, h.used, length-append (sealed_prefix xs) (content ∷ []));
       };
       prefix = λ _. subst IsPrefix (sym one_more) put.1;
@@ -86,18 +86,18 @@ append_since {journal = journal} {command = command} {slot = slot} {old = old} h
     let h = stays_now journal old honest all f.from f.image in
     let t : Touched journal slot f.from c = record { at = at; free = can.free; same = f.same } in
     let before : slot_at c slot ≡ None → BeforeOrAfter journal command c × (IsSound journal.slots old → IsSoundImage journal.slots c) =
-    λ none. let told = told_of (holds_still t h none) in (inl told.0, told.1) in
+    λ none. let held = jobs_held (holds_still t h none) in (inl held.0, held.1) in
     ⊎_elim (λ same. before (same ∙ next_unsealed journal slot f.from at can.free h.holds))
-    (⊎_elim before (λ some. let told = told_of (holds_more is can written t good h some) in (inr told.0, told.1))) f.step)
+    (⊎_elim before (λ some. let held = jobs_held (holds_more is can written t good h some) in (inr held.0, held.1))) f.step)
 
 -- once all of it is synced
 pub append_after : {journal : JournalState} {command : Command} {content : List ℕ} {slot : ℕ} {old new : DiskState} → IsTrue old.honest → IsJournal journal → Admitted journal command
     → record_of content ≡ Some (record_for (jobs_of journal.table) command) → slot ≡ next_slot journal → IsSound journal.slots old → AllHold journal old
-    → Run (InSlot slot) old new → AllSettled new → slot_at new.contents slot ≡ Some content → AllHold (appended journal command) new
-append_after {journal = journal} {slot = slot} {old = old} {new = new} honest is can written at good all run settled sealed c image =
+    → Run (InSlot slot) old new → AllSynced new → slot_at new.contents slot ≡ Some content → AllHold (appended journal command) new
+append_after {journal = journal} {slot = slot} {old = old} {new = new} honest is can written at good all run synced sealed c image =
     let f = run.follows c (run.ends c image) in
     (holds_more is can written (record { at = at; free = can.free; same = f.2 }) good (stays_now journal old honest all f.0 f.1)
-    (ap (λ d. slot_at d slot) (synced_image new c settled image) ∙ sealed)).holds
+    (ap (λ d. slot_at d slot) (synced_image new c synced image) ∙ sealed)).holds
 
 -- the slot lies in the journal
 pub append_run : (journal : JournalState) {slot : ℕ} {old new : DiskState} → slot ≡ next_slot journal → journal.used < journal.slots → Run (InSlot slot) old new
@@ -137,16 +137,16 @@ has_appended was now new command (Ok id) keeps is h =
 pub record Writing (first slots : ℕ) (Said : ℕ → Image → Type 0) (old now : DiskState) (done : ℕ) : Type 0 where
   pub calls : Erased first slots old now 0
   pub said : IsTrue old.honest → Said 0 old.contents → Said done now.contents
-  pub settled : IsTrue old.honest → 0 < done → AllSettled now
+  pub synced : IsTrue old.honest → 0 < done → AllSynced now
 
 pub writing_start : (first slots : ℕ) (Said : ℕ → Image → Type 0) (disk : DiskState) → (IsTrue disk.honest → Laws disk) → Writing first slots Said disk disk 0
 writing_start first slots Said disk laws =
-    record { calls = erased_start first slots disk laws; said = λ honest was. was; settled = λ honest less. absurd (omega (arith, less)) }
+    record { calls = erased_start first slots disk laws; said = λ honest was. was; synced = λ honest less. absurd (omega (arith, less)) }
 
 pub writing_more : (first slots : ℕ) {Said : ℕ → Image → Type 0} {here : ℕ → Type 0} {old mid new : DiskState} {done : ℕ} {failed ok : Type 0} → ok → ((k : ℕ) → here k → InSlots first slots k)
     → Writing first slots Said old mid done → Counts mid new failed ok → (IsTrue mid.honest → Run here mid new)
-    → (IsTrue mid.honest → Said done mid.contents → Said (done + 1) new.contents) → (IsTrue mid.honest → AllSettled new) → Writing first slots Said old new (done + 1)
-writing_more first slots {old = old} {mid = mid} was_ok into so_far counts run said settled = record {
+    → (IsTrue mid.honest → Said done mid.contents → Said (done + 1) new.contents) → (IsTrue mid.honest → AllSynced new) → Writing first slots Said old new (done + 1)
+writing_more first slots {old = old} {mid = mid} was_ok into so_far counts run said synced = record {
   calls = record {
     sectors = counts.sectors ∙ so_far.calls.sectors;
     honest = counts.honest ∙ so_far.calls.honest;
@@ -155,7 +155,7 @@ writing_more first slots {old = old} {mid = mid} was_ok into so_far counts run s
     unsealed = λ honest k less. absurd (omega (arith, less));
   };
   said = λ honest was. said (so_far.calls.honest ∙ honest) (so_far.said honest was);
-  settled = λ honest less. settled (so_far.calls.honest ∙ honest);
+  synced = λ honest less. synced (so_far.calls.honest ∙ honest);
 }
 
 -- one body more
@@ -219,7 +219,7 @@ keeps_read slots at next done (job ∷ rest) (body ∷ bodies) order fits is =
     let here : record_of body ≡ Some (Record.Keep job) = cc in
     let others : map record_of bodies ≡ map (λ r. Some r) (map Record.Keep rest) = cc in
     let more = append_assoc done (job ∷ []) rest in
-    ap (λ o. replayed slots (at + 2) (found_at at o) bodies) (ap (λ o. taken slots (kept next done) o) here ∙ keep_taken slots next done rest job order fits)
+    ap (λ o. replayed slots (at + 2) (replay_at at o) bodies) (ap (λ o. taken slots (kept next done) o) here ∙ keep_taken slots next done rest job order fits)
     ∙ keeps_read slots (at + 2) next (done ++ job ∷ []) rest bodies (subst (λ jobs. IsInOrder jobs next) (sym more) order) (omega (arith, fits, length-append done (job ∷ []))) others
     ∙ ap (λ jobs. Reads (kept next jobs)) more
 
@@ -229,12 +229,12 @@ all_read slots at jobs [] order fits is = cc
 all_read slots at jobs (body ∷ bodies) order fits is =
     let here : record_of body ≡ Some (Record.Base jobs.next) = cc in
     let others : map record_of bodies ≡ map (λ r. Some r) (map Record.Keep jobs.pending) = cc in
-    ap (λ o. replayed slots (at + 2) (found_at at o) bodies) (ap (λ o. taken slots fresh o) here ∙ room_for slots (kept jobs.next []) (omega (arith, fits)))
+    ap (λ o. replayed slots (at + 2) (replay_at at o) bodies) (ap (λ o. taken slots fresh o) here ∙ room_for slots (kept jobs.next []) (omega (arith, fits)))
     ∙ keeps_read slots (at + 2) jobs.next [] jobs.pending bodies order (omega (arith, fits)) others
 
--- what an area that was written anew tells
+-- what an area that was written anew holds
 pub record Anew (slots first : ℕ) (jobs : Jobs) (c : Image) : Type 0 where
-  pub reads : found_from slots c first ≡ Reads (kept jobs.next jobs.pending)
+  pub reads : replay_from slots c first ≡ Reads (kept jobs.next jobs.pending)
   pub prefix : IsPrefix (slots_from c first slots)
   pub count : length (sealed_prefix (slots_from c first slots)) ≡ length jobs.pending + 1
 
@@ -254,7 +254,7 @@ anew slots first jobs c order fits written =
 -- while nothing is done
 pub still_since : (journal : JournalState) (disk : DiskState) → IsTrue disk.honest → Laws disk → AllHold journal disk
     → ImagesSince journal.slots disk disk (λ c. jobs_in journal.slots c ≡ Some (jobs_of journal.table))
-still_since journal disk honest laws all = images_of (λ c since. told_of (stays_now journal disk honest all c (laws.only_now c since)))
+still_since journal disk honest laws all = images_of (λ c since. jobs_held (stays_now journal disk honest all c (laws.only_now c since)))
 
 -- each image while the other area is written: the journal stays as it was
 pub area_stays : (journal : JournalState) {other : ℕ} {old mid : DiskState} → IsTrue old.honest → AllHold journal old → other ≡ other_sector journal
@@ -271,14 +271,14 @@ pub record Written (journal : JournalState) (other : ℕ) (old mid : DiskState) 
   pub at : other ≡ other_sector journal
   pub run : Run (InSlots other journal.slots) old mid
   pub written : IsWritten other journal.slots (records_for (jobs_of journal.table)) (length journal.table.pending + 1) (length journal.table.pending + 1) mid.contents
-  pub settled : AllSettled mid
+  pub synced : AllSynced mid
 
 written_anew : {journal : JournalState} {other : ℕ} {old mid : DiskState} → IsJournal journal → IsInOrder journal.table.pending journal.table.next → Written journal other old mid
     → (c : Image) → IsImage mid c → Anew journal.slots (other_sector journal) (jobs_of journal.table) c
 written_anew {journal = journal} {other = other} {mid = mid} is order w c image =
     let count = length journal.table.pending + 1 in
     subst (λ o. Anew journal.slots o (jobs_of journal.table) c) w.at (anew journal.slots other (jobs_of journal.table) c order is.pending
-    (subst (λ d. IsWritten other journal.slots (records_for (jobs_of journal.table)) count count d) (sym (synced_image mid c w.settled image)) w.written))
+    (subst (λ d. IsWritten other journal.slots (records_for (jobs_of journal.table)) count count d) (sym (synced_image mid c w.synced image)) w.written))
 
 -- the areas aren't touched by the area cell's raise
 area_kept : (journal : JournalState) (v : ℕ) (d c : Image) → IsCellAt 4 journal.area → SameBut (InSlot journal.area.spare) d c
@@ -288,16 +288,16 @@ area_kept journal v d c way same =
     (record { same = λ k le lt. same.same k (λ is. grind (arith, le, (first_between journal.slots v).0, way, is)) })
 
 -- each image while the area cell is raised: whichever area counts, it has the same jobs
-raise_told : {journal : JournalState} {other : ℕ} {old mid new : DiskState} → IsTrue old.honest → IsJournal journal → IsInOrder journal.table.pending journal.table.next → AllHold journal old
+raise_holds : {journal : JournalState} {other : ℕ} {old mid new : DiskState} → IsTrue old.honest → IsJournal journal → IsInOrder journal.table.pending journal.table.next → AllHold journal old
     → Written journal other old mid → Run (InSlot journal.area.spare) mid new → Each mid new (λ c. (cell_at c 4 ≡ Some journal.area.value) ⊎ (cell_at c 4 ≡ Some (journal.area.value + 1)))
-    → Each mid new (Told (IsSound journal.slots old) journal)
-raise_told {journal = journal} honest is order all w run values c since =
+    → Each mid new (HoldsJobs (IsSound journal.slots old) journal)
+raise_holds {journal = journal} honest is order all w run values c since =
     let f = run.follows c since in
     let v = journal.area.value in
     let was = area_stays journal honest all w.at w.run f.0 (w.run.ends f.0 f.1) in
     let next = written_anew is order w f.0 f.1 in
-    ⊎_elim (λ before. told_at journal.slots v f.0 c (area_kept journal v f.0 c is.cell f.2) before is.present was.holds.reads was.prefix)
-    (λ after. told_at journal.slots (v + 1) f.0 c (area_kept journal (v + 1) f.0 c is.cell f.2) after (omega arith) next.reads (λ _. next.prefix)) (values c since)
+    ⊎_elim (λ before. jobs_held_at journal.slots v f.0 c (area_kept journal v f.0 c is.cell f.2) before is.present was.holds.reads was.prefix)
+    (λ after. jobs_held_at journal.slots (v + 1) f.0 c (area_kept journal (v + 1) f.0 c is.cell f.2) after (omega arith) next.reads (λ _. next.prefix)) (values c since)
 
 -- What the code knows of the journal is known of its view. First while the other area is written:
 pub area_run : {journal was : JournalState} {other : ℕ} {old mid : DiskState} → journal ≡ was → other ≡ other_sector journal → Run (InSlots other journal.slots) old mid
@@ -307,10 +307,10 @@ area_run {journal = journal} {other = other} {old = old} {mid = mid} view at run
     subst (λ j. Run (InJournal j.slots) old mid) view
     (run_widen (InSlots other journal.slots) (InJournal journal.slots) old mid (λ k is. (omega (arith, is.0, at, w.0), omega (arith, is.1, at, w.1))) run)
 
-pub told_since : {journal was : JournalState} {old new : DiskState} → journal ≡ was → (AllHold journal old → Each old new (Told (IsSound journal.slots old) journal)) → AllHold was old
+pub jobs_held_since : {journal was : JournalState} {old new : DiskState} → journal ≡ was → (AllHold journal old → Each old new (HoldsJobs (IsSound journal.slots old) journal)) → AllHold was old
     → ImagesSince was.slots old new (λ c. jobs_in was.slots c ≡ Some (jobs_of was.table))
-told_since {old = old} {new = new} view told =
-    subst (λ j. AllHold j old → ImagesSince j.slots old new (λ c. jobs_in j.slots c ≡ Some (jobs_of j.table))) view (λ all. images_of (told all))
+jobs_held_since {old = old} {new = new} view held =
+    subst (λ j. AllHold j old → ImagesSince j.slots old new (λ c. jobs_in j.slots c ≡ Some (jobs_of j.table))) view (λ all. images_of (held all))
 
 -- then while the area cell is raised
 pub compact_run : {journal was : JournalState} {other : ℕ} {old mid new : DiskState} → journal ≡ was → IsJournal journal → other ≡ other_sector journal → mid.honest ≡ old.honest
@@ -324,10 +324,10 @@ pub compact_since : {journal was : JournalState} {other : ℕ} {old mid new : Di
     → AllHold was old → ImagesSince was.slots old new (λ c. jobs_in was.slots c ≡ Some (jobs_of was.table))
 compact_since {journal = journal} {old = old} {mid = mid} {new = new} view honest is order same w run values =
     let still = same ∙ honest in
-    told_since view (λ all.
+    jobs_held_since view (λ all.
     let stays = area_stays journal honest all w.at w.run in
-    each_of_two (InSlot journal.area.spare) old mid new (Told (IsSound journal.slots old) journal) w.run.later (run still) (λ c since. told_of (stays c since))
-    (raise_told honest is order all w (run still) (values still (λ d image. (stays d (w.run.ends d image)).holds.area))))
+    each_of_two (InSlot journal.area.spare) old mid new (HoldsJobs (IsSound journal.slots old) journal) w.run.later (run still) (λ c since. jobs_held (stays c since))
+    (raise_holds honest is order all w (run still) (values still (λ d image. (stays d (w.run.ends d image)).holds.area))))
 
 -- the disk in the end
 pub compact_after : {journal was : JournalState} {area : CellState} {used other : ℕ} {broken : Bool} {old mid new : DiskState} → journal ≡ was → IsTrue old.honest → IsJournal journal

@@ -5,7 +5,7 @@ pub use Rattle.std.proofs.Common.{IsErrOf, IsOk}
 pub use Rattle.std.proofs.lemmas.Bool.Decides.{nat_tests}
 pub use Rattle.std.proofs.lemmas.List.{length-append, append-nil, append_assoc, length-map, ext_get_or}
 pub use Rattle.sector_disk.proofs.PublicLaws.{run_widen, each_of_two, run_of_two}
-pub use Rattle.sector_disk.specs.Disk.{Image, DiskState, IsImage, AllSettled, SameBut, Laws, Counts, sector_at, nothing}
+pub use Rattle.sector_disk.specs.Disk.{Image, DiskState, IsImage, AllSynced, SameBut, Laws, Counts, sector_at, nothing}
 pub use Rattle.sector_disk.specs.Run.{Run, Each}
 pub use Rattle.slot_gate.proofs.PublicLaws.{run_on, Erased, erased_start, erased_run, erased_more, slot_same, slot_kept}
 pub use Rattle.slot_gate.specs.Slot.{slot_at, InSlot, InSlots}
@@ -23,8 +23,8 @@ pub use Rattle.job_journal.specs.Appending.{Admitted, BeforeOrAfter, appended, r
 pub use Rattle.job_journal.specs.Areas.{slots_from, sealed_prefix, AllUnsealed, IsPrefix, first_of, area_of}
 pub use Rattle.job_journal.specs.Compacting.{with_slot, KeepsJobs, HasAppended, IsWritten, records_for, other_sector}
 pub use Rattle.job_journal.specs.Jobs.{no_jobs, jobs_of, jobs_after, with_jobs, id_of, Jobs, is_unknown, is_out_of_ids}
-pub use Rattle.job_journal.specs.Journal.{jobs_in, IsFormatted, IsSoundImage, InJournal, IsSound, ImagesSince, found_from, damage_of, cell_damage, found_by, found_in, jobs_by, IsSoundArea}
+pub use Rattle.job_journal.specs.Journal.{jobs_in, IsFormatted, IsSoundImage, InJournal, IsSound, ImagesSince, replay_from, damage_of, cell_damage, replay_by, replay_in, jobs_by, IsSoundArea}
 pub use Rattle.job_journal.specs.Mounted.{JournalState, Holds, AllHold, IsJournal, first_sector, next_slot}
-pub use Rattle.job_journal.specs.Readings.{Found, Reads, fresh, then_slot, replayed, taken, found_at, Reading, is_above, fitting, Damage}
+pub use Rattle.job_journal.specs.Readings.{Replay, Reads, fresh, then_slot, replayed, taken, replay_at, Reading, is_above, fitting, Damage}
 pub use Rattle.job_journal.specs.declared.fault.JournalFault.{JournalFault}
 pub use Rattle.job_journal.specs.declared.place.Place.{Place}

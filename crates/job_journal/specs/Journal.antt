@@ -6,12 +6,12 @@ use Rattle.slot_gate.specs.Slot.{slot_at}
 use Rattle.safe_cell.specs.Body.{body_value}
 use Rattle.safe_cell.specs.Cell.{cell_at}
 use Rattle.job_journal.specs.Jobs.{Jobs}
-use Rattle.job_journal.specs.Readings.{Found, Reads, Damage, replayed, fresh}
+use Rattle.job_journal.specs.Readings.{Replay, Reads, Damage, replayed, fresh}
 use Rattle.job_journal.specs.Areas.{slots_from, sealed_prefix, IsPrefix, area_of}
 
 -- the journal of the area that begins at this sector
-abbrev pub found_from : ℕ → Image → ℕ → Found
-found_from slots image first = replayed slots first (Reads fresh) (sealed_prefix (slots_from image first slots))
+abbrev pub replay_from : ℕ → Image → ℕ → Replay
+replay_from slots image first = replayed slots first (Reads fresh) (sealed_prefix (slots_from image first slots))
 
 -- whether a sealed slot has a body that is none of a cell
 abbrev pub is_damaged : Option (List ℕ) → Bool
@@ -26,22 +26,22 @@ abbrev pub cell_damage : Image → ℕ → Option ℕ
 cell_damage image at = damage_of at (slot_at image at) (slot_at image (at + 2))
 
 -- by the damage of the area cell and the first sector of the present area
-abbrev pub found_by : ℕ → Image → Option ℕ → Option ℕ → Found
-found_by slots image (Some sector) area = Damage sector
-found_by slots image None None = Damage 5
-found_by slots image None (Some first) = found_from slots image first
+abbrev pub replay_by : ℕ → Image → Option ℕ → Option ℕ → Replay
+replay_by slots image (Some sector) area = Damage sector
+replay_by slots image None None = Damage 5
+replay_by slots image None (Some first) = replay_from slots image first
 
 -- the journal of an image: where the area cell names no area that is sector 5, the gate of its first slot
-abbrev pub found_in : ℕ → Image → Found
-found_in slots image = found_by slots image (cell_damage image 4) (area_of slots (cell_at image 4))
+abbrev pub replay_in : ℕ → Image → Replay
+replay_in slots image = replay_by slots image (cell_damage image 4) (area_of slots (cell_at image 4))
 
-abbrev pub jobs_by : Found → Option Jobs
+abbrev pub jobs_by : Replay → Option Jobs
 jobs_by (Reads reading) = Some reading.jobs
 jobs_by (Damage sector) = None
 
 -- the jobs that an image stands for
 abbrev pub jobs_in : ℕ → Image → Option Jobs
-jobs_in slots image = jobs_by (found_in slots image)
+jobs_in slots image = jobs_by (replay_in slots image)
 
 abbrev pub IsSoundArea : ℕ → Image → Option ℕ → Type 0
 IsSoundArea slots image None = Unit {0}

@@ -1,6 +1,6 @@
 // An area written anew: unsealed, then filled with the records of some jobs, and then sealed.
 ghost use Rattle.std.specs.Prelude.{◌≡◌, ◌⊎◌, ◌<◌, ◌≤◌, ◌+◌, ◌*◌, ◌^◌, ℕ, length, slice_get, IsTrue, IsOk, IsErrOf, Some, None};
-ghost use Rattle.sector_disk.specs.Disk.{Counts, AllSettled};
+ghost use Rattle.sector_disk.specs.Disk.{Counts, AllSynced};
 ghost use Rattle.sector_disk.specs.Run.{Run};
 ghost use Rattle.slot_gate.specs.Slot.{slot_at, InSlots};
 ghost use Rattle.job_journal.specs.Compacting.{records_for, IsWritten};
@@ -31,8 +31,8 @@ pub(crate) fn write_area<D: SectorDisk>(
     ensures written { IsTrue (D.state disk.old).honest → IsOk result
         → IsWritten first slots (records_for (jobs_of table.now)) (length table.now.pending + 1)
         (length table.now.pending + 1) (D.state disk.new).contents }
-    ensures settled { IsTrue (D.state disk.old).honest → IsOk result
-        → AllSettled (D.state disk.new) }
+    ensures synced { IsTrue (D.state disk.old).honest → IsOk result
+        → AllSynced (D.state disk.new) }
 {
     let Ok(()) = erase(disk, first, slots) else {
         return Err(JournalFault::Device);
@@ -82,8 +82,8 @@ fn fill_area<D: SectorDisk>(
         → IsWritten first slots (records_for (jobs_of table.now)) 0 0 (D.state disk.old).contents
         → IsWritten first slots (records_for (jobs_of table.now)) (length table.now.pending + 1)
         0 (D.state disk.new).contents }
-    ensures settled { IsTrue (D.state disk.old).honest → IsOk result
-        → AllSettled (D.state disk.new) }
+    ensures synced { IsTrue (D.state disk.old).honest → IsOk result
+        → AllSynced (D.state disk.new) }
 {
     for filled in 0..record_count(table) {
         let body = record_at(table, filled).to_sector();
@@ -104,7 +104,7 @@ fn seal_area<D: SectorDisk>(
     requires on_disk { first + 2 * slots ≤ (D.state disk.old).sectors }
     requires fits { first + 2 * slots < 2 ^ 64 }
     requires room { length table.now.pending + 2 ≤ slots }
-    requires synced { IsTrue (D.state disk.old).honest → AllSettled (D.state disk.old) }
+    requires synced { IsTrue (D.state disk.old).honest → AllSynced (D.state disk.old) }
     ensures device_alone { IsOk result ⊎ IsErrOf result JournalFault.Device }
     ensures counts { Counts (D.state disk.old) (D.state disk.new)
         (IsErrOf result JournalFault.Device) (IsErrOf result JournalFault.Device → ⊥) }
@@ -115,8 +115,8 @@ fn seal_area<D: SectorDisk>(
         0 (D.state disk.old).contents
         → IsWritten first slots (records_for (jobs_of table.now)) (length table.now.pending + 1)
         (length table.now.pending + 1) (D.state disk.new).contents }
-    ensures settled { IsTrue (D.state disk.old).honest → IsOk result
-        → AllSettled (D.state disk.new) }
+    ensures synced { IsTrue (D.state disk.old).honest → IsOk result
+        → AllSynced (D.state disk.new) }
 {
     for sealed in 0..record_count(table) {
         let Ok(()) = seal(disk, first + 2 * sealed) else {

@@ -1,6 +1,6 @@
 // A journal made on its disk.
 ghost use Rattle.std.specs.Prelude.{◌≡◌, ◌⊎◌, ◌<◌, ◌≤◌, ◌+◌, ◌*◌, IsTrue, IsOk, IsErrOf, Some};
-ghost use Rattle.sector_disk.specs.Disk.{Image, IsImage, Counts, AllSettled};
+ghost use Rattle.sector_disk.specs.Disk.{Image, IsImage, Counts, AllSynced};
 ghost use Rattle.sector_disk.specs.Run.{Run};
 ghost use Rattle.job_journal.specs.Jobs.{no_jobs};
 ghost use Rattle.job_journal.specs.Journal.{jobs_in, IsFormatted, IsSound, InJournal};
@@ -31,8 +31,8 @@ pub fn format<D: SectorDisk>(disk: &mut D, slots: u64) -> Result<(), JournalFaul
         → (image : Image) → IsImage (D.state disk.new) image → jobs_in slots image ≡ Some no_jobs }
     ensures sound { IsTrue (D.state disk.old).honest → IsOk result
         → IsSound slots (D.state disk.new) }
-    ensures settled { IsTrue (D.state disk.old).honest → IsOk result
-        → AllSettled (D.state disk.new) }
+    ensures synced { IsTrue (D.state disk.old).honest → IsOk result
+        → AllSynced (D.state disk.new) }
 {
     let Ok(()) = unseal_all(disk, 8, 2 * slots) else {
         return Err(JournalFault::Device);

@@ -123,10 +123,10 @@ pub high_from : (jobs : List Job) (id at : ℕ) → IsPartitionPoint (λ (job : 
 high_from jobs id at point on d = not_lower (slice_index_or jobs at d).id id (point.1 at d (omega arith) on)
 
 -- the search ended past the last job, or at a job of another id
-pub other_found : (limit : ℕ) (jobs : List Job) (id at : ℕ) → IdsRise 0 limit jobs
+pub other_at : (limit : ℕ) (jobs : List Job) (id at : ℕ) → IdsRise 0 limit jobs
     → IsPartitionPoint (λ (job : Job). ltb job.id id ≡ true) (λ (job : Job). ltb job.id id ≡ false) jobs at
     → (at < length jobs → (e : Job) × ((slice_index_or jobs at e).id ≡ id → ⊥)) → IsOther jobs id
-other_found limit jobs id at r point differs =
+other_at limit jobs id at r point differs =
     other_around 0 limit jobs id at r (low_before jobs id at point) (high_from jobs id at point)
     (λ on d is. let e = differs on in e.1 (ap (λ (job : Job). job.id) (get_or_default jobs at e.0 d on) ∙ is))
 

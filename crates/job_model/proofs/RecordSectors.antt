@@ -113,24 +113,24 @@ behind at body long small near short blank =
     ∙ ap (λ k. to_be_bytes w16 k ++ (p ++ drop k (replicate (510 - at) 0))) whole
 
 -- what a body that reads as a job is read as
-abbrev found_at : ℕ → ℕ → List ℕ → Job
-found_at at priority body = record { id = id_in body; work = record { queue = get_or body 9 0; priority = priority; payload = take (length_in at body) (drop (at + 2) body) } }
+abbrev job_read_at : ℕ → ℕ → List ℕ → Job
+job_read_at at priority body = record { id = id_in body; work = record { queue = get_or body 9 0; priority = priority; payload = take (length_in at body) (drop (at + 2) body) } }
 
 job_at_is : (at priority : ℕ) (body : List ℕ) (job : Job) → length body ≡ 512 → AllBytes body → at ≤ 11 → job_at at priority body ≡ Some job
-    → (found_at at priority body ≡ job) × (drop at body ≡ payload_bytes (510 - at) job.work.payload)
+    → (job_read_at at priority body ≡ job) × (drop at body ≡ payload_bytes (510 - at) job.work.payload)
 unfolding job_at
 job_at_is at priority body job long small near is =
     by_tests (nat_lt (get_or body 9 0) QUEUES) (nat_le (length_in at body) PAYLOAD_CAPACITY) (is_blank (drop (at + 2 + length_in at body) body)) refl refl is
   where
     by_tests : (low short blank : Bool) → nat_le (length_in at body) PAYLOAD_CAPACITY ≡ short → is_blank (drop (at + 2 + length_in at body) body) ≡ blank
-        → (if low && short && blank then Some (found_at at priority body) else None) ≡ Some job
-        → (found_at at priority body ≡ job) × (drop at body ≡ payload_bytes (510 - at) job.work.payload)
-    by_tests true true true short blank found =
-        let same : found_at at priority body ≡ job = cc in
+        → (if low && short && blank then Some (job_read_at at priority body) else None) ≡ Some job
+        → (job_read_at at priority body ≡ job) × (drop at body ≡ payload_bytes (510 - at) job.work.payload)
+    by_tests true true true short blank r =
+        let same : job_read_at at priority body ≡ job = cc in
         (same, behind at body long small near (grind (arith, nat_tests, short)) blank ∙ ap (λ (j : Job). payload_bytes (510 - at) j.work.payload) same)
-    by_tests true true false short blank found = cc
-    by_tests true false b short blank found = cc
-    by_tests false s b short blank found = cc
+    by_tests true true false short blank r = cc
+    by_tests true false b short blank r = cc
+    by_tests false s b short blank r = cc
 
 pub old_job_is : (body : List ℕ) (job : Job) → length body ≡ 512 → AllBytes body → old_job_of body ≡ Some job → (job.work.priority ≡ 0) × (body ≡ old_job_bytes (get_or body 0 0) job)
 old_job_is body job long small is =
@@ -159,43 +159,43 @@ job_is body job long small is =
 
 -- a body is that of the record, or an old one of it
 abbrev IsSpelled : List ℕ → Record → Type 0
-IsSpelled body found = (body ≡ bytes_of found) ⊎ IsOldOf body found
+IsSpelled body r = (body ≡ bytes_of r) ⊎ IsOldOf body r
 
-put_is : (body : List ℕ) (job : Job) (found : Record) → Put job ≡ found → body ≡ job_bytes 5 job → IsSpelled body found
-put_is body job found same is = subst (λ r. IsSpelled body r) same (inl is)
+put_is : (body : List ℕ) (job : Job) (r : Record) → Put job ≡ r → body ≡ job_bytes 5 job → IsSpelled body r
+put_is body job r same is = subst (λ r. IsSpelled body r) same (inl is)
 
-keep_is : (body : List ℕ) (job : Job) (found : Record) → Keep job ≡ found → body ≡ job_bytes 6 job → IsSpelled body found
-keep_is body job found same is = subst (λ r. IsSpelled body r) same (inl is)
+keep_is : (body : List ℕ) (job : Job) (r : Record) → Keep job ≡ r → body ≡ job_bytes 6 job → IsSpelled body r
+keep_is body job r same is = subst (λ r. IsSpelled body r) same (inl is)
 
-old_put_is : (body : List ℕ) (job : Job) (found : Record) → Put job ≡ found → (job.work.priority ≡ 0) × (body ≡ old_job_bytes 1 job) → IsSpelled body found
-old_put_is body job found same is = subst (λ r. IsSpelled body r) same (inr is)
+old_put_is : (body : List ℕ) (job : Job) (r : Record) → Put job ≡ r → (job.work.priority ≡ 0) × (body ≡ old_job_bytes 1 job) → IsSpelled body r
+old_put_is body job r same is = subst (λ r. IsSpelled body r) same (inr is)
 
-old_keep_is : (body : List ℕ) (job : Job) (found : Record) → Keep job ≡ found → (job.work.priority ≡ 0) × (body ≡ old_job_bytes 4 job) → IsSpelled body found
-old_keep_is body job found same is = subst (λ r. IsSpelled body r) same (inr is)
+old_keep_is : (body : List ℕ) (job : Job) (r : Record) → Keep job ≡ r → (job.work.priority ≡ 0) × (body ≡ old_job_bytes 4 job) → IsSpelled body r
+old_keep_is body job r same is = subst (λ r. IsSpelled body r) same (inr is)
 
-done_is : (body : List ℕ) (n : ℕ) (found : Record) → Done n ≡ found → body ≡ number_bytes 2 n → IsSpelled body found
-done_is body n found same is = subst (λ r. IsSpelled body r) same (inl is)
+done_is : (body : List ℕ) (n : ℕ) (r : Record) → Done n ≡ r → body ≡ number_bytes 2 n → IsSpelled body r
+done_is body n r same is = subst (λ r. IsSpelled body r) same (inl is)
 
-base_is : (body : List ℕ) (n : ℕ) (found : Record) → Base n ≡ found → body ≡ number_bytes 3 n → IsSpelled body found
-base_is body n found same is = subst (λ r. IsSpelled body r) same (inl is)
+base_is : (body : List ℕ) (n : ℕ) (r : Record) → Base n ≡ r → body ≡ number_bytes 3 n → IsSpelled body r
+base_is body n r same is = subst (λ r. IsSpelled body r) same (inl is)
 
-by_kind : (body : List ℕ) (kind : ℕ) (old job : Option Job) (number : Option ℕ) (found : Record) → record_by kind old job number ≡ Some found
+by_kind : (body : List ℕ) (kind : ℕ) (old job : Option Job) (number : Option ℕ) (r : Record) → record_by kind old job number ≡ Some r
     → ((j : Job) → old ≡ Some j → (j.work.priority ≡ 0) × (body ≡ old_job_bytes kind j)) → ((j : Job) → job ≡ Some j → body ≡ job_bytes kind j)
-    → ((n : ℕ) → number ≡ Some n → body ≡ number_bytes kind n) → IsSpelled body found
-by_kind body zero old job number found is olds jobs numbers = cc
-by_kind body (suc zero) None job number found is olds jobs numbers = cc
-by_kind body (suc zero) (Some j) job number found is olds jobs numbers = let same : Put j ≡ found = cc in old_put_is body j found same (olds j refl)
-by_kind body (suc (suc zero)) old job None found is olds jobs numbers = cc
-by_kind body (suc (suc zero)) old job (Some n) found is olds jobs numbers = let same : Done n ≡ found = cc in done_is body n found same (numbers n refl)
-by_kind body (suc (suc (suc zero))) old job None found is olds jobs numbers = cc
-by_kind body (suc (suc (suc zero))) old job (Some n) found is olds jobs numbers = let same : Base n ≡ found = cc in base_is body n found same (numbers n refl)
-by_kind body (suc (suc (suc (suc zero)))) None job number found is olds jobs numbers = cc
-by_kind body (suc (suc (suc (suc zero)))) (Some j) job number found is olds jobs numbers = let same : Keep j ≡ found = cc in old_keep_is body j found same (olds j refl)
-by_kind body (suc (suc (suc (suc (suc zero))))) old None number found is olds jobs numbers = cc
-by_kind body (suc (suc (suc (suc (suc zero))))) old (Some j) number found is olds jobs numbers = let same : Put j ≡ found = cc in put_is body j found same (jobs j refl)
-by_kind body (suc (suc (suc (suc (suc (suc zero)))))) old None number found is olds jobs numbers = cc
-by_kind body (suc (suc (suc (suc (suc (suc zero)))))) old (Some j) number found is olds jobs numbers = let same : Keep j ≡ found = cc in keep_is body j found same (jobs j refl)
-by_kind body (suc (suc (suc (suc (suc (suc (suc k))))))) old job number found is olds jobs numbers =
+    → ((n : ℕ) → number ≡ Some n → body ≡ number_bytes kind n) → IsSpelled body r
+by_kind body zero old job number r is olds jobs numbers = cc
+by_kind body (suc zero) None job number r is olds jobs numbers = cc
+by_kind body (suc zero) (Some j) job number r is olds jobs numbers = let same : Put j ≡ r = cc in old_put_is body j r same (olds j refl)
+by_kind body (suc (suc zero)) old job None r is olds jobs numbers = cc
+by_kind body (suc (suc zero)) old job (Some n) r is olds jobs numbers = let same : Done n ≡ r = cc in done_is body n r same (numbers n refl)
+by_kind body (suc (suc (suc zero))) old job None r is olds jobs numbers = cc
+by_kind body (suc (suc (suc zero))) old job (Some n) r is olds jobs numbers = let same : Base n ≡ r = cc in base_is body n r same (numbers n refl)
+by_kind body (suc (suc (suc (suc zero)))) None job number r is olds jobs numbers = cc
+by_kind body (suc (suc (suc (suc zero)))) (Some j) job number r is olds jobs numbers = let same : Keep j ≡ r = cc in old_keep_is body j r same (olds j refl)
+by_kind body (suc (suc (suc (suc (suc zero))))) old None number r is olds jobs numbers = cc
+by_kind body (suc (suc (suc (suc (suc zero))))) old (Some j) number r is olds jobs numbers = let same : Put j ≡ r = cc in put_is body j r same (jobs j refl)
+by_kind body (suc (suc (suc (suc (suc (suc zero)))))) old None number r is olds jobs numbers = cc
+by_kind body (suc (suc (suc (suc (suc (suc zero)))))) old (Some j) number r is olds jobs numbers = let same : Keep j ≡ r = cc in keep_is body j r same (jobs j refl)
+by_kind body (suc (suc (suc (suc (suc (suc (suc k))))))) old job number r is olds jobs numbers =
     let a : (suc (suc (suc (suc (suc (suc (suc k)))))) == 1) ≡ false = grind (arith, nat_tests) in
     let b : (suc (suc (suc (suc (suc (suc (suc k)))))) == 2) ≡ false = grind (arith, nat_tests) in
     let c : (suc (suc (suc (suc (suc (suc (suc k)))))) == 3) ≡ false = grind (arith, nat_tests) in
@@ -204,10 +204,10 @@ by_kind body (suc (suc (suc (suc (suc (suc (suc k))))))) old job number found is
     let f : (suc (suc (suc (suc (suc (suc (suc k)))))) == 6) ≡ false = grind (arith, nat_tests) in
     cc
 
-pub sector_is : (sector : List ℕ) (found : Record) → length sector ≡ 512 → AllBytes sector → record_of sector ≡ Some found → IsSpelled sector found
+pub sector_is : (sector : List ℕ) (r : Record) → length sector ≡ 512 → AllBytes sector → record_of sector ≡ Some r → IsSpelled sector r
 unfolding record_of
-sector_is sector found long small is =
-    by_kind sector (get_or sector 0 0) (old_job_of sector) (job_of sector) (number_of sector) found is
+sector_is sector r long small is =
+    by_kind sector (get_or sector 0 0) (old_job_of sector) (job_of sector) (number_of sector) r is
     (λ j e. old_job_is sector j long small e) (λ j e. job_is sector j long small e) (λ n e. number_is sector n long small e)
 
 kind_of : (kind : ℕ) → (kind ≡ 1) ⊎ (kind ≡ 4) → (kind ≡ 1 → ⊥) → (kind ≡ 4 → ⊥) → ⊥

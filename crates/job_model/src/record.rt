@@ -71,8 +71,8 @@ impl Record {
 /// A sector that reads as a record is the one that [`Record::to_sector`] writes for it, or an old one, which isn't
 /// written any more and whose job has priority 0: of each record there is one sector of each age.
 pub fn one_sector()
-    ensures one { (sector : List ℕ) (found : Record) → length sector ≡ 512 → AllBytes sector
-        → record_of sector ≡ Some found → (sector ≡ bytes_of found) ⊎ IsOldOf sector found }
+    ensures one { (sector : List ℕ) (r : Record) → length sector ≡ 512 → AllBytes sector
+        → record_of sector ≡ Some r → (sector ≡ bytes_of r) ⊎ IsOldOf sector r }
     ensures not_written { (written : Record) → IsOld (bytes_of written) → ⊥ }
 {}
 

@@ -183,7 +183,7 @@ fn is_above(jobs: &[Job], next: u64, id: u64) -> bool
 // Which of the jobs, which stand in order below `next`, has this id.
 fn place_of(jobs: &[Job], next: u64, id: u64) -> Option<usize>
     requires { IsInOrder jobs.now next }
-    ensures found { IfSome result (λ at. (at < length jobs.now) × (without_job jobs.now id ≡ take at jobs.now ++ drop (at + 1) jobs.now)) }
+    ensures at_place { IfSome result (λ at. (at < length jobs.now) × (without_job jobs.now id ≡ take at jobs.now ++ drop (at + 1) jobs.now)) }
     ensures none { IfNone result (without_job jobs.now id ≡ jobs.now) }
     ensures pending { is_some result ≡ is_pending jobs.now id }
 {

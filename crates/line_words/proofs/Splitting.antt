@@ -33,12 +33,12 @@ first_part b (c ∷ text) (suc k) within none here =
     ∙ ap (onto_first c) (first_part b text k (omega arith) (λ i before. none (suc i) (omega arith)) here)
 
 -- where the first such byte is found
-first_found : (b : ℕ) (text : List ℕ) (k : ℕ) → NoneBefore (Passes (is_byte b) text) 0 (length text) k × Passes (is_byte b) text k
+first_at : (b : ℕ) (text : List ℕ) (k : ℕ) → NoneBefore (Passes (is_byte b) text) 0 (length text) k × Passes (is_byte b) text k
     → parts b text ≡ take k text ∷ parts b (drop (k + 1) text)
-first_found b text k found = rw add-one (first_part b text k found.0.high (λ i before here. found.0.before i (omega arith) before here) found.1)
+first_at b text k at_place = rw add-one (first_part b text k at_place.0.high (λ i before here. at_place.0.before i (omega arith) before here) at_place.1)
 
-none_found : (b : ℕ) (text : List ℕ) → Nowhere (Passes (is_byte b) text) 0 (length text) → parts b text ≡ text ∷ []
-none_found b text none = last_part b text (λ i within here. none i (omega arith) within here)
+none_at : (b : ℕ) (text : List ℕ) → Nowhere (Passes (is_byte b) text) 0 (length text) → parts b text ≡ text ∷ []
+none_at b text none = last_part b text (λ i within here. none i (omega arith) within here)
 
 -- a text has a part, also where it is empty
 some_part : (b : ℕ) (text : List ℕ) → 0 < length (parts b text)
@@ -58,25 +58,25 @@ some_part b (c ∷ text) = by_cases (c == b) refl
 -- the first line ends where the first line feed is found
 pub cut_at : (text : List ℕ) (k : ℕ) → NoneBefore (Passes (is_byte 10) text) 0 (length text) k × Passes (is_byte 10) text k
     → CutsLine text (take k text) (take (length text - (k + 1)) (drop (k + 1) text))
-cut_at text k found = rw (take_rest text (k + 1)) (record {
-  lines = first_found 10 text k found;
-  shorter = let within : k < length text = found.0.high in rw (length-drop (k + 1) text) (omega arith);
+cut_at text k at_place = rw (take_rest text (k + 1)) (record {
+  lines = first_at 10 text k at_place;
+  shorter = let within : k < length text = at_place.0.high in rw (length-drop (k + 1) text) (omega arith);
 })
 
 -- without a line feed the text is one line
 pub cut_nowhere : (text : List ℕ) → Nowhere (Passes (is_byte 10) text) 0 (length text) → lines_of text ≡ text ∷ []
-cut_nowhere text none = none_found 10 text none
+cut_nowhere text none = none_at 10 text none
 
 -- ---- words
 
 -- the first word ends where the first space is found
 pub cut_word_at : (line : List ℕ) (k : ℕ) → NoneBefore (Passes (is_byte 32) line) 0 (length line) k × Passes (is_byte 32) line k
     → CutsWord line (take k line) (take (length line - (k + 1)) (drop (k + 1) line))
-cut_word_at line k found = rw (take_rest line (k + 1)) (record {
-  words = first_found 32 line k found;
+cut_word_at line k at_place = rw (take_rest line (k + 1)) (record {
+  words = first_at 32 line k at_place;
   some = some_part 32 (drop (k + 1) line);
 })
 
 -- without a space the line is one word
 pub one_word : (line : List ℕ) → Nowhere (Passes (is_byte 32) line) 0 (length line) → words_of line ≡ line ∷ []
-one_word line none = none_found 32 line none
+one_word line none = none_at 32 line none

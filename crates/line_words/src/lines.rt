@@ -54,7 +54,7 @@ pub fn line_numbered(text: &[u8], number: u64) -> &[u8]
 /// The bytes that a word spells: hex digits of either case, or a dash for no bytes.
 #[tactic(auto, using(crate::proofs::Read::is_read, crate::proofs::Read::not_read))]
 pub fn bytes(alloc: Global, word: &[u8]) -> Result<Option<Vec<u8>>, AllocError>
-    ensures { IfOk result (λ bytes. option_map (λ found. found.items) bytes ≡ bytes_of word.now) }
+    ensures { IfOk result (λ bytes. option_map (λ bytes. bytes.items) bytes ≡ bytes_of word.now) }
 {
     let mut bytes = Vec::new(alloc);
     if push_bytes(&mut bytes, word)? {

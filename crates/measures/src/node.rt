@@ -6,7 +6,7 @@ ghost use Rattle.node_core.specs.Planned.{wanted_by};
 
 use group_task::NodeId;
 use job_model::{Command, JobTable};
-use node_core::{Durable, Event, NodeCore};
+use node_core::{Event, NodeCore, Wanted};
 use std::alloc::Global;
 use std::mem;
 use wire_msg::Message;
@@ -69,18 +69,18 @@ impl Node {
         Ok(())
     }
 
-    fn carry_out(&mut self, wants: Durable) -> u64
+    fn carry_out(&mut self, wants: Wanted) -> u64
         ensures at_least_one { wanted_by wants ≡ Some Raise → 1 ≤ result }
         ensures core { self.new.core ≡ self.old.core }
     {
         match wants {
-            Durable::None => 0,
-            Durable::Raise => {
+            Wanted::None => 0,
+            Wanted::Raise => {
                 self.count = self.count.saturating_add(1);
                 self.count
             }
-            Durable::Put(work) => self.apply(Command::Put(work)),
-            Durable::Done(id) => self.apply(Command::Done(id)),
+            Wanted::Put(work) => self.apply(Command::Put(work)),
+            Wanted::Done(id) => self.apply(Command::Done(id)),
         }
     }
 

@@ -17,33 +17,33 @@ shape_by None ns =
     if get_or ns 0 0 == 7 then Tells (record { group = record { creator = get_or ns 1 0; count = get_or ns 2 0 }; members = drop 3 ns })
     else Gives (record { creator = get_or ns 1 0; count = get_or ns 3 0 }) (get_or ns 2 0) (record { queue = get_or ns 4 0; priority = get_or ns 5 0; payload = drop 6 ns })
 
-shape_told : List ℕ → Shape
-shape_told ns = shape_by (kind_numbered (get_or ns 0 0)) ns
+shape_numbered : List ℕ → Shape
+shape_numbered ns = shape_by (kind_numbered (get_or ns 0 0)) ns
 
 brief_again : (k : Kind) (creator number : ℕ) (answer : Bool)
-    → shape_told (number_of k ∷ creator ∷ number ∷ truth answer) ≡ Brief (record { kind = k; answer = answer; creator = creator; number = number })
-unfolding shape_told
+    → shape_numbered (number_of k ∷ creator ∷ number ∷ truth answer) ≡ Brief (record { kind = k; answer = answer; creator = creator; number = number })
+unfolding shape_numbered
 brief_again k creator number true = ap (λ (o : Option Kind). shape_by o (number_of k ∷ creator ∷ number ∷ truth true)) (kind_again k)
 brief_again k creator number false = ap (λ (o : Option Kind). shape_by o (number_of k ∷ creator ∷ number ∷ truth false)) (kind_again k)
 
-shape_again : (shape : Shape) → shape_told (numbers_in shape) ≡ shape
-unfolding shape_told
+shape_again : (shape : Shape) → shape_numbered (numbers_in shape) ≡ shape
+unfolding shape_numbered
 shape_again (Brief s) = brief_again s.kind s.creator s.number s.answer
 shape_again (Tells t) = refl
 shape_again (Gives g id w) = refl
 
-envelope_told : List ℕ → Envelope
-envelope_told ns = record { sender = get_or ns 0 0; receiver = get_or ns 1 0; body = body_of (shape_told (drop 2 ns)) }
+envelope_numbered : List ℕ → Envelope
+envelope_numbered ns = record { sender = get_or ns 0 0; receiver = get_or ns 1 0; body = body_of (shape_numbered (drop 2 ns)) }
 
-again : (m : Envelope) → envelope_told (numbers_of m) ≡ m
-unfolding envelope_told
+again : (m : Envelope) → envelope_numbered (numbers_of m) ≡ m
+unfolding envelope_numbered
 again m =
     ap (λ (shape : Shape). record { sender = m.sender; receiver = m.receiver; body = body_of shape }) (shape_again (shape_of m.body))
     ∙ ap (λ b. record { sender = m.sender; receiver = m.receiver; body = b }) (shaped m.body)
 
 -- two messages of the same numbers are one
 pub one_message : (m n : Envelope) → same_message m n ≡ true → m ≡ n
-one_message m n same = sym (again m) ∙ ap (λ (ns : List ℕ). envelope_told ns) ((bytes_decides (numbers_of m) (numbers_of n)).0 same) ∙ again n
+one_message m n same = sym (again m) ∙ ap (λ (ns : List ℕ). envelope_numbered ns) ((bytes_decides (numbers_of m) (numbers_of n)).0 same) ∙ again n
 
 pub as_same : (b : Bool) (m n : Envelope) → IsTrue b ↔ (m ≡ n) → b ≡ same_message m n
 as_same b m n is =

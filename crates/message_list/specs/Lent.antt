@@ -1,4 +1,4 @@
--- Messages as they are lent, told apart by the numbers that they say.
+-- Messages as they are lent, known apart by the numbers that they say.
 use Rattle.std.specs.Prelude.{◌≡◌, ℕ, ◌+◌, ◌*◌, ◌^◌, Bool, List, ◌∷◌, length, All, IsTrue, nat_eq, slice_index_or}
 use Rattle.std.specs.Hash as fed
 use Rattle.std.specs.Cmp.Lexicographic.{pointwise, bytes_decides}

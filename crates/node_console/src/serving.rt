@@ -18,7 +18,7 @@ use std::path::AsPath;
 /// How many bytes one read may give.
 const PIECE: usize = 65_536;
 
-/// A round trip between nodes, in the milliseconds of the clock that ticks tell.
+/// A round trip between nodes, in the milliseconds of the clock that ticks name.
 const ROUND_TRIP: u16 = 20;
 
 /// Serves a node over its file until the input ends.

@@ -33,7 +33,7 @@ impl Status {
         }
     }
 
-    /// What a person is told of it.
+    /// What a person reads of it.
     pub fn word(self) -> &'static str {
         match self {
             Status::Done => "done",

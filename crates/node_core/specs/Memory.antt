@@ -12,19 +12,19 @@ use Rattle.node_core.specs.declared.fault.CoreFault.TheVariants.{NoMemory}
 use Rattle.node_core.specs.declared.plan.Plan.{Plan}
 use Rattle.node_core.specs.State.{State, is_down, is_election, is_reorganization, is_normal}
 use Rattle.node_core.specs.Words.{leads, members_of, owner, holds}
-use Rattle.node_core.specs.Timers.{merges, awaits_ready, follows}
+use Rattle.node_core.specs.Timers.{merges, follows}
 use Rattle.node_core.specs.Messages.{was_probed, takes_invitation, is_told}
 use Rattle.node_core.specs.Planned.{gain_of}
 
--- where its guard holds, a message takes memory for its answer or for its change, but for those that give the group up or
--- that only the disk hears of. A question is answered by every node that is up
+-- where its guard holds, a message takes memory for its answer or for the work that it brings, but for those that are noted, give
+-- the group up, or change the disk alone. A question is answered by every node that is up
 abbrev pub delivered_takes : ℕ → ℕ → Body → State → Bool
-delivered_takes self from (says.Coordinator agreed) s = agreed && merges self s
+delivered_takes self from (says.Coordinator agreed) s = false
 delivered_takes self from (says.Here group agreed) s = was_probed from group s && agreed
 delivered_takes self from (says.Invitation group) s = takes_invitation self group s
-delivered_takes self from (says.Accept group) s = is_election s.phase && s.coordinator == self && same_group group s.group
+delivered_takes self from (says.Accept group) s = false
 delivered_takes self from (says.Ready task) s = is_told self from task s && (is_reorganization s.phase || is_normal s.phase)
-delivered_takes self from (says.ReadyAck group) s = awaits_ready self s && same_group group s.group
+delivered_takes self from (says.ReadyAck group) s = false
 delivered_takes self from (says.Work group id work) s =
     is_normal s.phase && same_group group s.group && has (members_of s.task) from && owner s work.queue == self && not (holds s.hand from id)
 delivered_takes self from (says.Done id) s = false

@@ -5,15 +5,15 @@ use Rattle.job_model.specs.declared.node_command.NodeCommand.{NodeCommand as Com
 use Rattle.job_model.specs.declared.node_command.NodeCommand.TheVariants.{Raise, Put, Done}
 use Rattle.wire_msg.specs.Envelope.{Envelope}
 use Rattle.wire_msg.specs.declared.body.Body.TheVariants.{Invitation, Work}
-use Rattle.node_core.specs.declared.durable.Durable.{Durable}
-use Rattle.node_core.specs.declared.durable.Durable.TheVariants as durable
-use Rattle.node_core.specs.declared.durable.Wanted.{Wanted}
-use Rattle.node_core.specs.declared.durable.Wanted.TheVariants as lent
+use Rattle.node_core.specs.declared.wanted.Wanted.{Wanted}
+use Rattle.node_core.specs.declared.wanted.Wanted.TheVariants as wanted
+use Rattle.node_core.specs.declared.wanted.WantedRef.{WantedRef}
+use Rattle.node_core.specs.declared.wanted.WantedRef.TheVariants as lent
 use Rattle.node_core.specs.declared.in_hand.InHand.{InHand}
 use Rattle.node_core.specs.declared.plan.HandChange.{HandChange}
 use Rattle.node_core.specs.declared.plan.HandChange.TheVariants.{Keep, Clear, Lose, Gain}
 use Rattle.node_core.specs.declared.plan.Act.{Act}
-use Rattle.node_core.specs.declared.plan.Act.TheVariants.{Stay, Mark, Settle, Invite, Recover, Place}
+use Rattle.node_core.specs.declared.plan.Act.TheVariants.{Stay, Mark, Apply, Invite, Recover, Place}
 use Rattle.node_core.specs.declared.plan.Plan.{Plan}
 use Rattle.node_core.specs.declared.seat.Seat.{Seat}
 use Rattle.node_core.specs.declared.phase.Phase.TheVariants.{Election}
@@ -35,7 +35,7 @@ hand_after (Gain jobs) hand = hand ++ jobs.items
 abbrev pub carried : ℕ → Act → ℕ → State → Effect → Effect
 carried self (Stay job) answer s ready = ready
 carried self (Mark note) answer s ready = record ready { state = noted note s }
-carried self (Settle change) answer s ready = record ready { state = with_standing change.value.standing (hand_after change.value.hand s.hand) }
+carried self (Apply change) answer s ready = record ready { state = with_standing change.value.standing (hand_after change.value.hand s.hand) }
 carried self (Invite receivers) answer s ready = record {
   state = record (stopped s) { coordinator = self; group = own_group self answer; up = []; phase = Election };
   sent = to_each self receivers (Invitation (own_group self answer));
@@ -61,7 +61,7 @@ done_wanted (Some id) = Some (Done id)
 abbrev pub act_wants : Act → Option Command
 act_wants (Stay job) = done_wanted job
 act_wants (Mark note) = None
-act_wants (Settle change) = done_wanted change.value.done
+act_wants (Apply change) = done_wanted change.value.done
 act_wants (Invite receivers) = Some Raise
 act_wants Recover = Some Raise
 act_wants (Place to work) = Some (Put work.value)
@@ -70,15 +70,15 @@ act_wants (Place to work) = Some (Put work.value)
 abbrev pub plan_wants : Plan → Option Command
 plan_wants plan = act_wants plan.act
 
--- the command that a value of `Durable` names
-abbrev pub wanted_by : Durable → Option Command
-wanted_by durable.None = None
-wanted_by durable.Raise = Some Raise
-wanted_by (durable.Put work) = Some (Put work)
-wanted_by (durable.Done id) = Some (Done id)
-
 -- the command that a value of `Wanted` names
-abbrev pub lent_by : Wanted → Option Command
+abbrev pub wanted_by : Wanted → Option Command
+wanted_by wanted.None = None
+wanted_by wanted.Raise = Some Raise
+wanted_by (wanted.Put work) = Some (Put work)
+wanted_by (wanted.Done id) = Some (Done id)
+
+-- the command that a value of `WantedRef` names
+abbrev pub lent_by : WantedRef → Option Command
 lent_by lent.None = None
 lent_by lent.Raise = Some Raise
 lent_by (lent.Put work) = Some (Put work.now)
@@ -88,7 +88,7 @@ lent_by (lent.Done id) = Some (Done id)
 abbrev pub act_sends : ℕ → Act → List Envelope → ℕ
 act_sends self (Stay job) messages = length messages
 act_sends self (Mark note) messages = length messages
-act_sends self (Settle change) messages = length messages
+act_sends self (Apply change) messages = length messages
 act_sends self (Invite receivers) messages = length receivers
 act_sends self Recover messages = 0
 act_sends self (Place to work) messages = if to == self then 0 else 1
@@ -106,7 +106,7 @@ hand_gain (Gain jobs) = vec_len jobs
 abbrev pub gain_of : Act → ℕ
 gain_of (Stay job) = 0
 gain_of (Mark note) = 0
-gain_of (Settle change) = hand_gain change.value.hand
+gain_of (Apply change) = hand_gain change.value.hand
 gain_of (Invite receivers) = 0
 gain_of Recover = 0
 gain_of (Place to work) = 1
@@ -115,7 +115,7 @@ gain_of (Place to work) = 1
 abbrev pub CanAct : ℕ → ℕ → State → Act → List Envelope → ℕ → Type 0
 CanAct nodes self s (Stay job) sent room = Unit {0}
 CanAct nodes self s (Mark note) sent room = IsConsistent nodes self (noted note s)
-CanAct nodes self s (Settle change) sent room = IsConsistent nodes self (with_standing change.value.standing (hand_after change.value.hand s.hand))
+CanAct nodes self s (Apply change) sent room = IsConsistent nodes self (with_standing change.value.standing (hand_after change.value.hand s.hand))
 CanAct nodes self s (Invite receivers) sent room = (sent ≡ []) × (length receivers ≤ room) × AreOthers nodes self receivers
 CanAct nodes self s Recover sent room = sent ≡ []
 CanAct nodes self s (Place to work) sent room = (sent ≡ []) × (1 ≤ room)

@@ -15,7 +15,7 @@ use job_model::Work;
 use wire_msg::{Body, Message};
 
 /// Takes a new standing, and changes the work in hand within its room.
-pub fn settle(vector: &mut Vector, change: Box<Change>)
+pub fn apply(vector: &mut Vector, change: Box<Change>)
     requires { length vector.old.hand.jobs + hand_gain change.value.hand ≤ vector.old.hand.room }
     ensures { state_of vector.new ≡ with_standing change.value.standing (hand_after change.value.hand vector.old.hand.jobs) }
 {

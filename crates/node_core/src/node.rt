@@ -15,7 +15,7 @@ ghost use Rattle.node_core.specs.Memory.{takes_memory};
 ghost use Rattle.node_core.specs.Wait.{IsGreatest, IsMergeWait};
 ghost use Rattle.node_core.specs.Core.{IsPlanFor, CanCarry};
 
-use crate::commit::{invite_each, place, recover, regroup, settle};
+use crate::commit::{apply, invite_each, place, recover, regroup};
 use crate::event::Event;
 use crate::events::{plan_delivery, plan_event};
 use crate::fault::CoreFault;
@@ -224,7 +224,7 @@ impl NodeCore {
         match act {
             Act::Stay(_) => {}
             Act::Mark(note) => take_note(&mut self.vector, note),
-            Act::Settle(change) => settle(&mut self.vector, change),
+            Act::Apply(change) => apply(&mut self.vector, change),
             Act::Invite(receivers) => {
                 let group = GroupNo::numbered(self.id, answer);
                 regroup(&mut self.vector, self.id, group);

@@ -73,7 +73,7 @@ pub fn finish(
     }
     let lost = HandChange::Lose(origin, job);
     Ok(Plan {
-        act: Act::Settle(changed(alloc, seat.vector.standing, lost, done)?),
+        act: Act::Apply(changed(alloc, seat.vector.standing, lost, done)?),
         messages,
     })
 }

@@ -4,11 +4,11 @@ ghost use Rattle.group_task.specs.Others.{AreOthers};
 ghost use Rattle.node_core.specs.Words.{to_each};
 ghost use Rattle.node_core.specs.Planned.{gain_of, hand_gain, done_wanted, lent_by, plan_wants, wanted_by};
 
-use crate::durable::{Durable, Wanted};
 use crate::in_hand::InHand;
 use crate::notes::Note;
 use crate::seat::Seat;
 use crate::standing::Standing;
+use crate::wanted::{Wanted, WantedRef};
 use group_task::{Members, NodeId};
 use job_model::Work;
 use std::alloc::{AllocError, Global};
@@ -40,7 +40,7 @@ pub enum Act {
     /// Makes the change that is noted.
     Mark(Note),
     /// Makes this change.
-    Settle(Box<Change>),
+    Apply(Box<Change>),
     /// Makes a new group, and invites these nodes into it.
     Invite(Members),
     /// Makes a new group of this node alone.
@@ -58,28 +58,28 @@ pub struct Plan {
 
 impl Plan {
     /// The command that is to be carried out on the disk before the plan is committed.
-    pub fn wants(&self) -> Durable
+    pub fn wants(&self) -> Wanted
         ensures { wanted_by result ≡ plan_wants self.now }
     {
         match &self.act {
             Act::Stay(done) => done_wanted(*done),
-            Act::Mark(_) => Durable::None,
-            Act::Settle(change) => done_wanted(change.done),
-            Act::Invite(_) | Act::Recover => Durable::Raise,
-            Act::Place(_, work) => Durable::Put(**work),
+            Act::Mark(_) => Wanted::None,
+            Act::Apply(change) => done_wanted(change.done),
+            Act::Invite(_) | Act::Recover => Wanted::Raise,
+            Act::Place(_, work) => Wanted::Put(**work),
         }
     }
 
     /// The same command, with the job where the plan has it.
-    pub fn wanted(&self) -> Wanted<'_>
+    pub fn wanted(&self) -> WantedRef<'_>
         ensures { lent_by result ≡ plan_wants self.now }
     {
         match &self.act {
             Act::Stay(done) => done_lent(*done),
             Act::Mark(_) => done_lent(None),
-            Act::Settle(change) => done_lent(change.done),
-            Act::Invite(_) | Act::Recover => Wanted::Raise,
-            Act::Place(_, work) => Wanted::Put(work),
+            Act::Apply(change) => done_lent(change.done),
+            Act::Invite(_) | Act::Recover => WantedRef::Raise,
+            Act::Place(_, work) => WantedRef::Put(work),
         }
     }
 
@@ -88,7 +88,7 @@ impl Plan {
         ensures { result ≡ gain_of self.now.act }
     {
         match &self.act {
-            Act::Settle(change) => change.hand.gain(),
+            Act::Apply(change) => change.hand.gain(),
             Act::Place(_, _) => 1,
             Act::Stay(_) | Act::Mark(_) | Act::Invite(_) | Act::Recover => 0,
         }
@@ -107,22 +107,22 @@ impl HandChange {
 }
 
 /// The command that marks this job as done, if there is one.
-fn done_wanted(done: Option<u64>) -> Durable
+fn done_wanted(done: Option<u64>) -> Wanted
     ensures { wanted_by result ≡ done_wanted done }
-{
-    match done {
-        Some(id) => Durable::Done(id),
-        None => Durable::None,
-    }
-}
-
-/// The same command, lent.
-fn done_lent(done: Option<u64>) -> Wanted<'static>
-    ensures { lent_by result ≡ done_wanted done }
 {
     match done {
         Some(id) => Wanted::Done(id),
         None => Wanted::None,
+    }
+}
+
+/// The same command, lent.
+fn done_lent(done: Option<u64>) -> WantedRef<'static>
+    ensures { lent_by result ≡ done_wanted done }
+{
+    match done {
+        Some(id) => WantedRef::Done(id),
+        None => WantedRef::None,
     }
 }
 
@@ -204,10 +204,10 @@ pub fn marked(room: Vec<Message>, note: Note) -> Plan
 /// A change, and nothing is sent.
 pub fn quietly(room: Vec<Message>, change: Box<Change>) -> Plan
     requires { room.items ≡ [] }
-    ensures { (result.act ≡ Act.Settle change) × (result.messages.items ≡ []) }
+    ensures { (result.act ≡ Act.Apply change) × (result.messages.items ≡ []) }
 {
     Plan {
-        act: Act::Settle(change),
+        act: Act::Apply(change),
         messages: room,
     }
 }

@@ -13,7 +13,7 @@ use Rattle.node_lock.specs.Sending.{SameLink, SameSides, IsFirst, TookAt, Brings
 use Rattle.node_lock.specs.History.{Turn, polled, from_link, listed}
 use Rattle.node_lock.specs.HeldView.{HeldView, Kept, IsTakeLink, IsOther, OfPolled, Finds}
 use Rattle.node_lock.proofs.Keeping.{polled-snoc, from_nothing}
-use Rattle.node_lock.proofs.Telling.{brought_found}
+use Rattle.node_lock.proofs.Comings.{brought_polled}
 
 -- ---- a take at a place
 
@@ -88,7 +88,7 @@ in_ok (Err e) P is p = absurd (let bad = is in cc)
 pub same_other : (own k j place from : ℕ) → IsOther own k j → IsOther own place from → (k == place) ≡ (from == j)
 same_other own k j place from a b = grind (arith, nat_tests, a.0, a.1, b.0, b.1)
 
--- what the list of a link has once this was found
+-- what the list of a link has once this was taken
 pub record IsFetched (h : HeldView) (f : Option Envelope) (old new : Side) : Type 0 where
   pub same : SameLink old new
   pub messages : new.messages ≡ polled h.plans.intake old.sender h.history ++ from_link h.plans.intake old.sender h.turns.intake (listed f)
@@ -128,7 +128,7 @@ at_polled h place from P b is all k d lt other =
     let same : k ≡ place = one_place h.run.node k place from (subst (IsOther h.run.node k) (sym is) other) b in
     subst (λ (i : ℕ). P (slice_index_or h.takes i d).seen) (sym same) (all d (subst (λ (i : ℕ). i < length h.takes) same lt))
 
--- a poll finds what it takes
+-- a poll brings what it takes
 pub finds : (h : HeldView) (new : List Side) (place from : ℕ) (f : Option Envelope) → IsOther h.run.node place from → from ≡ slice_index h.plans.intake h.turns.intake → IfNone f ((h.waiting ≡ None) × SameSides h.takes new)
     → IfNone f ((d : Side) → (slice_index_or h.takes place d).seen ≡ []) → IfSome f (λ m. Brings place m h.waiting h.takes new) → Finds h f
 finds h new place from None b is none empty some = (none.0, at_polled h place from (λ seen. seen ≡ []) b is (λ d lt. empty d))
@@ -140,7 +140,7 @@ pub entered : (h n : HeldView) (e : Turn) (f : Option Envelope) (old new : Side)
     → IsTakeLink n new × (new.sender ≡ old.sender)
 entered h n e f old new k g run plans history waiting index gives =
     let plan = h.plans.intake in
-    let more : polled plan old.sender (h.history ++ e ∷ []) ≡ polled plan old.sender h.history ++ from_link plan old.sender h.turns.intake (listed f) = polled-snoc plan old.sender h.history e ∙ ap (λ l. polled plan old.sender h.history ++ l) (ap (λ i. from_link plan old.sender i (brought (event_of e.entry.what))) index ∙ ap (λ ms. from_link plan old.sender h.turns.intake ms) (brought_found f e.entry.what gives)) in (
+    let more : polled plan old.sender (h.history ++ e ∷ []) ≡ polled plan old.sender h.history ++ from_link plan old.sender h.turns.intake (listed f) = polled-snoc plan old.sender h.history e ∙ ap (λ l. polled plan old.sender h.history ++ l) (ap (λ i. from_link plan old.sender i (brought (event_of e.entry.what))) index ∙ ap (λ ms. from_link plan old.sender h.turns.intake ms) (brought_polled f e.entry.what gives)) in (
       record {
         receiver = g.same.receiver ∙ (k.receiver ∙ ap (λ r. r.node) (sym run));
         messages = rw (plans, history, waiting, g.same.sender) (g.messages ∙ (sym more ∙ sym (ap (λ l. polled plan old.sender (h.history ++ e ∷ []) ++ l) (from_nothing plan old.sender n.turns.intake [] refl) ∙ append-nil (polled plan old.sender (h.history ++ e ∷ [])))));

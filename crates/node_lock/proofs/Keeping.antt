@@ -24,7 +24,7 @@ use Rattle.node_lock.specs.declared.held.HeldFault.{HeldFault}
 use Rattle.node_lock.specs.declared.held.HeldFault.TheVariants.{NoMemory}
 use Rattle.node_lock.specs.HeldView.{HeldView, Kept, IsPutLink, IsTakeLink, IsOther, Takes, Unserved}
 use Rattle.node_lock.proofs.Carried.{puts_append, addressed-append}
-use Rattle.node_lock.proofs.Telling.{Comes, turn_comes}
+use Rattle.node_lock.proofs.Comings.{Comes, turn_comes}
 
 -- one step more
 pub path_snoc : {S E : Type 0} (step : S → E → S → Type 0) (s : S) (es : List E) (e : E) (t u : S) → Path step s es t → step t e u → Path step s (es ++ e ∷ []) u

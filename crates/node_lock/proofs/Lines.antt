@@ -14,29 +14,29 @@ use Rattle.histories.specs.Fates.{what_of}
 use Rattle.node_lock.specs.declared.worker.Worker.{Worker}
 use Rattle.node_lock.specs.declared.line.Quiet.{Quiet}
 use Rattle.node_lock.specs.declared.line.Quiet.TheVariants as quiet
-use Rattle.node_lock.specs.declared.line.Told.{Told}
-use Rattle.node_lock.specs.declared.line.Told.TheVariants as told
+use Rattle.node_lock.specs.declared.line.KeptWhat.{KeptWhat}
+use Rattle.node_lock.specs.declared.line.KeptWhat.TheVariants as kept
 use Rattle.node_lock.specs.declared.line.Line.{Line}
 use Rattle.node_lock.specs.History.{Turn}
-use Rattle.node_lock.specs.Kept.{IsQuietAt, IsHandledAt, what_quiet, what_came, what_in, part, turn_in, ToldStands, LineStands}
+use Rattle.node_lock.specs.Kept.{IsQuietAt, IsHandledAt, what_quiet, what_came, what_in, part, turn_in, WhatStands, LineStands}
 use Rattle.node_lock.proofs.Events.{get_same, get_again, part_same, part_again}
 
-abbrev pub line_by : Worker → ℕ → Told → ℕ → ℕ → Line
-line_by worker index t start end = record { worker = worker; index = index; told = t; start = start; end = end }
+abbrev pub line_by : Worker → ℕ → KeptWhat → ℕ → ℕ → Line
+line_by worker index t start end = record { worker = worker; index = index; what = t; start = start; end = end }
 
 abbrev pub turn_by : Worker → ℕ → What → List Envelope → Turn
 turn_by worker index w sent = record { worker = worker; index = index; entry = record { what = w; sent = sent } }
 
 -- ---- more is kept, and a line says what it said
 
-told_same : (es more : List Event) (t : Told) → ToldStands (length es) t → what_in (es ++ more) t ≡ what_in es t
-told_same es more (told.Came place fate) h = ap (λ (o : Option Event). what_came o fate) (get_same es more place h)
-told_same es more (told.Quiet q) h = refl
+what_same : (es more : List Event) (t : KeptWhat) → WhatStands (length es) t → what_in (es ++ more) t ≡ what_in es t
+what_same es more (kept.Came place fate) h = ap (λ (o : Option Event). what_came o fate) (get_same es more place h)
+what_same es more (kept.Quiet q) h = refl
 
 line_same : (ms sent : List Envelope) (es more : List Event) (l : Line) → LineStands (length ms) (length es) l → turn_in (ms ++ sent) (es ++ more) l ≡ turn_in ms es l
 line_same ms sent es more l h =
-    ap (λ (w : What). turn_by l.worker l.index w (part l.start l.end (ms ++ sent))) (told_same es more l.told h.told)
-    ∙ ap (λ (xs : List Envelope). turn_by l.worker l.index (what_in es l.told) xs) (part_same ms sent l.start (l.end - l.start) (let front = h.sent.0 in let back = h.sent.1 in omega (arith, front, back)))
+    ap (λ (w : What). turn_by l.worker l.index w (part l.start l.end (ms ++ sent))) (what_same es more l.what h.what)
+    ∙ ap (λ (xs : List Envelope). turn_by l.worker l.index (what_in es l.what) xs) (part_same ms sent l.start (l.end - l.start) (let front = h.sent.0 in let back = h.sent.1 in omega (arith, front, back)))
 
 lines_same : (ms sent : List Envelope) (es more : List Event) (ls : List Line) → All (LineStands (length ms) (length es)) ls → map (turn_in (ms ++ sent) (es ++ more)) ls ≡ map (turn_in ms es) ls
 lines_same ms sent es more [] h = refl
@@ -48,7 +48,7 @@ lines_same ms sent es more (l ∷ ls) h =
 
 -- its line, behind so many messages and events
 abbrev pub line_for : Worker → ℕ → Fate → List Envelope → ℕ → ℕ → Line
-line_for worker index fate sent messages events = line_by worker index (told.Came events fate) messages (messages + length sent)
+line_for worker index fate sent messages events = line_by worker index (kept.Came events fate) messages (messages + length sent)
 
 line_again : (ms : List Envelope) (es : List Event) (worker : Worker) (index : ℕ) (e : Event) (fate : Fate) (sent : List Envelope)
     → turn_in (ms ++ sent) (es ++ e ∷ []) (line_for worker index fate sent (length ms) (length es)) ≡ turn_by worker index (what_of e fate) sent
@@ -67,12 +67,12 @@ turns_more ls ms es worker index e fate sent h =
     ∙ (ap (λ (ts : List Turn). ts ++ f l ∷ []) (lines_same ms sent es (e ∷ []) ls h)
     ∙ ap (λ (t : Turn). map (turn_in ms es) ls ++ t ∷ []) (line_again ms es worker index e fate sent))
 
-told_longer : (n m : ℕ) → n ≤ m → (t : Told) → ToldStands n t → ToldStands m t
-told_longer n m le (told.Came place fate) h = omega (arith, h, le)
-told_longer n m le (told.Quiet q) h = tt
+what_longer : (n m : ℕ) → n ≤ m → (t : KeptWhat) → WhatStands n t → WhatStands m t
+what_longer n m le (kept.Came place fate) h = omega (arith, h, le)
+what_longer n m le (kept.Quiet q) h = tt
 
 longer : (n n' m m' : ℕ) → n ≤ n' → m ≤ m' → (l : Line) → LineStands n m l → LineStands n' m' l
-longer n n' m m' le more l h = record { sent = (h.sent.0, let back = h.sent.1 in omega (arith, back, le)); told = told_longer m m' more l.told h.told }
+longer n n' m m' le more l h = record { sent = (h.sent.0, let back = h.sent.1 in omega (arith, back, le)); what = what_longer m m' more l.what h.what }
 
 pub all_stand_more : (ls : List Line) (ms : List Envelope) (es : List Event) (worker : Worker) (index : ℕ) (e : Event) (fate : Fate) (sent : List Envelope) → All (LineStands (length ms) (length es)) ls
     → All (LineStands (length (ms ++ sent)) (length (es ++ e ∷ []))) (ls ++ line_for worker index fate sent (length ms) (length es) ∷ [])
@@ -83,25 +83,25 @@ all_stand_more ls ms es worker index e fate sent h =
     let m = length (es ++ e ∷ []) in
     All-push (LineStands n m) ls (line_for worker index fate sent (length ms) (length es))
     (All-weaker (LineStands (length ms) (length es)) (LineStands n m) (longer (length ms) n (length es) m (omega (arith, messages)) (omega (arith, events))) ls h)
-    (record { sent = (omega arith, omega (arith, messages)); told = omega (arith, events) })
+    (record { sent = (omega arith, omega (arith, messages)); what = omega (arith, events) })
 
 -- ---- a turn with no event
 
 abbrev pub quiet_line : Worker → ℕ → Quiet → Line
-quiet_line worker index q = line_by worker index (told.Quiet q) 0 0
+quiet_line worker index q = line_by worker index (kept.Quiet q) 0 0
 
 pub turns_quiet : (ls : List Line) (ms : List Envelope) (es : List Event) (worker : Worker) (index : ℕ) (q : Quiet)
     → map (turn_in ms es) (ls ++ quiet_line worker index q ∷ []) ≡ map (turn_in ms es) ls ++ turn_by worker index (what_quiet q) [] ∷ []
 turns_quiet ls ms es worker index q = map-append (turn_in ms es) ls (quiet_line worker index q ∷ [])
 
 pub all_stand_quiet : (n m : ℕ) (ls : List Line) (worker : Worker) (index : ℕ) (q : Quiet) → All (LineStands n m) ls → All (LineStands n m) (ls ++ quiet_line worker index q ∷ [])
-all_stand_quiet n m ls worker index q h = All-push (LineStands n m) ls (quiet_line worker index q) h (record { sent = (omega arith, omega arith); told = tt })
+all_stand_quiet n m ls worker index q h = All-push (LineStands n m) ls (quiet_line worker index q) h (record { sent = (omega arith, omega arith); what = tt })
 
-pub quiet_at : (ls : List Line) (ms : List Envelope) (es : List Event) (place : ℕ) (l : Line) (q : Quiet) → slice_get ls place ≡ Some l → l.told ≡ told.Quiet q → l.start ≡ l.end → IsQuietAt place q (map (turn_in ms es) ls)
-quiet_at ls ms es place l q at told same = record {
+pub quiet_at : (ls : List Line) (ms : List Envelope) (es : List Event) (place : ℕ) (l : Line) (q : Quiet) → slice_get ls place ≡ Some l → l.what ≡ kept.Quiet q → l.start ≡ l.end → IsQuietAt place q (map (turn_in ms es) ls)
+quiet_at ls ms es place l q at is_kept same = record {
   turn = turn_in ms es l;
   at = slice_get-map (turn_in ms es) ls place ∙ ap (λ (o : Option Line). option_map (turn_in ms es) o) at;
-  what = ap (λ (t : Told). what_in es t) told;
+  what = ap (λ (t : KeptWhat). what_in es t) is_kept;
   sent = ap (λ (k : ℕ). take k (drop l.start ms)) (let none : l.end - l.start ≡ 0 = omega (arith, same) in none);
 }
 
@@ -146,7 +146,7 @@ came_of e fate.MountFailed = refl
 came_of e (fate.RaiseFailed kept) = refl
 came_of e (fate.RaiseRefused kept) = refl
 
-came_in : (es : List Event) (place : ℕ) (f : Fate) → place < length es → is_quiet (what_in es (told.Came place f)) ≡ false
+came_in : (es : List Event) (place : ℕ) (f : Fate) → place < length es → is_quiet (what_in es (kept.Came place f)) ≡ false
 came_in [] place f within = absurd (omega (arith, within))
 came_in (e ∷ es) zero f within = came_of e f
 came_in (e ∷ es) (suc place) f within = came_in es place f (omega (arith, within))
@@ -164,10 +164,10 @@ turn_at : (ls : List Line) (ms : List Envelope) (es : List Event) (place : ℕ) 
 turn_at ls ms es place l q at h =
     same_Some h.turn (turn_in ms es l) (sym h.at ∙ (slice_get-map (turn_in ms es) ls place ∙ ap (λ (o : Option Line). option_map (turn_in ms es) o) at))
 
-pub event_at : (ls : List Line) (ms : List Envelope) (es : List Event) (place : ℕ) (l : Line) (q : Quiet) (k : ℕ) (f : Fate) → All (LineStands (length ms) (length es)) ls → slice_get ls place ≡ Some l → l.told ≡ told.Came k f → IsQuietAt place q (map (turn_in ms es) ls) → ⊥
+pub event_at : (ls : List Line) (ms : List Envelope) (es : List Event) (place : ℕ) (l : Line) (q : Quiet) (k : ℕ) (f : Fate) → All (LineStands (length ms) (length es)) ls → slice_get ls place ≡ Some l → l.what ≡ kept.Came k f → IsQuietAt place q (map (turn_in ms es) ls) → ⊥
 event_at ls ms es place l q k f all at is h =
-    let stands : k < length es = subst (ToldStands (length es)) is (stands_at (LineStands (length ms) (length es)) ls place l all at).told in
-    let what : what_in es (told.Came k f) ≡ what_quiet q = ap (λ (t : Told). what_in es t) (sym is) ∙ (ap (λ (t : Turn). t.entry.what) (sym (turn_at ls ms es place l q at h)) ∙ h.what) in
+    let stands : k < length es = subst (WhatStands (length es)) is (stands_at (LineStands (length ms) (length es)) ls place l all at).what in
+    let what : what_in es (kept.Came k f) ≡ what_quiet q = ap (λ (t : KeptWhat). what_in es t) (sym is) ∙ (ap (λ (t : Turn). t.entry.what) (sym (turn_at ls ms es place l q at h)) ∙ h.what) in
     let bad : false ≡ true = sym (came_in es k f stands) ∙ (ap is_quiet what ∙ quiet_of q) in
     absurd cc
 
@@ -182,11 +182,11 @@ sent_at ls ms es place l q all at some h =
 
 -- ---- a turn in which an event was handled
 
-pub handled_at : (ls : List Line) (ms : List Envelope) (es : List Event) (place : ℕ) (l : Line) (k : ℕ) (e : Event) → slice_get ls place ≡ Some l → l.told ≡ told.Came k fate.Done → slice_get es k ≡ Some e
+pub handled_at : (ls : List Line) (ms : List Envelope) (es : List Event) (place : ℕ) (l : Line) (k : ℕ) (e : Event) → slice_get ls place ≡ Some l → l.what ≡ kept.Came k fate.Done → slice_get es k ≡ Some e
     → IsHandledAt place e (part l.start l.end ms) (map (turn_in ms es) ls)
 handled_at ls ms es place l k e at is event = record {
   turn = turn_in ms es l;
   at = slice_get-map (turn_in ms es) ls place ∙ ap (λ (o : Option Line). option_map (turn_in ms es) o) at;
-  what = ap (λ (t : Told). what_in es t) is ∙ ap (λ (o : Option Event). what_came o fate.Done) event;
+  what = ap (λ (t : KeptWhat). what_in es t) is ∙ ap (λ (o : Option Event). what_came o fate.Done) event;
   sent = refl;
 }

@@ -5,4 +5,4 @@ pub use Rattle.node_lock.proofs.Events.{get_again, get_same}
 -- A turn keeps what is always true.
 pub use Rattle.node_lock.proofs.Keeping.{from_nothing}
 -- What is written down of a turn is what came of it.
-pub use Rattle.node_lock.proofs.Telling.{none_of_order, none_of_tick}
+pub use Rattle.node_lock.proofs.Comings.{none_of_order, none_of_tick}

@@ -57,14 +57,14 @@ pub nothing_sent : (sides : List Side) → SentOn [] sides sides
 nothing_sent sides = record { len = refl; each = λ k d lt. record { same = record { sender = refl; receiver = refl; capacity = refl }; messages = refl } }
 
 -- what was fetched waits, or waits still
-pub waits_since : (place : ℕ) (found was : Option Envelope) (old new : List Side) → IfNone found ((was ≡ None) × SameSides old new) → IfSome found (λ m. Brings place m was old new)
-    → WaitsSince old new was found
+pub waits_since : (place : ℕ) (arrived was : Option Envelope) (old new : List Side) → IfNone arrived ((was ≡ None) × SameSides old new) → IfSome arrived (λ m. Brings place m was old new)
+    → WaitsSince old new was arrived
 waits_since place None was old new none some = none
 waits_since place (Some m) was old new none some = (place, some)
 
--- where no mounting is told, it is told so
-pub found_told : (old new : Node Memory) → new ≡ record old { found = None } → new ≡ record old { found = new.found }
-found_told old new is = is ∙ ap (λ f. record old { found = f }) (sym (ap (λ (d : Node Memory). d.found) is))
+-- where nothing is mounted, it is shown so
+pub mounted_only : (old new : Node Memory) → new ≡ record old { mounted = None } → new ≡ record old { mounted = new.mounted }
+mounted_only old new is = is ∙ ap (λ f. record old { mounted = f }) (sym (ap (λ (d : Node Memory). d.mounted) is))
 
 -- no turn was taken
 pub unserved_by : (h n : HeldView) → n.run ≡ h.run → n.plans ≡ h.plans → n.turns ≡ h.turns → TookNone (site h.node h.puts h.history) (site n.node n.puts n.history) → WaitsSince h.takes n.takes h.waiting n.waiting

@@ -10,7 +10,7 @@ use Rattle.node_lock.specs.declared.worker.Worker.{Worker}
 use Rattle.node_lock.specs.declared.worker.Worker.TheVariants.{Intake, Clock, Operator}
 use Rattle.node_lock.specs.Planned.{Planned}
 
--- an event is handed to the node, or none is since a poll found nothing, or its disk is armed, or it crashes and these bytes
+-- an event is handed to the node, or none is since a poll took nothing, or its disk is armed, or it crashes and these bytes
 -- are left in the sectors that weren't synced
 pub data Asked : Type 0 where
   Hand : (event : Event) → Asked
@@ -26,13 +26,13 @@ asked_in (order.Arm calls) = Arm calls
 asked_in (order.Crash fill) = Crash fill
 asked_in order.Recover = Hand on.Recover
 
--- what a poll asks that found this
+-- what a poll asks that took this
 abbrev pub asked_by : Option Envelope → Asked
 asked_by (Some m) = Hand (on.Deliver m)
 asked_by None = Rest
 
 -- the worker's plan asks this at this turn
 abbrev pub IsAsked : Planned → Worker → ℕ → Asked → Type 0
-IsAsked p Intake i asked = ((j : ℕ) × (slice_get p.intake i ≡ Some j)) × ((found : Option Envelope) × (asked ≡ asked_by found))
+IsAsked p Intake i asked = ((j : ℕ) × (slice_get p.intake i ≡ Some j)) × ((arrived : Option Envelope) × (asked ≡ asked_by arrived))
 IsAsked p Clock i asked = (t : Timer) × (slice_get p.clock i ≡ Some t) × (asked ≡ Hand (on.Timer t))
 IsAsked p Operator i asked = (o : Order) × (slice_get p.operator i ≡ Some o) × (asked ≡ asked_in o)

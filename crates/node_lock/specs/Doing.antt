@@ -22,7 +22,7 @@ use Rattle.node_lock.specs.Asking.{Asked, Hand, Rest, Arm, Crash}
 abbrev pub StandsForSome : Node Memory → Type 0
 StandsForSome node = (s : NodeState) × Stands state_of node s
 
--- the node took a step at the event, and just what it told is written down
+-- the node took a step at the event, and just what it answered is written down
 pub record Did (old : Node Memory) (event : Event) (w : What) (sent : List Envelope) (new : Node Memory) : Type 0 where
   pub has : IsSome old.disk
   pub came : Came
@@ -32,12 +32,12 @@ pub record Did (old : Node Memory) (event : Event) (w : What) (sent : List Envel
 
 -- the node's disk was armed
 pub record WasArmed (calls : ℕ) (old new : Node Memory) : Type 0 where
-  pub armed : new ≡ record old { disk = armed_disk calls old.disk; found = None }
+  pub armed : new ≡ record old { disk = armed_disk calls old.disk; mounted = None }
   pub stands : (s : NodeState) → Stands state_of old s → Stands state_of new s
 
 -- the node was stopped here, and its disk has these bytes in the sectors that weren't synced
 pub record WasCrashed (fill : List ℕ) (old new : Node Memory) : Type 0 where
-  pub down : new ≡ record old { state = down old.id; disk = new.disk; kept = None; area = None; found = None }
+  pub down : new ≡ record old { state = down old.id; disk = new.disk; kept = None; area = None; mounted = None }
   pub disk : (was now : Memory) → old.disk ≡ Some was → new.disk ≡ Some now → IsCrashed was fill now.contents × (now ≡ all_synced now.contents was.failures)
   pub stands : (s : NodeState) → Stands state_of old s → Stands state_of new (after old.id old.nodes s what.Crashed)
 

@@ -69,14 +69,14 @@ pub record Kept (h : HeldView) : Type 0 where
 abbrev pub OfPolled : HeldView → (List Envelope → Type 0) → Type 0
 OfPolled h P = (k : ℕ) (d : Side) → k < length h.takes → IsOther h.run.node k (slice_index h.plans.intake h.turns.intake) → P (slice_index_or h.takes k d).seen
 
--- what a poll finds: the message that waits, else the first of those that were seen in the ring; and nothing only where none was
+-- what a poll takes: the message that waits, else the first of those that were seen in the ring; and nothing only where none was
 abbrev pub Finds : HeldView → Option Envelope → Type 0
 Finds h None = (h.waiting ≡ None) × OfPolled h (λ seen. seen ≡ [])
 Finds h (Some m) = (h.waiting ≡ Some m) ⊎ ((h.waiting ≡ None) × OfPolled h (IsFirst m))
 
--- where a worker polls, what its turn was brought is what its poll found
+-- where a worker polls, what its turn was brought is what its poll took
 abbrev pub Polls : HeldView → Worker → Turn → Type 0
-Polls h Intake t = (found : Option Envelope) × (brought (event_of t.entry.what) ≡ listed found) × Finds h found
+Polls h Intake t = (arrived : Option Envelope) × (brought (event_of t.entry.what) ≡ listed arrived) × Finds h arrived
 Polls h Clock t = ⊤
 Polls h Operator t = ⊤
 
@@ -98,10 +98,10 @@ abbrev pub WaitsSince : List Side → List Side → Option Envelope → Option E
 WaitsSince old new before None = (before ≡ None) × SameSides old new
 WaitsSince old new before (Some m) = (place : ℕ) × Brings place m before old new
 
--- want of memory: nothing changed but room, a message that was taken waits, and no mounting is told
+-- want of memory: nothing changed but room, a message that was taken waits, and no mounting is shown
 pub record Unserved (old new : HeldView) : Type 0 where
   pub same : SameRun old new
-  pub node : new.node ≡ record old.node { found = new.node.found }
+  pub node : new.node ≡ record old.node { mounted = new.node.mounted }
   pub turns : new.turns ≡ old.turns
   pub history : new.history ≡ old.history
   pub puts : SameSides old.puts new.puts

@@ -9,8 +9,8 @@ use Rattle.histories.specs.declared.what.Rest.TheVariants.{Nothing}
 use Rattle.histories.specs.Fates.{what_of}
 use Rattle.node_lock.specs.declared.line.Quiet.{Quiet}
 use Rattle.node_lock.specs.declared.line.Quiet.TheVariants as quiet
-use Rattle.node_lock.specs.declared.line.Told.{Told}
-use Rattle.node_lock.specs.declared.line.Told.TheVariants as told
+use Rattle.node_lock.specs.declared.line.KeptWhat.{KeptWhat}
+use Rattle.node_lock.specs.declared.line.KeptWhat.TheVariants as kept
 use Rattle.node_lock.specs.declared.line.Line.{Line}
 use Rattle.node_lock.specs.History.{Turn}
 
@@ -32,9 +32,9 @@ what_came None fate = what.Rests Nothing
 what_came (Some event) fate = what_of event fate
 
 -- what came of a turn, by the list of events
-abbrev pub what_in : List Event → Told → What
-what_in events (told.Came place fate) = what_came (slice_get events place) fate
-what_in events (told.Quiet q) = what_quiet q
+abbrev pub what_in : List Event → KeptWhat → What
+what_in events (kept.Came place fate) = what_came (slice_get events place) fate
+what_in events (kept.Quiet q) = what_quiet q
 
 -- the part from start up to end
 abbrev pub part : ℕ → ℕ → List Envelope → List Envelope
@@ -42,7 +42,7 @@ part start end ms = take (end - start) (drop start ms)
 
 -- the turn that a line says, by the list of messages and that of events
 abbrev pub turn_in : List Envelope → List Event → Line → Turn
-turn_in ms events l = record { worker = l.worker; index = l.index; entry = record { what = what_in events l.told; sent = part l.start l.end ms } }
+turn_in ms events l = record { worker = l.worker; index = l.index; entry = record { what = what_in events l.what; sent = part l.start l.end ms } }
 
 -- the turn at this place sent nothing, and this came of it
 pub record IsQuietAt (place : ℕ) (q : Quiet) (turns : List Turn) : Type 0 where
@@ -59,11 +59,11 @@ pub record IsHandledAt (place : ℕ) (event : Event) (messages : List Envelope) 
   pub sent : turn.entry.sent ≡ messages
 
 -- the event of a line is among so many
-abbrev pub ToldStands : ℕ → Told → Type 0
-ToldStands events (told.Came place fate) = place < events
-ToldStands events (told.Quiet q) = ⊤
+abbrev pub WhatStands : ℕ → KeptWhat → Type 0
+WhatStands events (kept.Came place fate) = place < events
+WhatStands events (kept.Quiet q) = ⊤
 
 -- the messages of a line are among so many, and so is its event
 pub record LineStands (messages events : ℕ) (l : Line) : Type 0 where
   pub sent : (l.start ≤ l.end) × (l.end ≤ messages)
-  pub told : ToldStands events l.told
+  pub what : WhatStands events l.what

@@ -30,8 +30,8 @@ pub record TookTurn (worker : Worker) (index : ℕ) (asked : Asked) (e : Entry) 
   pub sent : SentOn e.sent old.puts new.puts
   pub turns : new.turns ≡ old.turns ++ turn_of worker index e ∷ []
 
--- no turn was taken: nothing changed but room, and no mounting is told
+-- no turn was taken: nothing changed but room, and no mounting is shown
 pub record TookNone (old new : Site) : Type 0 where
-  pub node : new.node ≡ record old.node { found = new.node.found }
+  pub node : new.node ≡ record old.node { mounted = new.node.mounted }
   pub puts : SameSides old.puts new.puts
   pub turns : new.turns ≡ old.turns

@@ -5,12 +5,12 @@ ghost use Rattle.histories.specs.Fates.{what_of};
 ghost use Rattle.wire_msg.specs.Spelling.{Spells};
 ghost use Rattle.node_core.specs.declared.event.Event.{Event};
 ghost use Rattle.wire_msg.specs.Envelope.{Envelope};
-ghost use Rattle.node_lock.specs.Kept.{IsHandledAt, IsQuietAt, ToldStands, what_in, what_quiet};
+ghost use Rattle.node_lock.specs.Kept.{IsHandledAt, IsQuietAt, WhatStands, what_in, what_quiet};
 ghost use Rattle.node_lock.specs.Seen.{turn_seen};
 ghost use Rattle.node_lock.specs.declared.line.Quiet.{Quiet};
 
 use crate::event_list::EventList;
-use crate::line::{Line, Quiet, Told};
+use crate::line::{KeptWhat, Line, Quiet};
 use crate::worker::Worker;
 use histories::{Fate, Rest, What};
 use message_list::MessageList;
@@ -19,7 +19,7 @@ use std::alloc::{AllocError, Global};
 use std::marker::Model;
 use wire_msg::Message;
 
-/// The turns that were taken at a node, in their order. A poll that found nothing, an event that was refused and an order that
+/// The turns that were taken at a node, in their order. A poll that took nothing, an event that was refused and an order that
 /// arms the disk are turns too.
 ///
 /// A turn takes 56 bytes, with an event 24 more; a message that was delivered or sent takes 16 for most, and a new job the bytes
@@ -102,7 +102,7 @@ impl History {
         self.lines.push_reserved(Line {
             worker,
             index,
-            told: Told::Came(place, fate),
+            what: KeptWhat::Came(place, fate),
             start,
             end: self.sent.len(),
         });
@@ -116,7 +116,7 @@ impl History {
         self.lines.push_reserved(Line {
             worker,
             index,
-            told: Told::Quiet(quiet),
+            what: KeptWhat::Quiet(quiet),
             start: 0,
             end: 0,
         });
@@ -129,8 +129,8 @@ impl History {
         ensures none { IsNone result → (quiet : Quiet) → IsQuietAt place quiet self.now.turns → ⊥ }
     {
         let line = self.lines.get(place)?;
-        match line.told {
-            Told::Quiet(quiet) if line.start == line.end => Some(quiet),
+        match line.what {
+            KeptWhat::Quiet(quiet) if line.start == line.end => Some(quiet),
             _ => None,
         }
     }
@@ -142,7 +142,7 @@ impl History {
         ensures none { IsNone result → (event : Event) → (sent : List Envelope) → IsHandledAt place event sent self.now.turns → ⊥ }
     {
         let line = self.lines.get(place)?;
-        let Told::Came(at, fate) = line.told else {
+        let KeptWhat::Came(at, fate) = line.what else {
             return None;
         };
         let Fate::Done = fate else {
@@ -165,7 +165,7 @@ impl History {
         Some(Entry {
             worker: line.worker,
             index: line.index,
-            what: what_in(&self.events, line.told),
+            what: what_in(&self.events, line.what),
             sent: Sent {
                 messages: &self.sent,
                 start: line.start,
@@ -186,17 +186,17 @@ fn keep_messages(messages: &mut MessageList, sent: &[Message])
 }
 
 /// What came of a turn, by its event.
-fn what_in(events: &EventList, told: Told) -> What
-    requires { ToldStands (length events.now.events) told }
-    ensures { result ≡ what_in events.now.events told }
+fn what_in(events: &EventList, what: KeptWhat) -> What
+    requires { WhatStands (length events.now.events) what }
+    ensures { result ≡ what_in events.now.events what }
 {
-    match told {
-        Told::Came(place, fate) => match events.get(place) {
+    match what {
+        KeptWhat::Came(place, fate) => match events.get(place) {
             Some(event) => fate.what(&event),
             None => unreachable!(),
         },
-        Told::Quiet(Quiet::Rested) => What::Rests(Rest::Nothing),
-        Told::Quiet(Quiet::Crashed) => What::Crashed,
+        KeptWhat::Quiet(Quiet::Rested) => What::Rests(Rest::Nothing),
+        KeptWhat::Quiet(Quiet::Crashed) => What::Crashed,
     }
 }
 

@@ -7,7 +7,7 @@ use std::mem::size_of;
 /// What came of a turn that handed no event to its node.
 #[derive(Clone, Copy)]
 pub enum Quiet {
-    /// A poll found nothing, or the disk was armed.
+    /// A poll took nothing, or the disk was armed.
     Rested,
     /// The node crashed.
     Crashed,
@@ -15,7 +15,7 @@ pub enum Quiet {
 
 /// What came of a turn, as it is kept.
 #[derive(Clone, Copy)]
-pub enum Told {
+pub enum KeptWhat {
     /// What came of the event that stands at this place of the list of events.
     Came(usize, Fate),
     Quiet(Quiet),
@@ -26,10 +26,10 @@ pub enum Told {
 pub struct Line {
     pub worker: Worker,
     pub index: u64,
-    pub told: Told,
+    pub what: KeptWhat,
     pub start: usize,
     pub end: usize,
 }
 
-// a history has a line for each turn, and most turns are polls that find nothing
+// a history has a line for each turn, and most turns are polls that take nothing
 const _: () = prove!(size_of::<Line>() <= 56);

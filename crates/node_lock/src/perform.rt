@@ -12,7 +12,7 @@ use node_core::Event;
 use sector_disk::MemDisk;
 use wire_msg::Message;
 
-/// Does one event, and tells what came of it and what was sent. The disk forgets the moments before.
+/// Does one event: what came of it, and what was sent. The disk forgets the moments before.
 ///
 /// An error is want of memory: the disk of a node that has a history can be mounted.
 pub(crate) fn perform(
@@ -24,7 +24,7 @@ pub(crate) fn perform(
     ensures nodes { node.new.nodes ≡ node.old.nodes }
     ensures did { IfOk result (λ r. Did node.old event.now (what_of event.now r.0) r.1.items node.new) }
     ensures few { IfOk result (λ r. length r.1.items ≤ most_by node.old.nodes node.old.kept) }
-    ensures memory { IfErr result (λ fault. (fault ≡ NoMemory) × (node.new ≡ record node.old { found = None })) }
+    ensures memory { IfErr result (λ fault. (fault ≡ NoMemory) × (node.new ≡ record node.old { mounted = None })) }
 {
     match node.step(event) {
         Ok(came) => {

@@ -110,25 +110,25 @@ pub(crate) fn operate(
     hand(node, puts, history, Worker::Operator, index, &event)
 }
 
-/// The intake's turn: what a poll found is handed to the node.
+/// The intake's turn: what a poll took is handed to the node.
 pub(crate) fn receive(
     node: &mut DurableNode<MemDisk>,
     puts: &mut Vec<PutEnd>,
     history: &mut History,
     index: u64,
-    found: &Option<Message>,
+    arrived: &Option<Message>,
 ) -> Result<(), HeldFault>
     requires stands { StandsForSome node.old }
-    ensures taken { OnOk result ((e : Entry) × TookTurn Intake index (asked_by found.now) e (site node.old puts.old.items history.old.turns) (site node.new puts.new.items history.new.turns)) }
+    ensures taken { OnOk result ((e : Entry) × TookTurn Intake index (asked_by arrived.now) e (site node.old puts.old.items history.old.turns) (site node.new puts.new.items history.new.turns)) }
     ensures memory { IfErr result (λ fault. (fault ≡ NoMemory) × TookNone (site node.old puts.old.items history.old.turns) (site node.new puts.new.items history.new.turns)) }
 {
-    match found {
+    match arrived {
         Some(message) => deliver(node, puts, history, index, message),
         None => rest(history, Worker::Intake, index),
     }
 }
 
-// Hands a message to the node. It stands apart, since most polls find none, and here a whole event is made.
+// Hands a message to the node. It stands apart, since most polls take none, and here a whole event is made.
 #[inline(never)]
 fn deliver(
     node: &mut DurableNode<MemDisk>,

@@ -11,7 +11,7 @@ use Rattle.node_session.specs.declared.ended.Ended.{Ended}
 use Rattle.node_session.specs.Turns.{Turn, after_turn, end_of, IsFired, IsTimely, IsGoing, MayComeOf}
 use Rattle.pace.specs.Waiting.{Waits}
 use Rattle.node_session.specs.Chains.{AreGoing, AreTimely, IsOne, after_turns, last_end, waits_turn, waits_turns}
-use Rattle.node_session.specs.Text.{fired_by, fired_line, fired_told, turn_text, turns_text, untold}
+use Rattle.node_session.specs.Text.{fired_by, fired_line, fired_news, turn_text, turns_text, no_news}
 use Rattle.node_session.specs.Serving.{Progress, IsNodeOf, Turns, Calls}
 
 -- ---- one more turn behind others
@@ -41,15 +41,15 @@ waits_more self nodes s (u ∷ ts) t w = waits_more self nodes (after_turn self 
 three_and_more : (a b c d : List ℕ) → a ++ (b ++ (c ++ d)) ≡ (a ++ (b ++ c)) ++ d
 three_and_more a b c d = ap (λ (x : List ℕ). a ++ x) (sym (append_assoc b c d)) ∙ sym (append_assoc a (b ++ c) d)
 
-text_more : (tell : Turn → List ℕ) (self nodes : ℕ) (s : NodeState) (ts : List Turn) (t : Turn)
-    → turns_text tell self nodes s (ts ++ t ∷ []) ≡ turns_text tell self nodes s ts ++ (tell t ++ turn_text self nodes (after_turns self nodes s ts) t)
-text_more tell self nodes s [] t = ap (λ (x : List ℕ). tell t ++ x) (append-nil (turn_text self nodes s t))
-text_more tell self nodes s (u ∷ ts) t =
-    ap (λ (x : List ℕ). tell u ++ (turn_text self nodes s u ++ x)) (text_more tell self nodes (after_turn self nodes s u) ts t)
-    ∙ three_and_more (tell u) (turn_text self nodes s u) (turns_text tell self nodes (after_turn self nodes s u) ts) _
+text_more : (heading : Turn → List ℕ) (self nodes : ℕ) (s : NodeState) (ts : List Turn) (t : Turn)
+    → turns_text heading self nodes s (ts ++ t ∷ []) ≡ turns_text heading self nodes s ts ++ (heading t ++ turn_text self nodes (after_turns self nodes s ts) t)
+text_more heading self nodes s [] t = ap (λ (x : List ℕ). heading t ++ x) (append-nil (turn_text self nodes s t))
+text_more heading self nodes s (u ∷ ts) t =
+    ap (λ (x : List ℕ). heading u ++ (turn_text self nodes s u ++ x)) (text_more heading self nodes (after_turn self nodes s u) ts t)
+    ∙ three_and_more (heading u) (turn_text self nodes s u) (turns_text heading self nodes (after_turn self nodes s u) ts) _
 
--- what is told before a call names the event that it is of
-fired_so : (self nodes slots : ℕ) (s : NodeState) (event : Event) (turn : Turn) → MayComeOf self nodes event slots s turn → fired_line event ≡ fired_told turn
+-- what is written before a call names the event that it is of
+fired_so : (self nodes slots : ℕ) (s : NodeState) (event : Event) (turn : Turn) → MayComeOf self nodes event slots s turn → fired_line event ≡ fired_news turn
 fired_so self nodes slots s event turn may = ap fired_by (caused self nodes slots s event turn may)
 
 -- ---- the node stays the same
@@ -69,7 +69,7 @@ node_then disks old mid new a b = record {
 -- ---- calls
 
 pub one_call : {Disk : Type 0} (disks : Disk → DiskState) (old new : Progress Disk) (May : ℕ → NodeState → Turn → Type 0) (before ended : Ended) → Turns disks old new May ended
-    → Calls disks old new untold (λ slots s turns. IsOne (May slots s) turns) before ended
+    → Calls disks old new no_news (λ slots s turns. IsOne (May slots s) turns) before ended
 one_call disks old new May before ended a = record {
   node = a.node;
   same = a.same;
@@ -85,7 +85,7 @@ one_call disks old new May before ended a = record {
       });
 }
 
-pub no_call : {Disk : Type 0} (disks : Disk → DiskState) (p : Progress Disk) (before : Ended) → Calls disks p p fired_told (AreTimely p.node.id p.node.nodes) before before
+pub no_call : {Disk : Type 0} (disks : Disk → DiskState) (p : Progress Disk) (before : Ended) → Calls disks p p fired_news (AreTimely p.node.id p.node.nodes) before before
 no_call disks p before = record {
   node = node_refl disks p.node;
   same = refl;
@@ -96,10 +96,10 @@ both_texts : (a b c x y : List ℕ) → b ≡ a ++ x → c ≡ b ++ y → c ≡ 
 both_texts a b c x y first second = second ∙ (ap (λ (t : List ℕ). t ++ y) first ∙ append_assoc a x y)
 
 -- one more, behind the line that names its event
-pub call_more : {Disk : Type 0} (disks : Disk → DiskState) (old mid new : Progress Disk) (event : Event) (told : List ℕ) (before between ended : Ended) → IsFired event → told ≡ mid.text ++ fired_line event
-    → Calls disks old mid fired_told (AreTimely old.node.id old.node.nodes) before between → Turns disks (record mid { text = told }) new (MayComeOf mid.node.id mid.node.nodes event) ended
-    → Calls disks old new fired_told (AreTimely old.node.id old.node.nodes) before ended
-call_more {Disk} disks old mid new event told before between ended fired tells a b = record {
+pub call_more : {Disk : Type 0} (disks : Disk → DiskState) (old mid new : Progress Disk) (event : Event) (said : List ℕ) (before between ended : Ended) → IsFired event → said ≡ mid.text ++ fired_line event
+    → Calls disks old mid fired_news (AreTimely old.node.id old.node.nodes) before between → Turns disks (record mid { text = said }) new (MayComeOf mid.node.id mid.node.nodes event) ended
+    → Calls disks old new fired_news (AreTimely old.node.id old.node.nodes) before ended
+call_more {Disk} disks old mid new event said before between ended fired fires a b = record {
   node = node_then disks old.node mid.node new.node a.node b.node;
   same = b.same ∙ ap (λ (p : Progress Disk). record p { node = new.node; text = new.text; waits = new.waits }) a.same;
   called = λ was s is stands. (let x = a.called was s is stands in
@@ -112,11 +112,11 @@ call_more {Disk} disks old mid new event told before between ended fired tells a
       subst (λ (n : ℕ). MayComeOf old.node.id old.node.nodes event (slots_for n) t y.turn) d.sectors
       (subst (λ (n : ℕ). MayComeOf old.node.id n event (slots_for (disks d.now).sectors) t y.turn) nodes
       (subst (λ (n : ℕ). MayComeOf n mid.node.nodes event (slots_for (disks d.now).sectors) t y.turn) id y.may)) in
-      let turn : new.text ≡ told ++ turn_text old.node.id old.node.nodes t y.turn =
-      y.text ∙ (ap (λ (n : ℕ). told ++ turn_text n mid.node.nodes t y.turn) id ∙ ap (λ (n : ℕ). told ++ turn_text old.node.id n t y.turn) nodes) in
-      let more : new.text ≡ mid.text ++ (fired_told y.turn ++ turn_text old.node.id old.node.nodes t y.turn) =
-      both_texts mid.text told new.text (fired_told y.turn) (turn_text old.node.id old.node.nodes t y.turn)
-      (tells ∙ ap (λ (l : List ℕ). mid.text ++ l) (fired_so old.node.id old.node.nodes (slots_for (disks was).sectors) t event y.turn may)) turn in
+      let turn : new.text ≡ said ++ turn_text old.node.id old.node.nodes t y.turn =
+      y.text ∙ (ap (λ (n : ℕ). said ++ turn_text n mid.node.nodes t y.turn) id ∙ ap (λ (n : ℕ). said ++ turn_text old.node.id n t y.turn) nodes) in
+      let more : new.text ≡ mid.text ++ (fired_news y.turn ++ turn_text old.node.id old.node.nodes t y.turn) =
+      both_texts mid.text said new.text (fired_news y.turn) (turn_text old.node.id old.node.nodes t y.turn)
+      (fires ∙ ap (λ (l : List ℕ). mid.text ++ l) (fired_so old.node.id old.node.nodes (slots_for (disks was).sectors) t event y.turn may)) turn in
       record {
         turns = x.turns ++ y.turn ∷ [];
         may = timely_more old.node.id old.node.nodes (slots_for (disks was).sectors) s x.turns y.turn x.may (record { event = event; fired = fired; may = may });
@@ -126,8 +126,8 @@ call_more {Disk} disks old mid new event told before between ended fired tells a
             (subst (λ (n : ℕ). Stands disks new.node (after_turn n mid.node.nodes t y.turn)) id y.stands));
         ended_so = (y.ended_so ∙ (ap (λ (n : ℕ). end_of n mid.node.nodes t y.turn) id ∙ ap (λ (n : ℕ). end_of old.node.id n t y.turn) nodes))
             ∙ sym (end_more old.node.id old.node.nodes before s x.turns y.turn);
-        text = both_texts old.text mid.text new.text (turns_text fired_told old.node.id old.node.nodes s x.turns) (fired_told y.turn ++ turn_text old.node.id old.node.nodes t y.turn) x.text more
-            ∙ ap (λ (z : List ℕ). old.text ++ z) (sym (text_more fired_told old.node.id old.node.nodes s x.turns y.turn));
+        text = both_texts old.text mid.text new.text (turns_text fired_news old.node.id old.node.nodes s x.turns) (fired_news y.turn ++ turn_text old.node.id old.node.nodes t y.turn) x.text more
+            ∙ ap (λ (z : List ℕ). old.text ++ z) (sym (text_more fired_news old.node.id old.node.nodes s x.turns y.turn));
         waits = (y.waits ∙ (ap (λ (n : ℕ). waits_turn n mid.node.nodes t y.turn mid.waits) id ∙ (ap (λ (n : ℕ). waits_turn old.node.id n t y.turn mid.waits) nodes
             ∙ ap (λ (w : Waits). waits_turn old.node.id old.node.nodes t y.turn w) x.waits))) ∙ sym (waits_more old.node.id old.node.nodes s x.turns y.turn old.waits);
       });
@@ -136,16 +136,16 @@ call_more {Disk} disks old mid new event told before between ended fired tells a
 -- as the code does it: what is due is looked at, which changes nothing, it is named, and made
 pub due_more : {Disk : Type 0} (disks : Disk → DiskState) (old mid due here new : Progress Disk) (event : Event) (before between ended : Ended) → IsFired event → due ≡ mid
     → here ≡ record due { text = due.text ++ fired_line event }
-    → Calls disks old mid fired_told (AreTimely old.node.id old.node.nodes) before between → Turns disks here new (MayComeOf here.node.id here.node.nodes event) ended
-    → Calls disks old new fired_told (AreTimely old.node.id old.node.nodes) before ended
+    → Calls disks old mid fired_news (AreTimely old.node.id old.node.nodes) before between → Turns disks here new (MayComeOf here.node.id here.node.nodes event) ended
+    → Calls disks old new fired_news (AreTimely old.node.id old.node.nodes) before ended
 due_more {Disk} disks old mid due here new event before between ended fired is named a b =
     call_more disks old mid new event (mid.text ++ fired_line event) before between ended fired refl a
     (subst (λ (p : Progress Disk). Turns disks p new (MayComeOf p.node.id p.node.nodes event) ended)
     (named ∙ ap (λ (p : Progress Disk). record p { text = p.text ++ fired_line event }) is) b)
 
 pub none_more : {Disk : Type 0} (disks : Disk → DiskState) (old mid here : Progress Disk) (before between : Ended) → here ≡ mid
-    → Calls disks old mid fired_told (AreTimely old.node.id old.node.nodes) before between → Calls disks old here fired_told (AreTimely old.node.id old.node.nodes) before between
-none_more {Disk} disks old mid here before between is a = subst (λ (p : Progress Disk). Calls disks old p fired_told (AreTimely old.node.id old.node.nodes) before between) (sym is) a
+    → Calls disks old mid fired_news (AreTimely old.node.id old.node.nodes) before between → Calls disks old here fired_news (AreTimely old.node.id old.node.nodes) before between
+none_more {Disk} disks old mid here before between is a = subst (λ (p : Progress Disk). Calls disks old p fired_news (AreTimely old.node.id old.node.nodes) before between) (sym is) a
 
 pub if_ok : {T E : Type 0} (r : Result T E) (P Q : T → Type 0) → ((x : T) → P x → Q x) → IfOk r P → IfOk r Q
 if_ok (Ok x) P Q f h = f x h

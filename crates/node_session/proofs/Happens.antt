@@ -8,7 +8,7 @@ use Rattle.node_core.specs.Start.{down as down_state}
 use Rattle.node_core.specs.State.{State, is_down}
 use Rattle.node_core.specs.declared.event.Event.{Event}
 use Rattle.node_core.specs.declared.event.Event.TheVariants as on
-use Rattle.node_core.specs.declared.durable.Durable.TheVariants as wanted
+use Rattle.node_core.specs.declared.wanted.Wanted.TheVariants as wanted
 use Rattle.node_store.specs.Store.{slots_for}
 use Rattle.durable_node.specs.declared.fault.NodeFault.{NodeFault}
 use Rattle.durable_node.specs.declared.fault.NodeFault.TheVariants as node
@@ -25,20 +25,20 @@ use Rattle.histories.specs.declared.fate.Fate.{Fate}
 use Rattle.histories.specs.declared.fate.Fate.TheVariants as fate
 use Rattle.histories.specs.After.{after, sent_at}
 use Rattle.histories.specs.Possible.{IsOfSlots}
-use Rattle.durable_node.specs.Compacting.{Compacts, CompactTold, RestTold}
+use Rattle.durable_node.specs.Compacting.{Compacts, CompactionAnswers, RestAnswers}
 use Rattle.durable_node.specs.Stepping.{CountsOf, Does, IsMounting, Steps, Stuck, is_recover}
-use Rattle.durable_node.specs.Faults.{fault_of, told, told_as}
+use Rattle.durable_node.specs.Faults.{fault_of, answered, answered_as}
 use Rattle.node_core.specs.declared.fault.CoreFault.TheVariants.{NoMemory}
 use Rattle.durable_node.specs.Remounting.{Remounted}
 use Rattle.node_session.specs.declared.ended.Ended.{Ended}
 use Rattle.node_session.specs.declared.ended.Ended.TheVariants as end
 use Rattle.node_session.specs.Turns.{Turn, Goes, Unmounted, Begins, MayComeOf, MayCompact, IsGoing, IsOfCompaction, after_turn, cause, compaction_end, end_at, end_of, ended_by, sent_by, sent_in}
 use Rattle.pace.specs.Waiting.{Waits, waits_behind}
-use Rattle.node_session.specs.Changes.{Sight, changes, gone_told, is_finish, sight_of}
+use Rattle.node_session.specs.Changes.{Sight, changes, gone_news, is_finish, sight_of}
 use Rattle.node_session.specs.Text.{call_text, send_lines}
 use Rattle.node_session.specs.Serving.{Progress, IsNodeOf, Turns}
 
--- what came of an event over a disk, and how it is told
+-- what came of an event over a disk, and how it is written
 record Happens {Disk : Type 0} (disks : Disk → DiskState) (slots : ℕ) (old new : Node Disk) (honest : Bool) (s : NodeState) (event : Event) (result : Result Came NodeFault) : Type 0 where
   pub turn : Turn
   pub may : MayComeOf old.id old.nodes event slots s turn
@@ -49,15 +49,15 @@ record Happens {Disk : Type 0} (disks : Disk → DiskState) (slots : ℕ) (old n
 
 -- ---- the history goes on
 
-ends : (slots self nodes : ℕ) (s : NodeState) (event : Event) (came : Came) (found : Option Durable) (fate : Fate) → Does slots self nodes s event came found (what_of event fate)
-    → (ended_by (told_as came (fault_of fate)) ≡ end_at self nodes s (what_of event fate)) × (sent_by (told_as came (fault_of fate)) ≡ sent_at self nodes s (what_of event fate))
-ends slots self nodes s event came found fate.Done does = (ap end.Done does.answer, does.sent)
-ends slots self nodes s event came found (fate.Refused fault) does = (refl, refl)
-ends slots self nodes s event came found fate.Faulted does = (refl, refl)
-ends slots self nodes s event came found (fate.Recovered kept) does = (ap end.Done does.answer, does.sent)
-ends slots self nodes s event came found fate.MountFailed does = (refl, refl)
-ends slots self nodes s event came found (fate.RaiseFailed kept) does = (refl, refl)
-ends slots self nodes s event came found (fate.RaiseRefused kept) does = (refl, refl)
+ends : (slots self nodes : ℕ) (s : NodeState) (event : Event) (came : Came) (given : Option Durable) (fate : Fate) → Does slots self nodes s event came given (what_of event fate)
+    → (ended_by (answered_as came (fault_of fate)) ≡ end_at self nodes s (what_of event fate)) × (sent_by (answered_as came (fault_of fate)) ≡ sent_at self nodes s (what_of event fate))
+ends slots self nodes s event came given fate.Done does = (ap end.Done does.answer, does.sent)
+ends slots self nodes s event came given (fate.Refused fault) does = (refl, refl)
+ends slots self nodes s event came given fate.Faulted does = (refl, refl)
+ends slots self nodes s event came given (fate.Recovered kept) does = (ap end.Done does.answer, does.sent)
+ends slots self nodes s event came given fate.MountFailed does = (refl, refl)
+ends slots self nodes s event came given (fate.RaiseFailed kept) does = (refl, refl)
+ends slots self nodes s event came given (fate.RaiseRefused kept) does = (refl, refl)
 
 -- a disk of a history is one that can be mounted
 not_stuck : {Disk : Type 0} (disks : Disk → DiskState) (old new : Node Disk) (event : Event) (fault : NodeFault) (was : Disk) (s : NodeState) → Stuck disks old new event fault → fault ≢ node.Core NoMemory
@@ -72,18 +72,18 @@ not_stuck disks old new event node.TooSmall was s stuck memory is stands honest 
 
 goes_on : {Disk : Type 0} (disks : Disk → DiskState) (old new : Node Disk) (event : Event) (reply : Result Came NodeFault) (was : Disk) (s : NodeState)
     → IfOk reply (Steps disks old new event) → IfErr reply (Stuck disks old new event) → reply ≢ Err (node.Core NoMemory)
-    → old.disk ≡ Some was → Stands disks old s → (IsMounting old.state event → IsTrue (disks was).honest) → Happens disks (slots_for (disks was).sectors) old new (disks was).honest s event (told reply)
+    → old.disk ≡ Some was → Stands disks old s → (IsMounting old.state event → IsTrue (disks was).honest) → Happens disks (slots_for (disks was).sectors) old new (disks was).honest s event (answered reply)
 goes_on disks old new event (Ok came) was s steps stuck memory is stands honest =
     let step = steps was s is stands honest in
     let does = step.0 in
-    let told_so = ends (slots_for (disks was).sectors) old.id old.nodes s event came new.found came.fate does in
+    let ends_so = ends (slots_for (disks was).sectors) old.id old.nodes s event came new.mounted came.fate does in
     record {
       turn = Goes (what_of event came.fate);
       may = (does.of, does.possible, does.of_slots);
       going = λ _. tt;
       stands = step.1;
-      ended = told_so.0;
-      sent = told_so.1;
+      ended = ends_so.0;
+      sent = ends_so.1;
     }
 goes_on disks old new event (Err fault) was s steps stuck memory is stands honest =
     absurd (not_stuck disks old new event fault was s stuck (λ e. memory (ap (λ (f : NodeFault). Err f) e)) is stands honest)
@@ -98,12 +98,12 @@ left_anyhow old new s t sectors dishonest left = record {
   sound = λ honest. absurd cc;
 }
 
-begins : {Disk : Type 0} (disks : Disk → DiskState) (slots : ℕ) (old new : Node Disk) (result : Result Came NodeFault) (found : Option Durable) (s : NodeState) → Remounted old new result found
+begins : {Disk : Type 0} (disks : Disk → DiskState) (slots : ℕ) (old new : Node Disk) (result : Result Came NodeFault) (given : Option Durable) (s : NodeState) → Remounted old new result given
     → (is_down old.state.phase ≡ true → old.state ≡ down_state old.id) → is_down old.state.phase ≡ true → Stands disks old s → ((t : NodeState) (d : Disk) → new.disk ≡ Some d → IsLeft (disks d) t)
     → Happens disks slots old new false s on.Recover result
 begins disks slots old new (Ok came) None s mounted fallen down stands left = absurd mounted
-begins disks slots old new (Ok came) (Some found) s mounted fallen down stands left = record {
-  turn = Begins found (Recovered false);
+begins disks slots old new (Ok came) (Some given) s mounted fallen down stands left = record {
+  turn = Begins given (Recovered false);
   may = (refl, ap (λ (v : State). is_down v.phase) (sym stands.state) ∙ down, tt, (refl, λ kept. absurd cc, mounted.5));
   going = λ honest. absurd cc;
   stands = record { state = mounted.1; doubt = mounted.2; up = λ _. (mounted.0, refl); disk = left _ };
@@ -123,7 +123,7 @@ begins disks slots old new (Err fault) None s mounted fallen down stands left = 
   ended = refl;
   sent = refl;
 }
-begins {Disk} disks slots old new (Err fault) (Some found) s mounted fallen down stands left = by_cases mounted.1
+begins {Disk} disks slots old new (Err fault) (Some given) s mounted fallen down stands left = by_cases mounted.1
   where
     was_down : is_down s.state.phase ≡ true
     was_down = ap (λ (v : State). is_down v.phase) (sym stands.state) ∙ down
@@ -131,9 +131,9 @@ begins {Disk} disks slots old new (Err fault) (Some found) s mounted fallen down
     still_down : is_down new.state.phase ≡ true
     still_down = ap (λ (v : State). is_down v.phase) mounted.0 ∙ down
 
-    by_cases : ((fault ≡ node.Device) × (new.doubt ≡ Some (wanted.Raise, found.counter)) × (found.counter + 1 < 2 ^ 64)) ⊎ ((fault ≡ node.Exhausted) × (found.counter ≡ 2 ^ 64 - 1) × (new.doubt ≡ old.doubt)) → Happens disks slots old new false s on.Recover (Err fault)
+    by_cases : ((fault ≡ node.Device) × (new.doubt ≡ Some (wanted.Raise, given.counter)) × (given.counter + 1 < 2 ^ 64)) ⊎ ((fault ≡ node.Exhausted) × (given.counter ≡ 2 ^ 64 - 1) × (new.doubt ≡ old.doubt)) → Happens disks slots old new false s on.Recover (Err fault)
     by_cases (inl failed) = record {
-      turn = Begins found (RaiseFailed false);
+      turn = Begins given (RaiseFailed false);
       may = (refl, was_down, tt, (refl, λ kept. absurd cc, failed.2));
       going = λ honest. absurd cc;
       stands = record { state = mounted.0 ∙ fallen down; doubt = failed.1; up = λ up. absurd cc; disk = left _ };
@@ -141,7 +141,7 @@ begins {Disk} disks slots old new (Err fault) (Some found) s mounted fallen down
       sent = refl;
     }
     by_cases (inr spent) = record {
-      turn = Begins found (RaiseRefused false);
+      turn = Begins given (RaiseRefused false);
       may = (refl, was_down, tt, (refl, λ kept. absurd cc, spent.1));
       going = λ honest. absurd cc;
       stands = record { state = mounted.0 ∙ stands.state; doubt = spent.2 ∙ stands.doubt; up = λ up. absurd cc; disk = left s };
@@ -157,25 +157,25 @@ recovers event is = absurd cc
 
 happens : {Disk : Type 0} (disks : Disk → DiskState) (old new : Node Disk) (event : Event) (reply : Result Came NodeFault) (was : Disk) (s : NodeState)
     → IfOk reply (Steps disks old new event) → IfErr reply (Stuck disks old new event) → reply ≢ Err (node.Core NoMemory)
-    → (is_down old.state.phase ≡ true → event ≡ on.Recover → Remounted old new (told reply) new.found) → (is_down old.state.phase ≡ true → old.state ≡ down_state old.id) → old.disk ≡ Some was → Stands disks old s
+    → (is_down old.state.phase ≡ true → event ≡ on.Recover → Remounted old new (answered reply) new.mounted) → (is_down old.state.phase ≡ true → old.state ≡ down_state old.id) → old.disk ≡ Some was → Stands disks old s
     → ((d : Disk) → new.disk ≡ Some d → ((disks d).sectors ≡ (disks was).sectors) × ((disks d).honest ≡ (disks was).honest))
-    → Happens disks (slots_for (disks was).sectors) old new (disks was).honest s event (told reply)
+    → Happens disks (slots_for (disks was).sectors) old new (disks was).honest s event (answered reply)
 happens {Disk} disks old new event reply was s steps stuck memory mounting fallen is stands same = by_honesty (disks was).honest refl
   where
-    begun_at : (disks was).honest ≡ false → is_down old.state.phase ≡ true → event ≡ on.Recover → Happens disks (slots_for (disks was).sectors) old new (disks was).honest s event (told reply)
+    begun_at : (disks was).honest ≡ false → is_down old.state.phase ≡ true → event ≡ on.Recover → Happens disks (slots_for (disks was).sectors) old new (disks was).honest s event (answered reply)
     begun_at dishonest down recover =
-        subst (λ (e : Event). Happens disks (slots_for (disks was).sectors) old new (disks was).honest s e (told reply)) (sym recover)
-        (subst (λ (b : Bool). Happens disks (slots_for (disks was).sectors) old new b s on.Recover (told reply)) (sym dishonest)
-        (begins disks (slots_for (disks was).sectors) old new (told reply) new.found s (mounting down recover) fallen down stands
+        subst (λ (e : Event). Happens disks (slots_for (disks was).sectors) old new (disks was).honest s e (answered reply)) (sym recover)
+        (subst (λ (b : Bool). Happens disks (slots_for (disks was).sectors) old new b s on.Recover (answered reply)) (sym dishonest)
+        (begins disks (slots_for (disks was).sectors) old new (answered reply) new.mounted s (mounting down recover) fallen down stands
         (λ t d at. left_anyhow (disks was) (disks d) s t (same d at).0 ((same d at).1 ∙ dishonest) (stands.disk was is))))
 
     by_event : (disks was).honest ≡ false → (down recover : Bool) → is_down old.state.phase ≡ down → is_recover event ≡ recover
-        → Happens disks (slots_for (disks was).sectors) old new (disks was).honest s event (told reply)
+        → Happens disks (slots_for (disks was).sectors) old new (disks was).honest s event (answered reply)
     by_event dishonest true true down recover = begun_at dishonest down (recovers event recover)
     by_event dishonest true false down recover = goes_on disks old new event reply was s steps stuck memory is stands (λ both. (let bad = both.1 in absurd cc))
     by_event dishonest false recovering down recover = goes_on disks old new event reply was s steps stuck memory is stands (λ both. (let bad = both.0 in absurd cc))
 
-    by_honesty : (b : Bool) → (disks was).honest ≡ b → Happens disks (slots_for (disks was).sectors) old new (disks was).honest s event (told reply)
+    by_honesty : (b : Bool) → (disks was).honest ≡ b → Happens disks (slots_for (disks was).sectors) old new (disks was).honest s event (answered reply)
     by_honesty true honest = goes_on disks old new event reply was s steps stuck memory is stands (λ _. honest)
     by_honesty false honest = by_event honest (is_down old.state.phase) (is_recover event) refl refl
 
@@ -193,13 +193,13 @@ same_node disks old new result id nodes counts = record {
       record { now = now.0; is = now.1; sectors = same.sectors; honest = same.honest });
 }
 
--- ---- what is told of it
+-- ---- what is written of it
 
 -- a call that may come of an event is of that event
 pub caused : (self nodes slots : ℕ) (s : NodeState) (event : Event) (turn : Turn) → MayComeOf self nodes event slots s turn → Some event ≡ cause turn
 caused self nodes slots s event (Goes what) may = sym may.0
 caused self nodes slots s event (Unmounted fault) may = ap (λ (x : Event). Some x) may.0
-caused self nodes slots s event (Begins found what) may = ap (λ (x : Event). Some x) may.0
+caused self nodes slots s event (Begins given what) may = ap (λ (x : Event). Some x) may.0
 
 three_texts : (a b c d x y z : List ℕ) → b ≡ a ++ x → c ≡ b ++ y → d ≡ c ++ z → d ≡ a ++ (x ++ (y ++ z))
 three_texts a b c d x y z first second third =
@@ -208,33 +208,33 @@ three_texts a b c d x y z first second third =
 -- as the code does it
 pub event_turns : {Disk : Type 0} (disks : Disk → DiskState) (old : Progress Disk) (node' : Node Disk) (event : Event) (reply : Result Came NodeFault) (waits : Waits) (sent changed text : List ℕ)
     → node'.id ≡ old.node.id → node'.nodes ≡ old.node.nodes → IfOk reply (Steps disks old.node node' event) → IfErr reply (Stuck disks old.node node' event) → reply ≢ Err (node.Core NoMemory)
-    → (is_down old.node.state.phase ≡ true → event ≡ on.Recover → Remounted old.node node' (told reply) node'.found) → (is_down old.node.state.phase ≡ true → old.node.state ≡ down_state old.node.id)
-    → CountsOf disks old.node.disk node'.disk (told reply)
-    → waits ≡ waits_behind (Some event) (sent_by (told reply)) node'.state old.waits
-    → sent ≡ old.text ++ send_lines (sent_by (told reply)) → changed ≡ sent ++ changes (is_finish (Some event)) old.node.state node'.state → text ≡ changed ++ gone_told (Some event) (ended_by (told reply))
-    → Turns disks old (record old { node = node'; text = text; waits = waits }) (MayComeOf old.node.id old.node.nodes event) (ended_by (told reply))
+    → (is_down old.node.state.phase ≡ true → event ≡ on.Recover → Remounted old.node node' (answered reply) node'.mounted) → (is_down old.node.state.phase ≡ true → old.node.state ≡ down_state old.node.id)
+    → CountsOf disks old.node.disk node'.disk (answered reply)
+    → waits ≡ waits_behind (Some event) (sent_by (answered reply)) node'.state old.waits
+    → sent ≡ old.text ++ send_lines (sent_by (answered reply)) → changed ≡ sent ++ changes (is_finish (Some event)) old.node.state node'.state → text ≡ changed ++ gone_news (Some event) (ended_by (answered reply))
+    → Turns disks old (record old { node = node'; text = text; waits = waits }) (MayComeOf old.node.id old.node.nodes event) (ended_by (answered reply))
 event_turns {Disk} disks old node' event reply waits sent changed text id nodes steps stuck memory mounting fallen counts waited first second third = record {
-  node = same_node disks old.node node' (told reply) id nodes counts;
+  node = same_node disks old.node node' (answered reply) id nodes counts;
   same = refl;
   turned = λ was s is stands. (let h = happens disks old.node node' event reply was s steps stuck memory mounting fallen is stands
       (λ d at. (let same = counts.counts was d is at in (same.sectors, same.honest))) in
       let self = old.node.id in
       let count = old.node.nodes in
       let t = after_turn self count s h.turn in
-      let all : text ≡ old.text ++ call_text (Some event) (sent_by (told reply)) old.node.state node'.state (ended_by (told reply)) = three_texts old.text sent changed text _ _ _ first second third in
+      let all : text ≡ old.text ++ call_text (Some event) (sent_by (answered reply)) old.node.state node'.state (ended_by (answered reply)) = three_texts old.text sent changed text _ _ _ first second third in
       record {
         turn = h.turn;
         may = h.may;
         honest = h.going;
         stands = h.stands;
         ended_so = h.ended;
-        text = all ∙ (ap (λ (o : Option Event). old.text ++ call_text o (sent_by (told reply)) old.node.state node'.state (ended_by (told reply))) (caused self count (slots_for (disks was).sectors) s event h.turn h.may)
-            ∙ (ap (λ (v : State). old.text ++ call_text (cause h.turn) (sent_by (told reply)) v node'.state (ended_by (told reply))) stands.state
-            ∙ (ap (λ (v : State). old.text ++ call_text (cause h.turn) (sent_by (told reply)) s.state v (ended_by (told reply))) h.stands.state
-            ∙ (ap (λ (ms : List Envelope). old.text ++ call_text (cause h.turn) ms s.state t.state (ended_by (told reply))) h.sent
+        text = all ∙ (ap (λ (o : Option Event). old.text ++ call_text o (sent_by (answered reply)) old.node.state node'.state (ended_by (answered reply))) (caused self count (slots_for (disks was).sectors) s event h.turn h.may)
+            ∙ (ap (λ (v : State). old.text ++ call_text (cause h.turn) (sent_by (answered reply)) v node'.state (ended_by (answered reply))) stands.state
+            ∙ (ap (λ (v : State). old.text ++ call_text (cause h.turn) (sent_by (answered reply)) s.state v (ended_by (answered reply))) h.stands.state
+            ∙ (ap (λ (ms : List Envelope). old.text ++ call_text (cause h.turn) ms s.state t.state (ended_by (answered reply))) h.sent
             ∙ ap (λ (e : Ended). old.text ++ call_text (cause h.turn) (sent_in self count s h.turn) s.state t.state e) h.ended))));
-        waits = waited ∙ (ap (λ (o : Option Event). waits_behind o (sent_by (told reply)) node'.state old.waits) (caused self count (slots_for (disks was).sectors) s event h.turn h.may)
-            ∙ (ap (λ (v : State). waits_behind (cause h.turn) (sent_by (told reply)) v old.waits) h.stands.state
+        waits = waited ∙ (ap (λ (o : Option Event). waits_behind o (sent_by (answered reply)) node'.state old.waits) (caused self count (slots_for (disks was).sectors) s event h.turn h.may)
+            ∙ (ap (λ (v : State). waits_behind (cause h.turn) (sent_by (answered reply)) v old.waits) h.stands.state
             ∙ ap (λ (ms : List Envelope). waits_behind (cause h.turn) ms t.state old.waits) h.sent));
       });
 }
@@ -242,20 +242,20 @@ event_turns {Disk} disks old node' event reply waits sent changed text id nodes 
 -- by what the code keeps of the state before
 pub turn_so : {Disk : Type 0} (disks : Disk → DiskState) (old here : Progress Disk) (node' : Node Disk) (event : Event) (reply : Result Came NodeFault) (ended : Ended) (finished : Bool) (seen : Sight) (before after behind : State)
     (waits : Waits) (sent changed text : List ℕ) → here ≡ old → node'.id ≡ here.node.id → node'.nodes ≡ here.node.nodes → IfOk reply (Steps disks here.node node' event) → IfErr reply (Stuck disks here.node node' event) → reply ≢ Err (node.Core NoMemory)
-    → (is_down here.node.state.phase ≡ true → event ≡ on.Recover → Remounted here.node node' (told reply) node'.found) → (is_down here.node.state.phase ≡ true → here.node.state ≡ down_state here.node.id)
-    → CountsOf disks here.node.disk node'.disk (told reply)
-    → seen ≡ sight_of before → before ≡ here.node.state → after ≡ node'.state → finished ≡ is_finish (Some event) → ended ≡ ended_by (told reply)
-    → behind ≡ node'.state → waits ≡ waits_behind (Some event) (sent_by (told reply)) behind here.waits
-    → sent ≡ here.text ++ send_lines (sent_by (told reply)) → ((s : State) → seen ≡ sight_of s → changed ≡ sent ++ changes finished s after) → text ≡ changed ++ gone_told (Some event) ended
+    → (is_down here.node.state.phase ≡ true → event ≡ on.Recover → Remounted here.node node' (answered reply) node'.mounted) → (is_down here.node.state.phase ≡ true → here.node.state ≡ down_state here.node.id)
+    → CountsOf disks here.node.disk node'.disk (answered reply)
+    → seen ≡ sight_of before → before ≡ here.node.state → after ≡ node'.state → finished ≡ is_finish (Some event) → ended ≡ ended_by (answered reply)
+    → behind ≡ node'.state → waits ≡ waits_behind (Some event) (sent_by (answered reply)) behind here.waits
+    → sent ≡ here.text ++ send_lines (sent_by (answered reply)) → ((s : State) → seen ≡ sight_of s → changed ≡ sent ++ changes finished s after) → text ≡ changed ++ gone_news (Some event) ended
     → Turns disks old (record here { node = node'; text = text; waits = waits }) (MayComeOf old.node.id old.node.nodes event) ended
 turn_so {Disk} disks old here node' event reply ended finished seen before after behind waits sent changed text is id nodes steps stuck memory mounting fallen counts sees was now finish ends_so then waited first second third =
     subst (λ (p : Progress Disk). Turns disks p (record here { node = node'; text = text; waits = waits }) (MayComeOf p.node.id p.node.nodes event) ended) is
     (subst (λ (e : Ended). Turns disks here (record here { node = node'; text = text; waits = waits }) (MayComeOf here.node.id here.node.nodes event) e) (sym ends_so)
     (event_turns disks here node' event reply waits sent changed text id nodes steps stuck memory mounting fallen counts
-    (waited ∙ ap (λ (v : State). waits_behind (Some event) (sent_by (told reply)) v here.waits) then) first
+    (waited ∙ ap (λ (v : State). waits_behind (Some event) (sent_by (answered reply)) v here.waits) then) first
     (second before sees ∙ (ap (λ (b : Bool). sent ++ changes b before after) finish ∙ (ap (λ (v : State). sent ++ changes (is_finish (Some event)) v after) was
     ∙ ap (λ (v : State). sent ++ changes (is_finish (Some event)) here.node.state v) now)))
-    (third ∙ ap (λ (e : Ended). changed ++ gone_told (Some event) e) ends_so)))
+    (third ∙ ap (λ (e : Ended). changed ++ gone_news (Some event) e) ends_so)))
 
 -- ---- a compaction
 
@@ -266,23 +266,23 @@ record OfCompaction {A : Type 0} (self nodes slots : ℕ) (s : NodeState) (what 
   pub silent : sent_at self nodes s what ≡ []
   pub causeless : event_of what ≡ None
 
-rest_of_compaction : {A : Type 0} (self nodes slots : ℕ) (s : NodeState) (rest : Rest) (result : Result A NodeFault) → RestTold rest result → OfCompaction self nodes slots s (Rests rest) result
-rest_of_compaction self nodes slots s Nothing result told = absurd told
-rest_of_compaction self nodes slots s Compacted (Ok done) told = record { of = tt; of_slots = tt; ended = refl; silent = refl; causeless = refl }
-rest_of_compaction self nodes slots s Compacted (Err fault) told = absurd cc
-rest_of_compaction self nodes slots s CompactDown result told = record { of = tt; of_slots = tt; ended = ap compaction_end told; silent = refl; causeless = refl }
-rest_of_compaction self nodes slots s CompactWorn result told = record { of = tt; of_slots = tt; ended = ap compaction_end told; silent = refl; causeless = refl }
+rest_of_compaction : {A : Type 0} (self nodes slots : ℕ) (s : NodeState) (rest : Rest) (result : Result A NodeFault) → RestAnswers rest result → OfCompaction self nodes slots s (Rests rest) result
+rest_of_compaction self nodes slots s Nothing result said = absurd said
+rest_of_compaction self nodes slots s Compacted (Ok done) said = record { of = tt; of_slots = tt; ended = refl; silent = refl; causeless = refl }
+rest_of_compaction self nodes slots s Compacted (Err fault) said = absurd cc
+rest_of_compaction self nodes slots s CompactDown result said = record { of = tt; of_slots = tt; ended = ap compaction_end said; silent = refl; causeless = refl }
+rest_of_compaction self nodes slots s CompactWorn result said = record { of = tt; of_slots = tt; ended = ap compaction_end said; silent = refl; causeless = refl }
 
-of_compaction : {A : Type 0} (self nodes slots : ℕ) (s : NodeState) (what : What) (result : Result A NodeFault) → CompactTold what result → OfCompaction self nodes slots s what result
-of_compaction self nodes slots s (Did e) result told = absurd told
-of_compaction self nodes slots s (Refused e fault) result told = absurd told
-of_compaction self nodes slots s (Faulted e) result told = absurd told
-of_compaction self nodes slots s (Rests rest) result told = rest_of_compaction self nodes slots s rest result told
-of_compaction self nodes slots s Crashed result told = record { of = tt; of_slots = tt; ended = ap compaction_end told; silent = refl; causeless = refl }
-of_compaction self nodes slots s (Recovered kept) result told = absurd told
-of_compaction self nodes slots s MountFailed result told = absurd told
-of_compaction self nodes slots s (RaiseFailed kept) result told = absurd told
-of_compaction self nodes slots s (RaiseRefused kept) result told = absurd told
+of_compaction : {A : Type 0} (self nodes slots : ℕ) (s : NodeState) (what : What) (result : Result A NodeFault) → CompactionAnswers what result → OfCompaction self nodes slots s what result
+of_compaction self nodes slots s (Did e) result said = absurd said
+of_compaction self nodes slots s (Refused e fault) result said = absurd said
+of_compaction self nodes slots s (Faulted e) result said = absurd said
+of_compaction self nodes slots s (Rests rest) result said = rest_of_compaction self nodes slots s rest result said
+of_compaction self nodes slots s Crashed result said = record { of = tt; of_slots = tt; ended = ap compaction_end said; silent = refl; causeless = refl }
+of_compaction self nodes slots s (Recovered kept) result said = absurd said
+of_compaction self nodes slots s MountFailed result said = absurd said
+of_compaction self nodes slots s (RaiseFailed kept) result said = absurd said
+of_compaction self nodes slots s (RaiseRefused kept) result said = absurd said
 
 silent_text : (x y : State) (ended : Ended) → changes false x y ≡ call_text None [] x y ended
 silent_text x y (end.Done None) = sym (append-nil (changes false x y))
@@ -293,7 +293,7 @@ pub compaction_turns : {Disk A : Type 0} (disks : Disk → DiskState) (old : Pro
     → node'.id ≡ old.node.id → node'.nodes ≡ old.node.nodes → Compacts disks old.node node' result → CountsOf disks old.node.disk node'.disk result
     → waits ≡ waits_behind None [] node'.state old.waits → text ≡ old.text ++ changes false old.node.state node'.state
     → Turns disks old (record old { node = node'; text = text; waits = waits }) (MayCompact old.node.id old.node.nodes) (compaction_end result)
-compaction_turns {Disk} disks old node' result waits text id nodes compacts counts waited told = record {
+compaction_turns {Disk} disks old node' result waits text id nodes compacts counts waited said = record {
   node = same_node disks old.node node' result id nodes counts;
   same = refl;
   turned = λ was s is stands. (let step = compacts was s is stands in
@@ -308,7 +308,7 @@ compaction_turns {Disk} disks old node' result waits text id nodes compacts coun
         honest = λ honest. tt;
         stands = step.3;
         ended_so = of.ended;
-        text = told ∙ (ap (λ (u : List ℕ). old.text ++ u) (silent_text old.node.state node'.state (compaction_end result))
+        text = said ∙ (ap (λ (u : List ℕ). old.text ++ u) (silent_text old.node.state node'.state (compaction_end result))
             ∙ (ap (λ (v : State). old.text ++ call_text None [] v node'.state (compaction_end result)) stands.state
             ∙ (ap (λ (v : State). old.text ++ call_text None [] s.state v (compaction_end result)) step.3.state
             ∙ (ap (λ (ms : List Envelope). old.text ++ call_text None ms s.state t.state (compaction_end result)) (sym of.silent)
@@ -326,8 +326,8 @@ pub compaction_so : {Disk A : Type 0} (disks : Disk → DiskState) (old here : P
     → behind ≡ node'.state → waits ≡ waits_behind None [] behind here.waits
     → ((s : State) → seen ≡ sight_of s → text ≡ here.text ++ changes false s after)
     → Turns disks old (record here { node = node'; text = text; waits = waits }) (MayCompact old.node.id old.node.nodes) ended
-compaction_so {Disk} disks old here node' result ended seen before after behind waits text is id nodes compacts counts sees was now ends_so then waited told =
+compaction_so {Disk} disks old here node' result ended seen before after behind waits text is id nodes compacts counts sees was now ends_so then waited said =
     subst (λ (p : Progress Disk). Turns disks p (record here { node = node'; text = text; waits = waits }) (MayCompact p.node.id p.node.nodes) ended) is
     (subst (λ (e : Ended). Turns disks here (record here { node = node'; text = text; waits = waits }) (MayCompact here.node.id here.node.nodes) e) (sym ends_so)
     (compaction_turns disks here node' result waits text id nodes compacts counts (waited ∙ ap (λ (v : State). waits_behind None [] v here.waits) then)
-    (told before sees ∙ (ap (λ (v : State). here.text ++ changes false v after) was ∙ ap (λ (v : State). here.text ++ changes false here.node.state v) now))))
+    (said before sees ∙ (ap (λ (v : State). here.text ++ changes false v after) was ∙ ap (λ (v : State). here.text ++ changes false here.node.state v) now))))

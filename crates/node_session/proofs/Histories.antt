@@ -19,26 +19,26 @@ abbrev ArePossible : ℕ → ℕ → ℕ → NodeState → List Turn → Type 0
 ArePossible self nodes slots s [] = Unit {0}
 ArePossible self nodes slots s (Goes what ∷ turns) = IsPossible self nodes s what × IsOfSlots slots self nodes s what × ArePossible self nodes slots (after self nodes s what) turns
 ArePossible self nodes slots s (Unmounted fault ∷ turns) = ⊥
-ArePossible self nodes slots s (Begins found what ∷ turns) = ⊥
+ArePossible self nodes slots s (Begins mounted what ∷ turns) = ⊥
 
 timely_possible : (self nodes slots : ℕ) (s : NodeState) (turns : List Turn) → AreTimely self nodes slots s turns → AreGoing turns → ArePossible self nodes slots s turns
 timely_possible self nodes slots s [] may going = tt
 timely_possible self nodes slots s (Goes what ∷ turns) may going = (may.0.may.1, may.0.may.2, timely_possible self nodes slots (after self nodes s what) turns may.1 going.1)
 timely_possible self nodes slots s (Unmounted fault ∷ turns) may going = absurd going.0
-timely_possible self nodes slots s (Begins found what ∷ turns) may going = absurd going.0
+timely_possible self nodes slots s (Begins mounted what ∷ turns) may going = absurd going.0
 
 one_possible : (self nodes slots : ℕ) (s : NodeState) (event : Event) (turns : List Turn) → IsOne (MayComeOf self nodes event slots s) turns → AreGoing turns → ArePossible self nodes slots s turns
 one_possible self nodes slots s event [] may going = absurd may
 one_possible self nodes slots s event (Goes what ∷ []) may going = (may.1, may.2, tt)
 one_possible self nodes slots s event (Unmounted fault ∷ []) may going = absurd going.0
-one_possible self nodes slots s event (Begins found what ∷ []) may going = absurd going.0
+one_possible self nodes slots s event (Begins mounted what ∷ []) may going = absurd going.0
 one_possible self nodes slots s event (t ∷ u ∷ turns) may going = absurd may
 
 compact_possible : (self nodes slots : ℕ) (s : NodeState) (turns : List Turn) → IsOne (MayCompact self nodes slots s) turns → ArePossible self nodes slots s turns
 compact_possible self nodes slots s [] may = absurd may
 compact_possible self nodes slots s (Goes what ∷ []) may = (may.1, may.2, tt)
 compact_possible self nodes slots s (Unmounted fault ∷ []) may = absurd may
-compact_possible self nodes slots s (Begins found what ∷ []) may = absurd may
+compact_possible self nodes slots s (Begins mounted what ∷ []) may = absurd may
 compact_possible self nodes slots s (t ∷ u ∷ turns) may = absurd may
 
 none_possible : (self nodes slots : ℕ) (s : NodeState) (turns : List Turn) → IsNone turns → ArePossible self nodes slots s turns
@@ -66,7 +66,7 @@ in_front self nodes slots s (Goes what ∷ turns) later t possible follows =
     let behind = in_front self nodes slots (after self nodes s what) turns later t possible.2 follows in
     ((possible.0, refl, behind.0), (possible.1, behind.1), behind.2)
 in_front self nodes slots s (Unmounted fault ∷ turns) later t possible follows = absurd possible
-in_front self nodes slots s (Begins found what ∷ turns) later t possible follows = absurd possible
+in_front self nodes slots s (Begins mounted what ∷ turns) later t possible follows = absurd possible
 
 -- a line that isn't answered leaves all as it is
 line_possible : (self nodes slots : ℕ) (b : Bool) (a : At) (q : Asked) (turns : List Turn) → Comes self nodes slots b a.state q turns → AreGoing turns
@@ -89,31 +89,31 @@ one self nodes slots a (l ∷ ls) (turns ∷ all) of going =
 
 -- ---- a history begins
 
-timely_begun : (self nodes slots : ℕ) (s : NodeState) (found : Durable) (what : What) → AreTimely self nodes slots s (Begins found what ∷ []) → IsPossible self nodes (begun self found) what
-timely_begun self nodes slots s found what may = may.0.may.3
+timely_begun : (self nodes slots : ℕ) (s : NodeState) (mounted : Durable) (what : What) → AreTimely self nodes slots s (Begins mounted what ∷ []) → IsPossible self nodes (begun self mounted) what
+timely_begun self nodes slots s mounted what may = may.0.may.3
 
-begun_possible : (self nodes slots : ℕ) (s : NodeState) (a : Asked) (found : Durable) (what : What) → MayCome self nodes slots s a (Begins found what ∷ []) → IsPossible self nodes (begun self found) what
-begun_possible self nodes slots s ask.Nothing found what may = absurd may
-begun_possible self nodes slots s (ask.Event event) found what may = may.3
-begun_possible self nodes slots s ask.Compact found what may = absurd may
-begun_possible self nodes slots s (ask.Tick now) found what may = timely_begun self nodes slots s found what may
-begun_possible self nodes slots s (ask.Lost id) found what may = timely_begun self nodes slots s found what may
-begun_possible self nodes slots s ask.State found what may = absurd may
-begun_possible self nodes slots s ask.Jobs found what may = absurd may
-begun_possible self nodes slots s ask.Bad found what may = absurd may
+begun_possible : (self nodes slots : ℕ) (s : NodeState) (a : Asked) (mounted : Durable) (what : What) → MayCome self nodes slots s a (Begins mounted what ∷ []) → IsPossible self nodes (begun self mounted) what
+begun_possible self nodes slots s ask.Nothing mounted what may = absurd may
+begun_possible self nodes slots s (ask.Event event) mounted what may = may.3
+begun_possible self nodes slots s ask.Compact mounted what may = absurd may
+begun_possible self nodes slots s (ask.Tick now) mounted what may = timely_begun self nodes slots s mounted what may
+begun_possible self nodes slots s (ask.Lost id) mounted what may = timely_begun self nodes slots s mounted what may
+begun_possible self nodes slots s ask.State mounted what may = absurd may
+begun_possible self nodes slots s ask.Jobs mounted what may = absurd may
+begun_possible self nodes slots s ask.Bad mounted what may = absurd may
 
-line_begun : (self nodes slots : ℕ) (b : Bool) (a : At) (q : Asked) (found : Durable) (what : What) → Comes self nodes slots b a.state q (Begins found what ∷ [])
-    → IsPossible self nodes (begun self found) what × ((after_by self nodes b a q (Begins found what ∷ [])).state ≡ after_begun self nodes a.state found what)
-line_begun self nodes slots true a q found what comes = absurd comes
-line_begun self nodes slots false a q found what comes = (begun_possible self nodes slots a.state q found what comes, refl)
+line_begun : (self nodes slots : ℕ) (b : Bool) (a : At) (q : Asked) (mounted : Durable) (what : What) → Comes self nodes slots b a.state q (Begins mounted what ∷ [])
+    → IsPossible self nodes (begun self mounted) what × ((after_by self nodes b a q (Begins mounted what ∷ [])).state ≡ after_begun self nodes a.state mounted what)
+line_begun self nodes slots true a q mounted what comes = absurd comes
+line_begun self nodes slots false a q mounted what comes = (begun_possible self nodes slots a.state q mounted what comes, refl)
 
-pub begun_one : (self nodes slots : ℕ) (a : At) (l : List ℕ) (ls : List (List ℕ)) (found : Durable) (what : What) (all : List (List Turn)) → AreOf self nodes slots a (l ∷ ls) ((Begins found what ∷ []) ∷ all)
-    → AllGoing all → after_begun self nodes a.state found what ≡ after self nodes (begun self found) what
-    → Follows self nodes (begun self found) (entries_in self nodes (begun self found) ((Goes what ∷ []) ∷ all))
-    × (replay self nodes (begun self found) (entries_in self nodes (begun self found) ((Goes what ∷ []) ∷ all)) ≡ (after_lines self nodes a (l ∷ ls) ((Begins found what ∷ []) ∷ all)).state)
-begun_one self nodes slots a l ls found what all of going same =
-    let next = after_line self nodes a (asked_of l) (Begins found what ∷ []) in
-    let here = line_begun self nodes slots a.stopped a (asked_of l) found what of.0 in
+pub begun_one : (self nodes slots : ℕ) (a : At) (l : List ℕ) (ls : List (List ℕ)) (mounted : Durable) (what : What) (all : List (List Turn)) → AreOf self nodes slots a (l ∷ ls) ((Begins mounted what ∷ []) ∷ all)
+    → AllGoing all → after_begun self nodes a.state mounted what ≡ after self nodes (begun self mounted) what
+    → Follows self nodes (begun self mounted) (entries_in self nodes (begun self mounted) ((Goes what ∷ []) ∷ all))
+    × (replay self nodes (begun self mounted) (entries_in self nodes (begun self mounted) ((Goes what ∷ []) ∷ all)) ≡ (after_lines self nodes a (l ∷ ls) ((Begins mounted what ∷ []) ∷ all)).state)
+begun_one self nodes slots a l ls mounted what all of going same =
+    let next = after_line self nodes a (asked_of l) (Begins mounted what ∷ []) in
+    let here = line_begun self nodes slots a.stopped a (asked_of l) mounted what of.0 in
     let later : IsHistory self nodes slots next.state (entries_in self nodes next.state all) (after_lines self nodes next ls all).state = one self nodes slots next ls all of.1 going in
     let behind = subst (λ (t : NodeState). IsHistory self nodes slots t (entries_in self nodes t all) (after_lines self nodes next ls all).state) (here.1 ∙ same) later in
     ((here.0, refl, behind.0), behind.2)

@@ -14,7 +14,7 @@ use Rattle.node_core.specs.declared.event.Event.{Event}
 use Rattle.node_session.specs.Turns.{Turn, MayComeOf, MayCompact}
 use Rattle.pace.specs.Waiting.{Waits, sent_again, waits_on}
 use Rattle.node_session.specs.Chains.{At, AreGoing, AreTimely, Comes, MayCome, AreOf, after_by, after_lines, after_turns, is_failed, line_end, next, waits_begun, waits_turns}
-use Rattle.node_session.specs.Text.{answer, answer_at, answers, bad_line, closing, event_closing, fired_told, jobs_lines, keeps_told, ok_line, send_lines, state_line, turns_text, untold}
+use Rattle.node_session.specs.Text.{answer, answer_at, answers, bad_line, closing, event_closing, fired_news, jobs_lines, keeps_news, ok_line, send_lines, state_line, turns_text, no_news}
 use Rattle.node_session.specs.Serving.{Progress, Serves, Calls, Turns, IsNodeOf, at_of}
 use Rattle.node_session.proofs.Calls.{node_refl, node_then, one_call}
 use Rattle.node_session.proofs.Lines.{of_both, after_both, going_both, answers_both}
@@ -124,19 +124,19 @@ answered_line {Disk} disks old new line a runs asks same answered = record {
 abbrev IsClosed : {Disk : Type 0} (disks : Disk → DiskState) (mid : Progress Disk) (close : NodeState → List ℕ) (text : List ℕ) → Type 0
 IsClosed {Disk} disks mid close text = (t : NodeState) → Stands disks mid.node t → text ≡ mid.text ++ close t
 
-abbrev Answers : (tell : Turn → List ℕ) (number : ℕ) (w : Waits) (a : Asked) (again : List ℕ) (ended : Ended) (close : NodeState → List ℕ) → Type 0
-Answers tell number w a again ended close =
+abbrev Answers : (heading : Turn → List ℕ) (number : ℕ) (w : Waits) (a : Asked) (again : List ℕ) (ended : Ended) (close : NodeState → List ℕ) → Type 0
+Answers heading number w a again ended close =
     (self nodes : ℕ) (s : NodeState) (turns : List Turn) → ended ≡ line_end self nodes s turns
-    → answer self nodes number s w a turns ≡ again ++ (turns_text tell self nodes s turns ++ close (after_turns self nodes s turns))
+    → answer self nodes number s w a turns ≡ again ++ (turns_text heading self nodes s turns ++ close (after_turns self nodes s turns))
 
 -- a line of which calls came, behind what was sent again
-called_line : {Disk : Type 0} (disks : Disk → DiskState) (old here mid : Progress Disk) (tell : Turn → List ℕ) (line : List ℕ) (a : Asked) (number : ℕ) (again : List ℕ) (ended : Ended) (close : NodeState → List ℕ) (begun text : List ℕ)
+called_line : {Disk : Type 0} (disks : Disk → DiskState) (old here mid : Progress Disk) (heading : Turn → List ℕ) (line : List ℕ) (a : Asked) (number : ℕ) (again : List ℕ) (ended : Ended) (close : NodeState → List ℕ) (begun text : List ℕ)
     → old.stopped ≡ false → asked_of line ≡ a → next old.count a ≡ old.count + 1 → number ≡ old.count + 1
     → begun ≡ old.text ++ again → here ≡ record old { count = number; text = begun; waits = waits_begun a old.waits }
-    → Calls disks here mid tell (λ slots s turns. MayCome here.node.id here.node.nodes slots s a turns) (end.Done None) ended
-    → IsClosed disks mid close text → Answers tell number old.waits a again ended close
+    → Calls disks here mid heading (λ slots s turns. MayCome here.node.id here.node.nodes slots s a turns) (end.Done None) ended
+    → IsClosed disks mid close text → Answers heading number old.waits a again ended close
     → Serves disks old (record mid { stopped = is_failed ended; text = text }) (line ∷ [])
-called_line {Disk} disks old here mid tell line a number again ended close begun text runs asks one counts begins is calls told closes =
+called_line {Disk} disks old here mid heading line a number again ended close begun text runs asks one counts begins is calls said closes =
     let same : here.node ≡ old.node = ap (λ p. p.node) is in
     let counted : mid.count ≡ old.count + 1 = ap (λ (p : Progress Disk). p.count) calls.same ∙ (ap (λ p. p.count) is ∙ counts) in
     answered_line disks old (record mid { stopped = is_failed ended; text = text }) line a runs asks
@@ -145,12 +145,12 @@ called_line {Disk} disks old here mid tell line a number again ended close begun
     let id : here.node.id ≡ old.node.id = ap (λ n. n.id) same in
     let nodes : here.node.nodes ≡ old.node.nodes = ap (λ n. n.nodes) same in
     let t = after_turns old.node.id old.node.nodes s x.turns in
-    let told_by = turns_text tell old.node.id old.node.nodes s x.turns in
+    let turns_said = turns_text heading old.node.id old.node.nodes s x.turns in
     let ended_so : ended ≡ line_end old.node.id old.node.nodes s x.turns =
     x.ended_so ∙ (ap (λ (n : ℕ). line_end n here.node.nodes s x.turns) id ∙ ap (λ (n : ℕ). line_end old.node.id n s x.turns) nodes) in
-    let mid_text : mid.text ≡ begun ++ told_by =
-    x.text ∙ (ap (λ p. p.text ++ turns_text tell here.node.id here.node.nodes s x.turns) is
-    ∙ (ap (λ (n : ℕ). begun ++ turns_text tell n here.node.nodes s x.turns) id ∙ ap (λ (n : ℕ). begun ++ turns_text tell old.node.id n s x.turns) nodes)) in
+    let mid_text : mid.text ≡ begun ++ turns_said =
+    x.text ∙ (ap (λ p. p.text ++ turns_text heading here.node.id here.node.nodes s x.turns) is
+    ∙ (ap (λ (n : ℕ). begun ++ turns_text heading n here.node.nodes s x.turns) id ∙ ap (λ (n : ℕ). begun ++ turns_text heading old.node.id n s x.turns) nodes)) in
     let left : Stands disks mid.node t =
     subst (λ (n : ℕ). Stands disks mid.node (after_turns old.node.id n s x.turns)) nodes
     (subst (λ (n : ℕ). Stands disks mid.node (after_turns n here.node.nodes s x.turns)) id x.stands) in
@@ -162,58 +162,58 @@ called_line {Disk} disks old here mid tell line a number again ended close begun
       stands = left;
       stopped = ap is_failed ended_so;
       count = counted ∙ sym one;
-      text = both_texts old.text begun text again (told_by ++ close t) begins (both_texts begun mid.text text told_by (close t) mid_text (told t left))
+      text = both_texts old.text begun text again (turns_said ++ close t) begins (both_texts begun mid.text text turns_said (close t) mid_text (said t left))
           ∙ ap (λ (u : List ℕ). old.text ++ u) (sym (ap (λ (n : ℕ). answer old.node.id old.node.nodes n s old.waits a x.turns) (one ∙ sym counts) ∙ closes old.node.id old.node.nodes s x.turns ended_so));
       waits = x.waits ∙ (ap (λ p. waits_turns here.node.id here.node.nodes s x.turns p.waits) is
           ∙ (ap (λ (n : ℕ). waits_turns n here.node.nodes s x.turns (waits_begun a old.waits)) id ∙ ap (λ (n : ℕ). waits_turns old.node.id n s x.turns (waits_begun a old.waits)) nodes));
     }))
 
 -- as the code does it: the call, the mark of a device that failed, and the closing line
-called_so : {Disk : Type 0} (disks : Disk → DiskState) (old here mid stop : Progress Disk) (tell : Turn → List ℕ) (line : List ℕ) (a : Asked) (number : ℕ) (again : List ℕ) (ended : Ended) (close : NodeState → List ℕ) (begun text : List ℕ)
+called_so : {Disk : Type 0} (disks : Disk → DiskState) (old here mid stop : Progress Disk) (heading : Turn → List ℕ) (line : List ℕ) (a : Asked) (number : ℕ) (again : List ℕ) (ended : Ended) (close : NodeState → List ℕ) (begun text : List ℕ)
     → old.stopped ≡ false → asked_of line ≡ a → next old.count a ≡ old.count + 1 → number ≡ old.count + 1
     → begun ≡ old.text ++ again → here ≡ record old { count = number; text = begun; waits = waits_begun a old.waits }
-    → Calls disks here mid tell (λ slots s turns. MayCome here.node.id here.node.nodes slots s a turns) (end.Done None) ended
-    → stop ≡ record mid { stopped = is_failed ended } → IsClosed disks stop close text → Answers tell number old.waits a again ended close
+    → Calls disks here mid heading (λ slots s turns. MayCome here.node.id here.node.nodes slots s a turns) (end.Done None) ended
+    → stop ≡ record mid { stopped = is_failed ended } → IsClosed disks stop close text → Answers heading number old.waits a again ended close
     → Serves disks old (record stop { text = text }) (line ∷ [])
-called_so {Disk} disks old here mid stop tell line a number again ended close begun text runs asks one counts begins is calls marked told closes =
+called_so {Disk} disks old here mid stop heading line a number again ended close begun text runs asks one counts begins is calls marked said closes =
     subst (λ (p : Progress Disk). Serves disks old (record p { text = text }) (line ∷ [])) (sym marked)
-    (called_line disks old here mid tell line a number again ended close begun text runs asks one counts begins is calls
-    (subst (λ (p : Progress Disk). IsClosed disks p close text) marked told) closes)
+    (called_line disks old here mid heading line a number again ended close begun text runs asks one counts begins is calls
+    (subst (λ (p : Progress Disk). IsClosed disks p close text) marked said) closes)
 
 pub event_line : {Disk : Type 0} (disks : Disk → DiskState) (old here mid stop : Progress Disk) (line : List ℕ) (event : Event) (number : ℕ) (ended : Ended) (kept text : List ℕ)
     → old.stopped ≡ false → asked_of line ≡ ask.Event event → number ≡ old.count + 1 → here ≡ record old { count = number } → Turns disks here mid (MayComeOf here.node.id here.node.nodes event) ended
-    → stop ≡ record mid { stopped = is_failed ended } → ((t : NodeState) → Stands disks stop.node t → kept ≡ stop.text ++ keeps_told event ended t)
+    → stop ≡ record mid { stopped = is_failed ended } → ((t : NodeState) → Stands disks stop.node t → kept ≡ stop.text ++ keeps_news event ended t)
     → text ≡ kept ++ event_closing number event ended → Serves disks old (record stop { text = text }) (line ∷ [])
-event_line disks old here mid stop line event number ended kept text runs asks counts is turns marked keeps told =
-    called_so disks old here mid stop untold line (ask.Event event) number [] ended (λ t. keeps_told event ended t ++ event_closing number event ended) old.text text runs asks refl counts (sym (append-nil old.text)) is
+event_line disks old here mid stop line event number ended kept text runs asks counts is turns marked keeps said =
+    called_so disks old here mid stop no_news line (ask.Event event) number [] ended (λ t. keeps_news event ended t ++ event_closing number event ended) old.text text runs asks refl counts (sym (append-nil old.text)) is
     (one_call disks here mid (MayComeOf here.node.id here.node.nodes event) (end.Done None) ended turns) marked
-    (λ t stands. both_texts stop.text kept text (keeps_told event ended t) (event_closing number event ended) (keeps t stands) told)
-    (λ self nodes s turns so. ap (λ (e : Ended). turns_text untold self nodes s turns ++ (keeps_told event e (after_turns self nodes s turns) ++ event_closing number event e)) (sym so))
+    (λ t stands. both_texts stop.text kept text (keeps_news event ended t) (event_closing number event ended) (keeps t stands) said)
+    (λ self nodes s turns so. ap (λ (e : Ended). turns_text no_news self nodes s turns ++ (keeps_news event e (after_turns self nodes s turns) ++ event_closing number event e)) (sym so))
 
 pub compact_line : {Disk : Type 0} (disks : Disk → DiskState) (old here mid stop : Progress Disk) (line : List ℕ) (number : ℕ) (ended : Ended) (text : List ℕ)
     → old.stopped ≡ false → asked_of line ≡ ask.Compact → number ≡ old.count + 1 → here ≡ record old { count = number } → Turns disks here mid (MayCompact here.node.id here.node.nodes) ended
     → stop ≡ record mid { stopped = is_failed ended } → text ≡ stop.text ++ closing number ended → Serves disks old (record stop { text = text }) (line ∷ [])
-compact_line disks old here mid stop line number ended text runs asks counts is turns marked told =
-    called_so disks old here mid stop untold line ask.Compact number [] ended (λ t. closing number ended) old.text text runs asks refl counts (sym (append-nil old.text)) is
-    (one_call disks here mid (MayCompact here.node.id here.node.nodes) (end.Done None) ended turns) marked (λ t stands. told)
-    (λ self nodes s turns so. ap (λ (e : Ended). turns_text untold self nodes s turns ++ closing number e) (sym so))
+compact_line disks old here mid stop line number ended text runs asks counts is turns marked said =
+    called_so disks old here mid stop no_news line ask.Compact number [] ended (λ t. closing number ended) old.text text runs asks refl counts (sym (append-nil old.text)) is
+    (one_call disks here mid (MayCompact here.node.id here.node.nodes) (end.Done None) ended turns) marked (λ t stands. said)
+    (λ self nodes s turns so. ap (λ (e : Ended). turns_text no_news self nodes s turns ++ closing number e) (sym so))
 
 pub tick_line : {Disk : Type 0} (disks : Disk → DiskState) (old first here mid stop : Progress Disk) (line : List ℕ) (now number : ℕ) (ended : Ended) (text : List ℕ)
     → old.stopped ≡ false → asked_of line ≡ ask.Tick now → number ≡ old.count + 1 → first ≡ record old { count = number }
     → here ≡ record first { text = first.text ++ send_lines (sent_again now first.waits); waits = waits_on now first.waits }
-    → Calls disks here mid fired_told (AreTimely here.node.id here.node.nodes) (end.Done None) ended
+    → Calls disks here mid fired_news (AreTimely here.node.id here.node.nodes) (end.Done None) ended
     → stop ≡ record mid { stopped = is_failed ended } → text ≡ stop.text ++ closing number ended → Serves disks old (record stop { text = text }) (line ∷ [])
-tick_line {Disk} disks old first here mid stop line now number ended text runs asks counts is sends calls marked told =
-    called_so disks old here mid stop fired_told line (ask.Tick now) number (send_lines (sent_again now old.waits)) ended (λ t. closing number ended) (old.text ++ send_lines (sent_again now old.waits)) text runs asks refl counts refl
-    (sends ∙ ap (λ (p : Progress Disk). record p { text = p.text ++ send_lines (sent_again now p.waits); waits = waits_on now p.waits }) is) calls marked (λ t stands. told)
-    (λ self nodes s turns so. ap (λ (e : Ended). send_lines (sent_again now old.waits) ++ (turns_text fired_told self nodes s turns ++ closing number e)) (sym so))
+tick_line {Disk} disks old first here mid stop line now number ended text runs asks counts is sends calls marked said =
+    called_so disks old here mid stop fired_news line (ask.Tick now) number (send_lines (sent_again now old.waits)) ended (λ t. closing number ended) (old.text ++ send_lines (sent_again now old.waits)) text runs asks refl counts refl
+    (sends ∙ ap (λ (p : Progress Disk). record p { text = p.text ++ send_lines (sent_again now p.waits); waits = waits_on now p.waits }) is) calls marked (λ t stands. said)
+    (λ self nodes s turns so. ap (λ (e : Ended). send_lines (sent_again now old.waits) ++ (turns_text fired_news self nodes s turns ++ closing number e)) (sym so))
 
 pub loss_line : {Disk : Type 0} (disks : Disk → DiskState) (old here mid stop : Progress Disk) (line : List ℕ) (node number : ℕ) (ended : Ended) (text : List ℕ)
-    → old.stopped ≡ false → asked_of line ≡ ask.Lost node → number ≡ old.count + 1 → here ≡ record old { count = number } → Calls disks here mid fired_told (AreTimely here.node.id here.node.nodes) (end.Done None) ended
+    → old.stopped ≡ false → asked_of line ≡ ask.Lost node → number ≡ old.count + 1 → here ≡ record old { count = number } → Calls disks here mid fired_news (AreTimely here.node.id here.node.nodes) (end.Done None) ended
     → stop ≡ record mid { stopped = is_failed ended } → text ≡ stop.text ++ closing number ended → Serves disks old (record stop { text = text }) (line ∷ [])
-loss_line disks old here mid stop line node number ended text runs asks counts is calls marked told =
-    called_so disks old here mid stop fired_told line (ask.Lost node) number [] ended (λ t. closing number ended) old.text text runs asks refl counts (sym (append-nil old.text)) is calls marked (λ t stands. told)
-    (λ self nodes s turns so. ap (λ (e : Ended). turns_text fired_told self nodes s turns ++ closing number e) (sym so))
+loss_line disks old here mid stop line node number ended text runs asks counts is calls marked said =
+    called_so disks old here mid stop fired_news line (ask.Lost node) number [] ended (λ t. closing number ended) old.text text runs asks refl counts (sym (append-nil old.text)) is calls marked (λ t stands. said)
+    (λ self nodes s turns so. ap (λ (e : Ended). turns_text fired_news self nodes s turns ++ closing number e) (sym so))
 
 -- a line that asks nothing of the node but what it knows
 pub quiet_line : {Disk : Type 0} (disks : Disk → DiskState) (old new : Progress Disk) (line : List ℕ) (a : Asked) → old.stopped ≡ false → asked_of line ≡ a
@@ -243,28 +243,28 @@ on_ok (Err e) f h = tt
 -- a request that can't be read
 pub line_is_bad : {Disk : Type 0} (disks : Disk → DiskState) (old here : Progress Disk) (line : List ℕ) (number : ℕ) (text : List ℕ) → old.stopped ≡ false → asked_of line ≡ ask.Bad → number ≡ old.count + 1
     → here ≡ record old { count = number } → text ≡ here.text ++ bad_line number → Serves disks old (record here { text = text }) (line ∷ [])
-line_is_bad disks old here line number text runs asks counts is told =
+line_is_bad disks old here line number text runs asks counts is said =
     quiet_line disks old (record here { text = text }) line ask.Bad runs asks (λ self nodes slots s. tt) (ap (λ p. p.node) is) (ap (λ p. p.stopped) is ∙ runs) (ap (λ p. p.count) is ∙ counts) (ap (λ p. p.waits) is)
-    (λ s stands. told ∙ (ap (λ p. p.text ++ bad_line number) is ∙ ap (λ (n : ℕ). old.text ++ bad_line n) counts))
+    (λ s stands. said ∙ (ap (λ p. p.text ++ bad_line number) is ∙ ap (λ (n : ℕ). old.text ++ bad_line n) counts))
 
 -- the state
-pub state_told : {Disk : Type 0} (disks : Disk → DiskState) (old here : Progress Disk) (line : List ℕ) (number : ℕ) (mid text : List ℕ) → old.stopped ≡ false → asked_of line ≡ ask.State → number ≡ old.count + 1
+pub state_answered : {Disk : Type 0} (disks : Disk → DiskState) (old here : Progress Disk) (line : List ℕ) (number : ℕ) (mid text : List ℕ) → old.stopped ≡ false → asked_of line ≡ ask.State → number ≡ old.count + 1
     → here ≡ record old { count = number } → ((s : NodeState) → Stands disks here.node s → mid ≡ here.text ++ state_line s) → text ≡ mid ++ ok_line number []
     → Serves disks old (record here { text = text }) (line ∷ [])
-state_told disks old here line number mid text runs asks counts is told ended =
+state_answered disks old here line number mid text runs asks counts is said ended =
     quiet_line disks old (record here { text = text }) line ask.State runs asks (λ self nodes slots s. tt) (ap (λ p. p.node) is) (ap (λ p. p.stopped) is ∙ runs) (ap (λ p. p.count) is ∙ counts) (ap (λ p. p.waits) is)
     (λ s stands. both_texts old.text mid text (state_line s) (ok_line (old.count + 1) [])
-    (told s (subst (λ n. Stands disks n s) (sym (ap (λ p. p.node) is)) stands) ∙ ap (λ p. p.text ++ state_line s) is)
+    (said s (subst (λ n. Stands disks n s) (sym (ap (λ p. p.node) is)) stands) ∙ ap (λ p. p.text ++ state_line s) is)
     (ended ∙ ap (λ (n : ℕ). mid ++ ok_line n []) counts))
 
 -- the jobs
-pub jobs_told : {Disk : Type 0} (disks : Disk → DiskState) (old here : Progress Disk) (line : List ℕ) (number : ℕ) (mid text : List ℕ) → old.stopped ≡ false → asked_of line ≡ ask.Jobs → number ≡ old.count + 1
+pub jobs_answered : {Disk : Type 0} (disks : Disk → DiskState) (old here : Progress Disk) (line : List ℕ) (number : ℕ) (mid text : List ℕ) → old.stopped ≡ false → asked_of line ≡ ask.Jobs → number ≡ old.count + 1
     → here ≡ record old { count = number } → ((s : NodeState) → Stands disks here.node s → mid ≡ here.text ++ jobs_lines s) → text ≡ mid ++ ok_line number []
     → Serves disks old (record here { text = text }) (line ∷ [])
-jobs_told disks old here line number mid text runs asks counts is told ended =
+jobs_answered disks old here line number mid text runs asks counts is said ended =
     quiet_line disks old (record here { text = text }) line ask.Jobs runs asks (λ self nodes slots s. tt) (ap (λ p. p.node) is) (ap (λ p. p.stopped) is ∙ runs) (ap (λ p. p.count) is ∙ counts) (ap (λ p. p.waits) is)
     (λ s stands. both_texts old.text mid text (jobs_lines s) (ok_line (old.count + 1) [])
-    (told s (subst (λ n. Stands disks n s) (sym (ap (λ p. p.node) is)) stands) ∙ ap (λ p. p.text ++ jobs_lines s) is)
+    (said s (subst (λ n. Stands disks n s) (sym (ap (λ p. p.node) is)) stands) ∙ ap (λ p. p.text ++ jobs_lines s) is)
     (ended ∙ ap (λ (n : ℕ). mid ++ ok_line n []) counts))
 
 -- an empty line

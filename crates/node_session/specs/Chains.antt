@@ -143,7 +143,7 @@ AllGoing (turns ∷ all) = AreGoing turns × AllGoing all
 abbrev pub entry_in_front : ℕ → ℕ → NodeState → Turn → List Entry → List Entry
 entry_in_front self nodes s (Goes what) later = record { what = what; sent = sent_at self nodes s what } ∷ later
 entry_in_front self nodes s (Unmounted fault) later = later
-entry_in_front self nodes s (Begins found what) later = later
+entry_in_front self nodes s (Begins mounted what) later = later
 
 -- the entries by which the history went on in one line, in front of others
 abbrev pub entries_of : ℕ → ℕ → NodeState → List Turn → List Entry → List Entry

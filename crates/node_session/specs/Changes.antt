@@ -1,4 +1,4 @@
--- What a service that follows the node is told: that its group changed, and the jobs that came into its hand or left it.
+-- What a service that follows the node reads: that its group changed, and the jobs that came into its hand or left it.
 use Rattle.std.specs.Prelude.{ℕ, ◌==◌, ◌&&◌, List, [], ◌∷◌, ◌++◌, map, codes, decimal, bytes_eq, Bool, true, false, if◌then◌else◌, Option, Some}
 use Rattle.std.specs.List.{list_any}
 use Rattle.console_text.specs.Words.{work_text}
@@ -23,9 +23,9 @@ group_by false s = codes "group " ++ phase_text s.phase ++ codes " " ++ decimal 
 abbrev pub group_line : State → List ℕ
 group_line s = group_by (is_down s.phase) s
 
--- the line is told where it isn't the one of before
-abbrev pub group_told : List ℕ → List ℕ → List ℕ
-group_told old new = if bytes_eq old new then [] else new
+-- the line is written where it isn't the one of before
+abbrev pub group_news : List ℕ → List ℕ → List ℕ
+group_news old new = if bytes_eq old new then [] else new
 
 -- ---- the hand
 
@@ -49,21 +49,21 @@ drop_line pair = codes "drop " ++ decimal pair.0 ++ codes " " ++ decimal pair.1 
 abbrev pub gone_line : ℕ → List ℕ
 gone_line id = codes "gone " ++ decimal id ++ codes "\n"
 
-abbrev pub take_told : List (ℕ × ℕ) → InHand → List ℕ
-take_told old job = if pair_in old job.origin job.id then [] else take_line job
+abbrev pub take_news : List (ℕ × ℕ) → InHand → List ℕ
+take_news old job = if pair_in old job.origin job.id then [] else take_line job
 
 -- those that weren't in hand before
 abbrev pub takes : List (ℕ × ℕ) → List InHand → List ℕ
 takes old [] = []
-takes old (job ∷ jobs) = take_told old job ++ takes old jobs
+takes old (job ∷ jobs) = take_news old job ++ takes old jobs
 
-abbrev pub drop_told : List InHand → ℕ × ℕ → List ℕ
-drop_told new pair = if holds new pair.0 pair.1 then [] else drop_line pair
+abbrev pub drop_news : List InHand → ℕ × ℕ → List ℕ
+drop_news new pair = if holds new pair.0 pair.1 then [] else drop_line pair
 
 -- those that aren't in hand any more
 abbrev pub drops : List InHand → List (ℕ × ℕ) → List ℕ
 drops new [] = []
-drops new (pair ∷ pairs) = drop_told new pair ++ drops new pairs
+drops new (pair ∷ pairs) = drop_news new pair ++ drops new pairs
 
 abbrev pub is_finish : Option Event → Bool
 is_finish (Some (on.Finish origin id)) = true
@@ -86,16 +86,16 @@ gone_at (Some (on.Finish origin job)) id = gone_line id
 gone_at (Some (on.Deliver m)) id = gone_by m.body id
 gone_at event id = []
 
-abbrev pub gone_told : Option Event → Ended → List ℕ
-gone_told event (end.Done (Some id)) = gone_at event id
-gone_told event ended = []
+abbrev pub gone_news : Option Event → Ended → List ℕ
+gone_news event (end.Done (Some id)) = gone_at event id
+gone_news event ended = []
 
 -- ---- all
 
--- what another state tells; finished: whether a job was
+-- what another state adds; finished: whether a job was
 abbrev pub changes : Bool → State → State → List ℕ
 changes finished old new =
-    group_told (group_line old) (group_line new) ++ (takes (map held_by old.hand) new.hand ++ drops_by finished new.hand (map held_by old.hand))
+    group_news (group_line old) (group_line new) ++ (takes (map held_by old.hand) new.hand ++ drops_by finished new.hand (map held_by old.hand))
 
 -- ---- for the code
 

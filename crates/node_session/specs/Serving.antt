@@ -91,20 +91,20 @@ pub record Turns {Disk : Type 0} (disks : Disk → DiskState) (old new : Progres
 -- ---- several calls, of one line
 
 -- These came of them.
-pub record Called {Disk : Type 0} (disks : Disk → DiskState) (old new : Progress Disk) (tell : Turn → List ℕ) (May : ℕ → NodeState → List Turn → Type 0) (before ended : Ended) (was : Disk) (s : NodeState) : Type 0 where
+pub record Called {Disk : Type 0} (disks : Disk → DiskState) (old new : Progress Disk) (heading : Turn → List ℕ) (May : ℕ → NodeState → List Turn → Type 0) (before ended : Ended) (was : Disk) (s : NodeState) : Type 0 where
   pub turns : List Turn
   pub may : May (slots_for (disks was).sectors) s turns
   pub honest : IsTrue (disks was).honest → AreGoing turns
   pub stands : Stands disks new.node (after_turns old.node.id old.node.nodes s turns)
   pub ended_so : ended ≡ last_end old.node.id old.node.nodes before s turns
-  pub text : new.text ≡ old.text ++ turns_text tell old.node.id old.node.nodes s turns
+  pub text : new.text ≡ old.text ++ turns_text heading old.node.id old.node.nodes s turns
   pub waits : new.waits ≡ waits_turns old.node.id old.node.nodes s turns old.waits
 
--- whatever state the node stood for; this is told before each
-pub record Calls {Disk : Type 0} (disks : Disk → DiskState) (old new : Progress Disk) (tell : Turn → List ℕ) (May : ℕ → NodeState → List Turn → Type 0) (before ended : Ended) : Type 0 where
+-- whatever state the node stood for; this is written before each
+pub record Calls {Disk : Type 0} (disks : Disk → DiskState) (old new : Progress Disk) (heading : Turn → List ℕ) (May : ℕ → NodeState → List Turn → Type 0) (before ended : Ended) : Type 0 where
   pub node : IsNodeOf disks old.node new.node
   pub same : new ≡ record old { node = new.node; text = new.text; waits = new.waits }
-  pub called : (was : Disk) (s : NodeState) → old.node.disk ≡ Some was → Stands disks old.node s → Called disks old new tell May before ended was s
+  pub called : (was : Disk) (s : NodeState) → old.node.disk ≡ Some was → Stands disks old.node s → Called disks old new heading May before ended was s
 
 -- ---- laws
 
@@ -126,19 +126,19 @@ OneHistory =
     Follows self nodes a.state (entries_in self nodes a.state all) × FollowsSlots slots self nodes a.state (entries_in self nodes a.state all) ×
     (replay self nodes a.state (entries_in self nodes a.state all) ≡ (after_lines self nodes a lines all).state)
 
--- where a history begins in the only call of a line and no other after it, its entries follow each other from what was found on: the
+-- where a history begins in the only call of a line and no other after it, its entries follow each other from what was mounted on: the
 -- mounting, and then the others. The one mounting that begins none is that of a counter that can't be raised
 abbrev pub BegunHistory : Type 0
 BegunHistory =
-    (self nodes slots : ℕ) (a : At) (line : List ℕ) (lines : List (List ℕ)) (found : Durable) (what : What) (all : List (List Turn)) →
-    AreOf self nodes slots a (line ∷ lines) ((Begins found what ∷ []) ∷ all) → AllGoing all → after_begun self nodes a.state found what ≡ after self nodes (begun self found) what →
-    Follows self nodes (begun self found) (entries_in self nodes (begun self found) ((Goes what ∷ []) ∷ all)) ×
-    (replay self nodes (begun self found) (entries_in self nodes (begun self found) ((Goes what ∷ []) ∷ all)) ≡ (after_lines self nodes a (line ∷ lines) ((Begins found what ∷ []) ∷ all)).state)
+    (self nodes slots : ℕ) (a : At) (line : List ℕ) (lines : List (List ℕ)) (mounted : Durable) (what : What) (all : List (List Turn)) →
+    AreOf self nodes slots a (line ∷ lines) ((Begins mounted what ∷ []) ∷ all) → AllGoing all → after_begun self nodes a.state mounted what ≡ after self nodes (begun self mounted) what →
+    Follows self nodes (begun self mounted) (entries_in self nodes (begun self mounted) ((Goes what ∷ []) ∷ all)) ×
+    (replay self nodes (begun self mounted) (entries_in self nodes (begun self mounted) ((Goes what ∷ []) ∷ all)) ≡ (after_lines self nodes a (line ∷ lines) ((Begins mounted what ∷ []) ∷ all)).state)
 
 -- messages are sent again each so many milliseconds
 abbrev pub opened : {Disk : Type 0} → ℕ → ℕ → ℕ → Disk → Progress Disk
 opened id nodes unit disk = record {
-  node = record { id = id; nodes = nodes; state = down id; disk = Some disk; kept = None; area = None; doubt = None; found = None };
+  node = record { id = id; nodes = nodes; state = down id; disk = Some disk; kept = None; area = None; doubt = None; mounted = None };
   stopped = false;
   count = 0;
   text = [];

@@ -26,7 +26,7 @@ use Rattle.node_session.specs.Asked.{asked_of}
 use Rattle.node_session.specs.Words.{event_word, group_text, ids_text, phase_text, truth_text}
 use Rattle.node_session.specs.Turns.{Turn, after_turn, cause, end_of, sent_in}
 use Rattle.node_session.specs.Chains.{At, after_line, after_turns, line_end, next}
-use Rattle.node_session.specs.Changes.{changes, gone_told, held_text, is_finish}
+use Rattle.node_session.specs.Changes.{changes, gone_news, held_text, is_finish}
 
 -- ---- words
 
@@ -66,9 +66,9 @@ abbrev pub send_lines : List Envelope → List ℕ
 send_lines [] = []
 send_lines (m ∷ ms) = send_line m ++ send_lines ms
 
--- what is told of a call: the messages, what changed, and the job that left the table
+-- what is written of a call: the messages, what changed, and the job that left the table
 abbrev pub call_text : Option Event → List Envelope → State → State → Ended → List ℕ
-call_text event sent old new ended = send_lines sent ++ (changes (is_finish event) old new ++ gone_told event ended)
+call_text event sent old new ended = send_lines sent ++ (changes (is_finish event) old new ++ gone_news event ended)
 
 abbrev pub turn_text : ℕ → ℕ → NodeState → Turn → List ℕ
 turn_text self nodes s turn = call_text (cause turn) (sent_in self nodes s turn) s.state (after_turn self nodes s turn).state (end_of self nodes s turn)
@@ -81,19 +81,19 @@ fired_by None = []
 fired_by (Some event) = fired_line event
 
 -- the event that a tick or a loss made, before what came of it
-abbrev pub fired_told : Turn → List ℕ
-fired_told turn = fired_by (cause turn)
+abbrev pub fired_news : Turn → List ℕ
+fired_news turn = fired_by (cause turn)
 
 -- of a request that names its event
-abbrev pub untold : Turn → List ℕ
-untold turn = []
+abbrev pub no_news : Turn → List ℕ
+no_news turn = []
 
--- what is told of the calls of a line, with what is told before each
+-- what is written of the calls of a line, with what is written before each
 abbrev pub turns_text : (Turn → List ℕ) → ℕ → ℕ → NodeState → List Turn → List ℕ
 turns_text before self nodes s [] = []
 turns_text before self nodes s (turn ∷ turns) = before turn ++ (turn_text self nodes s turn ++ turns_text before self nodes (after_turn self nodes s turn) turns)
 
--- ---- what a recovery finds
+-- ---- what a recovery mounts
 
 -- the counter, the id of the next job, and the number of jobs
 abbrev pub keeps_line : Durable → List ℕ
@@ -104,9 +104,9 @@ keeps_by true d = []
 keeps_by false d = keeps_line d
 
 -- behind a recovery that was done, what the node keeps then
-abbrev pub keeps_told : Event → Ended → NodeState → List ℕ
-keeps_told on.Recover (end.Done answer) s = keeps_by (is_down s.state.phase) s.durable
-keeps_told event ended s = []
+abbrev pub keeps_news : Event → Ended → NodeState → List ℕ
+keeps_news on.Recover (end.Done answer) s = keeps_by (is_down s.state.phase) s.durable
+keeps_news event ended s = []
 
 -- ---- the closing line
 
@@ -124,7 +124,7 @@ abbrev pub id_text : Option ℕ → List ℕ
 id_text None = []
 id_text (Some id) = codes " id " ++ decimal id
 
--- the id of a submitted job, which nothing else tells
+-- the id of a submitted job, which nothing else says
 abbrev pub answer_text : Event → Option ℕ → List ℕ
 answer_text (on.Submit work) answer = id_text answer
 answer_text event answer = []
@@ -181,15 +181,15 @@ jobs_lines s = jobs_by (is_down s.state.phase) s
 -- how the answer to an event ends
 abbrev pub event_end : ℕ → ℕ → ℕ → NodeState → Event → List Turn → List ℕ
 event_end self nodes n s event turns =
-    keeps_told event (line_end self nodes s turns) (after_turns self nodes s turns) ++ event_closing n event (line_end self nodes s turns)
+    keeps_news event (line_end self nodes s turns) (after_turns self nodes s turns) ++ event_closing n event (line_end self nodes s turns)
 
 -- the answer to the n-th request, which asks this of a node in this state that waits for these messages; these turns came of it
 abbrev pub answer : ℕ → ℕ → ℕ → NodeState → Waits → Asked → List Turn → List ℕ
 answer self nodes n s w ask.Nothing turns = []
-answer self nodes n s w (ask.Event event) turns = turns_text untold self nodes s turns ++ event_end self nodes n s event turns
-answer self nodes n s w ask.Compact turns = turns_text untold self nodes s turns ++ closing n (line_end self nodes s turns)
-answer self nodes n s w (ask.Tick now) turns = send_lines (sent_again now w) ++ (turns_text fired_told self nodes s turns ++ closing n (line_end self nodes s turns))
-answer self nodes n s w (ask.Lost id) turns = turns_text fired_told self nodes s turns ++ closing n (line_end self nodes s turns)
+answer self nodes n s w (ask.Event event) turns = turns_text no_news self nodes s turns ++ event_end self nodes n s event turns
+answer self nodes n s w ask.Compact turns = turns_text no_news self nodes s turns ++ closing n (line_end self nodes s turns)
+answer self nodes n s w (ask.Tick now) turns = send_lines (sent_again now w) ++ (turns_text fired_news self nodes s turns ++ closing n (line_end self nodes s turns))
+answer self nodes n s w (ask.Lost id) turns = turns_text fired_news self nodes s turns ++ closing n (line_end self nodes s turns)
 answer self nodes n s w ask.State turns = state_line s ++ ok_line n []
 answer self nodes n s w ask.Jobs turns = jobs_lines s ++ ok_line n []
 answer self nodes n s w ask.Bad turns = bad_line n

@@ -29,42 +29,42 @@ pub data Turn : Type 0 where
   Goes : (what : What) → Turn
   -- the disk couldn't be mounted, and all is as it was
   Unmounted : (fault : NodeFault) → Turn
-  -- the disk was mounted and this was found there: a history begins with it, and its first entry is this one
-  Begins : (found : Durable) (what : What) → Turn
+  -- the disk was mounted which gave this: a history begins with it, and its first entry is this one
+  Begins : (mounted : Durable) (what : What) → Turn
 
 -- where a history begins: a node that is down, over a disk that keeps this
 abbrev pub begun : ℕ → Durable → NodeState
-begun self found = record { state = down self; durable = found; doubt = None }
+begun self mounted = record { state = down self; durable = mounted; doubt = None }
 
 -- a counter that can't be raised leaves all as it was
 abbrev pub after_begun : ℕ → ℕ → NodeState → Durable → What → NodeState
-after_begun self nodes s found (Did event) = s
-after_begun self nodes s found (Refused event fault) = s
-after_begun self nodes s found (Faulted event) = s
-after_begun self nodes s found (Rests rest) = s
-after_begun self nodes s found Crashed = s
-after_begun self nodes s found (Recovered kept) = after self nodes (begun self found) (Recovered kept)
-after_begun self nodes s found MountFailed = s
-after_begun self nodes s found (RaiseFailed kept) = after self nodes (begun self found) (RaiseFailed kept)
-after_begun self nodes s found (RaiseRefused kept) = s
+after_begun self nodes s mounted (Did event) = s
+after_begun self nodes s mounted (Refused event fault) = s
+after_begun self nodes s mounted (Faulted event) = s
+after_begun self nodes s mounted (Rests rest) = s
+after_begun self nodes s mounted Crashed = s
+after_begun self nodes s mounted (Recovered kept) = after self nodes (begun self mounted) (Recovered kept)
+after_begun self nodes s mounted MountFailed = s
+after_begun self nodes s mounted (RaiseFailed kept) = after self nodes (begun self mounted) (RaiseFailed kept)
+after_begun self nodes s mounted (RaiseRefused kept) = s
 
 -- the state after a call
 abbrev pub after_turn : ℕ → ℕ → NodeState → Turn → NodeState
 after_turn self nodes s (Goes what) = after self nodes s what
 after_turn self nodes s (Unmounted fault) = s
-after_turn self nodes s (Begins found what) = after_begun self nodes s found what
+after_turn self nodes s (Begins mounted what) = after_begun self nodes s mounted what
 
 -- the messages that it hands out
 abbrev pub sent_in : ℕ → ℕ → NodeState → Turn → List Envelope
 sent_in self nodes s (Goes what) = sent_at self nodes s what
 sent_in self nodes s (Unmounted fault) = []
-sent_in self nodes s (Begins found what) = []
+sent_in self nodes s (Begins mounted what) = []
 
 -- the event that a call is of
 abbrev pub cause : Turn → Option Event
 cause (Goes what) = event_of what
 cause (Unmounted fault) = Some on.Recover
-cause (Begins found what) = Some on.Recover
+cause (Begins mounted what) = Some on.Recover
 
 -- ---- how it ends
 
@@ -88,7 +88,7 @@ end_at self nodes s (RaiseRefused kept) = end.Denied node.Exhausted
 abbrev pub end_of : ℕ → ℕ → NodeState → Turn → Ended
 end_of self nodes s (Goes what) = end_at self nodes s what
 end_of self nodes s (Unmounted fault) = end.Denied fault
-end_of self nodes s (Begins found what) = end_at self nodes (begun self found) what
+end_of self nodes s (Begins mounted what) = end_at self nodes (begun self mounted) what
 
 -- ---- what may come
 
@@ -108,8 +108,8 @@ MayBegin (RaiseRefused kept) = Unit {0}
 abbrev pub MayComeOf : ℕ → ℕ → Event → ℕ → NodeState → Turn → Type 0
 MayComeOf self nodes event slots s (Goes what) = IsOf event what × IsPossible self nodes s what × IsOfSlots slots self nodes s what
 MayComeOf self nodes event slots s (Unmounted fault) = (event ≡ on.Recover) × (is_down s.state.phase ≡ true) × IsUnmounted fault
-MayComeOf self nodes event slots s (Begins found what) =
-    (event ≡ on.Recover) × (is_down s.state.phase ≡ true) × MayBegin what × IsPossible self nodes (begun self found) what
+MayComeOf self nodes event slots s (Begins mounted what) =
+    (event ≡ on.Recover) × (is_down s.state.phase ≡ true) × MayBegin what × IsPossible self nodes (begun self mounted) what
 
 -- a compaction was done or refused
 abbrev pub IsCompaction : Rest → Type 0
@@ -133,7 +133,7 @@ IsOfCompaction (RaiseRefused kept) = ⊥
 abbrev pub MayCompact : ℕ → ℕ → ℕ → NodeState → Turn → Type 0
 MayCompact self nodes slots s (Goes what) = IsOfCompaction what × IsPossible self nodes s what × IsOfSlots slots self nodes s what
 MayCompact self nodes slots s (Unmounted fault) = ⊥
-MayCompact self nodes slots s (Begins found what) = ⊥
+MayCompact self nodes slots s (Begins mounted what) = ⊥
 
 -- an event that a tick or a loss makes
 abbrev pub IsFired : Event → Type 0
@@ -151,7 +151,7 @@ pub record IsTimely (self nodes slots : ℕ) (s : NodeState) (turn : Turn) : Typ
 abbrev pub IsGoing : Turn → Type 0
 IsGoing (Goes what) = Unit {0}
 IsGoing (Unmounted fault) = ⊥
-IsGoing (Begins found what) = ⊥
+IsGoing (Begins mounted what) = ⊥
 
 -- ---- for the code
 

@@ -25,9 +25,9 @@ pub enum Asked {
     Tick(u64),
     /// The transport gave this node up.
     Lost(NodeId),
-    /// The node's state is to be told.
+    /// The node's state is to be written.
     State,
-    /// The jobs that the node keeps, and those that it works on, are to be told.
+    /// The jobs that the node keeps, and those that it works on, are to be written.
     Jobs,
     /// The line can't be read.
     Bad,

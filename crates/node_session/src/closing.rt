@@ -38,7 +38,7 @@ pub(crate) fn push_closing(text: &mut Vec<u8>, number: u64, ended: &Ended) -> Re
     }
 }
 
-/// Adds that request `number` was made, of which nothing else is told.
+/// Adds that request `number` was made, of which nothing else is written.
 pub(crate) fn push_ok(text: &mut Vec<u8>, number: u64) -> Result<(), AllocError>
     ensures { OnOk result (text.new.items ≡ text.old.items ++ ok_line number []) }
 {

@@ -2,7 +2,7 @@
 ghost use Rattle.std.specs.Prelude.{◌≡◌, ◌++◌, OnOk, Some, map, IsTrue, true};
 ghost use Rattle.node_core.specs.State.{State, state_of};
 ghost use Rattle.node_core.specs.Words.{holds};
-ghost use Rattle.node_session.specs.Changes.{changes, drop_told, drops, gone_by, gone_line, gone_told, group_line, group_told, held_by, is_finish, pair_in, take_told, takes};
+ghost use Rattle.node_session.specs.Changes.{changes, drop_news, drops, gone_by, gone_line, gone_news, group_line, group_news, held_by, is_finish, pair_in, take_news, takes};
 
 use crate::ended::Ended;
 use crate::showing::push_held;
@@ -14,7 +14,7 @@ use std::alloc::{AllocError, Global};
 use std::marker::Model;
 use wire_msg::Body;
 
-/// What was told of a node before a call: the line of its group, and the jobs in hand.
+/// What was written of a node before a call: the line of its group, and the jobs in hand.
 #[derive(Drop)]
 pub(crate) struct Seen {
     group: Vec<u8>,
@@ -52,7 +52,7 @@ impl Seen {
         push_pairs(&mut self.held, vector.hand.jobs())
     }
 
-    /// Adds what is another in the node now. The jobs that left the hand are told unless one was finished.
+    /// Adds what is another in the node now. The jobs that left the hand are written unless one was finished.
     pub(crate) fn push_changes(
         &mut self,
         text: &mut Vec<u8>,
@@ -74,7 +74,7 @@ impl Seen {
 
 /// Adds a line, where it isn't the one of before.
 fn push_other(text: &mut Vec<u8>, old: &[u8], new: &[u8]) -> Result<(), AllocError>
-    ensures { OnOk result (text.new.items ≡ text.old.items ++ group_told old.now new.now) }
+    ensures { OnOk result (text.new.items ≡ text.old.items ++ group_news old.now new.now) }
 {
     if old == new {
         return Ok(());
@@ -129,7 +129,7 @@ fn push_take(
     next: usize,
     job: &InHand,
 ) -> Result<usize, AllocError>
-    ensures { OnOk result (text.new.items ≡ text.old.items ++ take_told old.now job.now) }
+    ensures { OnOk result (text.new.items ≡ text.old.items ++ take_news old.now job.now) }
 {
     if stands_at(old, next, job.origin, job.id) {
         return Ok(next.saturating_add(1));
@@ -153,7 +153,7 @@ fn stands_at(pairs: &[(NodeId, u64)], at: usize, origin: NodeId, id: u64) -> boo
     pair.0.is(origin) && pair.1 == id
 }
 
-/// The place behind a pair. No clause needs it: at a wrong place the pair isn't found, and is searched.
+/// The place behind a pair. No clause needs it: at a wrong place the pair isn't there, and is searched.
 fn place_behind(pairs: &[(NodeId, u64)], origin: NodeId, id: u64) -> usize {
     let mut place: usize = 0;
     for pair in pairs {
@@ -189,7 +189,7 @@ fn push_drop(
     next: usize,
     pair: (NodeId, u64),
 ) -> Result<usize, AllocError>
-    ensures { OnOk result (text.new.items ≡ text.old.items ++ drop_told hand.now.jobs pair) }
+    ensures { OnOk result (text.new.items ≡ text.old.items ++ drop_news hand.now.jobs pair) }
 {
     if stands_in_hand(hand.jobs(), next, pair.0, pair.1) {
         return Ok(next.saturating_add(1));
@@ -227,7 +227,7 @@ fn place_behind_in_hand(jobs: &[InHand], origin: NodeId, id: u64) -> usize {
     place
 }
 
-/// Whether the event tells that the work on a job is finished.
+/// Whether the event says that the work on a job is finished.
 pub(crate) fn is_finish(event: &Event) -> bool
     ensures { result ≡ is_finish (Some event.now) }
 {
@@ -236,7 +236,7 @@ pub(crate) fn is_finish(event: &Event) -> bool
 
 /// Adds the own job that left the table in this event.
 pub(crate) fn push_gone(text: &mut Vec<u8>, event: &Event, ended: &Ended) -> Result<(), AllocError>
-    ensures { OnOk result (text.new.items ≡ text.old.items ++ gone_told (Some event.now) ended.now) }
+    ensures { OnOk result (text.new.items ≡ text.old.items ++ gone_news (Some event.now) ended.now) }
 {
     match (event, ended) {
         (Event::Finish(_, _), Ended::Done(Some(id))) => push_gone_line(text, *id),

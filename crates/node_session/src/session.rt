@@ -10,10 +10,10 @@ ghost use Rattle.node_session.specs.declared.ended.Ended.TheVariants as end;
 ghost use Rattle.node_session.specs.Asked.{asked_of};
 ghost use Rattle.node_session.specs.Chains.{AreTimely, MayCome, is_failed};
 ghost use Rattle.node_session.specs.Serving.{opened, Calls, Fed, Serves, Turns};
-ghost use Rattle.durable_node.specs.Faults.{told};
+ghost use Rattle.durable_node.specs.Faults.{answered};
 ghost use Rattle.node_core.specs.State.{state_of};
 ghost use Rattle.pace.specs.Waiting.{sent_again, waits_behind, waits_on};
-ghost use Rattle.node_session.specs.Text.{fired_line, fired_told, send_lines};
+ghost use Rattle.node_session.specs.Text.{fired_line, fired_news, send_lines};
 ghost use Rattle.node_session.specs.Turns.{compaction_end, ended_by, sent_by, IsFired, IsTimely, MayComeOf, MayCompact};
 
 use crate::asked::{Asked, read_line};
@@ -22,7 +22,7 @@ use crate::ended::Ended;
 use crate::fired::push_fired;
 use crate::seen::{Seen, is_finish, push_gone};
 use crate::sending::push_messages;
-use crate::showing::{push_all_jobs, push_keeps_told, push_state};
+use crate::showing::{push_all_jobs, push_keeps_news, push_state};
 use crate::unread::Unread;
 use durable_node::{Came, DurableNode, NodeFault};
 use group_task::{GroupNo, NodeId};
@@ -108,7 +108,7 @@ impl<D: SectorDisk> Session<D> {
         self.text.clear();
     }
 
-    /// Whether the device failed. The answer that tells it is the last one.
+    /// Whether the device failed. The answer that says it is the last one.
     pub fn has_stopped(&self) -> bool
         ensures { result ≡ self.now.stopped }
     {
@@ -174,7 +174,7 @@ impl<D: SectorDisk + Drop> Session<D> {
         self.hear(event);
         let ended = self.turn(event)?;
         self.stop_where_failed(&ended);
-        push_keeps_told(&mut self.text, event, &ended, &self.node)?;
+        push_keeps_news(&mut self.text, event, &ended, &self.node)?;
         push_event_closing(&mut self.text, number, event, &ended)
     }
 
@@ -272,14 +272,14 @@ impl<D: SectorDisk + Drop> Session<D> {
     /// Makes the events that are due at this time.
     fn fire_due(&mut self, now: u64) -> Result<Ended, AllocError>
         ensures rest { self.new.rest ≡ self.old.rest }
-        ensures calls { IfOk result (λ ended. Calls D.state self.old self.new fired_told (AreTimely self.old.node.id self.old.node.nodes) (end.Done None) ended) }
+        ensures calls { IfOk result (λ ended. Calls D.state self.old self.new fired_news (AreTimely self.old.node.id self.old.node.nodes) (end.Done None) ended) }
     {
         let mut ended = Ended::Done(None);
         for _fired in 0..MOST_FIRED {
             let Some(event) = self.due(now) else {
                 return Ok(ended);
             };
-            self.tell_fired(&event)?;
+            self.add_fired(&event)?;
             ended = self.turn(&event)?;
             if matches!(ended, Ended::Denied(_)) {
                 return Ok(ended);
@@ -313,8 +313,8 @@ impl<D: SectorDisk + Drop> Session<D> {
     }
 
     /// Names an event that the session makes by itself.
-    fn tell_fired(&mut self, event: &Event) -> Result<(), AllocError>
-        ensures told { OnOk result (self.new ≡ record self.old { text = self.old.text ++ fired_line event.now }) }
+    fn add_fired(&mut self, event: &Event) -> Result<(), AllocError>
+        ensures text { OnOk result (self.new ≡ record self.old { text = self.old.text ++ fired_line event.now }) }
         ensures rest { self.new.rest ≡ self.old.rest }
     {
         push_fired(&mut self.text, event)
@@ -323,18 +323,18 @@ impl<D: SectorDisk + Drop> Session<D> {
     /// A node that the transport gave up isn't waited for: its coordinator leaves the group, and a member asks or leaves.
     fn give_up(&mut self, node: NodeId) -> Result<Ended, AllocError>
         ensures rest { self.new.rest ≡ self.old.rest }
-        ensures calls { IfOk result (λ ended. Calls D.state self.old self.new fired_told (AreTimely self.old.node.id self.old.node.nodes) (end.Done None) ended) }
+        ensures calls { IfOk result (λ ended. Calls D.state self.old self.new fired_news (AreTimely self.old.node.id self.old.node.nodes) (end.Done None) ended) }
     {
         match loss_of(self.id, self.node.vector(), node) {
             Some(event) => {
-                self.tell_fired(&event)?;
+                self.add_fired(&event)?;
                 self.turn(&event)
             }
             None => Ok(Ended::Done(None)),
         }
     }
 
-    /// The policy of timers is told what an event says to it.
+    /// The policy of timers learns what an event says to it.
     fn hear(&mut self, event: &Event)
         ensures { self.new ≡ self.old }
     {
@@ -348,7 +348,7 @@ impl<D: SectorDisk + Drop> Session<D> {
 
 // One call of the node.
 impl<D: SectorDisk + Drop> Session<D> {
-    /// Makes an event, and tells what came of it. All that the session asks of a node's step stands here.
+    /// Makes an event, and writes what came of it. All that the session asks of a node's step stands here.
     fn turn(&mut self, event: &Event) -> Result<Ended, AllocError>
         ensures rest { self.new.rest ≡ self.old.rest }
         ensures turn { IfOk result (λ ended. Turns D.state self.old self.new (MayComeOf self.old.node.id self.old.node.nodes event.now) ended) }
@@ -368,7 +368,7 @@ impl<D: SectorDisk + Drop> Session<D> {
         Ok(ended)
     }
 
-    /// Compacts the journal, and tells what came of it.
+    /// Compacts the journal, and writes what came of it.
     fn compact(&mut self) -> Result<Ended, AllocError>
         ensures rest { self.new.rest ≡ self.old.rest }
         ensures turn { IfOk result (λ ended. Turns D.state self.old self.new (MayCompact self.old.node.id self.old.node.nodes) ended) }
@@ -389,7 +389,7 @@ fn keep_waited(
     reply: &Result<Came, NodeFault>,
     vector: &Vector,
 ) -> Result<(), AllocError>
-    ensures { OnOk result (waiting.new ≡ waits_behind (Some event.now) (sent_by (told reply.now)) (state_of vector.now) waiting.old) }
+    ensures { OnOk result (waiting.new ≡ waits_behind (Some event.now) (sent_by (answered reply.now)) (state_of vector.now) waiting.old) }
 {
     match reply {
         Ok(came) if came.fault().is_none() => waiting.keep(event, &came.sent, vector),
@@ -403,7 +403,7 @@ fn push_sent(
     bytes: &mut Vec<u8>,
     reply: &Result<Came, NodeFault>,
 ) -> Result<(), AllocError>
-    ensures { OnOk result (text.new.items ≡ text.old.items ++ send_lines (sent_by (told reply.now))) }
+    ensures { OnOk result (text.new.items ≡ text.old.items ++ send_lines (sent_by (answered reply.now))) }
 {
     match reply {
         Ok(came) if came.fault().is_none() => push_messages(text, bytes, &came.sent),
@@ -413,7 +413,7 @@ fn push_sent(
 
 /// How a step ended.
 fn ended_by(reply: &Result<Came, NodeFault>) -> Ended
-    ensures { result ≡ ended_by (told reply.now) }
+    ensures { result ≡ ended_by (answered reply.now) }
 {
     match reply {
         Ok(came) => match came.fault() {

@@ -1,4 +1,4 @@
-// What a node tells of itself, as lines.
+// What a node shows of itself, as lines.
 ghost use Rattle.std.specs.Prelude.{◌≡◌, ◌++◌, OnOk};
 ghost use Rattle.std.specs.List.{flat_map};
 ghost use Rattle.job_model.specs.Table.{durable_of};
@@ -7,7 +7,7 @@ ghost use Rattle.durable_node.specs.Node.{Stands};
 ghost use Rattle.histories.specs.NodeState.{NodeState};
 ghost use Rattle.node_session.specs.Changes.{held_text};
 ghost use Rattle.console_text.specs.Words.{work_text};
-ghost use Rattle.node_session.specs.Text.{asks_part, group_part, hand_line, jobs_lines, jobs_part, keeps_by, keeps_line, keeps_told, pending_line, sets_part, state_line, up_line};
+ghost use Rattle.node_session.specs.Text.{asks_part, group_part, hand_line, jobs_lines, jobs_part, keeps_by, keeps_line, keeps_news, pending_line, sets_part, state_line, up_line};
 
 use crate::ended::Ended;
 use crate::words::{phase_word, push_group, push_ids, push_truth};
@@ -52,13 +52,13 @@ pub(crate) fn push_all_jobs<D: SectorDisk>(
 }
 
 /// Adds what the node keeps, behind a recovery that was done.
-pub(crate) fn push_keeps_told<D: SectorDisk>(
+pub(crate) fn push_keeps_news<D: SectorDisk>(
     text: &mut Vec<u8>,
     event: &Event,
     ended: &Ended,
     node: &DurableNode<D>,
 ) -> Result<(), AllocError>
-    ensures { (s : NodeState) → Stands D.state node.now s → OnOk result (text.new.items ≡ text.old.items ++ keeps_told event.now ended.now s) }
+    ensures { (s : NodeState) → Stands D.state node.now s → OnOk result (text.new.items ≡ text.old.items ++ keeps_news event.now ended.now s) }
 {
     match (event, ended) {
         (Event::Recover, Ended::Done(_)) => push_keeps(text, node),

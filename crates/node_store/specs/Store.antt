@@ -1,6 +1,6 @@
 -- What a disk with a counter and a journal stands for, and what a mounted store knows of it.
 use Rattle.std.specs.Prelude.{◌≡◌, ◌⊎◌, ◌<◌, ◌≤◌, ℕ, ◌+◌, ◌-◌, ◌*◌, ◌/◌, ◌^◌, ◌==◌, min, Bool, IsTrue, IsFalse, Option, Some, None, if◌then◌else◌, Result}
-use Rattle.sector_disk.specs.Disk.{Image, DiskState, IsImage, AllSettled, sector_at}
+use Rattle.sector_disk.specs.Disk.{Image, DiskState, IsImage, AllSynced, sector_at}
 use Rattle.safe_cell.specs.Answered.{AnswersOr}
 use Rattle.safe_cell.specs.Cell.{cell_at}
 use Rattle.safe_cell.specs.Mounted.{CellState, IsCellAt, AllStand}
@@ -36,7 +36,7 @@ AllStandFor slots state disk = (image : Image) → IsImage disk image → stands
 
 -- What a disk has after Ok: nothing is unsynced, and each image stands for this state.
 pub record Lasts (slots : ℕ) (state : Durable) (disk : DiskState) : Type 0 where
-  pub settled : AllSettled disk
+  pub synced : AllSynced disk
   pub stands : AllStandFor slots state disk
 
 -- What a program that has mounted a store knows of it.

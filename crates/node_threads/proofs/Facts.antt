@@ -59,7 +59,7 @@ nothing_by (Some m) h = absurd (h refl)
 
 -- ---- the facts
 
--- all that was taken from the link was found by polls of the history
+-- all that was taken from the link was taken by polls of the history
 pub record IsAllTaken (run : Run) (plan : Planned) (history : List Turn) (t : Side) : Type 0 where
   pub receiver : t.receiver ≡ run.node
   pub messages : t.messages ≡ polled plan.intake t.sender history

@@ -62,7 +62,7 @@ filtered j (n ∷ ns) m c = filtered_by j n ns m (n.receiver == j) refl (filtere
 
 -- ---- across a link
 
--- a message that a node's polls of a link found: the node at the other end sent it, to this node
+-- a message that a node's polls of a link took: the node at the other end sent it, to this node
 record Crossed (i j : ℕ) (from : List Turn) (m : Envelope) : Type 0 where
   pub is_sent : IsAmong m (sent_in (entries_of from))
   pub to : m.receiver ≡ j
@@ -82,7 +82,7 @@ record Linked (a b : Run) (plan : Planned) (from to : List Turn) (link : LinkEnd
   receiver : link.receiver ≡ b.node
   put : PutsSome a.capacity [] (addressed_to b.node (sent_in (entries_of from))) link.put.messages
   taken : IsPrefix link.taken.messages link.put.messages
-  found : link.taken.messages ≡ polled plan.intake a.node to
+  by_polls : link.taken.messages ≡ polled plan.intake a.node to
 
 linked : {a b : Run} {p q : Planned} {from to : List Turn} {link : LinkEnd} → Joined a b p q from to link → Linked a b q from to link
 linked {a = a} {b = b} {q = q} {from = from} {to = to} {link = link} j =
@@ -97,13 +97,13 @@ linked {a = a} {b = b} {q = q} {from = from} {to = to} {link = link} j =
       put = subst₂ (λ n ms. PutsSome n [] (addressed_to b.node (sent_in (entries_of from))) ms) put.capacity (sym l.put)
           (subst (λ (n : ℕ). PutsSome l.put_end.capacity [] (addressed_to n (sent_in (entries_of from))) l.put_end.messages) to_b put.messages);
       taken = subst₂ (λ xs ys. IsPrefix xs ys) (sym l.taken) (sym l.put) l.paired.order;
-      found = l.taken ∙ (take.messages ∙ ap (λ (n : ℕ). polled q.intake n to) by_a);
+      by_polls = l.taken ∙ (take.messages ∙ ap (λ (n : ℕ). polled q.intake n to) by_a);
     }
 
 crosses : (a b : Run) (p q : Planned) (from to : List Turn) (link : LinkEnd) → Joined a b p q from to link → (m : Envelope) → IsAmong m (polled q.intake a.node to) → Crossed a.node b.node from m
 crosses a b p q from to link j m is =
     let l = linked j in
-    let taken : IsAmong m link.taken.messages = subst (λ (ms : List Envelope). IsAmong m ms) (sym l.found) is in
+    let taken : IsAmong m link.taken.messages = subst (λ (ms : List Envelope). IsAmong m ms) (sym l.by_polls) is in
     let there : IsAmong m link.put.messages = subst (λ (ms : List Envelope). IsAmong m ms) l.taken.1 (among_left m link.taken.messages l.taken.0 taken) in
     elim (puts_from a.capacity [] (addressed_to b.node (sent_in (entries_of from))) link.put.messages m l.put there) [
       | inl x ↦ absurd x
@@ -114,7 +114,7 @@ crosses a b p q from to link j m is =
 
 -- ---- what a history was brought
 
--- a message that was found by a poll of the link from this node
+-- a message that was taken by a poll of the link from this node
 record Polled (plan : List ℕ) (h : List Turn) (m : Envelope) : Type 0 where
   pub from : ℕ
   pub at : ℕ
@@ -151,11 +151,11 @@ one_sender : (i k : ℕ) (ms : List Envelope) → Each (λ (m : Envelope). m.sen
 one_sender i k [] each = grind (arith, nat_tests)
 one_sender i k (m ∷ ms) each = grind (arith, nat_tests, each.0, one_sender i k ms each.1)
 
--- each message that a poll of a link found has that link's sender
-abbrev FoundAreOf : List ℕ → List Turn → Type 0
-FoundAreOf plan ts = (at k : ℕ) (m : Envelope) → slice_get plan at ≡ Some k → IsAmong m (polled plan k ts) → m.sender ≡ k
+-- each message that a poll of a link took has that link's sender
+abbrev PolledAreOf : List ℕ → List Turn → Type 0
+PolledAreOf plan ts = (at k : ℕ) (m : Envelope) → slice_get plan at ≡ Some k → IsAmong m (polled plan k ts) → m.sender ≡ k
 
-turn_brought : (p : Planned) (t : Turn) (w : Worker) (x : Asked) (ts : List Turn) (i : ℕ) → IsAsked p w t.index x → Gives x t.entry.what → FoundAreOf p.intake (t ∷ ts) → from_link p.intake i t.index (brought (event_of t.entry.what)) ≡ sent_by i (brought (event_of t.entry.what))
+turn_brought : (p : Planned) (t : Turn) (w : Worker) (x : Asked) (ts : List Turn) (i : ℕ) → IsAsked p w t.index x → Gives x t.entry.what → PolledAreOf p.intake (t ∷ ts) → from_link p.intake i t.index (brought (event_of t.entry.what)) ≡ sent_by i (brought (event_of t.entry.what))
 turn_brought p t Intake x ts i asks gives of =
     let ms = brought (event_of t.entry.what) in
     let k = asks.0.0 in
@@ -170,19 +170,19 @@ turn_brought p t Operator x ts i asks gives of =
     let none = none_of_order asks.0 t.entry.what (subst (λ (y : Asked). Gives y t.entry.what) asks.2 gives) in
     from_nothing p.intake i t.index (brought (event_of t.entry.what)) none ∙ sym (ap (sent_by i) none)
 
--- what the polls of a link found is what the history was brought from its sender
-found_is_brought : (p : Planned) (c : Turns) (ts : List Turn) (d : Turns) (i : ℕ) → Path (PlanStep p) c ts d → FoundAreOf p.intake ts → polled p.intake i ts ≡ sent_by i (brought_in (entries_of ts))
-found_is_brought p c [] d i path of = refl
-found_is_brought p c (t ∷ ts) d i path of =
-    let rest = found_is_brought p path.0 ts d i path.2 (λ at k m named is. of at k m named (among_right m (from_link p.intake k t.index (brought (event_of t.entry.what))) (polled p.intake k ts) is)) in
+-- what the polls of a link took is what the history was brought from its sender
+polled_is_brought : (p : Planned) (c : Turns) (ts : List Turn) (d : Turns) (i : ℕ) → Path (PlanStep p) c ts d → PolledAreOf p.intake ts → polled p.intake i ts ≡ sent_by i (brought_in (entries_of ts))
+polled_is_brought p c [] d i path of = refl
+polled_is_brought p c (t ∷ ts) d i path of =
+    let rest = polled_is_brought p path.0 ts d i path.2 (λ at k m named is. of at k m named (among_right m (from_link p.intake k t.index (brought (event_of t.entry.what))) (polled p.intake k ts) is)) in
     let here = turn_brought p t t.worker path.1.asked ts i path.1.asks path.1.gives of in
     (λ n. here n ++ rest n) ∙ sym (filter-append (λ (m : Envelope). m.sender == i) (brought (event_of t.entry.what)) (brought_in (entries_of ts)))
 
-carried : (a b : Run) (p q : Planned) (from to : List Turn) (link : LinkEnd) → Joined a b p q from to link → FoundAreOf q.intake to → IsCarried a.capacity a.node b.node q from to link
+carried : (a b : Run) (p q : Planned) (from to : List Turn) (link : LinkEnd) → Joined a b p q from to link → PolledAreOf q.intake to → IsCarried a.capacity a.node b.node q from to link
 carried a b p q from to link j of =
     let l = linked j in
     let whole = j.facts_to.interleaved in
-    record { from = l.sender; to = l.receiver; put = l.put; taken = l.taken; found = l.found; brought = l.found ∙ found_is_brought q no_turns to whole.turns a.node whole.follows of }
+    record { from = l.sender; to = l.receiver; put = l.put; taken = l.taken; by_polls = l.by_polls; brought = l.by_polls ∙ polled_is_brought q no_turns to whole.turns a.node whole.follows of }
 
 -- a run that has ended, with its links
 record Ended (size : Size) (plans : List Planned) (histories : List Log) (links : List LinkEnd) : Type 0 where
@@ -220,10 +220,10 @@ joined size plans histories links r i k j from to a b other =
     let l = r.gathered.each i k j a.mine b.mine a.ends_at b.ends_at other in
     (l.0, ap (λ (n : ℕ). slice_get links (i * (n - 1) + k)) (sym r.ended.ends_count) ∙ l.1, record { ends_from = a.mine; ends_to = b.mine; facts_from = a.facts; facts_to = b.facts; is_link = l.2 })
 
--- what a poll of the link from node k found
-found_from : (size : Size) (plans : List Planned) (histories : List Log) (links : List LinkEnd) (r : Ended size plans histories links) (n : ℕ) (h : Log) (b : NodeOf size plans r.ends n h) (at k : ℕ) (m : Envelope) → slice_get b.plan.intake at ≡ Some k → IsAmong m (polled b.plan.intake k h.turns)
+-- what a poll of the link from node k took
+polled_from : (size : Size) (plans : List Planned) (histories : List Log) (links : List LinkEnd) (r : Ended size plans histories links) (n : ℕ) (h : Log) (b : NodeOf size plans r.ends n h) (at k : ℕ) (m : Envelope) → slice_get b.plan.intake at ≡ Some k → IsAmong m (polled b.plan.intake k h.turns)
     → (from : Log) × (slice_get histories k ≡ Some from) × Crossed k n from.turns m
-found_from size plans histories links r n h b at k m named is =
+polled_from size plans histories links r n h b at k m named is =
     let other = b.facts.polls at k named in
     let from = place_of histories k (omega (arith, other.1, r.nodes, r.ended.history_count)) in
     let a = node_of size plans histories links r k from.0 from.1 in
@@ -237,7 +237,7 @@ came_from : (size : Size) (plans : List Planned) (histories : List Log) (links :
 came_from size plans histories links r n h at m is =
     let b = node_of size plans histories links r n h at in
     let p = brought_was_polled b.plan no_turns h.turns b.facts.interleaved.turns m b.facts.interleaved.follows is in
-    let c = found_from size plans histories links r n h b p.at p.from m p.named p.is in (
+    let c = polled_from size plans histories links r n h b p.at p.from m p.named p.is in (
       sent_of_one m (histories_in histories) p.from (entries_of c.0.turns) (slice_get-map (λ (l : Log). entries_of l.turns) histories p.from ∙ ap (option_map (λ (l : Log). entries_of l.turns)) c.1) c.2.is_sent,
       c.2.to,
     )
@@ -279,6 +279,6 @@ whole_run size plans histories ends links nodes ended gathered =
           let e = place_of ends j (omega (arith, slice_get_within histories j to at_to, ended.history_count, ended.ends_count)) in
           let b : NodeOf size plans ends j to = record { plan = p; mine = e.0; plan_at = at_plan; ends_at = e.1; facts = facts (run_at size j) p to.turns e.0 (ended.each j p to e.0 at_plan at_to e.1) } in
           let l = joined size plans histories links r i k j from to a b other in
-          (l.0, l.1, carried (run_at size i) (run_at size j) a.plan p from.turns to.turns l.0 l.2 (λ at k m named is. (found_from size plans histories links r j to b at k m named is).2.by));
+          (l.0, l.1, carried (run_at size i) (run_at size j) a.plan p from.turns to.turns l.0 l.2 (λ at k m named is. (polled_from size plans histories links r j to b at k m named is).2.by));
       one_book = in_one_book (histories_in histories) (is_bundle size plans histories links r);
     }

@@ -1,4 +1,4 @@
--- Why a run wasn't gathered, told by the plans and the gate.
+-- Why a run wasn't gathered, by the plans and the gate.
 use Rattle.std.specs.Prelude.{◌≡◌, ℕ, ◌+◌, ◌<◌, ◌≤◌, ⊤, Bool, IsTrue, List, length, slice_get, Some}
 use Rattle.node_lock.specs.declared.held.TheConstants.{MOST_ENTRIES}
 use Rattle.node_lock.specs.declared.worker.Worker.{Worker}

@@ -34,13 +34,13 @@ sent_by i ms = filter (λ (m : Envelope). m.sender == i) ms
 
 -- what went over a link: what was put is, in order, some of what the sender's history sent to the receiver, its first
 -- `capacity` messages among them; what was taken is the front of it; and that is what the receiver's polls of this link
--- found, and all that its history was brought from the sender
+-- took, and all that its history was brought from the sender
 pub record IsCarried (capacity sender receiver : ℕ) (plan : Planned) (sender_history receiver_history : List Turn) (link : LinkEnd) : Type 0 where
   pub from : link.sender ≡ sender
   pub to : link.receiver ≡ receiver
   pub put : PutsSome capacity [] (addressed_to receiver (sent_in (entries_of sender_history))) link.put.messages
   pub taken : IsPrefix link.taken.messages link.put.messages
-  pub found : link.taken.messages ≡ polled plan.intake sender receiver_history
+  pub by_polls : link.taken.messages ≡ polled plan.intake sender receiver_history
   pub brought : link.taken.messages ≡ sent_by sender (brought_in (entries_of receiver_history))
 
 -- the histories of the nodes

@@ -68,8 +68,8 @@ fn is_ended(held: &Held) -> bool
         && held.is_used_up(Worker::Operator)
 }
 
-/// Why a run wasn't gathered in which this worker was the first that stopped early. What the worker told is compared with what the
-/// locks give back: where these tell otherwise the answer is `Unpaired`.
+/// Why a run wasn't gathered in which this worker was the first that stopped early. What the worker said is compared with what the
+/// locks give back: where these say otherwise the answer is `Unpaired`.
 pub(crate) fn reason_of<G: Gate + Send>(
     size: Size,
     locks: Vec<NodeLock>,

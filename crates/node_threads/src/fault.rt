@@ -10,7 +10,7 @@ use std::alloc::AllocError;
 use thiserror::Error;
 
 /// Why a run wasn't gathered. Of several reasons that of the first worker counts: by its node, and then Intake, Clock, Operator. What
-/// each says of the plans and the gate is told by `specs/Reasons`.
+/// each says of the plans and the gate is said by `specs/Reasons`.
 #[derive(Clone, Copy, PartialEq, Eq, Debug, Error)]
 pub enum ThreadsFault {
     /// The gate didn't let a worker pass.

@@ -25,9 +25,9 @@ use Rattle.trace_check.specs.Verdicts.{IsRun, Turned}
 use Rattle.trace_check.proofs.PublicLaws.{turns, none_past}
 use Rattle.run_trace.proofs.Tracings.{entry_here, entry_elsewhere}
 
-tells_so : (n nodes : ℕ) (s : NodeState) (what : What) → IsPossible n nodes s what
+written_so : (n nodes : ℕ) (s : NodeState) (what : What) → IsPossible n nodes s what
     → let c = claim (deed_of what) (sent_at n nodes s what) in MayCome n nodes s c × (after_claim n nodes s c ≡ after n nodes s what)
-tells_so n nodes s what may = grind arith
+written_so n nodes s what may = grind arith
 
 -- what it says was brought is what was brought, where it wasn't refused
 brings : (what : What) → (brought_by (deed_of what) ≡ []) ⊎ (brought_by (deed_of what) ≡ brought (event_of what))
@@ -65,9 +65,9 @@ takes nodes hs w past n number what left at rest may =
     let c = claim (deed_of what) es in
     let here = rest n ∙ ap (λ (xs : List Entry). map claim_of (xs ++ history_in n nodes after_it left)) (entry_here n nodes w number what) in
     let next = next_of (history hs n) (taken n past) c (map claim_of (history_in n nodes after_it left)) here in
-    let told = tells_so n nodes s what may.2 in
+    let written = written_so n nodes s what may.2 in
     let stands : state_of hs n (taken n past) ≡ s = at.states n s there in
-    let possible : MayCome n nodes s c = rw there told.0 in
+    let possible : MayCome n nodes s c = rw there written.0 in
     let taken_so : MayTake hs past n = record {
       claim = c;
       next = next.0;
@@ -77,7 +77,7 @@ takes nodes hs w past n number what left at rest may =
       addressed = brings_so (λ (ms : List Envelope). AreAddressed n ms) what tt may.4;
     } in
     let t : Turned hs past n c = turns hs past n c next.0 in
-    let leaves : after_claim n (length hs) (state_of hs n (taken n past)) c ≡ after n nodes s what = rw (stands, at.many) told.1 in
+    let leaves : after_claim n (length hs) (state_of hs n (taken n past)) c ≡ after n nodes s what = rw (stands, at.many) written.1 in
     let more = slice_get_within (history hs n) (taken n past) c next.0 in (
       record {
         many = at.many;
@@ -96,7 +96,7 @@ to_the_end nodes hs (Takes n number what ∷ left) w past at rest run =
     to_the_end nodes hs left (world_after nodes w (Takes n number what)) (n ∷ past) next.0 next.1 run.1
 to_the_end nodes hs (Changes net ∷ left) w past at rest run =
     to_the_end nodes hs left (world_after nodes w (Changes net)) past (subst (λ (ms : List Envelope). IsAt nodes hs w.states ms past) (sym run.0) at) rest run.1
-to_the_end nodes hs (Denies told why ∷ left) w past at rest run = to_the_end nodes hs left w past at rest run.1
+to_the_end nodes hs (Denies written why ∷ left) w past at rest run = to_the_end nodes hs left w past at rest run.1
 
 -- ---- the beginning
 
@@ -122,11 +122,11 @@ history_is nodes n steps run = elim (cases_lt n nodes) [
     as_many : (k : ℕ) (steps : List Step) → length (trace_in (histories_of k steps)) ≡ k
     as_many k steps = length-map (histories_of k steps) (λ (h : List Entry). map claim_of h) ∙ how_many k 0 k steps
 
-pub told_is_run : (nodes slots : ℕ) (acts : List Act) (trace : List (List Claim)) → IsTraceOf nodes slots acts trace → IsRun trace
-told_is_run nodes slots acts trace of =
+pub traced_is_run : (nodes slots : ℕ) (acts : List Act) (trace : List (List Claim)) → IsTraceOf nodes slots acts trace → IsRun trace
+traced_is_run nodes slots acts trace of =
     let run = all_acts_run nodes slots (start nodes) acts of.steps of.is_run in
     let hs = trace_in (histories_of nodes of.steps) in
-    subst IsRun (sym of.tells) (to_the_end nodes hs of.steps (start nodes) []
+    subst IsRun (sym of.of_histories) (to_the_end nodes hs of.steps (start nodes) []
     (record {
       many = length-map (histories_of nodes of.steps) (λ (h : List Entry). map claim_of h) ∙ how_many nodes 0 nodes of.steps;
       within = λ n. omega arith;

@@ -1,4 +1,4 @@
--- What was seen of an act that came to a node tells what came of it, and the trace so far goes on by it.
+-- What was seen of an act that came to a node shows what came of it, and the trace so far goes on by it.
 use Rattle.std.proofs.Common.{◌≡◌, ◌≢◌, ℕ, Bool, true, false, [], ◌∷◌, slice_get, Option, Some, None, Result, Ok, Err, refl, sym, subst, ne_eqb, eq-eqb, arith, ◌⊎◌, inl, inr, ◌∙◌, ◌≤◌, zero, suc, ◌+◌, List, ◌++◌, map, length, slice_set, drop, replicate, ap, append_assoc}
 use Rattle.std.specs.Prelude.{nat_lt, if◌then◌else◌, option_and_then}
 use Rattle.std.proofs.lemmas.List.{append-nil, drop_all, drop_more, map-append, replicate-append-replicate, length-map}
@@ -17,10 +17,10 @@ use Rattle.run_trace.specs.declared.bringing.Brought.{Brought}
 use Rattle.run_trace.specs.declared.bringing.Brought.TheVariants.{Event, Recovery, Arming, Crash, Compaction}
 use Rattle.run_trace.specs.Bringing.{delivered, brought_by, CameOf}
 use Rattle.job_model.specs.Durable.{Durable}
-use Rattle.node_core.specs.declared.durable.Durable.{Durable as Wanted}
+use Rattle.node_core.specs.declared.wanted.Wanted.{Wanted}
 use Rattle.node_core.specs.Start.{down}
 use Rattle.node_core.specs.State.{is_down, State}
-use Rattle.durable_node.specs.Node.{told_doubt, Node, Stands}
+use Rattle.durable_node.specs.Node.{shown_doubt, Node, Stands}
 use Rattle.durable_node.specs.Remounting.{IsKeptIn}
 use Rattle.durable_node.proofs.PublicLaws.{is_some, settled_so}
 use Rattle.histories.specs.NodeState.{NodeState, settled}
@@ -28,19 +28,19 @@ use Rattle.histories.specs.declared.what.What.TheVariants.{Did, Refused, Faulted
 use Rattle.histories.specs.declared.what.Rest.TheVariants as resting
 use Rattle.trace_check.specs.declared.trace.Deed.TheVariants.{Nothing}
 use Rattle.histories.specs.What.{event_of, brought, Entry}
-use Rattle.histories.specs.After.{after, sent_at, found_at}
+use Rattle.histories.specs.After.{after, sent_at, mounted_at}
 use Rattle.histories.specs.Possible.{IsSettling, IsPossible, IsOfSlots}
 use Rattle.trace_check.specs.declared.trace.Deed.{Deed}
-use Rattle.run_trace.specs.declared.telling.Ended.{Ended}
-use Rattle.run_trace.specs.declared.telling.Rise.{Rise}
-use Rattle.run_trace.specs.declared.telling.Rise.TheVariants.{Mounted}
-use Rattle.run_trace.specs.Telling.{IsRise, ended, deed_told, ActedAs, IsNoted}
+use Rattle.run_trace.specs.declared.deeds.Ended.{Ended}
+use Rattle.run_trace.specs.declared.deeds.Rise.{Rise}
+use Rattle.run_trace.specs.declared.deeds.Rise.TheVariants.{Mounted}
+use Rattle.run_trace.specs.Deeds.{IsRise, ended, deed_by, ActedAs, IsNoted}
 use Rattle.run_trace.specs.Traced.{deed_of, claim_of, trace_in, IsSoFar, HasWorld}
 use Rattle.runs.specs.Growth.{IsNext}
 use Rattle.trace_check.specs.Claims.{Claim}
 use Rattle.sector_disk.specs.Memory.{Memory, state_of}
 use Rattle.runs.proofs.PublicLaws.{step_length, length_openings, at_place, how_many, node_there}
-use Rattle.cluster_sim.specs.Machine.{Machine, StandsFor, Shows}
+use Rattle.cluster_sim.specs.World.{WorldView, StandsFor, Shows}
 use Rattle.trace_check.specs.Traces.{claim}
 use Rattle.node_core.specs.declared.event.Event.TheVariants as on
 use Rattle.schedule.specs.declared.act.Act.TheVariants as act
@@ -50,22 +50,22 @@ abbrev pub bringing : Brought → Act
 bringing Compaction = act.Compact 0
 bringing b = act.Recover 0
 
--- what came is told alike of any compaction, and alike of all other acts
-compaction_told : (self nodes first : ℕ) (s : NodeState) (n m : ℕ) (what : What) → what_outcome self nodes first s what (act.Compact n) ≡ what_outcome self nodes first s what (act.Compact m)
-compaction_told self nodes first s n m (Rests resting.Nothing) = refl
-compaction_told self nodes first s n m (Rests resting.Compacted) = refl
-compaction_told self nodes first s n m (Rests resting.CompactDown) = refl
-compaction_told self nodes first s n m (Rests resting.CompactWorn) = refl
-compaction_told self nodes first s n m _ = refl
+-- what came has one outcome of any compaction, and alike of all other acts
+compaction_same : (self nodes first : ℕ) (s : NodeState) (n m : ℕ) (what : What) → what_outcome self nodes first s what (act.Compact n) ≡ what_outcome self nodes first s what (act.Compact m)
+compaction_same self nodes first s n m (Rests resting.Nothing) = refl
+compaction_same self nodes first s n m (Rests resting.Compacted) = refl
+compaction_same self nodes first s n m (Rests resting.CompactDown) = refl
+compaction_same self nodes first s n m (Rests resting.CompactWorn) = refl
+compaction_same self nodes first s n m _ = refl
 
-other_told : (self nodes first : ℕ) (s : NodeState) (a : Act) (what : What) → ((n : ℕ) → a ≡ act.Compact n → ⊥) → what_outcome self nodes first s what a ≡ what_outcome self nodes first s what (act.Recover 0)
-other_told self nodes first s (act.Compact n) Crashed none = absurd (none n refl)
-other_told self nodes first s _ Crashed none = refl
-other_told self nodes first s a (Rests resting.Nothing) none = refl
-other_told self nodes first s a (Rests resting.Compacted) none = refl
-other_told self nodes first s a (Rests resting.CompactDown) none = refl
-other_told self nodes first s a (Rests resting.CompactWorn) none = refl
-other_told self nodes first s a _ none = refl
+other_same : (self nodes first : ℕ) (s : NodeState) (a : Act) (what : What) → ((n : ℕ) → a ≡ act.Compact n → ⊥) → what_outcome self nodes first s what a ≡ what_outcome self nodes first s what (act.Recover 0)
+other_same self nodes first s (act.Compact n) Crashed none = absurd (none n refl)
+other_same self nodes first s _ Crashed none = refl
+other_same self nodes first s a (Rests resting.Nothing) none = refl
+other_same self nodes first s a (Rests resting.Compacted) none = refl
+other_same self nodes first s a (Rests resting.CompactDown) none = refl
+other_same self nodes first s a (Rests resting.CompactWorn) none = refl
+other_same self nodes first s a _ none = refl
 
 -- The step is one of this node, to which this was brought; another outcome of it would be a step of the act too.
 pub record IsStepAt (steps : Step → Type 0) (a : Act) (n : ℕ) (b : Brought) (step : Step) : Type 0 where
@@ -75,7 +75,7 @@ pub record IsStepAt (steps : Step → Type 0) (a : Act) (n : ℕ) (b : Brought) 
   pub came : CameOf b what
   pub again : (other : What) → CameOf b other → steps (Takes n number other)
   pub plain : b ≢ Event on.Recover
-  pub told : (self nodes first : ℕ) (s : NodeState) → what_outcome self nodes first s what a ≡ what_outcome self nodes first s what (bringing b)
+  pub same_outcome : (self nodes first : ℕ) (s : NodeState) → what_outcome self nodes first s what a ≡ what_outcome self nodes first s what (bringing b)
 
 -- what comes to a node, if it is one of the cluster
 abbrev if_there : Bool → ℕ × Brought → Option (ℕ × Brought)
@@ -83,31 +83,31 @@ if_there t comes = if t then Some comes else None
 
 comes_at : (a : Act) (t : Bool) (m number : ℕ) (b : Brought) (n : ℕ) (c : Brought) (step : Step) → b ≢ Event on.Recover → ((what : What) (self nodes first : ℕ) (s : NodeState) → what_outcome self nodes first s what a ≡ what_outcome self nodes first s what (bringing b))
     → if_there t (m, b) ≡ Some (n, c) → At t m number (CameOf b) step → IsStepAt (At t m number (CameOf b)) a n c step
-comes_at a true m number b n c step plain told is at =
+comes_at a true m number b n c step plain same_outcome is at =
     let x : ℕ × Brought = (m, b) in
     let y : ℕ × Brought = (n, c) in
     let same : x ≡ y = is_some x y is in
     subst (λ (p : ℕ × Brought). IsStepAt (At true m number (CameOf b)) a p.0 p.1 step) same
-    (record { number = number; what = at.0; is = at.1; came = at.2; again = λ other came. (other, refl, came); plain = plain; told = told at.0 })
-comes_at a false m number b n c step plain told is at = absurd cc
+    (record { number = number; what = at.0; is = at.1; came = at.2; again = λ other came. (other, refl, came); plain = plain; same_outcome = same_outcome at.0 })
+comes_at a false m number b n c step plain same_outcome is at = absurd cc
 
 delivers_at : (nodes : ℕ) (net : Network) (k : ℕ) (r : Result Envelope NetFault) (n : ℕ) (c : Brought) (step : Step)
     → option_and_then (λ (comes : ℕ × Brought). if nat_lt comes.0 nodes then Some comes else None) (delivered r) ≡ Some (n, c) → Brings nodes net k r step → IsStepAt (Brings nodes net k r) (act.Deliver k) n c step
-delivers_at nodes net k (Ok m) n c step is brings = comes_at (act.Deliver k) (nat_lt m.receiver nodes) m.receiver k (Event (on.Deliver m)) n c step (λ e. cc) (λ what self size first s. other_told self size first s _ what (λ k e. cc)) is brings
+delivers_at nodes net k (Ok m) n c step is brings = comes_at (act.Deliver k) (nat_lt m.receiver nodes) m.receiver k (Event (on.Deliver m)) n c step (λ e. cc) (λ what self size first s. other_same self size first s _ what (λ k e. cc)) is brings
 delivers_at nodes net k (Err why) n c step is brings = absurd cc
 
 pub step_at : (nodes : ℕ) (w : World) (a : Act) (n : ℕ) (b : Brought) (step : Step) → brought_by nodes w.net a ≡ Some (n, b) → IsStepOf nodes w a step → IsStepAt (IsStepOf nodes w a) a n b step
-step_at nodes w (act.Timer m timer) n b step is of = comes_at (act.Timer m timer) (nat_lt m nodes) m 0 (Event (on.Timer timer)) n b step (λ e. cc) (λ what self size first s. other_told self size first s _ what (λ k e. cc)) is of
+step_at nodes w (act.Timer m timer) n b step is of = comes_at (act.Timer m timer) (nat_lt m nodes) m 0 (Event (on.Timer timer)) n b step (λ e. cc) (λ what self size first s. other_same self size first s _ what (λ k e. cc)) is of
 step_at nodes w (act.Deliver k) n b step is of = delivers_at nodes w.net k (delivery w.net k) n b step is of
 step_at nodes w (act.Lose k) n b step is of = absurd cc
 step_at nodes w (act.Cut x y) n b step is of = absurd cc
 step_at nodes w (act.Mend x y) n b step is of = absurd cc
-step_at nodes w (act.Submit m work) n b step is of = comes_at (act.Submit m work) (nat_lt m nodes) m 0 (Event (on.Submit work)) n b step (λ e. cc) (λ what self size first s. other_told self size first s _ what (λ k e. cc)) is of
-step_at nodes w (act.Finish m origin id) n b step is of = comes_at (act.Finish m origin id) (nat_lt m nodes) m 0 (Event (on.Finish origin id)) n b step (λ e. cc) (λ what self size first s. other_told self size first s _ what (λ k e. cc)) is of
-step_at nodes w (act.Arm m calls) n b step is of = comes_at (act.Arm m calls) (nat_lt m nodes) m 0 Arming n b step (λ e. cc) (λ what self size first s. other_told self size first s _ what (λ k e. cc)) is of
-step_at nodes w (act.Crash m fill) n b step is of = comes_at (act.Crash m fill) (nat_lt m nodes) m 0 Crash n b step (λ e. cc) (λ what self size first s. other_told self size first s _ what (λ k e. cc)) is of
-step_at nodes w (act.Recover m) n b step is of = comes_at (act.Recover m) (nat_lt m nodes) m 0 Recovery n b step (λ e. cc) (λ what self size first s. other_told self size first s _ what (λ k e. cc)) is of
-step_at nodes w (act.Compact m) n b step is of = comes_at (act.Compact m) (nat_lt m nodes) m 0 Compaction n b step (λ e. cc) (λ what self size first s. compaction_told self size first s m 0 what) is of
+step_at nodes w (act.Submit m work) n b step is of = comes_at (act.Submit m work) (nat_lt m nodes) m 0 (Event (on.Submit work)) n b step (λ e. cc) (λ what self size first s. other_same self size first s _ what (λ k e. cc)) is of
+step_at nodes w (act.Finish m origin id) n b step is of = comes_at (act.Finish m origin id) (nat_lt m nodes) m 0 (Event (on.Finish origin id)) n b step (λ e. cc) (λ what self size first s. other_same self size first s _ what (λ k e. cc)) is of
+step_at nodes w (act.Arm m calls) n b step is of = comes_at (act.Arm m calls) (nat_lt m nodes) m 0 Arming n b step (λ e. cc) (λ what self size first s. other_same self size first s _ what (λ k e. cc)) is of
+step_at nodes w (act.Crash m fill) n b step is of = comes_at (act.Crash m fill) (nat_lt m nodes) m 0 Crash n b step (λ e. cc) (λ what self size first s. other_same self size first s _ what (λ k e. cc)) is of
+step_at nodes w (act.Recover m) n b step is of = comes_at (act.Recover m) (nat_lt m nodes) m 0 Recovery n b step (λ e. cc) (λ what self size first s. other_same self size first s _ what (λ k e. cc)) is of
+step_at nodes w (act.Compact m) n b step is of = comes_at (act.Compact m) (nat_lt m nodes) m 0 Compaction n b step (λ e. cc) (λ what self size first s. compaction_same self size first s m 0 what) is of
 
 -- ---- an act that comes to no node adds no entry
 
@@ -125,8 +125,8 @@ entry_here n nodes w number what = rw (eq-eqb n n refl) refl
 pub entry_elsewhere : (n m nodes : ℕ) (w : World) (number : ℕ) (what : What) → m ≢ n → entry_at m nodes w (Takes n number what) ≡ []
 entry_elsewhere n m nodes w number what other = rw (ne_eqb n m (λ is. other (sym is))) refl
 
--- It may as well have come, with the same effect, and is told so. A job that was done and wasn't pending is no other state with it than without.
-pub record IsRetold (slots n nodes : ℕ) (s : NodeState) (b : Brought) (what : What) (deed : Deed) : Type 0 where
+-- It may as well have come, with the same effect, and stands in the trace so. A job that was done and wasn't pending is no other state with it than without.
+pub record IsSameDeed (slots n nodes : ℕ) (s : NodeState) (b : Brought) (what : What) (deed : Deed) : Type 0 where
   pub other : What
   pub came : CameOf b other
   pub possible : IsPossible n nodes s other
@@ -134,39 +134,39 @@ pub record IsRetold (slots n nodes : ℕ) (s : NodeState) (b : Brought) (what : 
   pub brings : brought (event_of other) ≡ brought (event_of what)
   pub leaves : after n nodes s other ≡ after n nodes s what
   pub sends : sent_at n nodes s other ≡ sent_at n nodes s what
-  pub told : deed_of other ≡ deed
+  pub same_outcome : deed_of other ≡ deed
 
-module _ (slots n nodes first : ℕ) (s : NodeState) (rise : Rise) (doubt : Option (Wanted × ℕ)) (found : Option Durable) (in_doubt : doubt ≡ told_doubt s.durable s.doubt)
-    (stood : IsRise (is_down s.state.phase) doubt found rise) where
-  abbrev Retold : Brought → What → Type 0
-  Retold b what = IsRetold slots n nodes s b what (deed_told b rise (ended (what_outcome n nodes first s what (bringing b))))
+module _ (slots n nodes first : ℕ) (s : NodeState) (rise : Rise) (doubt : Option (Wanted × ℕ)) (mounted : Option Durable) (in_doubt : doubt ≡ shown_doubt s.durable s.doubt)
+    (stood : IsRise (is_down s.state.phase) doubt mounted rise) where
+  abbrev SameDeed : Brought → What → Type 0
+  SameDeed b what = IsSameDeed slots n nodes s b what (deed_by b rise (ended (what_outcome n nodes first s what (bringing b))))
 
-  as_it_is : (b : Brought) (what : What) → b ≢ Event on.Recover → CameOf b what → IsPossible n nodes s what → IsOfSlots slots n nodes s what → found ≡ found_at s what → (found_at s what ≡ None) ⊎ (deed_of what ≡ Nothing) → Retold b what
-  as_it_is b what plain came possible of_slots at none = record { other = what; came = came; possible = possible; of_slots = of_slots; brings = refl; leaves = refl; sends = refl; told = grind arith }
+  as_it_is : (b : Brought) (what : What) → b ≢ Event on.Recover → CameOf b what → IsPossible n nodes s what → IsOfSlots slots n nodes s what → mounted ≡ mounted_at s what → (mounted_at s what ≡ None) ⊎ (deed_of what ≡ Nothing) → SameDeed b what
+  as_it_is b what plain came possible of_slots at none = record { other = what; came = came; possible = possible; of_slots = of_slots; brings = refl; leaves = refl; sends = refl; same_outcome = grind arith }
 
-  -- what was found has the command in doubt, or hasn't, as the flag tells
-  mounted_at : (r : Rise) (kept : Bool) → IsRise (is_down s.state.phase) doubt found r → is_down s.state.phase ≡ true → IsSettling kept s.doubt → found ≡ Some (settled kept s)
+  -- what was mounted has the command in doubt, or hasn't, as the flag says
+  mounted_so : (r : Rise) (kept : Bool) → IsRise (is_down s.state.phase) doubt mounted r → is_down s.state.phase ≡ true → IsSettling kept s.doubt → mounted ≡ Some (settled kept s)
       → (flag : Bool) × (r ≡ Mounted flag) × IsSettling flag s.doubt × (settled flag s ≡ settled kept s)
-  mounted_at (Mounted flag) kept is down settling some =
-      let found_it = is_some is.1.0 (settled kept s) (sym is.1.1 ∙ some) in
-      let so = settled_so s is.1.0 flag kept (subst (λ (o : Option (Wanted × ℕ)). IsKeptIn o is.1.0 flag) in_doubt is.1.2) settling found_it in
-      (flag, refl, so.0, sym so.1 ∙ found_it)
-  mounted_at r kept is down settling some = absurd (let bad : true ≡ false = grind arith in cc)
+  mounted_so (Mounted flag) kept is down settling some =
+      let mounted_it = is_some is.1.0 (settled kept s) (sym is.1.1 ∙ some) in
+      let so = settled_so s is.1.0 flag kept (subst (λ (o : Option (Wanted × ℕ)). IsKeptIn o is.1.0 flag) in_doubt is.1.2) settling mounted_it in
+      (flag, refl, so.0, sym so.1 ∙ mounted_it)
+  mounted_so r kept is down settling some = absurd (let bad : true ≡ false = grind arith in cc)
 
-  pub retold : (b : Brought) (what : What) → b ≢ Event on.Recover → CameOf b what → IsPossible n nodes s what → IsOfSlots slots n nodes s what → found ≡ found_at s what → Retold b what
-  retold b (Recovered kept) plain came possible of_slots at =
-      let m = mounted_at rise kept stood possible.0 possible.1 at in
-      record { other = Recovered m.0; came = (grind arith); possible = (possible.0, m.2, rw m.3 possible.2); of_slots = tt; brings = refl; leaves = rw m.3 refl; sends = refl; told = grind arith }
-  retold b (RaiseFailed kept) plain came possible of_slots at =
-      let m = mounted_at rise kept stood possible.0 possible.1 at in
-      record { other = RaiseFailed m.0; came = (grind arith); possible = (possible.0, m.2, rw m.3 possible.2); of_slots = tt; brings = refl; leaves = rw m.3 refl; sends = refl; told = grind arith }
-  retold b (Did e) plain came possible of_slots at = as_it_is b (Did e) plain came possible of_slots at (inl refl)
-  retold b (Refused e fault) plain came possible of_slots at = as_it_is b (Refused e fault) plain came possible of_slots at (inl refl)
-  retold b (Faulted e) plain came possible of_slots at = as_it_is b (Faulted e) plain came possible of_slots at (inl refl)
-  retold b (Rests rest) plain came possible of_slots at = as_it_is b (Rests rest) plain came possible of_slots at (inl refl)
-  retold b Crashed plain came possible of_slots at = as_it_is b Crashed plain came possible of_slots at (inl refl)
-  retold b MountFailed plain came possible of_slots at = as_it_is b MountFailed plain came possible of_slots at (inl refl)
-  retold b (RaiseRefused kept) plain came possible of_slots at = as_it_is b (RaiseRefused kept) plain came possible of_slots at (inr refl)
+  pub same_deed : (b : Brought) (what : What) → b ≢ Event on.Recover → CameOf b what → IsPossible n nodes s what → IsOfSlots slots n nodes s what → mounted ≡ mounted_at s what → SameDeed b what
+  same_deed b (Recovered kept) plain came possible of_slots at =
+      let m = mounted_so rise kept stood possible.0 possible.1 at in
+      record { other = Recovered m.0; came = (grind arith); possible = (possible.0, m.2, rw m.3 possible.2); of_slots = tt; brings = refl; leaves = rw m.3 refl; sends = refl; same_outcome = grind arith }
+  same_deed b (RaiseFailed kept) plain came possible of_slots at =
+      let m = mounted_so rise kept stood possible.0 possible.1 at in
+      record { other = RaiseFailed m.0; came = (grind arith); possible = (possible.0, m.2, rw m.3 possible.2); of_slots = tt; brings = refl; leaves = rw m.3 refl; sends = refl; same_outcome = grind arith }
+  same_deed b (Did e) plain came possible of_slots at = as_it_is b (Did e) plain came possible of_slots at (inl refl)
+  same_deed b (Refused e fault) plain came possible of_slots at = as_it_is b (Refused e fault) plain came possible of_slots at (inl refl)
+  same_deed b (Faulted e) plain came possible of_slots at = as_it_is b (Faulted e) plain came possible of_slots at (inl refl)
+  same_deed b (Rests rest) plain came possible of_slots at = as_it_is b (Rests rest) plain came possible of_slots at (inl refl)
+  same_deed b Crashed plain came possible of_slots at = as_it_is b Crashed plain came possible of_slots at (inl refl)
+  same_deed b MountFailed plain came possible of_slots at = as_it_is b MountFailed plain came possible of_slots at (inl refl)
+  same_deed b (RaiseRefused kept) plain came possible of_slots at = as_it_is b (RaiseRefused kept) plain came possible of_slots at (inr refl)
 
 pub acts_go_on : (nodes slots : ℕ) (acts : List Act) (steps : List Step) (w : World) (a : Act) (step : Step) → IsRunOf nodes slots w acts steps → IsNext nodes slots (world_at nodes w steps) a step
     → IsRunOf nodes slots w (acts ++ a ∷ []) (steps ++ step ∷ [])
@@ -229,26 +229,26 @@ sent_all out xs all i past is = let none = drop_all i xs past in let alone = app
 
 -- ---- the trace
 
--- the run so far goes on by this step, and the trace tells it
-goes_on : (nodes slots : ℕ) (before : List Act) (a : Act) (old new : Machine) (trace trace' : List (List Claim)) (so : IsSoFar nodes slots old before trace) (step : Step) → new.slots ≡ old.slots
+-- the run so far goes on by this step, and the trace has it
+goes_on : (nodes slots : ℕ) (before : List Act) (a : Act) (old new : WorldView) (trace trace' : List (List Claim)) (so : IsSoFar nodes slots old before trace) (step : Step) → new.slots ≡ old.slots
     → let w = world_at nodes (start nodes) so.run.steps in IsNext (length w.states) new.slots w a step → trace' ≡ trace_in (histories_of nodes (so.run.steps ++ step ∷ []))
     → StandsFor new (world_after (length w.states) w step) → IsSoFar nodes slots new (before ++ a ∷ []) trace'
-goes_on nodes slots before a old new trace trace' so step same next tells stands =
+goes_on nodes slots before a old new trace trace' so step same next of_histories stands =
     let w = world_at nodes (start nodes) so.run.steps in
     let next_there : IsNext nodes slots w a step = subst (λ (k : ℕ). IsNext nodes k w a step) (same ∙ so.slots_are) (subst (λ (k : ℕ). IsNext k new.slots w a step) so.count next) in
     let world : world_at nodes (start nodes) (so.run.steps ++ step ∷ []) ≡ world_after nodes w step = world_goes_on nodes so.run.steps step (start nodes) in
     record {
-      run = record { steps = so.run.steps ++ step ∷ []; is_run = acts_go_on nodes slots before so.run.steps (start nodes) a step so.run.is_run next_there; tells = tells };
+      run = record { steps = so.run.steps ++ step ∷ []; is_run = acts_go_on nodes slots before so.run.steps (start nodes) a step so.run.is_run next_there; of_histories = of_histories };
       slots_are = same ∙ so.slots_are;
       count = ap (λ (x : World). length x.states) world ∙ step_length nodes w step ∙ so.count;
       stands = subst (λ (x : World). StandsFor new x) (sym world) (subst (λ (k : ℕ). StandsFor new (world_after k w step)) so.count stands);
     }
 
--- an act that comes to a node: what was told may have come of it, and leaves the same world
-pub traced : (nodes slots : ℕ) (before : List Act) (a : Act) (n : ℕ) (b : Brought) (rise : Rise) (e : Ended) (old new : Machine) (was now : Node Memory) (place : ℕ) (sent : List Envelope) (trace trace' : List (List Claim))
+-- an act that comes to a node: what stands in the trace may have come of it, and leaves the same world
+pub traced : (nodes slots : ℕ) (before : List Act) (a : Act) (n : ℕ) (b : Brought) (rise : Rise) (e : Ended) (old new : WorldView) (was now : Node Memory) (place : ℕ) (sent : List Envelope) (trace trace' : List (List Claim))
     → IsSoFar nodes slots old before trace → new.slots ≡ old.slots → ((w : World) → StandsFor old w → ActedAs w a e new) → brought_by (length old.nodes) old.net a ≡ Some (n, b)
-    → slice_get old.nodes n ≡ Some was → slice_get new.nodes n ≡ Some now → IsRise (is_down was.state.phase) was.doubt now.found rise → place ≡ length old.net.sent → sent ≡ drop place new.net.sent
-    → IsNoted n (claim (deed_told b rise e) sent) trace trace' → IsSoFar nodes slots new (before ++ a ∷ []) trace'
+    → slice_get old.nodes n ≡ Some was → slice_get new.nodes n ≡ Some now → IsRise (is_down was.state.phase) was.doubt now.mounted rise → place ≡ length old.net.sent → sent ≡ drop place new.net.sent
+    → IsNoted n (claim (deed_by b rise e) sent) trace trace' → IsSoFar nodes slots new (before ++ a ∷ []) trace'
 traced nodes slots before a n b rise e old new was now place sent trace trace' so same acts brings old_at new_at stood place_is sent_is noted =
     let w = world_at nodes (start nodes) so.run.steps in
     let size = length w.states in
@@ -262,11 +262,11 @@ traced nodes slots before a n b rise e old new was now place sent trace trace' s
     let is_s : node_in w.states n ≡ s = node_there w.states n s there in
     let fits = subst (λ (x : NodeState). IsOfSlots new.slots n size x at.what) is_s (subst (λ (x : Step). StepOfSlots new.slots size w x) at.is acted.next.of_slots) in
     let node : Stands state_of was s = so.stands.each n was s old_at there in
-    let found = (subst (λ (x : Step). Shows w x new) at.is acted.shows) now s new_at there in
-    let stood_s = subst (λ (x : State). IsRise (is_down x.phase) was.doubt now.found rise) node.state stood in
-    let r = retold new.slots n size (length w.net.sent) s rise was.doubt now.found node.doubt stood_s b at.what at.plain at.came allowed.2 fits found in
-    let told_is : e ≡ ended (what_outcome n size (length w.net.sent) s at.what (bringing b)) =
-    (acts w so.stands).2 ∙ ap ended (acted.is_told ∙ ap (λ (x : Step). act_outcome size w a x) at.is ∙ at.told n size (length w.net.sent) (node_in w.states n)
+    let mounted = (subst (λ (x : Step). Shows w x new) at.is acted.shows) now s new_at there in
+    let stood_s = subst (λ (x : State). IsRise (is_down x.phase) was.doubt now.mounted rise) node.state stood in
+    let r = same_deed new.slots n size (length w.net.sent) s rise was.doubt now.mounted node.doubt stood_s b at.what at.plain at.came allowed.2 fits mounted in
+    let ended_is : e ≡ ended (what_outcome n size (length w.net.sent) s at.what (bringing b)) =
+    (acts w so.stands).2 ∙ ap ended (acted.outcome_is ∙ ap (λ (x : Step). act_outcome size w a x) at.is ∙ at.same_outcome n size (length w.net.sent) (node_in w.states n)
     ∙ ap (λ (x : NodeState). what_outcome n size (length w.net.sent) x at.what (bringing b)) is_s) in
     let taken = Takes n at.number r.other in
     let same_world : world_after size w taken ≡ world_after size w step = rw there (λ i. record { states = slice_set w.states n (r.leaves i); net = after_all_sent w.net (r.sends i) }) in
@@ -275,34 +275,34 @@ traced nodes slots before a n b rise e old new was now place sent trace trace' s
     sym (drop-append_seam w.net.sent (sent_at n size (node_in w.states n) r.other)) ∙ ap (λ (net : Network). drop (length w.net.sent) net.sent) (sym stands.net)
     ∙ ap (λ (net : Network). drop (length net.sent) new.net.sent) (sym so.stands.net) ∙ ap (λ (k : ℕ). drop k new.net.sent) (sym place_is) ∙ sym sent_is in
     let entry : Entry = record { what = r.other; sent = sent_at n nodes (node_in w.states n) r.other } in
-    let deed_is : deed_of r.other ≡ deed_told b rise e = r.told ∙ ap (λ (x : Ended). deed_told b rise x) (sym told_is) in
+    let deed_is : deed_of r.other ≡ deed_by b rise e = r.same_outcome ∙ ap (λ (x : Ended). deed_by b rise x) (sym ended_is) in
     let sent_there : entry.sent ≡ sent = subst (λ (k : ℕ). sent_at n k (node_in w.states n) r.other ≡ sent) so.count sent_are in
-    let claim_is : claim_of entry ≡ claim (deed_told b rise e) sent = λ i. record { deed = deed_is i; sent = sent_there i } in
+    let claim_is : claim_of entry ≡ claim (deed_by b rise e) sent = λ i. record { deed = deed_is i; sent = sent_there i } in
     let hs = trace_in (histories_of nodes so.run.steps) in
     let many = length-map (histories_of nodes so.run.steps) (λ (h : List Entry). map claim_of h) ∙ how_many nodes 0 nodes so.run.steps in
     let h = at_place hs n (let within = slice_get_within w.states n s there in let count = so.count in omega (arith, within, count, many)) in
     let grown = histories_grow 0 nodes n n nodes so.run.steps taken entry h.0 (omega arith) (λ m other. entry_elsewhere n m nodes w at.number r.other other) (entry_here n nodes w at.number r.other) h.1 in
     let next : IsNext size new.slots w a taken =
     record { of_act = at.again r.other r.came; allowed = (s, there, r.possible, rw r.brings allowed.3, rw r.brings allowed.4); of_slots = rw there r.of_slots } in
-    let tells : trace' ≡ trace_in (histories_of nodes (so.run.steps ++ taken ∷ [])) =
-    noted h.0 (ap (λ (xs : List (List Claim)). slice_get xs n) so.run.tells ∙ h.1) ∙ ap (λ (xs : List (List Claim)). slice_set xs n (h.0 ++ claim (deed_told b rise e) sent ∷ [])) so.run.tells
+    let of_histories : trace' ≡ trace_in (histories_of nodes (so.run.steps ++ taken ∷ [])) =
+    noted h.0 (ap (λ (xs : List (List Claim)). slice_get xs n) so.run.of_histories ∙ h.1) ∙ ap (λ (xs : List (List Claim)). slice_set xs n (h.0 ++ claim (deed_by b rise e) sent ∷ [])) so.run.of_histories
     ∙ ap (λ (c : Claim). slice_set hs n (h.0 ++ c ∷ [])) (sym claim_is) ∙ sym grown in
-    goes_on nodes slots before a old new trace trace' so taken same next tells stands
+    goes_on nodes slots before a old new trace trace' so taken same next of_histories stands
 
 -- one that comes to no node leaves the trace as it is
-pub none_noted : (nodes slots : ℕ) (before : List Act) (a : Act) (e : Ended) (old new : Machine) (trace : List (List Claim)) → IsSoFar nodes slots old before trace
+pub none_noted : (nodes slots : ℕ) (before : List Act) (a : Act) (e : Ended) (old new : WorldView) (trace : List (List Claim)) → IsSoFar nodes slots old before trace
     → new.slots ≡ old.slots → ((w : World) → StandsFor old w → ActedAs w a e new) → brought_by (length old.nodes) old.net a ≡ None → IsSoFar nodes slots new (before ++ a ∷ []) trace
 none_noted nodes slots before a e old new trace so same acts none =
     let w = world_at nodes (start nodes) so.run.steps in
     let acted = (acts w so.stands).1 in
     let none_w : brought_by (length w.states) w.net a ≡ None = ap (λ (k : ℕ). brought_by k w.net a) (sym so.stands.count) ∙ ap (λ (net : Network). brought_by (length old.nodes) net a) (sym so.stands.net) ∙ none in
     let quiet = subst (λ (k : ℕ). IsQuiet k w acted.step) so.count (none_comes (length w.states) w a acted.step none_w acted.next.of_act) in
-    goes_on nodes slots before a old new trace trace so acted.step same acted.next (so.run.tells ∙ ap trace_in (sym (histories_stay 0 nodes nodes so.run.steps acted.step (λ m more. quiet m)))) acted.stands
+    goes_on nodes slots before a old new trace trace so acted.step same acted.next (so.run.of_histories ∙ ap trace_in (sym (histories_stay 0 nodes nodes so.run.steps acted.step (λ m more. quiet m)))) acted.stands
 
 -- ---- the beginning, and what a cluster stays
 
-pub begins : (nodes slots : ℕ) (machine : Machine) (trace : List (List Claim)) → machine.slots ≡ slots → StandsFor machine (start nodes) → trace ≡ replicate nodes [] → IsSoFar nodes slots machine [] trace
-begins nodes slots machine trace same stands none = record { run = record { steps = []; is_run = tt; tells = none ∙ sym (begun 0 nodes nodes) }; slots_are = same; count = length_openings 0 nodes; stands = stands }
+pub begins : (nodes slots : ℕ) (view : WorldView) (trace : List (List Claim)) → view.slots ≡ slots → StandsFor view (start nodes) → trace ≡ replicate nodes [] → IsSoFar nodes slots view [] trace
+begins nodes slots view trace same stands none = record { run = record { steps = []; is_run = tt; of_histories = none ∙ sym (begun 0 nodes nodes) }; slots_are = same; count = length_openings 0 nodes; stands = stands }
 
-pub world_stays : (a : Act) (e : Ended) (old new : Machine) → HasWorld old → ((w : World) → StandsFor old w → ActedAs w a e new) → HasWorld new
+pub world_stays : (a : Act) (e : Ended) (old new : WorldView) → HasWorld old → ((w : World) → StandsFor old w → ActedAs w a e new) → HasWorld new
 world_stays a e old new has acts = let acted = (acts has.0 has.1).1 in (world_after (length has.0.states) has.0 acted.step, acted.stands)

@@ -1,3 +1,3 @@
 pub mod Bringing
-pub mod Telling
+pub mod Deeds
 pub mod Traced

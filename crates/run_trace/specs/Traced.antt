@@ -1,4 +1,4 @@
--- The trace of a run: each entry of the nodes' histories, as a trace tells it.
+-- The trace of a run: each entry of the nodes' histories, as a trace has it.
 use Rattle.std.specs.Prelude.{ℕ, ◌≡◌, false, List, map, length}
 use Rattle.node_core.specs.declared.event.Event.{Event}
 use Rattle.node_core.specs.declared.event.Event.TheVariants as on
@@ -14,7 +14,7 @@ use Rattle.runs.specs.World.{World, start}
 use Rattle.runs.specs.Step.{Step}
 use Rattle.runs.specs.Run.{histories_of, world_at}
 use Rattle.runs.specs.Acts.{IsRunOf}
-use Rattle.cluster_sim.specs.Machine.{Machine, StandsFor}
+use Rattle.cluster_sim.specs.World.{WorldView, StandsFor}
 
 -- an event that was handled: a recovery of a node that is up has a name of its own
 abbrev pub done : Event → Deed
@@ -26,7 +26,7 @@ abbrev pub failed : Event → Deed
 failed on.Recover = deed.NotRecovered false recover.Raise
 failed event = deed.Faulted event
 
--- how a trace tells what came: what was refused, and what leaves a node as it is, is nothing
+-- how what came stands in a trace: what was refused, and what leaves a node as it is, is nothing
 abbrev pub deed_of : What → Deed
 deed_of (Did event) = done event
 deed_of (Refused event fault) = deed.Nothing
@@ -48,15 +48,15 @@ trace_in hs = map (λ (h : List Entry). map claim_of h) hs
 pub record IsTraceOf (nodes slots : ℕ) (acts : List Act) (trace : List (List Claim)) : Type 0 where
   pub steps : List Step
   pub is_run : IsRunOf nodes slots (start nodes) acts steps
-  pub tells : trace ≡ trace_in (histories_of nodes steps)
+  pub of_histories : trace ≡ trace_in (histories_of nodes steps)
 
 -- and the cluster is as that run left it
-pub record IsSoFar (nodes slots : ℕ) (machine : Machine) (acts : List Act) (trace : List (List Claim)) : Type 0 where
+pub record IsSoFar (nodes slots : ℕ) (view : WorldView) (acts : List Act) (trace : List (List Claim)) : Type 0 where
   pub run : IsTraceOf nodes slots acts trace
-  pub slots_are : machine.slots ≡ slots
+  pub slots_are : view.slots ≡ slots
   pub count : length (world_at nodes (start nodes) run.steps).states ≡ nodes
-  pub stands : StandsFor machine (world_at nodes (start nodes) run.steps)
+  pub stands : StandsFor view (world_at nodes (start nodes) run.steps)
 
 -- the cluster stands for some world
-abbrev pub HasWorld : Machine → Type 0
-HasWorld machine = (w : World) × StandsFor machine w
+abbrev pub HasWorld : WorldView → Type 0
+HasWorld view = (w : World) × StandsFor view w

@@ -2,18 +2,18 @@
 ghost use Rattle.std.specs.Prelude.{◌≡◌, ◌<◌, ◌≤◌, ◌++◌, [], ◌∷◌, ℕ, List, length, drop, replicate, IfOk, OnOk, Some};
 ghost use Rattle.schedule.specs.declared.act.Act.{Act as ActValue};
 ghost use Rattle.schedule.specs.Limits.{IsWithinLimits};
-ghost use Rattle.cluster_sim.specs.Machine.{StandsFor};
-ghost use Rattle.runs.specs.World.{World};
+ghost use Rattle.cluster_sim.specs.World.{StandsFor};
+ghost use Rattle.runs.specs.World.{World as RunWorld};
 ghost use Rattle.trace_check.specs.Claims.{Claim};
 ghost use Rattle.trace_check.specs.Traces.{claim};
 ghost use Rattle.trace_check.specs.Verdicts.{IsRun};
 ghost use Rattle.run_trace.specs.Bringing.{brought_by};
-ghost use Rattle.run_trace.specs.Telling.{ActedAs, IsNoted};
+ghost use Rattle.run_trace.specs.Deeds.{ActedAs, IsNoted};
 ghost use Rattle.run_trace.specs.Traced.{HasWorld, IsSoFar, IsTraceOf};
 
 use crate::bringing::{Brought, brought_by};
-use crate::telling::{Ended, deed_told, rise_of, seen_at};
-use cluster_sim::{Outcome, Refusal, Simulation};
+use crate::deeds::{Ended, deed_by, rise_of, seen_at};
+use cluster_sim::{Outcome, Refusal, World};
 use group_task::NodeId;
 use message_list::MessageList;
 use node_core::{CoreFault, Refusal as NodeRefusal};
@@ -30,9 +30,9 @@ pub fn trace_of(alloc: Global, schedule: &Schedule) -> Result<Trace, AllocError>
     ensures run { IfOk result IsRun }
 {
     let size = schedule.size;
-    let mut cluster = Simulation::open(alloc, size.nodes, size.slots)?;
+    let mut world = World::open(alloc, size.nodes, size.slots)?;
     let mut histories = begun(alloc, size.nodes)?;
-    trace_acts(alloc, &mut cluster, &mut histories, &schedule.acts)?;
+    trace_acts(alloc, &mut world, &mut histories, &schedule.acts)?;
     Ok(Trace::new(histories))
 }
 
@@ -51,17 +51,17 @@ fn begun(alloc: Global, nodes: u8) -> Result<Vec<History>, AllocError>
 /// Does the acts, and adds what came of each to the history of its node.
 fn trace_acts(
     alloc: Global,
-    cluster: &mut Simulation,
+    world: &mut World,
     histories: &mut Vec<History>,
     acts: &[Act],
 ) -> Result<(), AllocError>
-    requires world { HasWorld cluster.old }
-    requires many { length histories.old.items ≡ length cluster.old.nodes }
+    requires world { HasWorld world.old }
+    requires many { length histories.old.items ≡ length world.old.nodes }
     ensures many { OnOk result (length histories.new.items ≡ length histories.old.items) }
-    ensures traced { (nodes slots : ℕ) → IsSoFar nodes slots cluster.old [] histories.old.items → OnOk result (IsSoFar nodes slots cluster.new acts.now histories.new.items) }
+    ensures traced { (nodes slots : ℕ) → IsSoFar nodes slots world.old [] histories.old.items → OnOk result (IsSoFar nodes slots world.new acts.now histories.new.items) }
 {
     for act in acts {
-        trace_act(alloc, cluster, histories, act)?;
+        trace_act(alloc, world, histories, act)?;
     }
     Ok(())
 }
@@ -69,22 +69,22 @@ fn trace_acts(
 /// Does one act.
 fn trace_act(
     alloc: Global,
-    cluster: &mut Simulation,
+    world: &mut World,
     histories: &mut Vec<History>,
     act: &Act,
 ) -> Result<(), AllocError>
-    requires world { HasWorld cluster.old }
-    requires many { length histories.old.items ≡ length cluster.old.nodes }
-    ensures world { OnOk result (HasWorld cluster.new) }
+    requires world { HasWorld world.old }
+    requires many { length histories.old.items ≡ length world.old.nodes }
+    ensures world { OnOk result (HasWorld world.new) }
     ensures many { OnOk result (length histories.new.items ≡ length histories.old.items) }
-    ensures nodes { OnOk result (length cluster.new.nodes ≡ length cluster.old.nodes) }
-    ensures traced { (nodes slots : ℕ) (before : List ActValue) → IsSoFar nodes slots cluster.old before histories.old.items
-        → OnOk result (IsSoFar nodes slots cluster.new (before ++ act.now ∷ []) histories.new.items) }
+    ensures nodes { OnOk result (length world.new.nodes ≡ length world.old.nodes) }
+    ensures traced { (nodes slots : ℕ) (before : List ActValue) → IsSoFar nodes slots world.old before histories.old.items
+        → OnOk result (IsSoFar nodes slots world.new (before ++ act.now ∷ []) histories.new.items) }
 {
-    match brought_by(cluster.count(), cluster.net(), act) {
-        Some((id, brought)) => trace_at(alloc, cluster, histories, act, id, &brought),
+    match brought_by(world.count(), world.net(), act) {
+        Some((id, brought)) => trace_at(alloc, world, histories, act, id, &brought),
         None => {
-            step(cluster, act)?;
+            step(world, act)?;
             Ok(())
         }
     }
@@ -93,37 +93,37 @@ fn trace_act(
 /// Does an act that comes to a node.
 fn trace_at(
     alloc: Global,
-    cluster: &mut Simulation,
+    world: &mut World,
     histories: &mut Vec<History>,
     act: &Act,
     id: NodeId,
     brought: &Brought,
 ) -> Result<(), AllocError>
-    requires brought { brought_by (length cluster.old.nodes) cluster.old.net act.now ≡ Some (id, brought.now) }
-    requires within { id < length cluster.old.nodes }
-    requires world { HasWorld cluster.old }
-    requires many { length histories.old.items ≡ length cluster.old.nodes }
-    ensures world { OnOk result (HasWorld cluster.new) }
+    requires brought { brought_by (length world.old.nodes) world.old.net act.now ≡ Some (id, brought.now) }
+    requires within { id < length world.old.nodes }
+    requires world { HasWorld world.old }
+    requires many { length histories.old.items ≡ length world.old.nodes }
+    ensures world { OnOk result (HasWorld world.new) }
     ensures many { OnOk result (length histories.new.items ≡ length histories.old.items) }
-    ensures nodes { OnOk result (length cluster.new.nodes ≡ length cluster.old.nodes) }
-    ensures traced { (nodes slots : ℕ) (before : List ActValue) → IsSoFar nodes slots cluster.old before histories.old.items
-        → OnOk result (IsSoFar nodes slots cluster.new (before ++ act.now ∷ []) histories.new.items) }
+    ensures nodes { OnOk result (length world.new.nodes ≡ length world.old.nodes) }
+    ensures traced { (nodes slots : ℕ) (before : List ActValue) → IsSoFar nodes slots world.old before histories.old.items
+        → OnOk result (IsSoFar nodes slots world.new (before ++ act.now ∷ []) histories.new.items) }
 {
-    let was = seen_at(cluster.node(id));
-    let place = cluster.net().sent().len();
-    let ended = step(cluster, act)?;
-    let rise = rise_of(&was, cluster.node(id));
-    let deed = deed_told(brought, rise, ended);
-    let sent = sent_since(alloc, cluster.net().sent(), place)?;
+    let was = seen_at(world.node(id));
+    let place = world.net().sent().len();
+    let ended = step(world, act)?;
+    let rise = rise_of(&was, world.node(id));
+    let deed = deed_by(brought, rise, ended);
+    let sent = sent_since(alloc, world.net().sent(), place)?;
     note(histories, id, &deed, &sent)
 }
 
-/// Does an act, and tells how it ended. Want of memory is an error, wherever it came.
-fn step(cluster: &mut Simulation, act: &Act) -> Result<Ended, AllocError>
-    ensures slots { cluster.new.slots ≡ cluster.old.slots }
-    ensures acted { (w : World) → StandsFor cluster.old w → IfOk result (λ ended. ActedAs w act.now ended cluster.new) }
+/// Does an act: how it ended. Want of memory is an error, wherever it came.
+fn step(world: &mut World, act: &Act) -> Result<Ended, AllocError>
+    ensures slots { world.new.slots ≡ world.old.slots }
+    ensures acted { (w : RunWorld) → StandsFor world.old w → IfOk result (λ ended. ActedAs w act.now ended world.new) }
 {
-    match cluster.step(act)? {
+    match world.step(act)? {
         Outcome::Done { .. } => Ok(Ended::Done),
         Outcome::Refused(Refusal::Node(NodeRefusal::Core(CoreFault::NoMemory))) => Err(AllocError),
         Outcome::Refused(_) => Ok(Ended::Refused),

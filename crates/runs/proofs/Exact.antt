@@ -23,19 +23,19 @@ use Rattle.histories.specs.What.{IsOf}
 use Rattle.histories.proofs.PublicLaws.{eq_nat}
 use Rattle.runs.proofs.Runs.{node_there, state_here, state_elsewhere}
 
-not_denied : (known : Bool) (n k : ℕ) (P : What → Type 0) (told : ℕ) (why : ActRefusal) → known ≡ true → At known n k P (Denies told why) → ⊥
-not_denied true n k P told why is h = absurd cc (h.1)
-not_denied false n k P told why is h = absurd cc
+not_denied : (known : Bool) (n k : ℕ) (P : What → Type 0) (named : ℕ) (why : ActRefusal) → known ≡ true → At known n k P (Denies named why) → ⊥
+not_denied true n k P named why is h = absurd cc (h.1)
+not_denied false n k P named why is h = absurd cc
 
-no_idle : (nodes : ℕ) (net : Network) (d : Result Envelope NetFault) (k : ℕ) (m : Envelope) (told : ℕ) (why : ActRefusal) → d ≡ Ok m → m.receiver < nodes → Brings nodes net k d (Denies told why) → ⊥
-no_idle nodes net (Ok x) k m told why is within h =
+no_idle : (nodes : ℕ) (net : Network) (d : Result Envelope NetFault) (k : ℕ) (m : Envelope) (named : ℕ) (why : ActRefusal) → d ≡ Ok m → m.receiver < nodes → Brings nodes net k d (Denies named why) → ⊥
+no_idle nodes net (Ok x) k m named why is within h =
     let same : x ≡ m = cc is in
     let known : nat_lt x.receiver nodes ≡ true = rw same (grind (arith, nat_tests, within)) in
-    not_denied (nat_lt x.receiver nodes) x.receiver k (IsOf (on.Deliver x)) told why known h
-no_idle nodes net (Err y) k m told why is within h = absurd cc
+    not_denied (nat_lt x.receiver nodes) x.receiver k (IsOf (on.Deliver x)) named why known h
+no_idle nodes net (Err y) k m named why is within h = absurd cc
 
 pub no_idle_denial : NoIdleDenial
-no_idle_denial nodes w k m told why is within h = no_idle nodes w.net (delivery w.net k) k m told why is within h
+no_idle_denial nodes w k m named why is within h = no_idle nodes w.net (delivery w.net k) k m named why is within h
 
 pub one_outcome : OneOutcome
 one_outcome slots self nodes s event (Core fault) taken fits refused of_slots = (let both : None ≡ Some fault = sym taken.1.by_core ∙ refused in absurd cc)
@@ -71,7 +71,7 @@ slots_follow slots n nodes (a ∷ acts) (TakesStep m number what ∷ steps) w s 
         let ne : n ≢ m = grind (arith, nat_tests) in
         rest s (state_elsewhere m n nodes what w.states ne ∙ at)
 slots_follow slots n nodes (a ∷ acts) (Changes net ∷ steps) w s at run = slots_follow slots n nodes acts steps (world_after nodes w (Changes net)) s at run.3
-slots_follow slots n nodes (a ∷ acts) (Denies told why ∷ steps) w s at run = slots_follow slots n nodes acts steps w s at run.3
+slots_follow slots n nodes (a ∷ acts) (Denies named why ∷ steps) w s at run = slots_follow slots n nodes acts steps w s at run.3
 
 pub runs_of_slots : RunsOfSlots
 runs_of_slots nodes slots w acts steps run n s at = slots_follow slots n nodes acts steps w s at run

@@ -10,7 +10,7 @@ use Rattle.histories.specs.Book.{IsTaskOf, IsInGroup, members_in}
 use Rattle.runs.specs.Reporting.{Report}
 use Rattle.runs.specs.Headline.{IsShown, HasBook}
 use Rattle.runs.specs.Uses.{Shows, ShowsWorking, OneLeader, OneOwnerEach, MembersAgree, OneWorkerEach}
-use Rattle.runs.proofs.Found.{among_at}
+use Rattle.runs.proofs.Acknowledged.{among_at}
 
 -- what the report shows is shown to the headline
 pub is_shown : (r : Report) (n : ℕ) (s : State) → Shows r n s → IsShown r n s
@@ -31,21 +31,21 @@ one_owner_each nodes slots acts r h n m s t by_s by_t same queue =
     ap (λ (task : Option Assignment). owner_of (members_of task) queue) (h.one_task n m s t (is_shown r n s by_s.0) (is_shown r m t by_t.0) by_s.1 by_t.1 same)
 
 -- a node that works has the members of the book, and is one of them
-members_told : (book : List Assignment) (n : ℕ) (g : Group) (task : Option Assignment) → IsTaskOf book n g task → (members_in book g ≡ Some (members_of task)) × (has (members_of task) n ≡ true)
-members_told book n g None h = absurd h
-members_told book n g (Some t) h = (h.1, h.2)
+members_shown : (book : List Assignment) (n : ℕ) (g : Group) (task : Option Assignment) → IsTaskOf book n g task → (members_in book g ≡ Some (members_of task)) × (has (members_of task) n ≡ true)
+members_shown book n g None h = absurd h
+members_shown book n g (Some t) h = (h.1, h.2)
 
-told_by : (r : Report) (h : HasBook r) (n : ℕ) (s : State) → ShowsWorking r n s → (members_in h.book s.group ≡ Some (members_of s.task)) × (has (members_of s.task) n ≡ true)
-told_by r h n s by =
-    members_told h.book n s.group s.task ((h.agrees n s (is_shown r n s by.0)).1 by.1)
+shown_by : (r : Report) (h : HasBook r) (n : ℕ) (s : State) → ShowsWorking r n s → (members_in h.book s.group ≡ Some (members_of s.task)) × (has (members_of s.task) n ≡ true)
+shown_by r h n s by =
+    members_shown h.book n s.group s.task ((h.agrees n s (is_shown r n s by.0)).1 by.1)
 
 same_some : {A : Type 0} (x y : A) → Some x ≡ Some y → x ≡ y
 same_some x y e = cc e
 
 pub members_agree : MembersAgree
 members_agree nodes slots acts r h n m s t by_s by_t same =
-    let of_s = told_by r h.has_book n s by_s in
-    let of_t = told_by r h.has_book m t by_t in
+    let of_s = shown_by r h.has_book n s by_s in
+    let of_t = shown_by r h.has_book m t by_t in
     let equal : members_of s.task ≡ members_of t.task = same_some _ _ (sym of_s.0 ∙ (ap (λ (g : Group). members_in h.has_book.book g) same ∙ of_t.0)) in
     (equal, of_s.1, rw equal of_t.1)
 

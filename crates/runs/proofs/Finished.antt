@@ -17,11 +17,11 @@ use Rattle.runs.specs.Reporting.{Moment, Report, report_of}
 use Rattle.runs.specs.Headline.{IsFinished, IsShown, report_within}
 use Rattle.runs.specs.Uses.{Shows, first_moments, DoneWasFinished}
 use Rattle.runs.proofs.Runs.{node_of, how_many}
-use Rattle.runs.proofs.Told.{acts_told, state_there}
-use Rattle.runs.proofs.Found.{among_at, among_of}
+use Rattle.runs.proofs.Reported.{acts_reported, state_there}
+use Rattle.runs.proofs.Acknowledged.{among_at, among_of}
 use Rattle.runs.proofs.Moments.{acts_front}
 use Rattle.runs.proofs.Reports.{moments_are, moments_from, opening_is}
-use Rattle.runs.proofs.Finishing.{IsTold, told_by_act}
+use Rattle.runs.proofs.Finishing.{IsReported, reported_by_act}
 use Rattle.runs.proofs.Shown.{vector_shown, moments_front}
 
 -- what the histories say of a node, the moments show
@@ -45,11 +45,11 @@ finished_in_report nodes slots acts steps origin id run by =
     let it = node_of nodes 0 by.worker nodes steps by.history by.worker (omega arith) by.at in
     let acted : IsAmong (on.Finish origin id) (acted_in (history_in by.worker nodes (start nodes) steps)) =
     subst (λ (xs : List Entry). IsAmong (on.Finish origin id) (acted_in xs)) it.is_history by.finished in
-    let t : IsTold (moments_from nodes (start nodes) acts steps) by.worker origin id = told_by_act nodes slots by.worker origin id acts steps (start nodes) run acted in
+    let t : IsReported (moments_from nodes (start nodes) acts steps) by.worker origin id = reported_by_act nodes slots by.worker origin id acts steps (start nodes) run acted in
     record {
       worker = by.worker;
-      told = t.told;
-      among = subst (λ (ms : List Moment). IsAmong t.told ms) (sym (moments_are nodes acts steps)) t.among;
+      moment = t.moment;
+      among = subst (λ (ms : List Moment). IsAmong t.moment ms) (sym (moments_are nodes acts steps)) t.among;
       of_act = t.of_act;
       not_refused = t.not_refused;
       state = by.moment;
@@ -81,9 +81,9 @@ pub done_was_finished : DoneWasFinished
 done_was_finished nodes slots acts r h k t id among within is =
     let by = h.finished k t id among within is in
     let front = acts_front k nodes slots acts h.steps (start nodes) h.is_run in
-    let told : map (λ (m : Moment). m.act) (report_within nodes k acts h.steps).moments ≡ take k acts =
-    ap (map (λ (m : Moment). m.act)) (moments_are nodes (take k acts) (take k h.steps)) ∙ acts_told nodes slots (take k acts) (take k h.steps) (start nodes) front in
-    let finish : IsAmong by.told.act (take k acts) = subst (λ (xs : List Act). IsAmong by.told.act xs) told (among_acts by.told (report_within nodes k acts h.steps).moments by.among) in (
+    let moment : map (λ (m : Moment). m.act) (report_within nodes k acts h.steps).moments ≡ take k acts =
+    ap (map (λ (m : Moment). m.act)) (moments_are nodes (take k acts) (take k h.steps)) ∙ acts_reported nodes slots (take k acts) (take k h.steps) (start nodes) front in
+    let finish : IsAmong by.moment.act (take k acts) = subst (λ (xs : List Act). IsAmong by.moment.act xs) moment (among_acts by.moment (report_within nodes k acts h.steps).moments by.among) in (
       by.worker,
       subst (λ (a : Act). IsAmong a (take k acts)) by.of_act finish,
       (by.state, by.job, (subst (λ (x : Report). Shows (first_moments k x) by.worker by.state) (sym h.reported) (front_shows nodes k by.worker acts h.steps by.state by.shown), by.works), by.in_hand, by.of_job.0, by.of_job.1, by.owned),

@@ -92,7 +92,7 @@ step_given nodes w (Takes n number what) given all may =
         let ne : j ≢ n = grind (arith, nat_tests) in
         other t (sym (state_elsewhere n j nodes what w.states ne) ∙ at)
 step_given nodes w (Changes net) given all may = rw append-nil (record { vectors = all.vectors; messages = rw may all.messages })
-step_given nodes w (Denies told why) given all may = rw append-nil all
+step_given nodes w (Denies named why) given all may = rw append-nil all
 
 run_given : (nodes : ℕ) (steps : List Step) (w : World) (given : List Group) → AllGiven w given → RunFrom nodes w steps → AllGiven (world_at nodes w steps) (given ++ groups_from nodes w steps)
 run_given nodes [] w given all run = rw append-nil all
@@ -206,7 +206,7 @@ step_bounded nodes w (Takes n number what) given all may =
         let ne : g.creator ≢ n = grind (arith, nat_tests) in
         (was.0, state_elsewhere n g.creator nodes what w.states ne ∙ was.1, was.2)
 step_bounded nodes w (Changes net) given all may = rw append-nil (record { bound = all.bound; once = all.once })
-step_bounded nodes w (Denies told why) given all may = rw append-nil all
+step_bounded nodes w (Denies named why) given all may = rw append-nil all
 
 run_bounded : (nodes : ℕ) (steps : List Step) (w : World) (given : List Group) → Bounded w given → RunFrom nodes w steps → Bounded (world_at nodes w steps) (given ++ groups_from nodes w steps)
 run_bounded nodes [] w given all run = rw append-nil all

@@ -25,7 +25,7 @@ acts_go_on nodes slots (b ∷ acts) (x ∷ steps) w a step run next = (run.0, ru
 pub step_length : (nodes : ℕ) (w : World) (step : Step) → length (world_after nodes w step).states ≡ length w.states
 step_length nodes w (Takes n number what) = length-set w.states n (after n nodes (node_in w.states n) what)
 step_length nodes w (Changes net) = refl
-step_length nodes w (Denies told why) = refl
+step_length nodes w (Denies named why) = refl
 
 run_length : (nodes : ℕ) (steps : List Step) (w : World) → length (world_at nodes w steps).states ≡ length w.states
 run_length nodes [] w = refl

@@ -39,7 +39,7 @@ use Rattle.runs.proofs.Runs.{history_at, history_follows, how_many, runs_are_bun
 use Rattle.runs.proofs.RunBooks.{state_moment, run_book}
 use Rattle.runs.proofs.Given.{given_before, none_twice}
 use Rattle.runs.proofs.Tagged.{history_few}
-use Rattle.runs.proofs.Reports.{moments_from, opening_is, moments_are, groups_are, commands_told, mounted_told}
+use Rattle.runs.proofs.Reports.{moments_from, opening_is, moments_are, groups_are, commands_reported, mounted_reported}
 use Rattle.runs.proofs.Exact.{all_acts_run}
 use Rattle.runs.proofs.Own.{among_mine}
 use Rattle.runs.proofs.Picked.{own_counts_of}
@@ -56,7 +56,7 @@ kept_by_history nodes steps run few n lt =
 kept_by_report : (nodes slots : ℕ) (acts : List Act) (steps : List Step) → IsRunOf nodes slots (start nodes) acts steps → IsShort steps → (n : ℕ) → n < nodes
     → Kept (own_commands n (report_of nodes acts steps).commands) (own_mountings n (report_of nodes acts steps).mounted)
 kept_by_report nodes slots acts steps is_run few n lt =
-    rw (commands_told nodes slots n acts steps is_run lt, mounted_told nodes slots n acts steps is_run lt) (kept_by_history nodes steps (all_acts_run nodes slots (start nodes) acts steps is_run) few n lt)
+    rw (commands_reported nodes slots n acts steps is_run lt, mounted_reported nodes slots n acts steps is_run lt) (kept_by_history nodes steps (all_acts_run nodes slots (start nodes) acts steps is_run) few n lt)
 
 -- ---- 3
 
@@ -144,7 +144,7 @@ finished_by nodes slots acts steps is_run t id among lt done =
     let h : List Entry = history_in n nodes (start nodes) steps in
     let at : slice_get (histories_of nodes steps) n ≡ Some h = history_at nodes 0 n nodes steps (opening n) n (omega arith) (starts_opened nodes n lt) in
     let tried : IsAmong t.tried (commands_of (marks_of n nodes h)) =
-    subst (λ (ts : List Tried). IsAmong t.tried ts) (commands_told nodes slots n acts steps is_run lt) (among_mine (λ (x : TriedAt). x.node) (λ (x : TriedAt). x.tried) n t (report_of nodes acts steps).commands refl among) in
+    subst (λ (ts : List Tried). IsAmong t.tried ts) (commands_reported nodes slots n acts steps is_run lt) (among_mine (λ (x : TriedAt). x.node) (λ (x : TriedAt). x.tried) n t (report_of nodes acts steps).commands refl among) in
     owner_finishes (histories_of nodes steps) (runs_are_bundles nodes steps (all_acts_run nodes slots (start nodes) acts steps is_run)) n h at t.tried id
     (subst (λ (j : ℕ). IsAmong t.tried (commands_of (marks_of n j h))) (sym (how_many nodes 0 nodes steps)) tried) done
 

@@ -19,11 +19,11 @@ mod Keeping
 mod Rooms
 mod Strangers
 mod Opened
-mod Found
+mod Acknowledged
 mod Fences
 mod Numbers
 mod Finishing
-mod Told
+mod Reported
 mod Shown
 mod Finished
 pub mod PublicLaws

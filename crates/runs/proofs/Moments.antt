@@ -51,7 +51,7 @@ moment_state (suc k) nodes (a ∷ acts) (step ∷ steps) w m at = moment_state k
 step_says : (P : Envelope → Type 0) (nodes : ℕ) (w : World) (step : Step) → Each P (world_after nodes w step).net.sent → Each P (step_sent nodes w step)
 step_says P nodes w (Takes n number what) h = (each_split P w.net.sent (sent_at n nodes (node_in w.states n) what) h).1
 step_says P nodes w (Changes net) h = tt
-step_says P nodes w (Denies told why) h = tt
+step_says P nodes w (Denies named why) h = tt
 
 pub moment_says : (P : Envelope → Type 0) (k nodes : ℕ) (acts : List Act) (steps : List Step) (w : World) (m : Moment) → slice_get (moments_from nodes w acts steps) k ≡ Some m
     → Each P (world_at nodes w (take (suc k) steps)).net.sent → Each P m.sent

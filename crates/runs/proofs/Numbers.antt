@@ -17,7 +17,7 @@ use Rattle.runs.specs.Given.{IsOnceEach}
 use Rattle.runs.specs.Reporting.{own_counts}
 use Rattle.runs.specs.Headline.{report_within}
 use Rattle.runs.specs.Uses.{GivenAtOnePlace, LaterIsGreater, NamedWasGiven}
-use Rattle.runs.proofs.Found.{among_of}
+use Rattle.runs.proofs.Acknowledged.{among_of}
 
 one_place : (gs : List Group) → IsOnceEach gs → (i j : ℕ) (g : Group) → slice_get gs i ≡ Some g → slice_get gs j ≡ Some g → i ≡ j
 one_place [] once i j g at_i at_j = absurd cc

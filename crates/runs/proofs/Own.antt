@@ -1,4 +1,4 @@
--- Of a list that tells of all nodes, what it tells of one.
+-- Of a list of all nodes, what it has of one.
 use Rattle.std.proofs.Common.{◌≡◌, ◌≢◌, ℕ, zero, suc, ◌+◌, ◌<◌, ◌≤◌, Bool, true, false, List, [], ◌∷◌, ◌++◌, map, refl, sym, ◌∙◌, ap, inl, inr, arith}
 use Rattle.std.specs.Prelude.{cond, ◌==◌}
 use Rattle.std.specs.List.{filter}
@@ -9,34 +9,34 @@ use Rattle.histories.specs.Lists.{IsAmong}
 use Rattle.histories.proofs.PublicLaws.{eq_nat}
 use Rattle.runs.specs.World.{ids_from}
 
-module _ {A B : Type 0} (node : A → ℕ) (told : A → B) where
+module _ {A B : Type 0} (node : A → ℕ) (part : A → B) where
   -- the elements of a node
   abbrev pub mine : ℕ → List A → List A
   mine n xs = filter (λ (x : A). node x == n) xs
 
   abbrev pub own : ℕ → List A → List B
-  own n xs = map told (mine n xs)
+  own n xs = map part (mine n xs)
 
   pub append_own : (n : ℕ) (xs ys : List A) → own n (xs ++ ys) ≡ own n xs ++ own n ys
-  append_own n xs ys = ap (λ (zs : List A). map told zs) (filter-append (λ (x : A). node x == n) xs ys) ∙ map-append told (mine n xs) (mine n ys)
+  append_own n xs ys = ap (λ (zs : List A). map part zs) (filter-append (λ (x : A). node x == n) xs ys) ∙ map-append part (mine n xs) (mine n ys)
 
-  pub among_mine : (n : ℕ) (x : A) (xs : List A) → node x ≡ n → IsAmong x xs → IsAmong (told x) (own n xs)
+  pub among_mine : (n : ℕ) (x : A) (xs : List A) → node x ≡ n → IsAmong x xs → IsAmong (part x) (own n xs)
   among_mine n x [] of i = absurd i
   among_mine n x (y ∷ xs) of i = pick (node y == n) refl i (λ j. among_mine n x xs of j)
     where
-      pick : (b : Bool) → (node y == n) ≡ b → IsAmong x (y ∷ xs) → (IsAmong x xs → IsAmong (told x) (own n xs)) → IsAmong (told x) (map told (cond b (y ∷ mine n xs) (mine n xs)))
-      pick true is i rest = elim i [ inl e ↦ inl (ap told e) | inr j ↦ inr (rest j) ]
+      pick : (b : Bool) → (node y == n) ≡ b → IsAmong x (y ∷ xs) → (IsAmong x xs → IsAmong (part x) (own n xs)) → IsAmong (part x) (map part (cond b (y ∷ mine n xs) (mine n xs)))
+      pick true is i rest = elim i [ inl e ↦ inl (ap part e) | inr j ↦ inr (rest j) ]
       pick false is i rest = elim i [
         | inl e ↦ (let ne : node y ≢ n = grind (arith, nat_tests) in absurd (ne (sym (ap node e) ∙ of)))
         | inr j ↦ rest j
       ]
 
-  pub of_mine : (n : ℕ) (b : B) (xs : List A) → IsAmong b (own n xs) → (x : A) × IsAmong x xs × (node x ≡ n) × (told x ≡ b)
+  pub of_mine : (n : ℕ) (b : B) (xs : List A) → IsAmong b (own n xs) → (x : A) × IsAmong x xs × (node x ≡ n) × (part x ≡ b)
   of_mine n b [] i = absurd i
   of_mine n b (y ∷ xs) i = pick (node y == n) refl i (λ j. of_mine n b xs j)
     where
-      pick : (test : Bool) → (node y == n) ≡ test → IsAmong b (map told (cond test (y ∷ mine n xs) (mine n xs)))
-          → (IsAmong b (own n xs) → (x : A) × IsAmong x xs × (node x ≡ n) × (told x ≡ b)) → (x : A) × IsAmong x (y ∷ xs) × (node x ≡ n) × (told x ≡ b)
+      pick : (test : Bool) → (node y == n) ≡ test → IsAmong b (map part (cond test (y ∷ mine n xs) (mine n xs)))
+          → (IsAmong b (own n xs) → (x : A) × IsAmong x xs × (node x ≡ n) × (part x ≡ b)) → (x : A) × IsAmong x (y ∷ xs) × (node x ≡ n) × (part x ≡ b)
       pick true is i rest = elim i [
         | inl e ↦ (y, inl refl, eq_nat (node y) n is, sym e)
         | inr j ↦ (let it = rest j in (it.0, inr it.1, it.2, it.3))
@@ -48,13 +48,13 @@ module _ {A B : Type 0} (node : A → ℕ) (told : A → B) where
   none_before each of zero i n lt = refl
   none_before each of (suc k) i n lt = let other : (node (each i) == n) ≡ false = rw (of i) (grind (arith, nat_tests, lt)) in rw other (none_before each of k (suc i) n (omega (arith, lt)))
 
-  pub one_each : (each : ℕ → A) → ((i : ℕ) → node (each i) ≡ i) → (k i n : ℕ) → i ≤ n → n < i + k → own n (map each (ids_from i k)) ≡ told (each n) ∷ []
+  pub one_each : (each : ℕ → A) → ((i : ℕ) → node (each i) ≡ i) → (k i n : ℕ) → i ≤ n → n < i + k → own n (map each (ids_from i k)) ≡ part (each n) ∷ []
   one_each each of zero i n le lt = absurd (omega (arith, le, lt))
   one_each each of (suc k) i n le lt = pick (node (each i) == n) refl (λ above. one_each each of k (suc i) n above (omega (arith, lt)))
     where
-      pick : (b : Bool) → (node (each i) == n) ≡ b → (suc i ≤ n → own n (map each (ids_from (suc i) k)) ≡ told (each n) ∷ [])
-          → map told (cond b (each i ∷ mine n (map each (ids_from (suc i) k))) (mine n (map each (ids_from (suc i) k)))) ≡ told (each n) ∷ []
+      pick : (b : Bool) → (node (each i) == n) ≡ b → (suc i ≤ n → own n (map each (ids_from (suc i) k)) ≡ part (each n) ∷ [])
+          → map part (cond b (each i ∷ mine n (map each (ids_from (suc i) k))) (mine n (map each (ids_from (suc i) k)))) ≡ part (each n) ∷ []
       pick true is rest =
           let same : i ≡ n = sym (of i) ∙ eq_nat (node (each i)) n is in
-          (λ t. told (each (same t)) ∷ none_before each of k (suc i) n (omega (arith, same)) t)
+          (λ t. part (each (same t)) ∷ none_before each of k (suc i) n (omega (arith, same)) t)
       pick false is rest = (let here = of i in let ne : i ≢ n = grind (arith, nat_tests) in rest (omega (arith, le, ne)))

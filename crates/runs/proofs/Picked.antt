@@ -51,7 +51,7 @@ counts_from n nodes (Takes m number what ∷ steps) w s at =
         ap (λ (ks : List ℕ). ks ++ own_counts n (groups_from nodes (world_after nodes w (Takes m number what)) steps)) (counts_other m n (given_at m nodes (node_in w.states m) what) e)
         ∙ rest s (state_elsewhere m n nodes what w.states ne ∙ at)
 counts_from n nodes (Changes net ∷ steps) w s at = counts_from n nodes steps (world_after nodes w (Changes net)) s at
-counts_from n nodes (Denies told why ∷ steps) w s at = counts_from n nodes steps w s at
+counts_from n nodes (Denies named why ∷ steps) w s at = counts_from n nodes steps w s at
 
 -- the counts of a node in a run
 pub own_counts_of : (nodes n : ℕ) (steps : List Step) → n < nodes → own_counts n (groups_of nodes steps) ≡ 1 ∷ counts_given n nodes (opening n) (history_in n nodes (start nodes) steps)

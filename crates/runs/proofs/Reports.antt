@@ -13,7 +13,7 @@ use Rattle.histories.specs.NodeState.{NodeState, opening, wants_at}
 use Rattle.histories.specs.declared.what.What.{What}
 use Rattle.histories.specs.declared.what.What.TheVariants.{Did, Faulted}
 use Rattle.histories.specs.What.{Entry}
-use Rattle.histories.specs.After.{after, sent_at, given_at, raised, found_at}
+use Rattle.histories.specs.After.{after, sent_at, given_at, raised, mounted_at}
 use Rattle.histories.specs.Kept.{Mounting}
 use Rattle.histories.specs.declared.tried.Tried.{Tried}
 use Rattle.histories.specs.Marks.{Mark, Acknowledged, Unanswered, Mounted, commands_of, mountings_of, tried_marks, failed_marks, marks_at, marks_from, marks_of}
@@ -54,7 +54,7 @@ moments_added nodes (a ∷ acts) (step ∷ steps) w r =
 pub moments_are : (nodes : ℕ) (acts : List Act) (steps : List Step) → (report_of nodes acts steps).moments ≡ moments_from nodes (start nodes) acts steps
 moments_are nodes acts steps = moments_added nodes acts steps (start nodes) (first_report nodes)
 
--- those of one node, told with its number
+-- those of one node, with its number
 abbrev pub with_node : ℕ → List Tried → List TriedAt
 with_node m ts = map (λ (t : Tried). record { node = m; tried = t }) ts
 
@@ -149,7 +149,7 @@ tries_are n nodes count s (Did event) = did_tries s.durable (wants_at n nodes s 
 tries_are n nodes count s (Faulted event) = failed_tries (wants_at n nodes s event)
 tries_are n nodes count s _ = refl
 
-mounts_are : (n nodes count : ℕ) (s : NodeState) (what : What) → map (λ (x : Durable). record { before = count; state = x }) (option_to_list (found_at s what)) ≡ mountings_of (marks_at n nodes s count what)
+mounts_are : (n nodes count : ℕ) (s : NodeState) (what : What) → map (λ (x : Durable). record { before = count; state = x }) (option_to_list (mounted_at s what)) ≡ mountings_of (marks_at n nodes s count what)
 mounts_are n nodes count s (Did event) = did_mounts s.durable (wants_at n nodes s event)
 mounts_are n nodes count s (Faulted event) = failed_mounts (wants_at n nodes s event)
 mounts_are n nodes count s _ = refl
@@ -167,12 +167,12 @@ then_on n r q p ms ns first later = record {
       ∙ ap (λ (ws : List Mounting). own_mountings n r.mounted ++ ws) (sym (mountings_append ms ns));
 }
 
--- so many commands are told of the node
+-- so many commands are reported of the node
 abbrev so_many : ℕ → Report → ℕ
 so_many n r = length (own_commands n r.commands)
 
-more_told : (n : ℕ) (r q : Report) (ms : List Mark) → GoesOn n r q ms → so_many n q ≡ so_many n r + length (commands_of ms)
-more_told n r q ms on = ap (λ (ts : List Tried). length ts) on.commands ∙ length-append (own_commands n r.commands) (commands_of ms)
+more_reported : (n : ℕ) (r q : Report) (ms : List Mark) → GoesOn n r q ms → so_many n q ≡ so_many n r + length (commands_of ms)
+more_reported n r q ms on = ap (λ (ts : List Tried). length ts) on.commands ∙ length-append (own_commands n r.commands) (commands_of ms)
 
 -- a step at the node, one at another node, and one of none
 step_here : (m n nodes number : ℕ) (w : World) (a : Act) (what : What) (r : Report) (s : NodeState) → (m == n) ≡ true → slice_get w.states n ≡ Some s
@@ -184,18 +184,18 @@ step_here m n nodes number w a what r s is at =
       commands = own_append n r.commands (with_node m (tries m nodes (node_in w.states m) what))
           ∙ ap (λ (ts : List Tried). own_commands n r.commands ++ ts)
           (own_here m n (tries m nodes (node_in w.states m) what) is ∙ (λ i. tries (same i) nodes (here i) what) ∙ tries_are n nodes (so_many n r) s what);
-      mounted = own_mounted_append n r.mounted (mounted_there m (so_many m r) (found_at (node_in w.states m) what))
+      mounted = own_mounted_append n r.mounted (mounted_there m (so_many m r) (mounted_at (node_in w.states m) what))
           ∙ ap (λ (ws : List Mounting). own_mountings n r.mounted ++ ws)
-          (mounted_here m n (so_many m r) (found_at (node_in w.states m) what) is
-          ∙ (λ i. map (λ (x : Durable). record { before = so_many (same i) r; state = x }) (option_to_list (found_at (here i) what))) ∙ mounts_are n nodes (so_many n r) s what);
+          (mounted_here m n (so_many m r) (mounted_at (node_in w.states m) what) is
+          ∙ (λ i. map (λ (x : Durable). record { before = so_many (same i) r; state = x }) (option_to_list (mounted_at (here i) what))) ∙ mounts_are n nodes (so_many n r) s what);
     }
 
 step_elsewhere : (m n nodes number : ℕ) (w : World) (a : Act) (what : What) (r : Report) → (m == n) ≡ false → GoesOn n r (grown nodes w a (Takes m number what) r) []
 step_elsewhere m n nodes number w a what r is = record {
   commands = own_append n r.commands (with_node m (tries m nodes (node_in w.states m) what))
       ∙ ap (λ (ts : List Tried). own_commands n r.commands ++ ts) (own_elsewhere m n (tries m nodes (node_in w.states m) what) is);
-  mounted = own_mounted_append n r.mounted (mounted_there m (so_many m r) (found_at (node_in w.states m) what))
-      ∙ ap (λ (ws : List Mounting). own_mountings n r.mounted ++ ws) (mounted_elsewhere m n (so_many m r) (found_at (node_in w.states m) what) is);
+  mounted = own_mounted_append n r.mounted (mounted_there m (so_many m r) (mounted_at (node_in w.states m) what))
+      ∙ ap (λ (ws : List Mounting). own_mountings n r.mounted ++ ws) (mounted_elsewhere m n (so_many m r) (mounted_at (node_in w.states m) what) is);
 }
 
 quiet_step : (n : ℕ) (r q : Report) → q.commands ≡ r.commands ++ [] → q.mounted ≡ r.mounted ++ [] → GoesOn n r q []
@@ -207,7 +207,7 @@ quiet_step n r q same_commands same_mounted = record {
 -- and so does the report of a run, by the marks of the node's history
 quiet_on : (n nodes : ℕ) (r q p : Report) (s : NodeState) (es : List Entry) → GoesOn n r q [] → GoesOn n q p (marks_from n nodes s (so_many n q) es) → GoesOn n r p (marks_from n nodes s (so_many n r) es)
 quiet_on n nodes r q p s es none rest =
-    let same : so_many n q ≡ so_many n r = (let more = more_told n r q [] none in omega (arith, more)) in
+    let same : so_many n q ≡ so_many n r = (let more = more_reported n r q [] none in omega (arith, more)) in
     then_on n r q p [] _ none (subst (λ (k : ℕ). GoesOn n q p (marks_from n nodes s k es)) same rest)
 
 report_goes_on : (n nodes slots : ℕ) (acts : List Act) (steps : List Step) (w : World) (r : Report) (s : NodeState) → slice_get w.states n ≡ Some s → IsRunOf nodes slots w acts steps
@@ -231,7 +231,7 @@ report_goes_on n nodes slots (a ∷ acts) (Takes m number what ∷ steps) w r s 
         let t = after n nodes s what in
         let now = step_here m n nodes number w a what r s is at in
         then_on n r q p (marks_at n nodes s (so_many n r) what) (marks_from n nodes t (so_many n r + length (commands_of (marks_at n nodes s (so_many n r) what))) es) now
-        (subst (λ (k : ℕ). GoesOn n q p (marks_from n nodes t k es)) (more_told n r q (marks_at n nodes s (so_many n r) what) now) (rest t (state_here m n nodes what w.states s (eq_nat m n is) at)))
+        (subst (λ (k : ℕ). GoesOn n q p (marks_from n nodes t k es)) (more_reported n r q (marks_at n nodes s (so_many n r) what) now) (rest t (state_here m n nodes what w.states s (eq_nat m n is) at)))
     pick false is rest =
         let ne : n ≢ m = grind (arith, nat_tests) in
         quiet_on n nodes r (grown nodes w a (Takes m number what) r) (report_from nodes (world_after nodes w (Takes m number what)) (grown nodes w a (Takes m number what) r) acts steps) s
@@ -239,8 +239,8 @@ report_goes_on n nodes slots (a ∷ acts) (Takes m number what ∷ steps) w r s 
 report_goes_on n nodes slots (a ∷ acts) (Changes net ∷ steps) w r s at run =
     let q = grown nodes w a (Changes net) r in
     quiet_on n nodes r q _ s (history_in n nodes (world_after nodes w (Changes net)) steps) (quiet_step n r q refl refl) (report_goes_on n nodes slots acts steps (world_after nodes w (Changes net)) q s at run.3)
-report_goes_on n nodes slots (a ∷ acts) (Denies told why ∷ steps) w r s at run =
-    let q = grown nodes w a (Denies told why) r in
+report_goes_on n nodes slots (a ∷ acts) (Denies named why ∷ steps) w r s at run =
+    let q = grown nodes w a (Denies named why) r in
     quiet_on n nodes r q _ s (history_in n nodes w steps) (quiet_step n r q refl refl) (report_goes_on n nodes slots acts steps w q s at run.3)
 
 -- ---- the openings
@@ -257,20 +257,20 @@ raised_once nodes n lt = one_each (λ (t : TriedAt). t.node) (λ (t : TriedAt). 
 
 -- ---- what the report of a run says of a node is what its history says
 
-own_told : (nodes slots n : ℕ) (acts : List Act) (steps : List Step) → IsRunOf nodes slots (start nodes) acts steps → n < nodes
+own_reported : (nodes slots n : ℕ) (acts : List Act) (steps : List Step) → IsRunOf nodes slots (start nodes) acts steps → n < nodes
     → GoesOn n (first_report nodes) (report_of nodes acts steps) (marks_from n nodes (opening n) 1 (history_in n nodes (start nodes) steps))
-own_told nodes slots n acts steps run lt =
+own_reported nodes slots n acts steps run lt =
     let once : so_many n (first_report nodes) ≡ 1 = ap (λ (ts : List Tried). length ts) (raised_once nodes n lt) in
     subst (λ (k : ℕ). GoesOn n (first_report nodes) (report_of nodes acts steps) (marks_from n nodes (opening n) k (history_in n nodes (start nodes) steps))) once
     (report_goes_on n nodes slots acts steps (start nodes) (first_report nodes) (opening n) (starts_opened nodes n lt) run)
 
-pub commands_told : (nodes slots n : ℕ) (acts : List Act) (steps : List Step) → IsRunOf nodes slots (start nodes) acts steps → n < nodes
+pub commands_reported : (nodes slots n : ℕ) (acts : List Act) (steps : List Step) → IsRunOf nodes slots (start nodes) acts steps → n < nodes
     → own_commands n (report_of nodes acts steps).commands ≡ commands_of (marks_of n nodes (history_in n nodes (start nodes) steps))
-commands_told nodes slots n acts steps run lt =
-    (own_told nodes slots n acts steps run lt).commands ∙ ap (λ (ts : List Tried). ts ++ commands_of (marks_from n nodes (opening n) 1 (history_in n nodes (start nodes) steps))) (raised_once nodes n lt)
+commands_reported nodes slots n acts steps run lt =
+    (own_reported nodes slots n acts steps run lt).commands ∙ ap (λ (ts : List Tried). ts ++ commands_of (marks_from n nodes (opening n) 1 (history_in n nodes (start nodes) steps))) (raised_once nodes n lt)
 
-pub mounted_told : (nodes slots n : ℕ) (acts : List Act) (steps : List Step) → IsRunOf nodes slots (start nodes) acts steps → n < nodes
+pub mounted_reported : (nodes slots n : ℕ) (acts : List Act) (steps : List Step) → IsRunOf nodes slots (start nodes) acts steps → n < nodes
     → own_mountings n (report_of nodes acts steps).mounted ≡ mountings_of (marks_of n nodes (history_in n nodes (start nodes) steps))
-mounted_told nodes slots n acts steps run lt =
-    (own_told nodes slots n acts steps run lt).mounted
+mounted_reported nodes slots n acts steps run lt =
+    (own_reported nodes slots n acts steps run lt).mounted
     ∙ ap (λ (ws : List Mounting). ws ++ mountings_of (marks_from n nodes (opening n) 1 (history_in n nodes (start nodes) steps))) (one_each (λ (w : MountedAt). w.node) (λ (w : MountedAt). w.mounting) mounted_first (λ i. refl) nodes 0 n (omega arith) (omega (arith, lt)))

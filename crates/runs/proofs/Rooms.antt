@@ -14,7 +14,7 @@ use Rattle.node_core.specs.NodeStep.{IsFull}
 use Rattle.histories.specs.NodeState.{NodeState, opening, wants_at, settled}
 use Rattle.histories.specs.declared.what.What.{What}
 use Rattle.histories.specs.declared.what.What.TheVariants.{Did, Refused, Faulted, Rests, Crashed, Recovered, MountFailed, RaiseFailed, RaiseRefused}
-use Rattle.histories.specs.After.{after, found_at}
+use Rattle.histories.specs.After.{after, mounted_at}
 use Rattle.histories.specs.Possible.{IsPossible, IsOfSlots}
 use Rattle.histories.specs.Marks.{IsNone}
 use Rattle.histories.proofs.PublicLaws.{at_down, DoubtIsDown, doubt_after}
@@ -96,7 +96,7 @@ step_rooms nodes slots w (Takes m number what) allowed fits all =
     let of_slots : IsOfSlots slots m nodes s what = subst (λ (x : NodeState). IsOfSlots slots m nodes x what) (node_there w.states m s allowed.1) fits in
     states_keep (HasRoom slots) nodes w m number what s allowed.1 (room_kept slots m nodes s what allowed.2 of_slots (all m s allowed.1)) all
 step_rooms nodes slots w (Changes net) allowed fits all = all
-step_rooms nodes slots w (Denies told why) allowed fits all = all
+step_rooms nodes slots w (Denies named why) allowed fits all = all
 
 run_rooms : (nodes slots : ℕ) (acts : List Act) (steps : List Step) (w : World) → IsRunOf nodes slots w acts steps → AllStates (HasRoom slots) w → AllStates (HasRoom slots) (world_at nodes w steps)
 run_rooms nodes slots [] [] w run all = all
@@ -121,13 +121,13 @@ left_few nodes slots w r left n s at kept =
     let there : slice_get (world_at nodes (start nodes) left.steps).states n ≡ Some s = subst (λ (x : World). slice_get x.states n ≡ Some s) left.world at in
     few_pending nodes slots (acts_in r) left.steps left.is_run n s there kept
 
--- what a mounting finds there, at a node that is down
-pub found_few : (nodes slots : ℕ) (w : World) (r : Report) → IsLeft nodes slots w r → (n : ℕ) (s : NodeState) → slice_get w.states n ≡ Some s
-    → (among : ℕ) (what : What) → IsPossible n among s what → (d : Durable) → found_at s what ≡ Some d → (is_down s.state.phase ≡ true) × (length d.pending ≤ slots)
-found_few nodes slots w r left n s at among (Recovered kept) may d is =
+-- what a mounting gives there, at a node that is down
+pub mounted_few : (nodes slots : ℕ) (w : World) (r : Report) → IsLeft nodes slots w r → (n : ℕ) (s : NodeState) → slice_get w.states n ≡ Some s
+    → (among : ℕ) (what : What) → IsPossible n among s what → (d : Durable) → mounted_at s what ≡ Some d → (is_down s.state.phase ≡ true) × (length d.pending ≤ slots)
+mounted_few nodes slots w r left n s at among (Recovered kept) may d is =
     (may.0, subst (λ (x : Durable). length x.pending ≤ slots) (let same : settled kept s ≡ d = cc is in same) (left_few nodes slots w r left n s at kept))
-found_few nodes slots w r left n s at among (RaiseFailed kept) may d is =
+mounted_few nodes slots w r left n s at among (RaiseFailed kept) may d is =
     (may.0, subst (λ (x : Durable). length x.pending ≤ slots) (let same : settled kept s ≡ d = cc is in same) (left_few nodes slots w r left n s at kept))
-found_few nodes slots w r left n s at among (RaiseRefused kept) may d is =
+mounted_few nodes slots w r left n s at among (RaiseRefused kept) may d is =
     (may.0, subst (λ (x : Durable). length x.pending ≤ slots) (let same : settled kept s ≡ d = cc is in same) (left_few nodes slots w r left n s at kept))
-found_few nodes slots w r left n s at among _ may d is = absurd (let bad = is in cc)
+mounted_few nodes slots w r left n s at among _ may d is = absurd (let bad = is in cc)

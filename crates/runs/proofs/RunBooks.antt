@@ -40,7 +40,7 @@ run_moment nodes n (Takes m number what ∷ done) left w t at =
         let same : u ≡ s = cc (at_u, stays, at_s) in
         subst (λ (x : NodeState). IsAmong t.state (vectors n nodes x (history_in n nodes (world_after nodes w (Takes m number what)) (done ++ left)))) same i
 run_moment nodes n (Changes net ∷ done) left w t at = run_moment nodes n done left (world_after nodes w (Changes net)) t at
-run_moment nodes n (Denies told why ∷ done) left w t at = run_moment nodes n done left w t at
+run_moment nodes n (Denies named why ∷ done) left w t at = run_moment nodes n done left w t at
 
 pub state_moment : (nodes : ℕ) (steps done left : List Step) → done ++ left ≡ steps → (n : ℕ) (s : NodeState) → slice_get (world_at nodes (start nodes) done).states n ≡ Some s
     → IsMoment (histories_of nodes steps) n s.state

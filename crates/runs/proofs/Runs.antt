@@ -13,7 +13,7 @@ use Rattle.histories.specs.History.{Follows, brought_in, sent_in}
 use Rattle.histories.proofs.PublicLaws.{eq_nat, among_left, among_right, among_either, sent_of_one, each_append}
 use Rattle.sim_net.specs.declared.fault.NetFault.{NetFault}
 use Rattle.sim_net.specs.declared.fault.NetFault.TheVariants.{NoSuch, Lost, Cut}
-use Rattle.sim_net.specs.Network.{Network, is_cut, found, delivery}
+use Rattle.sim_net.specs.Network.{Network, is_cut, message_at, delivery}
 use Rattle.runs.specs.World.{World, ids_from, start, node_in}
 use Rattle.runs.specs.Step.{Step, Takes, Changes, Denies, world_after}
 use Rattle.runs.specs.Run.{IsBrought, RunFrom, world_at, history_in, histories_from, histories_of, RunsAreBundles}
@@ -80,23 +80,23 @@ history_follows n nodes (Takes m number what ∷ steps) w s at run =
         let ne : n ≢ m = grind (arith, nat_tests) in
         rest s (state_elsewhere m n nodes what w.states ne ∙ at)
 history_follows n nodes (Changes net ∷ steps) w s at run = history_follows n nodes steps (world_after nodes w (Changes net)) s at run.1
-history_follows n nodes (Denies told why ∷ steps) w s at run = history_follows n nodes steps w s at run.1
+history_follows n nodes (Denies named why ∷ steps) w s at run = history_follows n nodes steps w s at run.1
 
 -- what comes was sent
 unless_so : (b : Bool) (why : NetFault) (x m : Envelope) → (if b then Err why else Ok x) ≡ Ok m → x ≡ m
 unless_so true why x m h = absurd cc
 unless_so false why x m h = cc h
 
-found_sent : (net : Network) (k : ℕ) (m : Envelope) (o : Option Envelope) → slice_get net.sent k ≡ o → found net k ≡ Ok m → o ≡ Some m
-found_sent net k m None is h = (let none : found net k ≡ Err NoSuch = rw (is, found) refl in absurd cc (none, h))
-found_sent net k m (Some x) is h = ap (λ (y : Envelope). Some y) (unless_so (slice_index_or net.lost k false) Lost x m (rw (is, found) at h))
+message_sent : (net : Network) (k : ℕ) (m : Envelope) (o : Option Envelope) → slice_get net.sent k ≡ o → message_at net k ≡ Ok m → o ≡ Some m
+message_sent net k m None is h = (let none : message_at net k ≡ Err NoSuch = rw (is, message_at) refl in absurd cc (none, h))
+message_sent net k m (Some x) is h = ap (λ (y : Envelope). Some y) (unless_so (slice_index_or net.lost k false) Lost x m (rw (is, message_at) at h))
 
-comes_found : (net : Network) (k : ℕ) (m : Envelope) (r : Result Envelope NetFault) → found net k ≡ r → delivery net k ≡ Ok m → found net k ≡ Ok m
-comes_found net k m (Ok x) is h = is ∙ ap (λ (y : Envelope). Ok y) (unless_so (is_cut net.cuts x.sender x.receiver) Cut x m (rw (is, delivery) at h))
-comes_found net k m (Err why) is h = (let none : delivery net k ≡ Err why = rw (is, delivery) refl in absurd cc (none, h))
+comes_at : (net : Network) (k : ℕ) (m : Envelope) (r : Result Envelope NetFault) → message_at net k ≡ r → delivery net k ≡ Ok m → message_at net k ≡ Ok m
+comes_at net k m (Ok x) is h = is ∙ ap (λ (y : Envelope). Ok y) (unless_so (is_cut net.cuts x.sender x.receiver) Cut x m (rw (is, delivery) at h))
+comes_at net k m (Err why) is h = (let none : delivery net k ≡ Err why = rw (is, delivery) refl in absurd cc (none, h))
 
 pub comes_sent : (net : Network) (k : ℕ) (m : Envelope) → delivery net k ≡ Ok m → slice_get net.sent k ≡ Some m
-comes_sent net k m h = found_sent net k m (slice_get net.sent k) refl (comes_found net k m (found net k) refl h)
+comes_sent net k m h = message_sent net k m (slice_get net.sent k) refl (comes_at net k m (message_at net k) refl h)
 
 get_among : {A : Type 0} (xs : List A) (k : ℕ) (x : A) → slice_get xs k ≡ Some x → IsAmong x xs
 get_among [] k x h = absurd cc
@@ -115,7 +115,7 @@ sent_stays : (nodes : ℕ) (steps : List Step) (w : World) (m : Envelope) → Ru
 sent_stays nodes [] w m run i = i
 sent_stays nodes (Takes n number what ∷ steps) w m run i = sent_stays nodes steps (world_after nodes w (Takes n number what)) m run.1 (among_left m w.net.sent (sent_at n nodes (node_in w.states n) what) i)
 sent_stays nodes (Changes net ∷ steps) w m run i = sent_stays nodes steps (world_after nodes w (Changes net)) m run.1 (subst (λ (ms : List Envelope). IsAmong m ms) (sym run.0) i)
-sent_stays nodes (Denies told why ∷ steps) w m run i = sent_stays nodes steps w m run.1 i
+sent_stays nodes (Denies named why ∷ steps) w m run i = sent_stays nodes steps w m run.1 i
 
 -- what a node is brought was sent in the run
 brought_in_run : (n nodes : ℕ) (steps : List Step) (w : World) (m : Envelope) → RunFrom nodes w steps → IsAmong m (brought_in (history_in n nodes w steps)) → IsAmong m (world_at nodes w steps).net.sent
@@ -132,7 +132,7 @@ brought_in_run n nodes (Takes j number what ∷ steps) w m run i = pick (j == n)
     ]
     pick false i rest = rest i
 brought_in_run n nodes (Changes net ∷ steps) w m run i = brought_in_run n nodes steps (world_after nodes w (Changes net)) m run.1 i
-brought_in_run n nodes (Denies told why ∷ steps) w m run i = brought_in_run n nodes steps w m run.1 i
+brought_in_run n nodes (Denies named why ∷ steps) w m run i = brought_in_run n nodes steps w m run.1 i
 
 -- what a node is brought is addressed to it
 addressed_in_run : (n nodes : ℕ) (steps : List Step) (w : World) → RunFrom nodes w steps → AreAddressed n (brought_in (history_in n nodes w steps))
@@ -145,7 +145,7 @@ addressed_in_run n nodes (Takes j number what ∷ steps) w run = pick (j == n) r
         (subst (λ (k : ℕ). AreAddressed k (brought (event_of what))) (eq_nat j n is) run.0.4) rest
     pick false is rest = rest
 addressed_in_run n nodes (Changes net ∷ steps) w run = addressed_in_run n nodes steps (world_after nodes w (Changes net)) run.1
-addressed_in_run n nodes (Denies told why ∷ steps) w run = addressed_in_run n nodes steps w run.1
+addressed_in_run n nodes (Denies named why ∷ steps) w run = addressed_in_run n nodes steps w run.1
 
 -- a message that some node of the run sent
 record SentInRun (m : Envelope) (nodes : ℕ) (w : World) (steps : List Step) : Type 0 where
@@ -191,7 +191,7 @@ sent_by_node nodes (Changes net ∷ steps) w m run i = elim (sent_by_node nodes 
   | inl l ↦ inl (subst (λ (ms : List Envelope). IsAmong m ms) run.0 l)
   | inr x ↦ inr (record { node = x.node; state = x.state; is_node = x.is_node; sent = x.sent })
 ]
-sent_by_node nodes (Denies told why ∷ steps) w m run i = elim (sent_by_node nodes steps w m run.1 i) [
+sent_by_node nodes (Denies named why ∷ steps) w m run i = elim (sent_by_node nodes steps w m run.1 i) [
   | inl l ↦ inl l
   | inr x ↦ inr (record { node = x.node; state = x.state; is_node = x.is_node; sent = x.sent })
 ]

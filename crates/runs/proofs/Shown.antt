@@ -62,7 +62,7 @@ vector_shown nodes slots n (a ∷ acts) (Takes m number what ∷ steps) w s v at
         let ne : n ≢ m = grind (arith, nat_tests) in
         shown_later n _ _ v s.state (rest s (state_elsewhere m n nodes what w.states ne ∙ at) i)
 vector_shown nodes slots n (a ∷ acts) (Changes net ∷ steps) w s v at run i = shown_later n _ _ v s.state (vector_shown nodes slots n acts steps (world_after nodes w (Changes net)) s v at run.3 i)
-vector_shown nodes slots n (a ∷ acts) (Denies told why ∷ steps) w s v at run i = shown_later n _ _ v s.state (vector_shown nodes slots n acts steps w s v at run.3 i)
+vector_shown nodes slots n (a ∷ acts) (Denies named why ∷ steps) w s v at run i = shown_later n _ _ v s.state (vector_shown nodes slots n acts steps w s v at run.3 i)
 
 -- the moments of the first acts are the first moments
 pub moments_front : (k nodes : ℕ) (acts : List Act) (steps : List Step) (w : World) → moments_from nodes w (take k acts) (take k steps) ≡ take k (moments_from nodes w acts steps)

@@ -34,7 +34,7 @@ step_inside nodes w (Takes n number what) allowed all =
       sent = each_append (λ (m : Envelope). m.receiver < nodes) w.net.sent (sent_at n nodes (node_in w.states n) what) all.sent said;
     }
 step_inside nodes w (Changes net) allowed all = record { states = all.states; sent = rw allowed all.sent }
-step_inside nodes w (Denies told why) allowed all = all
+step_inside nodes w (Denies named why) allowed all = all
 
 run_inside : (nodes : ℕ) (steps : List Step) (w : World) → RunFrom nodes w steps → AllInside nodes w → AllInside nodes (world_at nodes w steps)
 run_inside nodes [] w run all = all

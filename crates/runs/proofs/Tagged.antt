@@ -56,7 +56,7 @@ run_own n nodes (Takes m number what ∷ steps) w counts s c at is =
         ap (λ (ms : List Mark). counts n + length (commands_of ms)) (own_none m n (marks_at m nodes (node_in w.states m) (counts m) what) e) ∙ (add-zero (counts n) ∙ is) in
         own_other m n _ _ e ∙ rest s c (state_elsewhere m n nodes what w.states ne ∙ at) none
 run_own n nodes (Changes net ∷ steps) w counts s c at is = run_own n nodes steps (world_after nodes w (Changes net)) (counts_after counts []) s c at (add-zero (counts n) ∙ is)
-run_own n nodes (Denies told why ∷ steps) w counts s c at is = run_own n nodes steps w (counts_after counts []) s c at (add-zero (counts n) ∙ is)
+run_own n nodes (Denies named why ∷ steps) w counts s c at is = run_own n nodes steps w (counts_after counts []) s c at (add-zero (counts n) ∙ is)
 
 -- a node's history has an entry for each step at most
 pub history_few : (n nodes : ℕ) (steps : List Step) (w : World) → length (history_in n nodes w steps) ≤ length steps
@@ -68,7 +68,7 @@ history_few n nodes (Takes m number what ∷ steps) w = pick (m == n) (history_f
     pick true h = omega (arith, h)
     pick false h = omega (arith, h)
 history_few n nodes (Changes net ∷ steps) w = let few = history_few n nodes steps (world_after nodes w (Changes net)) in omega (arith, few)
-history_few n nodes (Denies told why ∷ steps) w = let few = history_few n nodes steps w in omega (arith, few)
+history_few n nodes (Denies named why ∷ steps) w = let few = history_few n nodes steps w in omega (arith, few)
 
 pub runs_are_kept : RunsAreKept
 runs_are_kept nodes steps run few n s at =

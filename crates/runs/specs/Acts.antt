@@ -1,4 +1,4 @@
--- The acts of a schedule, each with the step that it is and with what is told of it.
+-- The acts of a schedule, each with the step that it is and with its outcome.
 use Rattle.std.specs.Prelude.{ℕ, ◌≡◌, ◌+◌, ◌&&◌, Bool, true, false, nat_lt, if◌then◌else◌, List, [], ◌∷◌, length, slice_get, Option, Some, None, Result, Ok, Err, MatchResult, option_map, unwrap_or}
 use Rattle.wire_msg.specs.Envelope.{Envelope}
 use Rattle.node_core.specs.declared.event.Event.TheVariants as on
@@ -15,7 +15,7 @@ use Rattle.histories.specs.Possible.{IsOfSlots}
 use Rattle.schedule.specs.declared.act.Act.{Act}
 use Rattle.schedule.specs.declared.act.Act.TheVariants as act
 use Rattle.sim_net.specs.declared.fault.NetFault.{NetFault}
-use Rattle.sim_net.specs.Network.{Network, found, delivery, after_lost, after_cut, after_mend}
+use Rattle.sim_net.specs.Network.{Network, message_at, delivery, after_lost, after_cut, after_mend}
 use Rattle.runs.specs.World.{World, node_in}
 use Rattle.runs.specs.declared.outcome.Outcome.{Outcome}
 use Rattle.runs.specs.declared.outcome.Outcome.TheVariants as outcome
@@ -48,7 +48,7 @@ Brings nodes net k (Err why) step = step ≡ Denies (receiver_or_first nodes (sl
 abbrev pub IsStepOf : ℕ → World → Act → Step → Type 0
 IsStepOf nodes w (act.Timer n timer) step = At (nat_lt n nodes) n 0 (IsOf (on.Timer timer)) step
 IsStepOf nodes w (act.Deliver k) step = Brings nodes w.net k (delivery w.net k) step
-IsStepOf nodes w (act.Lose k) step = MatchResult (found w.net k) (λ m. step ≡ Changes (after_lost w.net k)) (λ why. step ≡ Denies 0 (OfNet why))
+IsStepOf nodes w (act.Lose k) step = MatchResult (message_at w.net k) (λ m. step ≡ Changes (after_lost w.net k)) (λ why. step ≡ Denies 0 (OfNet why))
 IsStepOf nodes w (act.Cut a b) step = step ≡ (if nat_lt a nodes && nat_lt b nodes then Changes (after_cut w.net a b) else Denies 0 Stranger)
 IsStepOf nodes w (act.Mend a b) step = step ≡ (if nat_lt a nodes && nat_lt b nodes then Changes (after_mend w.net a b) else Denies 0 Stranger)
 IsStepOf nodes w (act.Submit n work) step = At (nat_lt n nodes) n 0 (IsOf (on.Submit work)) step
@@ -70,9 +70,9 @@ IsRunOf nodes slots w (a ∷ acts) (step ∷ steps) =
     IsStepOf nodes w a step × IsAllowed nodes w step × StepOfSlots slots nodes w step × IsRunOf nodes slots (world_after nodes w step) acts steps
 IsRunOf nodes slots w acts steps = ⊥
 
--- ---- what is told of an act
+-- ---- the outcome of an act
 
--- what is told of what came at a node, of this act, where so many messages were sent before it. In all else the device failed
+-- the outcome of what came at a node, of this act, where so many messages were sent before it. In all else the device failed
 abbrev pub what_outcome : ℕ → ℕ → ℕ → NodeState → What → Act → Outcome
 what_outcome n nodes first s (Did event) a = outcome.Done (option_map (answer_of s.durable) (wants_at n nodes s event)) first (length (sent_at n nodes s (Did event)))
 what_outcome n nodes first s (Refused event fault) a = outcome.Refused (Node fault)
@@ -85,7 +85,7 @@ what_outcome n nodes first s (Recovered kept) a = outcome.Done (Some ((settled k
 what_outcome n nodes first s (RaiseRefused kept) a = outcome.Refused (Node Exhausted)
 what_outcome n nodes first s failed a = outcome.Faulted
 
--- what is told of an act that had this step
+-- the outcome of an act that had this step
 abbrev pub act_outcome : ℕ → World → Act → Step → Outcome
 act_outcome nodes w a (Takes n number what) = what_outcome n nodes (length w.net.sent) (node_in w.states n) what a
 act_outcome nodes w a (Changes net) = outcome.Done None (length w.net.sent) 0

@@ -20,7 +20,7 @@ use Rattle.runs.specs.Acts.{Brings, IsRunOf}
 abbrev pub NoIdleDenial : Type 0
 NoIdleDenial = (nodes : ℕ) (w : World) (k : ℕ) (m : Envelope) (n : ℕ) (why : ActRefusal) → delivery w.net k ≡ Ok m → m.receiver < nodes → Brings nodes w.net k (delivery w.net k) (Denies n why) → ⊥
 
--- an event that a node may handle can be refused only where no area of its disk is left, which the layout alone tells
+-- an event that a node may handle can be refused only where no area of its disk is left, which the layout alone decides
 abbrev pub OneOutcome : Type 0
 OneOutcome = (slots self nodes : ℕ) (s : NodeState) (event : Event) (fault : Refusal) →
     Takes self nodes s event → (IsFull slots s.durable (wants_at self nodes s event) → ⊥) →

@@ -36,10 +36,10 @@ report_within nodes count acts steps = report_of nodes (take count acts) (take c
 -- the owner of the job's queue, with the job in hand
 pub record IsFinished (r : Report) (origin id : ℕ) : Type 0 where
   pub worker : ℕ
-  pub told : Moment
-  pub among : IsAmong told r.moments
-  pub of_act : told.act ≡ act.Finish worker origin id
-  pub not_refused : (why : Refusal) → told.outcome ≢ Refused why
+  pub moment : Moment
+  pub among : IsAmong moment r.moments
+  pub of_act : moment.act ≡ act.Finish worker origin id
+  pub not_refused : (why : Refusal) → moment.outcome ≢ Refused why
   pub state : State
   pub shown : IsShown r worker state
   pub works : state.phase ≡ Normal
@@ -64,7 +64,7 @@ pub record Headline (nodes slots : ℕ) (acts : List Act) (r : Report) : Type 0 
   pub steps : List Step
   pub is_run : IsRunOf nodes slots (start nodes) acts steps
   pub reported : r ≡ report_of nodes acts steps
-  -- 2: each mounting finds the fold of the node's commands, every acknowledged one included
+  -- 2: each mounting gives the fold of the node's commands, every acknowledged one included
   pub kept : (n : ℕ) → n < nodes → Kept (own_commands n r.commands) (own_mountings n r.mounted)
   -- 3: the counts of each node rise, no group is given twice, and none is named before it is given
   pub rising : (n : ℕ) → n < nodes → Rises 0 (own_counts n r.groups)

@@ -12,7 +12,7 @@ use Rattle.node_core.specs.Words.{own_group}
 use Rattle.histories.specs.NodeState.{NodeState, wants_at, settled}
 use Rattle.histories.specs.declared.what.What.{What}
 use Rattle.histories.specs.declared.what.What.TheVariants.{Did, Faulted, Recovered, RaiseFailed}
-use Rattle.histories.specs.After.{found_at}
+use Rattle.histories.specs.After.{mounted_at}
 use Rattle.histories.specs.Kept.{Mounting}
 use Rattle.histories.specs.declared.tried.Tried.{Tried}
 use Rattle.schedule.specs.declared.act.Act.{Act}
@@ -22,7 +22,7 @@ use Rattle.runs.specs.Acts.{act_outcome}
 use Rattle.runs.specs.declared.outcome.Outcome.{Outcome}
 use Rattle.runs.specs.declared.tried.TriedAt.{TriedAt}
 
--- an act, the node that it is told of, what came of it, what was sent, and the state of that node after it
+-- an act, the node that it is reported of, what came of it, what was sent, and the state of that node after it
 pub record Moment : Type 0 where
   pub act : Act
   pub node : ℕ
@@ -42,7 +42,7 @@ pub record Report : Type 0 where
   pub commands : List TriedAt
   pub mounted : List MountedAt
 
--- the node that a step is told of: node 0 where the network alone changes
+-- the node that a step is reported of: node 0 where the network alone changes
 abbrev pub node_of : Step → ℕ
 node_of (Takes n number what) = n
 node_of (Changes net) = 0
@@ -101,7 +101,7 @@ group_of n command acked = []
 -- what a step mounts, where these commands were tried before
 abbrev pub mountings_at : World → List TriedAt → Step → List MountedAt
 mountings_at w before (Takes n number what) =
-    map (λ (d : Durable). record { node = n; mounting = record { before = length (own_commands n before); state = d } }) (option_to_list (found_at (node_in w.states n) what))
+    map (λ (d : Durable). record { node = n; mounting = record { before = length (own_commands n before); state = d } }) (option_to_list (mounted_at (node_in w.states n) what))
 mountings_at w before step = []
 
 -- the report with one act more

@@ -12,7 +12,7 @@ pub data Step : Type 0 where
   Takes : (node : ℕ) (number : ℕ) (what : What) → Step
   -- the network alone changes, and is this from then on
   Changes : (net : Network) → Step
-  -- nothing is done, for this reason, and it is this node that is told of it
+  -- nothing is done, for this reason, and it is reported of this node
   Denies : (node : ℕ) (why : Refusal) → Step
 
 -- the messages that a step sends

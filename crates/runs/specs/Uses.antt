@@ -19,25 +19,25 @@ use Rattle.runs.specs.Reporting.{Moment, MountedAt, Report, own_commands}
 use Rattle.runs.specs.declared.tried.TriedAt.{TriedAt}
 use Rattle.runs.specs.Headline.{Headline, report_within}
 
--- ---- what is told
+-- ---- what is reported
 
--- each act is told, in order, and each node opens Normal, alone in the group of its first count
-abbrev pub ActsAreTold : Type 0
-ActsAreTold = (nodes slots : ℕ) (acts : List Act) (r : Report) → Headline nodes slots acts r →
+-- each act is reported, in order, and each node opens Normal, alone in the group of its first count
+abbrev pub ActsAreReported : Type 0
+ActsAreReported = (nodes slots : ℕ) (acts : List Act) (r : Report) → Headline nodes slots acts r →
     (map (λ (m : Moment). m.act) r.moments ≡ acts) × (length r.opening ≡ nodes) × ((n : ℕ) → n < nodes → slice_get r.opening n ≡ Some (alone n 1))
 
 -- ---- what a disk keeps
 
--- an acknowledged raise is found: no later mounting of the node finds a smaller count than the raise gave
-abbrev pub RaisesAreFound : Type 0
-RaisesAreFound = (nodes slots : ℕ) (acts : List Act) (r : Report) → Headline nodes slots acts r → (w : MountedAt) → IsAmong w r.mounted → w.node < nodes →
+-- an acknowledged raise is kept: no later mounting of the node gives a smaller count than the raise gave
+abbrev pub RaisesAreKept : Type 0
+RaisesAreKept = (nodes slots : ℕ) (acts : List Act) (r : Report) → Headline nodes slots acts r → (w : MountedAt) → IsAmong w r.mounted → w.node < nodes →
     (k count : ℕ) → slice_get (own_commands w.node r.commands) k ≡ Some (record { command = Raise; acked = Some count }) → k < w.mounting.before →
     count ≤ w.mounting.state.counter
 
--- an acknowledged job is found: each later mounting of the node finds it pending, with its work, unless its Done was
+-- an acknowledged job is kept: each later mounting of the node has it pending, with its work, unless its Done was
 -- tried between
-abbrev pub JobsAreFound : Type 0
-JobsAreFound = (nodes slots : ℕ) (acts : List Act) (r : Report) → Headline nodes slots acts r → (w : MountedAt) → IsAmong w r.mounted → w.node < nodes →
+abbrev pub JobsAreKept : Type 0
+JobsAreKept = (nodes slots : ℕ) (acts : List Act) (r : Report) → Headline nodes slots acts r → (w : MountedAt) → IsAmong w r.mounted → w.node < nodes →
     (k id : ℕ) (work : Work) → slice_get (own_commands w.node r.commands) k ≡ Some (record { command = Put work; acked = Some id }) → k < w.mounting.before →
     ((j : ℕ) (t : Tried) → k < j → j < w.mounting.before → slice_get (own_commands w.node r.commands) j ≡ Some t → t.command ≡ Done id → ⊥) →
     IsAmong (record { id = id; work = work }) w.mounting.state.pending
@@ -86,7 +86,7 @@ abbrev pub OneLeader : Type 0
 OneLeader = (nodes slots : ℕ) (acts : List Act) (r : Report) → Headline nodes slots acts r →
     (n m : ℕ) (s t : State) → ShowsLeading r n s → ShowsLeading r m t → s.group ≡ t.group → n ≡ m
 
--- two moments, of any nodes, that work in one group tell one owner of each queue
+-- two moments, of any nodes, that work in one group name one owner of each queue
 abbrev pub OneOwnerEach : Type 0
 OneOwnerEach = (nodes slots : ℕ) (acts : List Act) (r : Report) → Headline nodes slots acts r →
     (n m : ℕ) (s t : State) → ShowsWorking r n s → ShowsWorking r m t → s.group ≡ t.group → (queue : ℕ) → owner s queue ≡ owner t queue

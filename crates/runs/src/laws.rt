@@ -8,11 +8,11 @@ ghost use Rattle.runs.specs.Headline.{EverySchedule};
 ghost use Rattle.runs.specs.Tagged.{RunsAreKept};
 ghost use Rattle.runs.specs.Run.{RunsAreBundles, RunBook};
 ghost use Rattle.runs.specs.Strangers.{NoStrangers};
-ghost use Rattle.runs.specs.Uses.{ActsAreTold, RaisesAreFound, JobsAreFound, DoubtsApart};
+ghost use Rattle.runs.specs.Uses.{ActsAreReported, RaisesAreKept, JobsAreKept, DoubtsApart};
 ghost use Rattle.runs.specs.Uses.{GivenAtOnePlace, LaterIsGreater, NamedWasGiven};
 ghost use Rattle.runs.specs.Uses.{OneLeader, OneOwnerEach, MembersAgree, OneWorkerEach, DoneWasFinished};
 
-/// Groups and jobs are kept on every schedule: whatever run its acts have, each mounting of a node finds what a front of its
+/// Groups and jobs are kept on every schedule: whatever run its acts have, each mounting of a node gives what a front of its
 /// commands gives, every acknowledged one included; no group number is given twice or named before it was given; and one
 /// book of groups agrees with all nodes at all moments, so any two in one group have one coordinator and one task.
 pub fn every_schedule()
@@ -61,16 +61,16 @@ pub fn no_strangers()
     ensures { NoStrangers }
 {}
 
-/// A report tells each act of the schedule in order, and the opening of each node.
-pub fn acts_are_told()
-    ensures { ActsAreTold }
+/// A report has each act of the schedule in order, and the opening of each node.
+pub fn acts_are_reported()
+    ensures { ActsAreReported }
 {}
 
-/// What a node's disk acknowledged is there: no later mounting of the node finds a smaller count than a raise gave, and each
-/// finds a job that was taken, unless its completion was tried between. One command of a life at most is in doubt.
-pub fn acknowledged_is_found()
-    ensures raises { RaisesAreFound }
-    ensures jobs { JobsAreFound }
+/// What a node's disk acknowledged is there: no later mounting of the node gives a smaller count than a raise gave, and each
+/// gives a job that was taken, unless its completion was tried between. One command of a life at most is in doubt.
+pub fn acknowledged_is_kept()
+    ensures raises { RaisesAreKept }
+    ensures jobs { JobsAreKept }
     ensures doubts { DoubtsApart }
 {}
 

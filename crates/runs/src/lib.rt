@@ -1,7 +1,7 @@
 //! Runs of a whole cluster, as one list of steps of its nodes and its network, what a run reports, and the laws of all runs.
 //!
 //! The definitions stand in `specs/`, over the histories of nodes, and speak of no disk and of no code. The laws are contracts of
-//! functions that do nothing. [`Outcome`] is what comes of an act, and [`TriedAt`] a command in a report, as code tells them.
+//! functions that do nothing. [`Outcome`] is what comes of an act, and [`TriedAt`] a command in a report, as code has them.
 #![tactic(auto)]
 
 mod laws;
@@ -9,7 +9,7 @@ mod outcome;
 mod tried;
 
 pub use laws::{
-    acknowledged_is_found, acts_are_exact, acts_are_told, every_schedule, goes_on, groups_given,
+    acknowledged_is_kept, acts_are_exact, acts_are_reported, every_schedule, goes_on, groups_given,
     jobs_have_one_worker, kept, left_by_a_run, no_strangers, number_is_a_fence, numbers_are_new,
 };
 pub use outcome::{Outcome, Refusal};

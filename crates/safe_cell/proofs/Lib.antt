@@ -2,6 +2,6 @@ mod ReadOnly
 mod Bodies
 mod Values
 mod Raised
-mod Tellings
+mod Mountings
 mod Formats
 pub mod PublicLaws

@@ -1,10 +1,10 @@
 -- What a raise leaves, in each image.
 use Rattle.std.proofs.Common.{◌≡◌, ◌+◌, ◌<◌, ◌^◌, ◌⊎◌, inl, inr, ⊎_elim, ℕ, List, Bool, false, Some, ◌∙◌, ap, arith}
-use Rattle.sector_disk.specs.Disk.{Image, DiskState, SameBut, AllSettled}
+use Rattle.sector_disk.specs.Disk.{Image, DiskState, SameBut, AllSynced}
 use Rattle.sector_disk.specs.Run.{Run, Each}
 use Rattle.slot_gate.specs.Slot.{slot_at, InSlot}
 use Rattle.slot_gate.specs.Stored.{IsStored, Follows, Knows}
-use Rattle.slot_gate.proofs.PublicLaws.{slot_same, slot_settled}
+use Rattle.slot_gate.proofs.PublicLaws.{slot_same, slot_synced}
 use Rattle.safe_cell.specs.Body.{body_of}
 use Rattle.safe_cell.specs.Cell.{cell_at, AllHave}
 use Rattle.safe_cell.specs.Mounted.{CellState, IsCellAt, IsSpare, Stands, raised, AllStand}
@@ -46,11 +46,11 @@ raise_images at cell old new body is fits way all images c since =
 
 -- once all of it is synced
 pub raise_after : (at : ℕ) (cell : CellState) (old new : DiskState) (body : List ℕ) → body ≡ body_of (cell.value + 1) → cell.value + 1 < 2 ^ 64
-    → IsCellAt at cell → AllStand cell old → Run (InSlot cell.spare) old new → AllSettled new → slot_at new.contents cell.spare ≡ Some body
+    → IsCellAt at cell → AllStand cell old → Run (InSlot cell.spare) old new → AllSynced new → slot_at new.contents cell.spare ≡ Some body
     → AllHave at (cell.value + 1) new × AllStand (raised cell) new
-raise_after at cell old new body is fits way all run settled sealed =
+raise_after at cell old new body is fits way all run synced sealed =
     let stands : AllStand (raised cell) new = λ c image.
     let f = run.follows c (run.ends c image) in
     stands_raised at cell f.0 c way fits (all f.0 f.1) f.2
-    (slot_settled new cell.spare c (settled cell.spare) (settled (cell.spare + 1)) image ∙ sealed ∙ ap (λ b. Some b) is) in
+    (slot_synced new cell.spare c (synced cell.spare) (synced (cell.spare + 1)) image ∙ sealed ∙ ap (λ b. Some b) is) in
     (all_have at (raised cell) new (raised_way at cell way) stands, stands)

@@ -14,16 +14,16 @@ run_on first last both old mid new same one other before after honest =
 -- the last call's failure is that of both
 pub reads_on : (old mid new : DiskState) (first last failed : Type 0) → (first → ⊥) → (last → failed) → (failed → last)
     → OnlyReads old mid first → OnlyReads mid new last → OnlyReads old new failed
-reads_on old mid new first last failed went told fails before after =
+reads_on old mid new first last failed went known fails before after =
     let same = before.counts.unchanged went in
     record {
       counts = record {
         sectors = after.counts.sectors ∙ before.counts.sectors;
         honest = after.counts.honest ∙ before.counts.honest;
         later = omega (arith, after.counts.later, same);
-        unchanged = λ done. after.counts.unchanged (λ l. done (told l)) ∙ same;
+        unchanged = λ done. after.counts.unchanged (λ l. done (known l)) ∙ same;
         cause = λ f. ⊎_elim (λ rose. inl (omega (arith, rose, same))) (λ top. inr top) (after.counts.cause (fails f));
       };
       run = run_on nothing nothing nothing old mid new before.counts.honest (λ k no. no) (λ k no. no) before.run after.run;
-      settled = λ honest k is. after.settled (before.counts.honest ∙ honest) k (before.settled honest k is);
+      synced = λ honest k is. after.synced (before.counts.honest ∙ honest) k (before.synced honest k is);
     }

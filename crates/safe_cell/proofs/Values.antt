@@ -3,7 +3,7 @@ use Rattle.std.proofs.Common.{◌≡◌, ◌+◌, max, ◌⊎◌, inl, inr, ⊎_
 use Rattle.sector_disk.specs.Disk.{Image, DiskState, nothing}
 use Rattle.sector_disk.specs.Run.{Run}
 use Rattle.slot_gate.specs.Slot.{slot_at, InSlot}
-use Rattle.slot_gate.proofs.PublicLaws.{slot_same, slot_settled}
+use Rattle.slot_gate.proofs.PublicLaws.{slot_same, slot_synced}
 use Rattle.safe_cell.specs.Body.{body_value}
 use Rattle.safe_cell.specs.Cell.{cell_of, cell_at, AllHave, InCell}
 use Rattle.safe_cell.specs.Mounted.{CellState, IsCellAt, IsSpare, Stands, AllStand}
@@ -39,11 +39,11 @@ in_cell : (at : ℕ) (cell : CellState) → IsCellAt at cell → (k : ℕ) → I
 in_cell at cell way k slot = grind arith
 
 -- once its sectors are synced, what holds of the disk as it reads holds of each image, also after reads
-pub all_stand : (at : ℕ) (cell : CellState) (old new : DiskState) → IsCellAt at cell → ((k : ℕ) → InCell at k → old.settled k) → Run nothing old new
+pub all_stand : (at : ℕ) (cell : CellState) (old new : DiskState) → IsCellAt at cell → ((k : ℕ) → InCell at k → old.synced k) → Run nothing old new
     → Stands cell old.contents → AllStand cell new
-all_stand at cell old new way settled run h d image =
+all_stand at cell old new way synced run h d image =
     let f = run.follows d (run.ends d image) in
     let as_it_reads : (slot : ℕ) → ((k : ℕ) → InSlot slot k → InSlot cell.present k ⊎ InSlot cell.spare k) → (slot_at d slot ≡ slot_at old.contents slot) =
     λ slot of. slot_same d f.0 slot (f.2.same (slot + 1) (λ no. no)) (f.2.same slot (λ no. no))
-    ∙ slot_settled old slot f.0 (settled slot (in_cell at cell way slot (of slot (inl refl)))) (settled (slot + 1) (in_cell at cell way (slot + 1) (of (slot + 1) (inr refl)))) f.1 in
+    ∙ slot_synced old slot f.0 (synced slot (in_cell at cell way slot (of slot (inl refl)))) (synced (slot + 1) (in_cell at cell way (slot + 1) (of (slot + 1) (inr refl)))) f.1 in
     stands_same cell old.contents d (as_it_reads cell.present (λ k is. inl is)) (as_it_reads cell.spare (λ k is. inr is)) h

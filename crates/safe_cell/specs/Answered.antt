@@ -8,8 +8,8 @@ abbrev pub AnswersOr : {A F : Type 0} → F → Option F → Result A F → Type
 AnswersOr device (Some fault) result = result ≡ Err fault
 AnswersOr device None result = IsOk result ⊎ IsErrOf result device
 
--- A call that only reads counts its failures, writes nothing in any image, and leaves settled what was.
+-- A call that only reads counts its failures, writes nothing in any image, and leaves synced what was.
 pub record OnlyReads (old new : DiskState) (failed : Type 0) : Type 0 where
   pub counts : Counts old new failed (failed → ⊥)
   pub run : IsTrue old.honest → Run nothing old new
-  pub settled : IsTrue old.honest → (k : ℕ) → old.settled k → new.settled k
+  pub synced : IsTrue old.honest → (k : ℕ) → old.synced k → new.synced k

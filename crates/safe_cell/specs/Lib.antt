@@ -2,6 +2,6 @@ pub mod Answered
 pub mod Body
 pub mod Cell
 pub mod Mounted
-pub mod Told
+pub mod Mounting
 pub mod Raising
 pub mod Formatted

@@ -1,6 +1,6 @@
 // The cell: two slots, of which the one with the greater value counts.
 ghost use Rattle.std.specs.Prelude.{◌≡◌, ◌⊎◌, ◌<◌, ◌+◌, ◌-◌, ◌^◌, ℕ, IsTrue, IsFalse, IsOk, IfOk, IfErr, IsSome, IsErrOf, Some, None, true, false};
-ghost use Rattle.sector_disk.specs.Disk.{Image, Counts, AllSettled};
+ghost use Rattle.sector_disk.specs.Disk.{Image, Counts, AllSynced};
 ghost use Rattle.sector_disk.specs.Run.{Run, Each};
 ghost use Rattle.slot_gate.specs.Slot.{slot_at, InSlot};
 ghost use Rattle.safe_cell.specs.Answered.{AnswersOr};
@@ -112,8 +112,8 @@ impl SafeCell {
         ensures after { (at : ℕ) → IsTrue (D.state disk.old).honest
             → IsCellAt at self.old → AllStand self.old (D.state disk.old) → IsOk result
             → AllHave at (self.old.value + 1) (D.state disk.new) × AllStand self.new (D.state disk.new) }
-        ensures settled { IsTrue (D.state disk.old).honest → IsOk result
-            → AllSettled (D.state disk.new) }
+        ensures synced { IsTrue (D.state disk.old).honest → IsOk result
+            → AllSynced (D.state disk.new) }
     {
         if self.broken {
             return Err(CellFault::Broken);

@@ -1,6 +1,6 @@
 // A cell made on its disk.
 ghost use Rattle.std.specs.Prelude.{◌≡◌, ◌⊎◌, ◌<◌, ◌+◌, ◌^◌, IsTrue, IsOk, IsErrOf, None};
-ghost use Rattle.sector_disk.specs.Disk.{Counts, AllSettled};
+ghost use Rattle.sector_disk.specs.Disk.{Counts, AllSynced};
 ghost use Rattle.sector_disk.specs.Run.{Run, Each};
 ghost use Rattle.slot_gate.specs.Slot.{slot_at};
 ghost use Rattle.safe_cell.specs.Cell.{InCell, AllHave};
@@ -28,7 +28,7 @@ pub fn format<D: SectorDisk>(disk: &mut D, at: u64, value: u64) -> Result<(), Ce
     // Where both bodies were synced, no image since the start has a slot that is sealed over a torn
     // one.
     ensures images { IsTrue (D.state disk.old).honest
-        → (D.state disk.old).settled at → (D.state disk.old).settled (at + 2)
+        → (D.state disk.old).synced at → (D.state disk.old).synced (at + 2)
         → Each (D.state disk.old) (D.state disk.new)
         (IsNotTorn at value (D.state disk.old).contents) }
 
@@ -37,8 +37,8 @@ pub fn format<D: SectorDisk>(disk: &mut D, at: u64, value: u64) -> Result<(), Ce
         → AllHave at value (D.state disk.new) }
     ensures formatted { IsTrue (D.state disk.old).honest → IsOk result
         → AllStand (formatted at value) (D.state disk.new) }
-    ensures settled { IsTrue (D.state disk.old).honest → IsOk result
-        → AllSettled (D.state disk.new) }
+    ensures synced { IsTrue (D.state disk.old).honest → IsOk result
+        → AllSynced (D.state disk.new) }
 {
     if erase(disk, at).is_err() {
         return Err(CellFault::Device);
@@ -59,8 +59,8 @@ fn erase<D: SectorDisk>(disk: &mut D, at: u64) -> Result<(), DiskFault>
         → slot_at (D.state disk.new).contents at ≡ None }
     ensures second { IsTrue (D.state disk.old).honest → IsOk result
         → slot_at (D.state disk.new).contents (at + 2) ≡ None }
-    ensures settled { IsTrue (D.state disk.old).honest → IsOk result
-        → AllSettled (D.state disk.new) }
+    ensures synced { IsTrue (D.state disk.old).honest → IsOk result
+        → AllSynced (D.state disk.new) }
 {
     unseal(disk, at)?;
     unseal(disk, at + 2)

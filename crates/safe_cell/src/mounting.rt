@@ -4,7 +4,7 @@ ghost use Rattle.slot_gate.specs.Slot.{slot_at};
 ghost use Rattle.safe_cell.specs.Answered.{OnlyReads};
 ghost use Rattle.safe_cell.specs.Cell.{IsDamaged, InCell};
 ghost use Rattle.safe_cell.specs.Mounted.{IsCellAt, IsRead, Stands, AllStand};
-ghost use Rattle.safe_cell.specs.Told.{IsMountFault, Tells};
+ghost use Rattle.safe_cell.specs.Mounting.{IsMountFault, AnswersFor};
 
 use crate::body::value_in;
 use crate::cell::SafeCell;
@@ -13,7 +13,7 @@ use sector_disk::SectorDisk;
 use slot_gate::look;
 
 /// Reads the cell whose four sectors begin at this one: slot A, then slot B, of each the gate and
-/// then, where it is sealed, the body; a body that is none of a cell is told at once. The caller
+/// then, where it is sealed, the body; a body that is none of a cell is answered at once. The caller
 /// sees to it, by a sync, that nothing in these sectors is unsynced: else a later crash may leave
 /// another value than the one that was read.
 pub fn mount<D: SectorDisk>(disk: &mut D, at: u64) -> Result<SafeCell, CellFault>
@@ -24,13 +24,13 @@ pub fn mount<D: SectorDisk>(disk: &mut D, at: u64) -> Result<SafeCell, CellFault
     ensures mounted { IsTrue (D.state disk.old).honest
         → IfOk result (λ cell. Stands cell (D.state disk.old).contents) }
 
-    // Device aside, it tells what the disk as it reads stands for.
-    ensures tells { IsTrue (D.state disk.old).honest → (IsErrOf result CellFault.Device → ⊥)
-        → Tells at (D.state disk.old).contents result }
+    // Device aside, it answers what the disk as it reads stands for.
+    ensures answers_for { IsTrue (D.state disk.old).honest → (IsErrOf result CellFault.Device → ⊥)
+        → AnswersFor at (D.state disk.old).contents result }
 
     // Where nothing in its sectors is unsynced, each image has what the cell knows.
     ensures stands { IsTrue (D.state disk.old).honest
-        → ((k : ℕ) → InCell at k → (D.state disk.old).settled k)
+        → ((k : ℕ) → InCell at k → (D.state disk.old).synced k)
         → IfOk result (λ cell. AllStand cell (D.state disk.new)) }
 
     ensures no_other { IfErr result (IsMountFault at) }

@@ -87,11 +87,11 @@ fits_lines n ((c ∷ line) ∷ lines) s acts read = sized (size_of (words_of (c 
   where
     filled : (t : Size) (r : Result (List Act) ℕ) → size_of (words_of (c ∷ line)) ≡ Some t → acts_from (n + 1) 0 lines ≡ r → with_acts t r ≡ Ok (plan s acts) → IsWithinLimits s acts
     filled t (Err m) named later read = absurd cc
-    filled t (Ok found) named later read =
+    filled t (Ok read_so) named later read =
         let same : t ≡ s = ap (size_in t) read in
-        let all : found ≡ acts = ap (acts_in found) read in
+        let all : read_so ≡ acts = ap (acts_in read_so) read in
         let fit = fits_size (words_of (c ∷ line)) t named in
-        rw (sym same) (record { nodes = fit.nodes; slots = fit.slots; few = rw (sym all) (omega (arith, few_acts (n + 1) 0 lines found (omega arith) later)) })
+        rw (sym same) (record { nodes = fit.nodes; slots = fit.slots; few = rw (sym all) (omega (arith, few_acts (n + 1) 0 lines read_so (omega arith) later)) })
 
     sized : (o : Option Size) → size_of (words_of (c ∷ line)) ≡ o → behind_size (n + 1) o lines ≡ Ok (plan s acts) → IsWithinLimits s acts
     sized None named read = absurd cc

@@ -56,10 +56,10 @@ none_unsynced n at = ⊎_elim
 pub sync_touches : (sectors : Image) (unsynced now : List Bool) (old new : List Overwritten) (spans more : List (List Overwritten)) (failures : ℕ) (left after : Option ℕ) (n : ℕ)
     → EndsTime sectors unsynced old spans more → new ≡ [] → now ≡ replicate n false
     → Touches nothing (state_of (seen sectors unsynced old spans failures left)) (state_of (seen sectors now new more failures after))
-sync_touches sectors unsynced now old new spans more failures left after n ends begun settled =
+sync_touches sectors unsynced now old new spans more failures left after n ends begun synced =
     syncs (seen sectors unsynced old spans failures left) (seen sectors now new more failures after) (record { contents = sectors; written = touched ends.ended })
     refl
-    (λ at. ap (λ l. get_or l at false) settled ∙ none_unsynced n at)
+    (λ at. ap (λ l. get_or l at false) synced ∙ none_unsynced n at)
     (ap (λ l. spans_of more (undone l sectors)) begun
     ∙ ap (λ l. spans_of l sectors) ends.added
     ∙ spans_of-append spans ends.ended sectors
@@ -67,8 +67,8 @@ sync_touches sectors unsynced now old new spans more failures left after n ends 
     refl
     (λ at. ends.took at)
 
-pub all_settled : (unsynced : List Bool) → ((at : ℕ) → IsFalse (get_or unsynced at false)) → unsynced ≡ replicate (length unsynced) false
-all_settled unsynced none = all_false unsynced (λ at is. false≢true (sym (none at) ∙ is))
+pub all_are_synced : (unsynced : List Bool) → ((at : ℕ) → IsFalse (get_or unsynced at false)) → unsynced ≡ replicate (length unsynced) false
+all_are_synced unsynced none = all_false unsynced (λ at is. false≢true (sym (none at) ∙ is))
 
 pub no_notes : (sectors : Image) (unsynced : List Bool) (notes : List Overwritten) (is_torn : Bool) → IsNoted sectors unsynced notes is_torn → ((at : ℕ) → IsFalse (get_or unsynced at false)) → notes ≡ []
 no_notes sectors unsynced [] is_torn noted none = refl
@@ -94,9 +94,9 @@ none_flagged sectors unsynced notes is_torn noted untorn none at =
 pub idle_touches : (sectors : Image) (unsynced now : List Bool) (old new : List Overwritten) (spans more : List (List Overwritten)) (failures : ℕ) (left after : Option ℕ) (is_torn : Bool)
     → IsNoted sectors unsynced old is_torn → EndsNothing unsynced spans more → new ≡ [] → now ≡ replicate (length unsynced) false
     → Touches nothing (state_of (seen sectors unsynced old spans failures left)) (state_of (seen sectors now new more failures after))
-idle_touches sectors unsynced now old new spans more failures left after is_torn noted ends begun settled =
+idle_touches sectors unsynced now old new spans more failures left after is_torn noted ends begun synced =
     subst (λ (u : List Bool). Touches nothing (state_of (seen sectors unsynced old spans failures left)) (state_of (seen sectors u new more failures after)))
-    (all_settled unsynced ends.none ∙ sym settled)
+    (all_are_synced unsynced ends.none ∙ sym synced)
     (stays nothing (seen sectors unsynced old spans failures left) (seen sectors unsynced new more failures after) refl refl
     (ap (λ l. spans_of l (undone new sectors)) ends.same ∙ ap (λ l. spans_of spans (undone l sectors)) (begun ∙ sym (no_notes sectors unsynced old is_torn noted ends.none))))
 
@@ -126,7 +126,7 @@ pub crashed : (sectors filled_in : Image) (unsynced : List Bool) (notes : List O
 crashed sectors filled_in unsynced notes spans failures left is_torn fill noted size tears = record {
   size = size;
   unsynced = λ at on is. tears at (omega (arith, on, length-undone notes sectors)) ∙ torn_yes unsynced fill (sector_at (undone notes sectors) at) at is;
-  settled = λ at is. ⊎_elim
+  synced = λ at is. ⊎_elim
       (λ on. tears at (omega (arith, on, length-undone notes sectors))
       ∙ torn_no unsynced fill (sector_at (undone notes sectors) at) at is
       ∙ undone_elsewhere notes sectors at (unless (has_touched notes at) (λ yes. false≢true (sym is ∙ noted.no_other at yes))))
@@ -136,18 +136,18 @@ crashed sectors filled_in unsynced notes spans failures left is_torn fill noted 
 
 -- what a crash leaves is one of the images that it might have left
 pub crash_left : (m : Memory) (fill : List ℕ) (image : Image) → IsCrashed m fill image → IsImage (state_of m) image
-crash_left m fill image is = record { size = is.size; same = is.settled }
+crash_left m fill image is = record { size = is.size; same = is.synced }
 
 pub begun_anew : (sectors : Image) (unsynced : List Bool) (notes : List Overwritten) (spans : List (List Overwritten)) (failures n : ℕ)
     → notes ≡ [] → spans ≡ [] → unsynced ≡ replicate n false → n ≡ length sectors → seen sectors unsynced notes spans failures None ≡ all_synced sectors failures
-begun_anew sectors unsynced notes spans failures n no_notes no_spans settled size =
+begun_anew sectors unsynced notes spans failures n no_notes no_spans synced size =
     ap (λ l. seen sectors unsynced l spans failures None) no_notes
     ∙ ap (λ l. seen sectors unsynced [] l failures None) no_spans
-    ∙ ap (λ u. seen sectors u [] [] failures None) (settled ∙ ap (λ k. replicate k false) size)
+    ∙ ap (λ u. seen sectors u [] [] failures None) (synced ∙ ap (λ k. replicate k false) size)
 
 pub none_noted : (sectors : Image) (unsynced : List Bool) (notes : List Overwritten) (n : ℕ) → notes ≡ [] → unsynced ≡ replicate n false → n ≡ length sectors → IsNoted sectors unsynced notes false
-none_noted sectors unsynced notes n no_notes settled size = record {
-  size = ap length settled ∙ length-replicate n false ∙ size;
+none_noted sectors unsynced notes n no_notes synced size = record {
+  size = ap length synced ∙ length-replicate n false ∙ size;
   no_other = λ at touched. absurd (false≢true (subst (λ l. IsTrue (has_touched l at)) no_notes touched));
-  noted = λ _ at flagged. absurd (false≢true (sym (ap (λ l. get_or l at false) settled ∙ none_unsynced n at) ∙ flagged));
+  noted = λ _ at flagged. absurd (false≢true (sym (ap (λ l. get_or l at false) synced ∙ none_unsynced n at) ∙ flagged));
 }

@@ -67,7 +67,7 @@ run_of_call touched old new before after call back = record {
 -- a call that writes nothing
 pub quiet_run : (old new : DiskState) → Laws old → Laws new → Touches nothing old new → Run nothing old new
 quiet_run old new before after call = run_of_call nothing old new before after call
-    (λ c now. (c, record { size = now.size ∙ call.contents.size; same = λ at still. now.same at (call.settled at (λ no. no) still) ∙ call.contents.same at (λ no. no) }, same_image nothing c))
+    (λ c now. (c, record { size = now.size ∙ call.contents.size; same = λ at still. now.same at (call.synced at (λ no. no) still) ∙ call.contents.same at (λ no. no) }, same_image nothing c))
 
 same_or_not : (m n : ℕ) → (m ≡ n) ⊎ (m ≢ n)
 same_or_not m n = ⊎_elim (λ h. inl h.1) (λ h. inr h.1) (eqb_tells m n)
@@ -84,7 +84,7 @@ write_run at old new before after on call = run_of_call (λ k. k ≡ at) old new
         size = length-set c at was ∙ now.size ∙ call.contents.size;
         same = λ k still. ⊎_elim
             (λ is. ap (λ j. sector_at d j) is ∙ get_or-set_same c at was [] long ∙ ap (λ j. sector_at old.contents j) (sym is))
-            (λ other. get_or-set_other c at k was [] other ∙ now.same k (call.settled k other still) ∙ call.contents.same k other)
+            (λ other. get_or-set_other c at k was [] other ∙ now.same k (call.synced k other still) ∙ call.contents.same k other)
             (same_or_not k at);
       },
       record { size = sym (length-set c at was); same = λ k other. sym (get_or-set_other c at k was [] other) },

@@ -20,4 +20,4 @@ pub record IsCrashed (m : Memory) (fill : List ℕ) (image : Image) : Type 0 whe
   pub size : length image ≡ length m.contents
   pub unsynced : (at : ℕ) → at < length m.contents → IsTrue (is_unsynced m at)
       → sector_at image at ≡ filled (fill_at m.unsynced at fill) (sector_at m.synced at)
-  pub settled : (at : ℕ) → IsFalse (is_unsynced m at) → sector_at image at ≡ sector_at m.contents at
+  pub synced : (at : ℕ) → IsFalse (is_unsynced m at) → sector_at image at ≡ sector_at m.contents at

@@ -19,21 +19,21 @@ pub record DiskState : Type 1 where
   -- what reads give
   pub contents : Image
   -- the sectors that nothing was written to since the last sync
-  pub settled : ℕ → Type 0
+  pub synced : ℕ → Type 0
   -- a number that doesn't fall
   pub moment : ℕ
   -- the images that a crash at some moment from that one on might have left
   pub left_since : ℕ → Image → Type 0
 
--- An image of these contents has as many sectors, and each settled one as it is there. An unsynced one may hold any
+-- An image of these contents has as many sectors, and each synced one as it is there. An unsynced one may hold any
 -- bytes: on a disk 512 of them, but a claim on each image needs no such premise, and is the stronger without it.
-pub record IsImageOf (contents : Image) (settled : ℕ → Type 0) (image : Image) : Type 0 where
+pub record IsImageOf (contents : Image) (synced : ℕ → Type 0) (image : Image) : Type 0 where
   pub size : length image ≡ length contents
-  pub same : (at : ℕ) → settled at → sector_at image at ≡ sector_at contents at
+  pub same : (at : ℕ) → synced at → sector_at image at ≡ sector_at contents at
 
 -- what a crash now may leave
 abbrev pub IsImage : DiskState → Image → Type 0
-IsImage disk image = IsImageOf disk.contents disk.settled image
+IsImage disk image = IsImageOf disk.contents disk.synced image
 
 -- Time goes on: a crash since t might have left what it might have left before the call, or what it may leave now.
 pub record Elapses (old new : DiskState) : Type 0 where
@@ -49,10 +49,10 @@ pub record SameBut (touched : ℕ → Type 0) (old new : Image) : Type 0 where
 -- A call that answers writes nothing to the other sectors.
 pub record Touches (touched : ℕ → Type 0) (old new : DiskState) : Type 0 where
   pub contents : SameBut touched old.contents new.contents
-  pub settled : (at : ℕ) → (touched at → ⊥) → old.settled at → new.settled at
+  pub synced : (at : ℕ) → (touched at → ⊥) → old.synced at → new.synced at
   pub time : Elapses old new
 
--- A call that answers Ok leaves the count of failures as it is, and `Device` is told only where it rose, or stands at its greatest value.
+-- A call that answers Ok leaves the count of failures as it is, and it answers `Device` only where it rose, or stands at its greatest value.
 pub record Counts (old new : DiskState) (failed done : Type 0) : Type 0 where
   pub sectors : new.sectors ≡ old.sectors
   pub honest : new.honest ≡ old.honest
@@ -63,8 +63,8 @@ pub record Counts (old new : DiskState) (failed done : Type 0) : Type 0 where
 abbrev pub nothing : ℕ → Type 0
 nothing _ = ⊥
 
-abbrev pub AllSettled : DiskState → Type 0
-AllSettled disk = (at : ℕ) → disk.settled at
+abbrev pub AllSynced : DiskState → Type 0
+AllSynced disk = (at : ℕ) → disk.synced at
 
 -- What holds of an honest disk at each moment.
 pub record Laws (disk : DiskState) : Type 0 where

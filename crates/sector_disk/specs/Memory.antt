@@ -45,7 +45,7 @@ state_of m = record {
   failures = m.failures;
   honest = true;
   contents = m.contents;
-  settled = λ at. IsFalse (is_unsynced m at);
+  synced = λ at. IsFalse (is_unsynced m at);
   moment = length m.spans;
   left_since = λ t image. LeftBySome (drop t m.spans) image
       ⊎ ((t ≤ length m.spans) × IsImageOf m.contents (λ at. IsFalse (is_unsynced m at)) image);

@@ -62,15 +62,15 @@ goes_on old new spans more = record {
 pub stays : (touched : ℕ → Type 0) (old new : Memory) → new.contents ≡ old.contents → new.unsynced ≡ old.unsynced → new.spans ≡ old.spans → Touches touched (state_of old) (state_of new)
 stays touched old new contents unsynced spans = record {
   contents = record { size = ap length contents; same = λ at _. ap (λ s. sector_at s at) contents };
-  settled = λ at _ still. ap (λ l. get_or l at false) unsynced ∙ still;
+  synced = λ at _ still. ap (λ l. get_or l at false) unsynced ∙ still;
   time = goes_on old new spans (λ c image. record {
     size = image.size ∙ sym (ap length contents);
     same = λ at still. image.same at (sym (ap (λ l. get_or l at false) unsynced) ∙ still) ∙ sym (ap (λ s. sector_at s at) contents);
   });
 }
 
-other_settled : (unsynced : List Bool) (at k : ℕ) → IsFalse (get_or (set unsynced at true) k false) → at < length unsynced → k ≢ at
-other_settled unsynced at k still on here =
+other_synced : (unsynced : List Bool) (at k : ℕ) → IsFalse (get_or (set unsynced at true) k false) → at < length unsynced → k ≢ at
+other_synced unsynced at k still on here =
     false≢true (sym still ∙ ap (λ j. get_or (set unsynced at true) j false) here ∙ get_or-set_same unsynced at true false on)
 
 -- a write: what reads give of other sectors stays, and so does which of them are unsynced
@@ -78,12 +78,12 @@ pub writes : (old new : Memory) (at : ℕ) → at < length old.unsynced → Same
     → Touches (λ k. k ≡ at) (state_of old) (state_of new)
 writes old new at on contents unsynced spans = record {
   contents = contents;
-  settled = λ k other still. ap (λ l. get_or l k false) unsynced ∙ get_or-set_other old.unsynced at k true false other ∙ still;
+  synced = λ k other still. ap (λ l. get_or l k false) unsynced ∙ get_or-set_other old.unsynced at k true false other ∙ still;
   time = goes_on old new spans (λ c image. record {
     size = image.size ∙ sym contents.size;
     same = λ k still.
         let flag = sym (ap (λ l. get_or l k false) unsynced) ∙ still in
-        let other = other_settled old.unsynced at k flag on in
+        let other = other_synced old.unsynced at k flag on in
         image.same k (sym (get_or-set_other old.unsynced at k true false other) ∙ flag) ∙ sym (contents.same k other);
   });
 }
@@ -91,9 +91,9 @@ writes old new at on contents unsynced spans = record {
 -- a sync: a time ends
 pub syncs : (old new : Memory) (span : Span) → new.contents ≡ old.contents → ((at : ℕ) → IsFalse (is_unsynced new at)) → new.spans ≡ old.spans ++ span ∷ []
     → span.contents ≡ old.contents → ((at : ℕ) → was_written span.written at ≡ is_unsynced old at) → Touches nothing (state_of old) (state_of new)
-syncs old new span contents settled spans ends took = record {
+syncs old new span contents synced spans ends took = record {
   contents = record { size = ap length contents; same = λ at _. ap (λ s. sector_at s at) contents };
-  settled = λ at _ _. settled at;
+  synced = λ at _ _. synced at;
   time = record {
     later = omega (arith, long);
     nothing_else = λ t c le since. ⊎_elim

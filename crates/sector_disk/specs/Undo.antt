@@ -50,7 +50,7 @@ pub record IsNoted (sectors : Image) (unsynced : List Bool) (notes : List Overwr
   pub no_other : (at : ℕ) → IsTrue (has_touched notes at) → IsTrue (get_or unsynced at false)
   pub noted : IsFalse torn → (at : ℕ) → IsTrue (get_or unsynced at false) → IsTrue (has_touched notes at)
 
--- A time has ended: its notes tell the same sectors, and back to the same contents, as those of before.
+-- A time has ended: its notes name the same sectors, and back to the same contents, as those of before.
 pub record EndsTime (sectors : Image) (unsynced : List Bool) (notes : List Overwritten) (old new : List (List Overwritten)) : Type 0 where
   pub ended : List Overwritten
   pub added : new ≡ old ++ ended ∷ []

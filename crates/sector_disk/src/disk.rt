@@ -1,6 +1,6 @@
 // A disk of sectors as the code above it sees it.
 ghost use Rattle.std.specs.Prelude.{◌≡◌, ◌≤◌, ◌↔◌, IsTrue, IsOk, IsErrOf};
-ghost use Rattle.sector_disk.specs.Disk.{DiskState, Counts, Laws, Touches, AllSettled, nothing, sector_at};
+ghost use Rattle.sector_disk.specs.Disk.{DiskState, Counts, Laws, Touches, AllSynced, nothing, sector_at};
 ghost use Rattle.sector_disk.specs.declared.fault.DiskFault.TheVariants.{Device, OutOfRange};
 
 use crate::fault::DiskFault;
@@ -42,7 +42,7 @@ pub trait SectorDisk {
         ensures counts { Counts (state self.old) (state self.new) (IsErrOf result Device) (IsOk result) }
         ensures refused { IsErrOf result OutOfRange ↔ ⊥ }
         ensures touches { IsTrue (state self.old).honest → Touches nothing (state self.old) (state self.new) }
-        ensures settles { IsTrue (state self.old).honest → IsOk result → AllSettled (state self.new) };
+        ensures syncs_all { IsTrue (state self.old).honest → IsOk result → AllSynced (state self.new) };
 
     /// An honest disk keeps these.
     ghost laws: { (disk : Self) → IsTrue (state disk).honest → Laws (state disk) };

@@ -1,5 +1,5 @@
 //! Disks of sectors of 512 bytes, what a crash may leave of one, and a disk in memory that fails
-//! and crashes where it is told to.
+//! and crashes on demand.
 #![tactic(auto)]
 
 mod disk;

@@ -1,6 +1,6 @@
-// A disk in memory that fails and crashes where it is told to.
+// A disk in memory that fails and crashes on demand.
 ghost use Rattle.std.specs.Prelude.{◌≡◌, ◌<◌, ◌≤◌, ◌⊎◌, ◌↔◌, ◌∷◌, [], ◌++◌, length, set, get_or, replicate, IsOk, IsTrue, IsFalse, IsErrOf, IfOk, OnErr, Vec, is_ok, false, true, Some, Option, ℕ};
-ghost use Rattle.sector_disk.specs.Disk.{Counts, Touches, AllSettled, IsImage, nothing, sector_at};
+ghost use Rattle.sector_disk.specs.Disk.{Counts, Touches, AllSynced, IsImage, nothing, sector_at};
 ghost use Rattle.sector_disk.specs.Memory.{Memory, state_of, passes, spent, risen, blank, all_synced, is_unsynced};
 ghost use Rattle.sector_disk.specs.Crash.{IsCrashed, torn_at};
 ghost use Rattle.sector_disk.specs.Moments.{laws};
@@ -100,7 +100,7 @@ impl MemDisk {
         self.left
     }
 
-    /// Forgets the moments before this one: no crash takes back a write that a sync has settled, so
+    /// Forgets the moments before this one: no crash takes back a write that was synced, so
     /// its note serves a proof alone. What reads give and what a crash may leave stay.
     pub fn forget(&mut self)
         ensures { self.new ≡ record self.old { spans = [] } }
@@ -125,10 +125,10 @@ impl MemDisk {
         // Nothing is unsynced, no earlier moment is known, and it isn't armed.
         ensures anew { self.new ≡ all_synced self.new.contents self.old.failures }
     {
-        let settled = is_settled(&self.notes, self.torn);
+        let synced = is_synced(&self.notes, self.torn);
         undo(&mut self.sectors, &mut self.notes);
-        tear(&mut self.sectors, &self.unsynced, settled, fill);
-        settle(&mut self.unsynced, settled);
+        tear(&mut self.sectors, &self.unsynced, synced, fill);
+        mark_synced(&mut self.unsynced, synced);
         self.notes.clear();
         self.torn = false;
         self.left = None;
@@ -216,7 +216,7 @@ impl SectorDisk for MemDisk {
         ensures counts { Counts (state_of self.old) (state_of self.new) (IsErrOf result Device) (IsOk result) }
         ensures refused { IsErrOf result OutOfRange ↔ ⊥ }
         ensures touches { IsTrue true → Touches nothing (state_of self.old) (state_of self.new) }
-        ensures settles { IsTrue true → IsOk result → AllSettled (state_of self.new) }
+        ensures syncs_all { IsTrue true → IsOk result → AllSynced (state_of self.new) }
 
         // Where it is armed, no call passes but those that are left.
         ensures armed { IsOk result → IsTrue (passes self.old.left) }
@@ -229,7 +229,7 @@ impl SectorDisk for MemDisk {
           left = spent self.old.left;
         } }
 
-        // A sync that fails settles nothing.
+        // A sync that fails makes sure of nothing.
         ensures failed { IsErrOf result Device
             → self.new ≡ record self.old { failures = risen self.old.failures; left = spent self.old.left } }
     {
@@ -308,7 +308,7 @@ fn end_time(
     requires { IsNoted sectors.now unsynced.old notes.old.since torn.old }
     ensures noted { IsNoted sectors.now unsynced.new notes.new.since torn.new }
     ensures idle { ((at : ℕ) → IsFalse (get_or unsynced.old at false)) → IsOk result }
-    ensures settled { IsOk result → unsynced.new ≡ replicate (length unsynced.old) false }
+    ensures synced { IsOk result → unsynced.new ≡ replicate (length unsynced.old) false }
     ensures begun { IsOk result → notes.new.since ≡ [] }
     ensures ended { IsOk result → EndsTime sectors.now unsynced.old notes.old.since notes.old.times notes.new.times
         ⊎ EndsNothing unsynced.old notes.old.times notes.new.times }
@@ -347,33 +347,33 @@ fn note_torn(
 }
 
 // Whether nothing was written since the last sync.
-fn is_settled(notes: &Notes, torn: bool) -> bool
+fn is_synced(notes: &Notes, torn: bool) -> bool
     ensures untorn { IsTrue result → IsFalse torn }
     ensures none { IsTrue result → notes.now.since ≡ [] }
 {
     !torn && notes.since().is_empty()
 }
 
-// Clears the flags of the unsynced sectors. Where all are settled, it looks at none.
-#[tactic(auto, using(crate::proofs::Calls::all_settled))]
-fn settle(unsynced: &mut Vec<bool>, settled: bool)
-    requires { IsTrue settled → (at : ℕ) → IsFalse (get_or unsynced.old.items at false) }
+// Clears the flags of the unsynced sectors. Where all are synced, it looks at none.
+#[tactic(auto, using(crate::proofs::Calls::all_are_synced))]
+fn mark_synced(unsynced: &mut Vec<bool>, synced: bool)
+    requires { IsTrue synced → (at : ℕ) → IsFalse (get_or unsynced.old.items at false) }
     ensures { unsynced.new.items ≡ replicate (length unsynced.old.items) false }
 {
-    if !settled {
+    if !synced {
         unsynced.fill(false);
     }
 }
 
-// Writes a fill over the unsynced sectors, in rising order. Where all are settled, it looks at none.
-fn tear(sectors: &mut Sectors, unsynced: &[bool], settled: bool, fill: &[u8])
+// Writes a fill over the unsynced sectors, in rising order. Where all are synced, it looks at none.
+fn tear(sectors: &mut Sectors, unsynced: &[bool], synced: bool, fill: &[u8])
     requires flags { length unsynced.now ≡ length sectors.old }
-    requires settled { IsTrue settled → (at : ℕ) → IsFalse (get_or unsynced.now at false) }
+    requires synced { IsTrue synced → (at : ℕ) → IsFalse (get_or unsynced.now at false) }
     ensures size { length sectors.new ≡ length sectors.old }
     ensures torn { (at : ℕ) → at < length sectors.old
         → sector_at sectors.new at ≡ torn_at unsynced.now fill.now at (sector_at sectors.old at) }
 {
-    if settled {
+    if synced {
         return;
     }
     let mut rest = fill;

@@ -64,7 +64,7 @@ impl Notes {
     pub fn end(&mut self, unsynced: &mut [bool]) -> Result<(), AllocError>
         requires { (at : ℕ) → IsTrue (get_or unsynced.old at false) → IsTrue (has_touched self.old.since at) }
         ensures ok { IsOk result → self.new ≡ record { times = self.old.times ++ self.old.since ∷ []; since = [] } }
-        ensures settled { IsOk result → unsynced.new ≡ replicate (length unsynced.old) false }
+        ensures synced { IsOk result → unsynced.new ≡ replicate (length unsynced.old) false }
         ensures err { OnErr result (self.new ≡ self.old) }
         ensures unsynced { OnErr result (unsynced.new ≡ unsynced.old) }
     {

@@ -5,8 +5,8 @@ use Rattle.std.proofs.lemmas.List.{append-nil, length-append, length-set}
 use Rattle.group_task.specs.declared.node.TheConstants.{NODES}
 use Rattle.group_task.specs.Ids.{has}
 use Rattle.wire_msg.specs.Envelope.{Envelope}
-use Rattle.sim_net.specs.Network.{Network, silent, is_cut, found, delivery}
-use Rattle.sim_net.specs.Changes.{Change, Sends, Loses, Cuts, Mends, after_change, after_changes, sent_by, was_lost, same_pair, was_cut, told_of, AreOfNodes, DeliveredByChanges}
+use Rattle.sim_net.specs.Network.{Network, silent, is_cut, message_at, delivery}
+use Rattle.sim_net.specs.Changes.{Change, Sends, Loses, Cuts, Mends, after_change, after_changes, sent_by, was_lost, same_pair, was_cut, delivered_as, AreOfNodes, DeliveredByChanges}
 use Rattle.sim_net.proofs.Cuts.{cut_now, mended_now, not_lost_yet, lost_now}
 
 all_sent : (cs : List Change) (net : Network) → (after_changes net cs).sent ≡ net.sent ++ sent_by cs
@@ -55,14 +55,14 @@ none_cut zero i x = refl
 none_cut (suc n) zero x = refl
 none_cut (suc n) (suc i) x = none_cut n i x
 
-told_same : (net : Network) (cs : List Change) (k : ℕ) (lost : Bool) (o : Option Envelope) → slice_index_or net.lost k false ≡ lost → slice_get net.sent k ≡ o
-    → ((m : Envelope) → is_cut net.cuts m.sender m.receiver ≡ was_cut m.sender m.receiver false cs) → delivery net k ≡ told_of cs o lost
-told_same net cs k lost None at sent same = rw (sent, delivery, found) refl
-told_same net cs k true (Some m) at sent same = rw (sent, at, delivery, found) refl
-told_same net cs k false (Some m) at sent same = rw (sent, at, same m, delivery, found) refl
+delivered_same : (net : Network) (cs : List Change) (k : ℕ) (lost : Bool) (o : Option Envelope) → slice_index_or net.lost k false ≡ lost → slice_get net.sent k ≡ o
+    → ((m : Envelope) → is_cut net.cuts m.sender m.receiver ≡ was_cut m.sender m.receiver false cs) → delivery net k ≡ delivered_as cs o lost
+delivered_same net cs k lost None at sent same = rw (sent, delivery, message_at) refl
+delivered_same net cs k true (Some m) at sent same = rw (sent, at, delivery, message_at) refl
+delivered_same net cs k false (Some m) at sent same = rw (sent, at, same m, delivery, message_at) refl
 
 pub delivered_by_changes : DeliveredByChanges
 delivered_by_changes cs nodes k =
     let net : Network = after_changes silent cs in
-    told_same net cs k (was_lost k 0 cs) (slice_get (sent_by cs) k) (all_lost cs silent k 0 refl) (ap (λ (ms : List Envelope). slice_get ms k) (all_sent cs silent))
+    delivered_same net cs k (was_lost k 0 cs) (slice_get (sent_by cs) k) (all_lost cs silent k 0 refl) (ap (λ (ms : List Envelope). slice_get ms k) (all_sent cs silent))
     (λ m. all_cut cs silent m.sender m.receiver false refl nodes (none_cut NODES (min m.sender m.receiver) (max m.sender m.receiver)))

@@ -55,13 +55,13 @@ was_cut a b before (Loses k ∷ cs) = was_cut a b before cs
 was_cut a b before (Cuts c d ∷ cs) = was_cut a b (same_pair a b c d || before) cs
 was_cut a b before (Mends c d ∷ cs) = was_cut a b (not (same_pair a b c d) && before) cs
 
-abbrev pub told_of : List Change → Option Envelope → Bool → Result Envelope NetFault
-told_of changes None lost = Err NoSuch
-told_of changes (Some m) lost = if lost then Err Lost else (if was_cut m.sender m.receiver false changes then Err Cut else Ok m)
+abbrev pub delivered_as : List Change → Option Envelope → Bool → Result Envelope NetFault
+delivered_as changes None lost = Err NoSuch
+delivered_as changes (Some m) lost = if lost then Err Lost else (if was_cut m.sender m.receiver false changes then Err Cut else Ok m)
 
 -- what is delivered under a number after these changes
 abbrev pub delivered : List Change → ℕ → Result Envelope NetFault
-delivered changes k = told_of changes (slice_get (sent_by changes) k) (was_lost k 0 changes)
+delivered changes k = delivered_as changes (slice_get (sent_by changes) k) (was_lost k 0 changes)
 
 -- only nodes are cut and mended
 abbrev pub AreOfNodes : List Change → Type 0

@@ -35,12 +35,12 @@ with_pair change cuts a b = slice_set cuts (min a b) (change (slice_index_or cut
 -- ---- what comes of an act
 
 -- the message of this number, if it was sent and isn't lost
-abbrev pub found : Network → ℕ → Result Envelope NetFault
-found net k = elim (slice_get net.sent k) [ None ↦ Err NoSuch | Some m ↦ if slice_index_or net.lost k false then Err Lost else Ok m ]
+abbrev pub message_at : Network → ℕ → Result Envelope NetFault
+message_at net k = elim (slice_get net.sent k) [ None ↦ Err NoSuch | Some m ↦ if slice_index_or net.lost k false then Err Lost else Ok m ]
 
--- what is delivered under a number: what is found there, unless its pair is cut
+-- what is delivered under a number: what stands there, unless its pair is cut
 abbrev pub delivery : Network → ℕ → Result Envelope NetFault
-delivery net k = elim (found net k) [ Ok m ↦ if is_cut net.cuts m.sender m.receiver then Err Cut else Ok m | Err why ↦ Err why ]
+delivery net k = elim (message_at net k) [ Ok m ↦ if is_cut net.cuts m.sender m.receiver then Err Cut else Ok m | Err why ↦ Err why ]
 
 -- ---- the network after it
 

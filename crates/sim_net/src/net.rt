@@ -1,5 +1,5 @@
 ghost use Rattle.std.specs.Prelude.{◌≡◌, ◌↔◌, ◌+◌, ◌-◌, ◌<◌, ◌≤◌, length, min, max, Ok, Err, OnOk, OnErr, IfOk, IfErr};
-ghost use Rattle.sim_net.specs.Network.{silent, is_cut, found, delivery, after_sent, after_lost, after_cut, after_mend};
+ghost use Rattle.sim_net.specs.Network.{silent, is_cut, message_at, delivery, after_sent, after_lost, after_cut, after_mend};
 
 use crate::fault::NetFault;
 use group_task::{Members, NODES, NodeId};
@@ -120,7 +120,7 @@ impl Net {
     /// Loses the message of this number: from now on it never comes.
     pub fn lose(&mut self, number: u64) -> Result<(), NetFault>
         ensures lost { OnOk result (self.new ≡ record { network = after_lost self.old.network number; room = self.old.room }) }
-        ensures refused { (fault : NetFault) → (result ≡ Err fault) ↔ (found self.old.network number ≡ Err fault) }
+        ensures refused { (fault : NetFault) → (result ≡ Err fault) ↔ (message_at self.old.network number ≡ Err fault) }
         ensures unchanged { OnErr result (self.new ≡ self.old) }
     {
         let place = number as usize;

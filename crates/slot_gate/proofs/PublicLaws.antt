@@ -5,4 +5,4 @@ pub use Rattle.slot_gate.proofs.Calls.{run_on}
 -- Unsealing slots one behind another.
 pub use Rattle.slot_gate.proofs.Rows.{Erased, erased_more, erased_run, erased_start}
 -- What is seen of a slot, from its gate and its body.
-pub use Rattle.slot_gate.proofs.Slots.{slot_either, slot_kept, slot_same, slot_settled}
+pub use Rattle.slot_gate.proofs.Slots.{slot_either, slot_kept, slot_same, slot_synced}

@@ -33,5 +33,5 @@ pub slot_kept : (old new : DiskState) (slot : ℕ) → Run nothing old new → s
 slot_kept old new slot run = slot_same new.contents old.contents slot (run.contents.same (slot + 1) (λ no. no)) (run.contents.same slot (λ no. no))
 
 -- once its sectors are synced, each image has the slot that reads give
-pub slot_settled : (disk : DiskState) (slot : ℕ) (c : Image) → disk.settled slot → disk.settled (slot + 1) → IsImage disk c → slot_at c slot ≡ slot_at disk.contents slot
-slot_settled disk slot c body gate image = slot_same c disk.contents slot (image.same (slot + 1) gate) (image.same slot body)
+pub slot_synced : (disk : DiskState) (slot : ℕ) (c : Image) → disk.synced slot → disk.synced (slot + 1) → IsImage disk c → slot_at c slot ≡ slot_at disk.contents slot
+slot_synced disk slot c body gate image = slot_same c disk.contents slot (image.same (slot + 1) gate) (image.same slot body)

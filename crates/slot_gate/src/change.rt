@@ -1,6 +1,6 @@
 // A body put into a slot, in an order in which no crash leaves a torn one.
 ghost use Rattle.std.specs.Prelude.{◌≡◌, ◌<◌, ◌+◌, ◌^◌, IsTrue, IsOk, IsErrOf, Some, None};
-ghost use Rattle.sector_disk.specs.Disk.{Image, IsImage, Counts, AllSettled};
+ghost use Rattle.sector_disk.specs.Disk.{Image, IsImage, Counts, AllSynced};
 ghost use Rattle.sector_disk.specs.Run.{Run, Each};
 ghost use Rattle.slot_gate.specs.Slot.{slot_at, InSlot};
 ghost use Rattle.slot_gate.specs.Stored.{Knows, IsStored, IsCleared, Follows};
@@ -34,8 +34,8 @@ pub fn store<D: SectorDisk>(
 
     ensures sealed { IsTrue (D.state disk.old).honest → IsOk result
         → slot_at (D.state disk.new).contents slot ≡ Some body.now }
-    ensures settled { IsTrue (D.state disk.old).honest → IsOk result
-        → AllSettled (D.state disk.new) }
+    ensures synced { IsTrue (D.state disk.old).honest → IsOk result
+        → AllSynced (D.state disk.new) }
 {
     clear(disk, slot, sealed)?;
     fill(disk, slot, body)?;

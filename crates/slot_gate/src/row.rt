@@ -1,6 +1,6 @@
 // Slots that stand one behind another, unsealed together.
 ghost use Rattle.std.specs.Prelude.{◌≡◌, ◌<◌, ◌≤◌, ◌+◌, ◌*◌, ◌^◌, ℕ, IsTrue, IsOk, IsErrOf, None};
-ghost use Rattle.sector_disk.specs.Disk.{Counts, AllSettled};
+ghost use Rattle.sector_disk.specs.Disk.{Counts, AllSynced};
 ghost use Rattle.sector_disk.specs.Run.{Run};
 ghost use Rattle.slot_gate.specs.Slot.{slot_at, InSlots};
 
@@ -20,8 +20,8 @@ pub fn unseal_all<D: SectorDisk>(disk: &mut D, first: u64, slots: u64) -> Result
         → Run (InSlots first slots) (D.state disk.old) (D.state disk.new) }
     ensures unsealed { IsTrue (D.state disk.old).honest → IsOk result
         → (k : ℕ) → k < slots → slot_at (D.state disk.new).contents (first + 2 * k) ≡ None }
-    ensures settled { IsTrue (D.state disk.old).honest → IsOk result
-        → AllSettled (D.state disk.new) }
+    ensures synced { IsTrue (D.state disk.old).honest → IsOk result
+        → AllSynced (D.state disk.new) }
 {
     for unsealed in 0..slots {
         disk.write(first + 2 * unsealed + 1, &[0; 512])?;

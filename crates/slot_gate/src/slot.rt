@@ -1,6 +1,6 @@
 // One slot, by the number of its body sector: its gate is the sector behind it.
 ghost use Rattle.std.specs.Prelude.{◌≡◌, ◌<◌, ◌+◌, ◌⊎◌, ◌^◌, ℕ, IsTrue, IsOk, IsErrOf, IfOk, Some, None};
-ghost use Rattle.sector_disk.specs.Disk.{Image, IsImage, Counts, AllSettled, nothing, sector_at};
+ghost use Rattle.sector_disk.specs.Disk.{Image, IsImage, Counts, AllSynced, nothing, sector_at};
 ghost use Rattle.sector_disk.specs.Run.{Run, Each};
 ghost use Rattle.slot_gate.specs.Slot.{slot_at, sealed_gate, unsealed_gate};
 
@@ -22,7 +22,7 @@ pub fn unseal<D: SectorDisk>(disk: &mut D, slot: u64) -> Result<(), DiskFault>
         → Run (λ k. k ≡ slot + 1) (D.state disk.old) (D.state disk.new) }
 
     // Over a synced body: until the sync it is unsealed or still sealed over that body.
-    ensures images { IsTrue (D.state disk.old).honest → (D.state disk.old).settled slot
+    ensures images { IsTrue (D.state disk.old).honest → (D.state disk.old).synced slot
         → Each (D.state disk.old) (D.state disk.new) (λ c. (slot_at c slot ≡ None)
         ⊎ (slot_at c slot ≡ Some (sector_at (D.state disk.old).contents slot))) }
 
@@ -30,10 +30,10 @@ pub fn unseal<D: SectorDisk>(disk: &mut D, slot: u64) -> Result<(), DiskFault>
         → sector_at (D.state disk.new).contents (slot + 1) ≡ unsealed_gate }
     ensures unsealed { IsTrue (D.state disk.old).honest → IsOk result
         → slot_at (D.state disk.new).contents slot ≡ None }
-    ensures settled { IsTrue (D.state disk.old).honest → IsOk result
-        → AllSettled (D.state disk.new) }
+    ensures synced { IsTrue (D.state disk.old).honest → IsOk result
+        → AllSynced (D.state disk.new) }
 {
-    settle(disk, slot + 1, &[0; 512])
+    write_synced(disk, slot + 1, &[0; 512])
 }
 
 /// Writes the body of a slot that is unsealed, in two device calls.
@@ -54,10 +54,10 @@ pub fn fill<D: SectorDisk>(disk: &mut D, slot: u64, body: &Sector) -> Result<(),
 
     ensures written { IsTrue (D.state disk.old).honest → IsOk result
         → sector_at (D.state disk.new).contents slot ≡ body.now }
-    ensures settled { IsTrue (D.state disk.old).honest → IsOk result
-        → AllSettled (D.state disk.new) }
+    ensures synced { IsTrue (D.state disk.old).honest → IsOk result
+        → AllSynced (D.state disk.new) }
 {
-    settle(disk, slot, body)
+    write_synced(disk, slot, body)
 }
 
 /// Seals a slot over the body that was filled in, in two device calls.
@@ -72,7 +72,7 @@ pub fn seal<D: SectorDisk>(disk: &mut D, slot: u64) -> Result<(), DiskFault>
         → Run (λ k. k ≡ slot + 1) (D.state disk.old) (D.state disk.new) }
 
     // Over a synced body: until the sync it is unsealed or sealed over that body.
-    ensures images { IsTrue (D.state disk.old).honest → (D.state disk.old).settled slot
+    ensures images { IsTrue (D.state disk.old).honest → (D.state disk.old).synced slot
         → Each (D.state disk.old) (D.state disk.new) (λ c. (slot_at c slot ≡ None)
         ⊎ (slot_at c slot ≡ Some (sector_at (D.state disk.old).contents slot))) }
 
@@ -81,10 +81,10 @@ pub fn seal<D: SectorDisk>(disk: &mut D, slot: u64) -> Result<(), DiskFault>
     ensures sealed { IsTrue (D.state disk.old).honest → IsOk result
         → slot_at (D.state disk.new).contents slot
         ≡ Some (sector_at (D.state disk.old).contents slot) }
-    ensures settled { IsTrue (D.state disk.old).honest → IsOk result
-        → AllSettled (D.state disk.new) }
+    ensures synced { IsTrue (D.state disk.old).honest → IsOk result
+        → AllSynced (D.state disk.new) }
 {
-    settle(disk, slot + 1, &sealed_gate_bytes())
+    write_synced(disk, slot + 1, &sealed_gate_bytes())
 }
 
 /// The body of a slot that reads as sealed. Reads the gate, and the body only where it is sealed.
@@ -95,12 +95,12 @@ pub fn look<D: SectorDisk>(disk: &mut D, slot: u64) -> Result<Option<Sector>, Di
     ensures counts { Counts (D.state disk.old) (D.state disk.new)
         (IsErrOf result DiskFault.Device) (IsOk result) }
     ensures in_range { IsErrOf result DiskFault.OutOfRange → ⊥ }
-    ensures found { IsTrue (D.state disk.old).honest
-        → IfOk result (λ found. found ≡ slot_at (D.state disk.old).contents slot) }
+    ensures content { IsTrue (D.state disk.old).honest
+        → IfOk result (λ content. content ≡ slot_at (D.state disk.old).contents slot) }
     ensures run { IsTrue (D.state disk.old).honest
         → Run nothing (D.state disk.old) (D.state disk.new) }
-    ensures settled { IsTrue (D.state disk.old).honest
-        → (k : ℕ) → (D.state disk.old).settled k → (D.state disk.new).settled k }
+    ensures synced { IsTrue (D.state disk.old).honest
+        → (k : ℕ) → (D.state disk.old).synced k → (D.state disk.new).synced k }
 {
     let mut sector = [0; 512];
     disk.read(slot + 1, &mut sector)?;
@@ -112,7 +112,7 @@ pub fn look<D: SectorDisk>(disk: &mut D, slot: u64) -> Result<Option<Sector>, Di
 }
 
 // Writes a sector and makes sure of it.
-fn settle<D: SectorDisk>(disk: &mut D, at: u64, sector: &Sector) -> Result<(), DiskFault>
+fn write_synced<D: SectorDisk>(disk: &mut D, at: u64, sector: &Sector) -> Result<(), DiskFault>
     requires { at < (D.state disk.old).sectors }
     ensures counts { Counts (D.state disk.old) (D.state disk.new)
         (IsErrOf result DiskFault.Device) (IsOk result) }
@@ -121,8 +121,8 @@ fn settle<D: SectorDisk>(disk: &mut D, at: u64, sector: &Sector) -> Result<(), D
         → Run (λ k. k ≡ at) (D.state disk.old) (D.state disk.new) }
     ensures written { IsTrue (D.state disk.old).honest → IsOk result
         → sector_at (D.state disk.new).contents at ≡ sector.now }
-    ensures settled { IsTrue (D.state disk.old).honest → IsOk result
-        → AllSettled (D.state disk.new) }
+    ensures synced { IsTrue (D.state disk.old).honest → IsOk result
+        → AllSynced (D.state disk.new) }
 {
     disk.write(at, sector)?;
     disk.sync()

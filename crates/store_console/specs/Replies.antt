@@ -7,7 +7,7 @@ use Rattle.job_model.specs.declared.job.Job.{Job}
 use Rattle.job_model.specs.declared.command.Command.TheVariants as change
 use Rattle.file_disk.specs.File.{FileState}
 use Rattle.node_store.specs.Store.{StoreState, durable_of, append_refusal, compaction_refusal, raise_refusal, Changed}
-use Rattle.node_store.specs.Told.{IsMountFault}
+use Rattle.node_store.specs.Mounting.{IsMountFault}
 use Rattle.node_store.specs.declared.fault.StoreFault.{StoreFault}
 use Rattle.console_text.specs.Ends.{line}
 use Rattle.console_text.specs.Words.{work_text}
@@ -34,7 +34,7 @@ Tries Made None old answered (Some new) = Attempted Made (durable_of old) answer
 
 -- the command was made, and it is answered so
 abbrev pub Commanded : StoreState FileState → Command → (ℕ → Reply) → Reply → StoreState FileState → Type 0
-Commanded old command told answered new = (answer : ℕ) × (answered ≡ told answer) × Changed old new command answer
+Commanded old command reply answered new = (answer : ℕ) × (answered ≡ reply answer) × Changed old new command answer
 
 -- a compaction was made, which changes nothing that is shown
 abbrev pub Compacted : StoreState FileState → Reply → StoreState FileState → Type 0

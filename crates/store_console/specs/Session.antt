@@ -12,14 +12,14 @@ Answers mounted [] text = text ≡ []
 Answers mounted (request ∷ requests) text =
     (reply : Reply) × (new : Mounted) × (rest : List ℕ) × Replies mounted request reply new × Answers new requests rest × (text ≡ reply_text new reply ++ rest)
 
-abbrev pub TellsRequests : Result (List Request) ℕ → Outcome → Type 0
-TellsRequests (Err n) outcome = outcome ≡ refused (codes "bad line " ++ decimal n)
-TellsRequests (Ok requests) outcome = (outcome.good ≡ true) × Answers None requests outcome.text
+abbrev pub AnswersRequests : Result (List Request) ℕ → Outcome → Type 0
+AnswersRequests (Err n) outcome = outcome ≡ refused (codes "bad line " ++ decimal n)
+AnswersRequests (Ok requests) outcome = (outcome.good ≡ true) × Answers None requests outcome.text
 
 -- What `store` prints for an input: where a line can't be read, nothing is done. Else each request is answered in turn, and nothing is
 -- mounted at first.
 abbrev pub IsSession : List ℕ → Outcome → Type 0
-IsSession input outcome = TellsRequests (requests_of input) outcome
+IsSession input outcome = AnswersRequests (requests_of input) outcome
 
 -- ---- for the code
 

@@ -11,7 +11,9 @@ use crate::reading::read_requests;
 use crate::reasons::reason;
 use crate::request::Request;
 use crate::text::push_reply;
-use console_text::{Ended, Printout, Source, Told, Trouble, bad_line, read_source, tell};
+use console_text::{
+    Ended, Explained, Printout, Source, Trouble, bad_line, print_explained, read_source,
+};
 use file_disk::FileDisk;
 use line_words::LineFault;
 use node_store::NodeStore;
@@ -38,7 +40,7 @@ pub fn store<P: AsPath, R: Read, W: Write>(
         Ok(bytes) => store_to(rt, alloc, &path, &bytes).map_err(Trouble::from),
         Err(trouble) => Err(trouble),
     };
-    tell(alloc, output, outcome)
+    print_explained(alloc, output, outcome)
 }
 
 /// What `store` prints for an input, and what is wrong with the input.
@@ -47,9 +49,9 @@ fn store_to<P: AsPath>(
     alloc: Global,
     path: &P,
     input: &[u8],
-) -> Result<Told, AllocError>
-    ensures prints { IfOk result (λ told. IsSession input.now (outcome_of told.printout)) }
-    ensures why { IfOk result (λ told. told.why.items ≡ session_flaw input.now) }
+) -> Result<Explained, AllocError>
+    ensures prints { IfOk result (λ explained. IsSession input.now (outcome_of explained.printout)) }
+    ensures why { IfOk result (λ explained. explained.why.items ≡ session_flaw input.now) }
 {
     match read_requests(alloc, input) {
         Ok(requests) => {
@@ -57,7 +59,7 @@ fn store_to<P: AsPath>(
             let printout = Printout { text, good: true };
             Ok(printout.without_why(alloc))
         }
-        Err(LineFault::BadLine(number)) => Ok(Told {
+        Err(LineFault::BadLine(number)) => Ok(Explained {
             printout: bad_line(alloc, number)?,
             why: reason(alloc, input, number)?,
         }),

@@ -57,12 +57,12 @@ is_err : (ps : List Planned) (r : Result (List (ℕ × Turn)) ℕ) (n : ℕ) →
 is_err ps (Ok turns) n is = absurd cc
 is_err ps (Err m) n is = let same : m ≡ n = cc in rw same refl
 
-pub fault_told : (nodes n : ℕ) (line : List ℕ) (lines all : List (ℕ × List ℕ)) (old start : List Planned) (fault : LineFault) → IsFaultAt n (line_of nodes (words_of line)) fault
+pub fault_named : (nodes n : ℕ) (line : List ℕ) (lines all : List (ℕ × List ℕ)) (old start : List Planned) (fault : LineFault) → IsFaultAt n (line_of nodes (words_of line)) fault
     → filled old (turns_of nodes ((n, line) ∷ lines)) ≡ filled start (turns_of nodes all) → IsLineFault (turns_of nodes all) fault
-fault_told nodes n line lines all old start (BadLine m) bad told =
+fault_named nodes n line lines all old start (BadLine m) bad reads_so =
     let here : filled old (turns_of nodes ((n, line) ∷ lines)) ≡ Err m = rw bad.1 (ap (λ (k : ℕ). Err k) (sym bad.0)) in
-    is_err start (turns_of nodes all) m (sym told ∙ here)
-fault_told nodes n line lines all old start NoMemory bad told = tt
+    is_err start (turns_of nodes all) m (sym reads_so ∙ here)
+fault_named nodes n line lines all old start NoMemory bad reads_so = tt
 
 -- ---- what stands in the plans once all turns were added
 
@@ -103,13 +103,13 @@ after_at (turn ∷ turns) ps n q at =
     here : (b : Bool) → (turn.0 == n) ≡ b → (p : Planned) → slice_get (placed turn ps) n ≡ Some p → q ≡ joined p (turns_at n turns) → StoodAt ps n (if b then turn.1 ∷ turns_at n turns else turns_at n turns) q
     here true same p stood is =
         let one : turn.0 ≡ n = grind (arith, nat_tests, same) in
-        let found = set_here ps n (with_turn (slice_index_or ps turn.0 no_plans) turn.1) p (subst (λ (k : ℕ). slice_get (slice_set ps k (with_turn (slice_index_or ps turn.0 no_plans) turn.1)) n ≡ Some p) one stood) in
-        let was = found.1.0 in
-        let at_first : slice_index_or ps turn.0 no_plans ≡ was = get_or_from_slice_get ps turn.0 was no_plans (subst (λ (k : ℕ). slice_get ps k ≡ Some was) (sym one) found.1.1) in
+        let place_set = set_here ps n (with_turn (slice_index_or ps turn.0 no_plans) turn.1) p (subst (λ (k : ℕ). slice_get (slice_set ps k (with_turn (slice_index_or ps turn.0 no_plans) turn.1)) n ≡ Some p) one stood) in
+        let was = place_set.1.0 in
+        let at_first : slice_index_or ps turn.0 no_plans ≡ was = get_or_from_slice_get ps turn.0 was no_plans (subst (λ (k : ℕ). slice_get ps k ≡ Some was) (sym one) place_set.1.1) in
         record {
           was = was;
-          stood = found.1.1;
-          is = is ∙ ap (λ (p : Planned). joined p (turns_at n turns)) (found.0 ∙ ap (λ (p : Planned). with_turn p turn.1) at_first) ∙ joined_more was turn.1 (turns_at n turns);
+          stood = place_set.1.1;
+          is = is ∙ ap (λ (p : Planned). joined p (turns_at n turns)) (place_set.0 ∙ ap (λ (p : Planned). with_turn p turn.1) at_first) ∙ joined_more was turn.1 (turns_at n turns);
         }
     here false other p stood is =
         let apart : turn.0 ≢ n = λ same. grind (arith, nat_tests, other, same) in
@@ -134,13 +134,13 @@ are_planned nodes turns = record {
 
 -- no line is left
 pub all_read : (nodes : ℕ) (all : List (ℕ × List ℕ)) (ps : List Planned) → Ok ps ≡ filled (replicate nodes no_plans) (turns_of nodes all) → AreRead nodes all ps
-all_read nodes all ps told = by_result (turns_of nodes all) refl told
+all_read nodes all ps reads_so = by_result (turns_of nodes all) refl reads_so
   where
     by_result : (r : Result (List (ℕ × Turn)) ℕ) → turns_of nodes all ≡ r → Ok ps ≡ filled (replicate nodes no_plans) r → AreRead nodes all ps
-    by_result (Ok turns) reads told =
+    by_result (Ok turns) reads reads_so =
         let is : after_turns (replicate nodes no_plans) turns ≡ ps = cc in
         record { turns = turns; reads = reads; planned = subst (λ (qs : List Planned). ArePlanned nodes turns qs) is (are_planned nodes turns) }
-    by_result (Err n) reads told = absurd cc
+    by_result (Err n) reads reads_so = absurd cc
 
 -- ---- no turns yet
 

@@ -2,4 +2,4 @@ mod Counts
 mod Cuts
 mod Filling
 mod Polls
-mod Tellings
+mod Texts

@@ -32,8 +32,8 @@ placed_polls turn old new fits is polls =
     each : (x : Planned) → ArePolled turn.0 (length old) x.intake → (b : Bool) (n : ℕ) → (turn.0 == n) ≡ b → (p : Planned) → slice_get (slice_set old turn.0 x) n ≡ Some p → ArePolled n (length old) p.intake
     each x more true n same p there =
         let one : turn.0 ≡ n = grind (arith, nat_tests, same) in
-        let found = set_here old n x p (subst (λ (k : ℕ). slice_get (slice_set old k x) n ≡ Some p) one there) in
-        subst (λ (k : ℕ). ArePolled k (length old) p.intake) one (subst (λ (q : Planned). ArePolled turn.0 (length old) q.intake) (sym found.0) more)
+        let place_set = set_here old n x p (subst (λ (k : ℕ). slice_get (slice_set old k x) n ≡ Some p) one there) in
+        subst (λ (k : ℕ). ArePolled k (length old) p.intake) one (subst (λ (q : Planned). ArePolled turn.0 (length old) q.intake) (sym place_set.0) more)
     each x more false n other p there =
         let apart : turn.0 ≢ n = λ same. grind (arith, nat_tests, other, same) in
         polls n p (sym (set_elsewhere old turn.0 n x apart) ∙ there)

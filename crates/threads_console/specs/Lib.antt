@@ -3,5 +3,5 @@ pub mod Turns
 pub mod Planning
 pub mod Scripts
 pub mod Reasons
-pub mod Told
+pub mod Texts
 pub mod Printed

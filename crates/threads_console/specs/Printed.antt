@@ -15,7 +15,7 @@ use Rattle.node_threads.specs.Whole.{IsWhole}
 use Rattle.trace_text.specs.Written.{trace_data}
 use Rattle.threads_console.specs.Planning.{ArePlanned}
 use Rattle.threads_console.specs.Scripts.{Script, script_of}
-use Rattle.threads_console.specs.Told.{run_told}
+use Rattle.threads_console.specs.Texts.{run_claims}
 
 abbrev pub worker_name : Worker → List ℕ
 worker_name Intake = codes "intake"
@@ -29,33 +29,33 @@ fault_text NoMemory = codes "no memory"
 fault_text Unpaired = codes "unpaired"
 
 -- a line, with the text of the trace of these histories
-abbrev pub told : List Log → Outcome
-told histories = record { text = line (compact_text (trace_data (run_told histories))); good = true }
+abbrev pub run_outcome : List Log → Outcome
+run_outcome histories = record { text = line (compact_text (trace_data (run_claims histories))); good = true }
 
--- some whole run of these plans is told
-pub record TellsWhole (size : Size) (plans : List Planned) (outcome : Outcome) : Type 0 where
+-- some whole run of these plans is printed
+pub record PrintsWhole (size : Size) (plans : List Planned) (outcome : Outcome) : Type 0 where
   pub histories : List Log
   pub links : List LinkEnd
   pub whole : IsWhole size plans histories links
-  pub printed : outcome ≡ told histories
+  pub printed : outcome ≡ run_outcome histories
 
 -- the gate that lets all pass
 abbrev pub never_shut : ℕ → Worker → Bool
 never_shut node worker = false
 
 -- or why no run of them was gathered, which has its reason in the plans
-pub record TellsFault (plans : List Planned) (outcome : Outcome) : Type 0 where
+pub record PrintsFault (plans : List Planned) (outcome : Outcome) : Type 0 where
   pub fault : ThreadsFault
   pub reason : IsReason never_shut plans fault
   pub printed : outcome ≡ refused (fault_text fault)
 
-abbrev pub TellsRun : Size → List Planned → Outcome → Type 0
-TellsRun size plans outcome = TellsWhole size plans outcome ⊎ TellsFault plans outcome
+abbrev pub PrintsRun : Size → List Planned → Outcome → Type 0
+PrintsRun size plans outcome = PrintsWhole size plans outcome ⊎ PrintsFault plans outcome
 
-abbrev pub TellsScript : Result Script ℕ → Outcome → Type 0
-TellsScript (Err n) outcome = outcome ≡ refused (codes "bad line " ++ decimal n)
-TellsScript (Ok input) outcome = (plans : List Planned) × ArePlanned input.size.nodes input.turns plans × TellsRun input.size plans outcome
+abbrev pub PrintsScript : Result Script ℕ → Outcome → Type 0
+PrintsScript (Err n) outcome = outcome ≡ refused (codes "bad line " ++ decimal n)
+PrintsScript (Ok input) outcome = (plans : List Planned) × ArePlanned input.size.nodes input.turns plans × PrintsRun input.size plans outcome
 
 -- what `threads` prints for an input
 abbrev pub IsThreading : List ℕ → Outcome → Type 0
-IsThreading input outcome = TellsScript (script_of input) outcome
+IsThreading input outcome = PrintsScript (script_of input) outcome

@@ -1,7 +1,7 @@
 //! The command `threads`: plans in, the trace of a run in threads out.
 //!
 //! Plans are lines, each a turn of one worker of one node (`specs/Scripts`). They are run by `node_threads`, and the histories of that run
-//! are told as a trace, entry by entry (`specs/Told`).
+//! are printed as a trace, entry by entry (`specs/Texts`).
 #![tactic(auto)]
 
 mod drafts;
@@ -11,8 +11,8 @@ mod parsing;
 mod reading;
 mod reasons;
 mod running;
-mod telling;
 mod turn;
+mod writing;
 
 pub use reading::{Setup, read_plans};
 pub use running::threads;

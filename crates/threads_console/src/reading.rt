@@ -116,7 +116,7 @@ pub(crate) fn capacity(line: &[u8]) -> Option<u64>
 }
 
 /// The turns of all lines that are left, in the plans of their nodes.
-#[tactic(auto, using(crate::proofs::Filling::filled_line, crate::proofs::Filling::as_many, crate::proofs::Filling::fault_told, crate::proofs::Filling::all_read, crate::proofs::Polls::none_polls))]
+#[tactic(auto, using(crate::proofs::Filling::filled_line, crate::proofs::Filling::as_many, crate::proofs::Filling::fault_named, crate::proofs::Filling::all_read, crate::proofs::Polls::none_polls))]
 fn read_turns(alloc: Global, nodes: u8, lines: &mut Lines<'_>) -> Result<Vec<Draft>, LineFault>
     requires { nodes ≤ NODES }
     ensures read { IfOk result (λ drafts. AreRead nodes lines.old.lines drafts.items) }

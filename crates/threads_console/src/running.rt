@@ -3,15 +3,16 @@
 ghost use Rattle.std.specs.Prelude.{◌≡◌, ◌≤◌, ◌+◌, ◌++◌, IfOk, OnOk, codes, decimal, false, vec_len};
 ghost use Rattle.group_task.specs.declared.node.TheConstants.{NODES};
 ghost use Rattle.console_text.specs.Ends.{outcome_of, refused, IsWhy, Prints};
-ghost use Rattle.threads_console.specs.Printed.{IsThreading, TellsRun, fault_text, told, worker_name};
+ghost use Rattle.threads_console.specs.Printed.{IsThreading, PrintsRun, fault_text, run_outcome, worker_name};
 ghost use Rattle.threads_console.specs.Reasons.{plans_flaw};
 ghost use Rattle.threads_console.specs.Scripts.{CanRun};
 
 use crate::reading::{Setup, read_plans};
 use crate::reasons::bad_plans;
-use crate::telling::write_run;
+use crate::writing::write_run;
 use console_text::{
-    Ended, Printout, Source, Told, Trouble, push_number, push_text, read_source, tell,
+    Ended, Explained, Printout, Source, Trouble, print_explained, push_number, push_text,
+    read_source,
 };
 use group_task::NodeId;
 use line_words::LineFault;
@@ -54,7 +55,7 @@ pub fn threads<T: Threads + Wait + Sync, R: Read, W: Write>(
         Ok(bytes) => run_text(rt, alloc, &bytes).map_err(Trouble::from),
         Err(trouble) => Err(trouble),
     };
-    tell(alloc, output, outcome)
+    print_explained(alloc, output, outcome)
 }
 
 /// What `threads` prints for an input, and what is wrong with it. A run that faults has nothing wrong with its input.
@@ -62,9 +63,9 @@ fn run_text<T: Threads + Wait + Sync>(
     rt: &T,
     alloc: Global,
     input: &[u8],
-) -> Result<Told, AllocError>
-    ensures printed { IfOk result (λ told. IsThreading input.now (outcome_of told.printout)) }
-    ensures why { IfOk result (λ told. told.why.items ≡ plans_flaw input.now) }
+) -> Result<Explained, AllocError>
+    ensures printed { IfOk result (λ explained. IsThreading input.now (outcome_of explained.printout)) }
+    ensures why { IfOk result (λ explained. explained.why.items ≡ plans_flaw input.now) }
 {
     match read_plans(alloc, input) {
         Ok(setup) => {
@@ -83,19 +84,19 @@ fn run<T: Threads + Wait + Sync>(
     setup: &Setup,
 ) -> Result<Printout, AllocError>
     requires { CanRun setup.now.size setup.now.plans.items }
-    ensures { IfOk result (λ printout. TellsRun setup.now.size setup.now.plans.items (outcome_of printout)) }
+    ensures { IfOk result (λ printout. PrintsRun setup.now.size setup.now.plans.items (outcome_of printout)) }
 {
     match run_threads(rt, alloc, setup.size, &setup.plans, &Open) {
-        Ok(run) => tell_run(alloc, run),
+        Ok(run) => print_run(alloc, run),
         Err(ThreadsFault::NoMemory) => Err(AllocError),
         Err(fault) => refuse(alloc, fault),
     }
 }
 
 /// The line of the trace of a run.
-fn tell_run(alloc: Global, run: Gathered) -> Result<Printout, AllocError>
+fn print_run(alloc: Global, run: Gathered) -> Result<Printout, AllocError>
     requires { vec_len run.histories ≤ NODES }
-    ensures { IfOk result (λ printout. outcome_of printout ≡ told run.histories.items) }
+    ensures { IfOk result (λ printout. outcome_of printout ≡ run_outcome run.histories.items) }
 {
     let mut text = write_run(alloc, run)?;
     push_text(&mut text, "\n")?;

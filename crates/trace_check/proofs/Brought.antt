@@ -33,9 +33,9 @@ BroughtAt ms at is = (at < length ms) × (part at (at + 1) ms ≡ is)
 event_brought : (ms : List Envelope) (p : List ℕ) (e : KeptEvent) (at : ℕ) → EventStands (length ms) (length p) e → delivered_at e ≡ Some at → BroughtAt ms at (brought (Some (event_said ms p e)))
 event_brought ms p (kept.Timer timer) at h is = absurd cc
 event_brought ms p (kept.Deliver place) at h is =
-    let found = there ms place h in
+    let at_i = there ms place h in
     subst (λ (k : ℕ). BroughtAt ms k (brought (Some (delivered (slice_get ms place))))) (same_Some place at is)
-    (h, part_one ms place found.0 found.1 ∙ sym (ap (λ (o : Option Envelope). brought (Some (delivered o))) found.1))
+    (h, part_one ms place at_i.0 at_i.1 ∙ sym (ap (λ (o : Option Envelope). brought (Some (delivered o))) at_i.1))
 event_brought ms p (kept.Submit queue priority start len) at h is = absurd cc
 event_brought ms p (kept.Finish origin id) at h is = absurd cc
 event_brought ms p kept.Recover at h is = absurd cc

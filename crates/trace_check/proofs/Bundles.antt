@@ -29,7 +29,7 @@ abbrev AllCome : ℕ → ℕ → (Envelope → Type 0) → NodeState → List Cl
 AllCome self nodes P s [] = Unit {0}
 AllCome self nodes P s (c ∷ cs) = MayCome self nodes s c × Each P (brought_by c.deed) × AllCome self nodes P (after_claim self nodes s c) cs
 
--- the same, told place by place
+-- the same, place by place
 record ComesAt (self nodes : ℕ) (P : Envelope → Type 0) (s : NodeState) (h : List Claim) (k : ℕ) : Type 0 where
   claim : Claim
   at : slice_get h k ≡ Some claim

@@ -81,11 +81,11 @@ carried_out t event core pending plan wants answer effect id nodes state jobs is
     }
 
 -- an event that was handled is judged by what was sent
-pub judged_handled : (t new : Twin) (event : Event) (sent told : List Envelope) (b : Bool) → Takes t.id t.nodes t.node event → told ≡ (effect_at t.id t.nodes t.node event).sent → (IsTrue b ↔ (told ≡ sent))
+pub judged_handled : (t new : Twin) (event : Event) (sent made : List Envelope) (b : Bool) → Takes t.id t.nodes t.node event → made ≡ (effect_at t.id t.nodes t.node event).sent → (IsTrue b ↔ (made ≡ sent))
     → new.node.doubt ≡ t.node.doubt → new.node.state ≡ (effect_at t.id t.nodes t.node event).state → new.node.durable ≡ after_wanted t.node.durable (wants_at t.id t.nodes t.node event) → Judged t new (Did event) sent b
-judged_handled t new event sent told true takes told_is as_sent doubt state durable = (
-  (takes, sym (as_sent.0 refl) ∙ told_is),
+judged_handled t new event sent made true takes made_is as_sent doubt state durable = (
+  (takes, sym (as_sent.0 refl) ∙ made_is),
   ap (λ (s : State). record new.node { state = s }) state ∙ ap (λ (d : Durable). record { state = (effect_at t.id t.nodes t.node event).state; durable = d; doubt = new.node.doubt }) durable
       ∙ ap (λ (o : Option Command). record { state = (effect_at t.id t.nodes t.node event).state; durable = after_wanted t.node.durable (wants_at t.id t.nodes t.node event); doubt = o }) doubt,
 )
-judged_handled t new event sent told false takes told_is as_sent doubt state durable = λ comes. clash false (as_sent.1 (told_is ∙ sym comes.1)) refl
+judged_handled t new event sent made false takes made_is as_sent doubt state durable = λ comes. clash false (as_sent.1 (made_is ∙ sym comes.1)) refl

@@ -5,7 +5,7 @@ use Rattle.job_model.specs.Durable.{Durable}
 use Rattle.wire_msg.specs.Envelope.{Envelope}
 use Rattle.group_task.specs.declared.node.TheConstants.{NODES}
 use Rattle.node_core.specs.declared.event.Event.{Event}
-use Rattle.node_core.specs.declared.durable.Durable.{Durable as Wanted}
+use Rattle.node_core.specs.declared.wanted.Wanted.{Wanted}
 use Rattle.node_core.specs.Core.{Core}
 use Rattle.node_core.specs.Planned.{wanted_by}
 use Rattle.node_core.specs.NodeStep.{IsSpent}

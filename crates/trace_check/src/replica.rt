@@ -20,7 +20,7 @@ use crate::kept::{KeptDeed, KeptEvent, event_said, read_event};
 use crate::ledger::Ledger;
 use crate::trace::{Deed, RecoverFault};
 use group_task::NodeId;
-use node_core::{CoreFault, Durable, Event, NodeCore, Phase, Vector, Wanted};
+use node_core::{CoreFault, Event, NodeCore, Phase, Vector, Wanted, WantedRef};
 use std::alloc::{AllocError, Global};
 use std::marker::Model;
 use std::mem;
@@ -33,7 +33,7 @@ pub struct Replica {
     nodes: u8,
     core: NodeCore,
     ledger: Ledger,
-    doubt: Durable,
+    doubt: Wanted,
     // the list of the last answers to a message, which is kept for its room
     room: Vec<Message>,
 }
@@ -62,7 +62,7 @@ impl Replica {
             nodes,
             core: NodeCore::new(alloc, id, nodes, 1),
             ledger: Ledger::new(alloc)?,
-            doubt: Durable::None,
+            doubt: Wanted::None,
             room: Vec::new(alloc),
         })
     }
@@ -110,8 +110,8 @@ impl Replica {
             KeptDeed::Done(event) => self.handle_kept(kept, event, message, &sent),
             KeptDeed::Faulted(event) => self.fault_kept(kept, event, &sent),
             KeptDeed::Crashed => Ok(self.crash(&sent)),
-            KeptDeed::Recovered(found) => self.recover(found, &sent),
-            KeptDeed::NotRecovered(found, fault) => self.not_recover(found, fault, &sent),
+            KeptDeed::Recovered(kept) => self.recover(kept, &sent),
+            KeptDeed::NotRecovered(kept, fault) => self.not_recover(kept, fault, &sent),
         }
     }
 
@@ -232,8 +232,8 @@ impl Replica {
             return Ok(false);
         }
         let answer = self.ledger.take(&wants)?;
-        let told = self.core.commit_step(plan, answer);
-        Ok(same(&told, sent))
+        let made = self.core.commit_step(plan, answer);
+        Ok(same(&made, sent))
     }
 
     /// A message that is delivered, which stays where it is. The answers are written into the list of the last ones.
@@ -253,10 +253,10 @@ impl Replica {
             return Ok(false);
         }
         let answer = self.ledger.take(&wants)?;
-        let mut told = self.core.commit_step(plan, answer);
-        let as_sent = same(&told, sent);
-        told.clear();
-        self.room = told;
+        let mut made = self.core.commit_step(plan, answer);
+        let as_sent = same(&made, sent);
+        made.clear();
+        self.room = made;
         Ok(as_sent)
     }
 
@@ -272,7 +272,7 @@ impl Replica {
         let Some(wants) = self.wants(event)? else {
             return Ok(false);
         };
-        if matches!(wants, Durable::None) {
+        if matches!(wants, Wanted::None) {
             return Ok(false);
         }
         self.fall(wants);
@@ -280,7 +280,7 @@ impl Replica {
     }
 
     /// The command that an event wants. None where the event isn't taken.
-    fn wants(&mut self, event: &Event) -> Result<Option<Durable>, AllocError>
+    fn wants(&mut self, event: &Event) -> Result<Option<Wanted>, AllocError>
         ensures same { self.new ≡ self.old }
         ensures wants { IfOk result (WantsOf self.old event.now) }
     {
@@ -309,7 +309,7 @@ impl Replica {
     }
 
     /// The node is down, with this command in doubt.
-    fn fall(&mut self, doubt: Durable)
+    fn fall(&mut self, doubt: Wanted)
         requires { IsSpent self.old.node.durable (wanted_by doubt) → ⊥ }
         ensures { self.new ≡ record self.old { node = record self.old.node { state = down self.old.id; doubt = wanted_by doubt } } }
     {
@@ -324,10 +324,10 @@ impl Replica {
         ensures nodes { self.new.nodes ≡ self.old.nodes }
         ensures judged { IfOk result (Judged self.old self.new (Recovered kept) sent.now) }
     {
-        if !sent.is_empty() || !self.settle(kept)? || self.ledger.is_spent(&Wanted::Raise) {
+        if !sent.is_empty() || !self.settle(kept)? || self.ledger.is_spent(&WantedRef::Raise) {
             return Ok(false);
         }
-        let count = self.ledger.take(&Wanted::Raise)?;
+        let count = self.ledger.take(&WantedRef::Raise)?;
         self.core = NodeCore::new(self.alloc, self.core.id(), self.nodes, count);
         Ok(true)
     }
@@ -339,10 +339,10 @@ impl Replica {
         ensures nodes { self.new.nodes ≡ self.old.nodes }
         ensures judged { IfOk result (Judged self.old self.new (RaiseFailed kept) sent.now) }
     {
-        if !sent.is_empty() || !self.settle(kept)? || self.ledger.is_spent(&Wanted::Raise) {
+        if !sent.is_empty() || !self.settle(kept)? || self.ledger.is_spent(&WantedRef::Raise) {
             return Ok(false);
         }
-        self.doubt = Durable::Raise;
+        self.doubt = Wanted::Raise;
         Ok(true)
     }
 
@@ -354,12 +354,12 @@ impl Replica {
         ensures settled { IfOk result (Settled self.old self.new kept) }
     {
         if kept {
-            if matches!(self.doubt, Durable::None) {
+            if matches!(self.doubt, Wanted::None) {
                 return Ok(false);
             }
             self.ledger.take(&lent(&self.doubt))?;
         }
-        self.doubt = Durable::None;
+        self.doubt = Wanted::None;
         Ok(true)
     }
 
@@ -382,26 +382,26 @@ impl Replica {
 }
 
 /// The same command, with its job where it lies.
-fn lent(wants: &Durable) -> Wanted<'_>
+fn lent(wants: &Wanted) -> WantedRef<'_>
     ensures { lent_by result ≡ wanted_by wants.now }
 {
     match wants {
-        Durable::None => Wanted::None,
-        Durable::Raise => Wanted::Raise,
-        Durable::Put(work) => Wanted::Put(work),
-        Durable::Done(id) => Wanted::Done(*id),
+        Wanted::None => WantedRef::None,
+        Wanted::Raise => WantedRef::Raise,
+        Wanted::Put(work) => WantedRef::Put(work),
+        Wanted::Done(id) => WantedRef::Done(*id),
     }
 }
 
 /// Whether these are the same messages.
-fn same(told: &[Message], sent: &Sent<'_>) -> bool
-    ensures { IsTrue result ↔ (told.now ≡ sent.now) }
+fn same(made: &[Message], sent: &Sent<'_>) -> bool
+    ensures { IsTrue result ↔ (made.now ≡ sent.now) }
 {
-    if told.len() != sent.len() {
+    if made.len() != sent.len() {
         return false;
     }
-    for place in 0..told.len() {
-        if !sent.holds(place, &told[place]) {
+    for place in 0..made.len() {
+        if !sent.holds(place, &made[place]) {
             return false;
         }
     }

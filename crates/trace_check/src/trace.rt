@@ -22,7 +22,7 @@ pub enum RecoverFault {
 /// What an entry says was done.
 #[derive(Clone, Copy, Debug, PartialEq, Eq)]
 pub enum Deed {
-    /// A refused event, or a poll that found nothing.
+    /// A refused event, or a poll that took nothing.
     Nothing,
     /// The event was handled. It is none of Recover.
     Done(Event),
@@ -30,7 +30,7 @@ pub enum Deed {
     Faulted(Event),
     /// The node crashed, or its device failed in a compaction.
     Crashed,
-    /// Recover; of a node that was down, whether the command in doubt was found on the disk.
+    /// Recover; of a node that was down, whether the command in doubt was on the disk.
     Recovered(bool),
     /// Recover, which failed so.
     NotRecovered(bool, RecoverFault),

@@ -29,7 +29,7 @@ fn judge_text(alloc: Global, text: &[u8]) -> Result<Printout, AllocError>
 {
     match read(alloc, text) {
         Ok(trace) => judge(alloc, &trace),
-        Err(TraceFault::BadTrace(spot)) => tell_bad(alloc, spot),
+        Err(TraceFault::BadTrace(spot)) => bad_printout(alloc, spot),
         Err(TraceFault::NoMemory) => Err(AllocError),
     }
 }
@@ -38,11 +38,11 @@ fn judge(alloc: Global, trace: &Trace) -> Result<Printout, AllocError>
     ensures { IfOk result (λ printout. IsJudgement trace.now (outcome_of printout)) }
 {
     let verdict = check(alloc, trace)?;
-    tell_verdict(alloc, &verdict)
+    verdict_printout(alloc, &verdict)
 }
 
 /// What is printed for a verdict.
-pub fn tell_verdict(alloc: Global, verdict: &Verdict) -> Result<Printout, AllocError>
+pub fn verdict_printout(alloc: Global, verdict: &Verdict) -> Result<Printout, AllocError>
     ensures { IfOk result (λ printout. outcome_of printout ≡ verdict_printed verdict.now) }
 {
     let mut text = Vec::new(alloc);
@@ -63,7 +63,7 @@ pub fn tell_verdict(alloc: Global, verdict: &Verdict) -> Result<Printout, AllocE
 }
 
 /// What is printed for a text that is no trace.
-pub fn tell_bad(alloc: Global, spot: Option<Spot>) -> Result<Printout, AllocError>
+pub fn bad_printout(alloc: Global, spot: Option<Spot>) -> Result<Printout, AllocError>
     ensures { IfOk result (λ printout. outcome_of printout ≡ refused (bad_trace spot)) }
 {
     let mut text = Vec::new(alloc);

@@ -3,4 +3,4 @@
 
 mod judging;
 
-pub use judging::{tell_bad, tell_verdict, trace};
+pub use judging::{bad_printout, trace, verdict_printout};

@@ -55,22 +55,22 @@ entry_of : (hs : List (List Claim)) (order : List ℕ) (k : ℕ) (t : Turn) → 
 entry_of hs order k t is = subst (λ (i : ℕ). slice_get (history hs t.at.node) i ≡ Some is.0) (sym is.1.index) is.1.takes.entry
 
 -- whether a turn that is drawn sends the message
-abbrev pub Tells : List (List Claim) → Turn → Envelope → Bool → Type 0
-Tells hs t m has = (c : Claim) → slice_get (history hs t.at.node) t.index ≡ Some c → IsTrue has ↔ IsAmong m c.sent
+abbrev pub ShowsSent : List (List Claim) → Turn → Envelope → Bool → Type 0
+ShowsSent hs t m has = (c : Claim) → slice_get (history hs t.at.node) t.index ≡ Some c → IsTrue has ↔ IsAmong m c.sent
 
-pub sends_none : (hs : List (List Claim)) (order : List ℕ) (k n : ℕ) (t : Turn) (m : Envelope) (has : Bool) → IsTurn hs order k t → Tells hs t m has → has ≡ false → Sends hs order m k n → ⊥
-sends_none hs order k n t m has is tells hasnt sends =
+pub sends_none : (hs : List (List Claim)) (order : List ℕ) (k n : ℕ) (t : Turn) (m : Envelope) (has : Bool) → IsTurn hs order k t → ShowsSent hs t m has → has ≡ false → Sends hs order m k n → ⊥
+sends_none hs order k n t m has is shows hasnt sends =
     let same : n ≡ t.at.node = same_Some n t.at.node (sym sends.takes.node ∙ is.1.takes.node) in
     let here : Sends hs order m k t.at.node = subst (λ (j : ℕ). Sends hs order m k j) same sends in
-    let it_has : has ≡ true = (tells is.0 (entry_of hs order k t is)).1 (sends_here hs order k t.at.node is.0 m is.1.takes here) in
+    let it_has : has ≡ true = (shows is.0 (entry_of hs order k t is)).1 (sends_here hs order k t.at.node is.0 m is.1.takes here) in
     let clash : true ≡ false = sym it_has ∙ hasnt in cc
 
 -- the last of the turns that are drawn that sends it
-pub last_sends : (hs : List (List Claim)) (order : List ℕ) (number k : ℕ) (t : Turn) (m : Envelope) (has : Bool) → IsTurn hs order k t → Tells hs t m has → has ≡ true → k < number
+pub last_sends : (hs : List (List Claim)) (order : List ℕ) (number k : ℕ) (t : Turn) (m : Envelope) (has : Bool) → IsTurn hs order k t → ShowsSent hs t m has → has ≡ true → k < number
     → ((j n : ℕ) → k < j → j < number → Sends hs order m j n → ⊥) → IsLastSender hs order number m t.at
-last_sends hs order number k t m has is tells it_has before none =
+last_sends hs order number k t m has is shows it_has before none =
     let number_is = is.1.number_is in
-    let sends : Sends hs order m k t.at.node = record { claim = is.0; takes = is.1.takes; among = (tells is.0 (entry_of hs order k t is)).0 it_has } in
+    let sends : Sends hs order m k t.at.node = record { claim = is.0; takes = is.1.takes; among = (shows is.0 (entry_of hs order k t is)).0 it_has } in
     record {
       before = (omega (arith, number_is, before));
       sends = subst (λ (j : ℕ). Sends hs order m j t.at.node) (sym number_is) sends;

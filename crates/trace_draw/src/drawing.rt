@@ -8,10 +8,10 @@ use console_text::{Ending, Printout, Source, Trouble, print, read_source};
 use std::alloc::{AllocError, Global};
 use std::io::{Read, Write};
 use trace_check::{Trace, Verdict, check};
-use trace_console::{tell_bad, tell_verdict};
+use trace_console::{bad_printout, verdict_printout};
 use trace_text::{TraceFault, read};
 
-/// Reads a trace, and prints the picture of the run that its entries are, in the order that `trace` tells. Where they are none, or the
+/// Reads a trace, and prints the picture of the run that its entries are, in the order that `trace` prints. Where they are none, or the
 /// text is no trace, it prints what `trace` does.
 pub fn draw<R: Read, W: Write>(alloc: Global, input: &mut Source<R>, output: &mut W) -> Ending
     ensures prints { Prints IsDrawn (R.remaining input.old.reader) (W.contents output.old) (W.contents output.new) result }
@@ -30,7 +30,7 @@ fn draw_text(alloc: Global, text: &[u8]) -> Result<Printout, AllocError>
 {
     match read(alloc, text) {
         Ok(trace) => draw_trace(alloc, &trace),
-        Err(TraceFault::BadTrace(spot)) => tell_bad(alloc, spot),
+        Err(TraceFault::BadTrace(spot)) => bad_printout(alloc, spot),
         Err(TraceFault::NoMemory) => Err(AllocError),
     }
 }
@@ -45,6 +45,6 @@ fn draw_trace(alloc: Global, trace: &Trace) -> Result<Printout, AllocError>
             let text = picture(alloc, trace.nodes(), &turns)?;
             Ok(Printout { text, good: true })
         }
-        Verdict::NotARun(_, _) => tell_verdict(alloc, &verdict),
+        Verdict::NotARun(_, _) => verdict_printout(alloc, &verdict),
     }
 }

@@ -14,7 +14,7 @@ use Rattle.node_core.specs.declared.event.Event.TheVariants as on
 use Rattle.trace_check.specs.declared.trace.Deed.{Deed}
 use Rattle.trace_check.specs.Building.{handled, delivery}
 use Rattle.trace_check.specs.Claims.{Claim}
-use Rattle.trace_text.specs.Fields.{Found}
+use Rattle.trace_text.specs.Fields.{FieldData}
 use Rattle.trace_text.specs.Entries.{done_in, device_in, deliver_in, spelled_in, good, below, bytes_in, short, submitted, submit_in, finish_in, number_in, priority_in}
 use Rattle.trace_text.specs.Places.{with_device}
 use Rattle.trace_text.specs.Streams.{claim_with}
@@ -52,7 +52,7 @@ module _ (none first all : List Envelope) (one : Option Envelope) (texts : Optio
   pub some_added : 0 < length all
   some_added = subst (λ (xs : List Envelope). 0 < length xs) (sym both.4) (omega arith)
 
-  pub delivery_added : (f : Found) (failed : Bool) (text : List ℕ) (old new : List Claim) → option_and_then as_str f.message ≡ Some text → one ≡ spelled_in text → device_in f.fault ≡ Some failed
+  pub delivery_added : (f : FieldData) (failed : Bool) (text : List ℕ) (old new : List Claim) → option_and_then as_str f.message ≡ Some text → one ≡ spelled_in text → device_in f.fault ≡ Some failed
       → new ≡ old ++ delivery failed all → behind old (claim_with (with_device f (deliver_in f)) texts) ≡ Some new
   delivery_added f failed text old new said spelled device more =
       let event : deliver_in f ≡ Some (on.Deliver both.0) =
@@ -74,14 +74,14 @@ entry_added none all texts of d old new empty added is more =
     ∙ ap (λ (cs : List Claim). Some cs) (sym more)
 
 -- an event other than a delivery that was handled, or in which the device failed
-pub event_added : (none all : List Envelope) (texts : Option (List Envelope)) (f : Found) (o : Option Event) (event : Event) (failed : Bool) (old new : List Claim) → none ≡ [] → option_map (λ (ms : List Envelope). none ++ ms) texts ≡ Some all
+pub event_added : (none all : List Envelope) (texts : Option (List Envelope)) (f : FieldData) (o : Option Event) (event : Event) (failed : Bool) (old new : List Claim) → none ≡ [] → option_map (λ (ms : List Envelope). none ++ ms) texts ≡ Some all
     → o ≡ Some event → device_in f.fault ≡ Some failed → new ≡ old ++ (record { deed = handled failed event; sent = all }) ∷ [] → behind old (claim_with (with_device f o) texts) ≡ Some new
 event_added none all texts f o event failed old new empty added is device more =
     entry_added none all texts (with_device f o) (done_in event failed) old new empty added (device_some f o event failed is device)
     (more ∙ ap (λ (d : Deed). old ++ (record { deed = d; sent = all }) ∷ []) (handled_is failed event))
 
 -- a job that was submitted, by its fields
-pub submit_read : (f : Found) (q p : ℕ) (text bytes : List ℕ) → option_and_then (below QUEUES) (number_in f.queue) ≡ Some q → priority_in f.priority ≡ Some p → option_and_then as_str f.payload ≡ Some text
+pub submit_read : (f : FieldData) (q p : ℕ) (text bytes : List ℕ) → option_and_then (below QUEUES) (number_in f.queue) ≡ Some q → priority_in f.priority ≡ Some p → option_and_then as_str f.payload ≡ Some text
     → good (decode_of text) ≡ Some bytes → length bytes ≤ PAYLOAD_CAPACITY → submit_in f ≡ Some (on.Submit (record { queue = q; priority = p; payload = bytes }))
 submit_read f q p text bytes queue priority said read few =
     ap (λ (o : Option ℕ). submitted o (priority_in f.priority) (option_and_then short (bytes_in f.payload))) queue
@@ -91,6 +91,6 @@ submit_read f q p text bytes queue priority said read few =
     ∙ ap (λ (b : Bool). submitted (Some q) (Some p) (if b then Some bytes else None)) (le-leb (length bytes) PAYLOAD_CAPACITY few)
 
 -- a job that was finished, by its fields
-pub finish_read : (f : Found) (origin id : ℕ) → option_and_then (below NODES) (number_in f.origin) ≡ Some origin → number_in f.id ≡ Some id → finish_in f ≡ Some (on.Finish origin id)
+pub finish_read : (f : FieldData) (origin id : ℕ) → option_and_then (below NODES) (number_in f.origin) ≡ Some origin → number_in f.id ≡ Some id → finish_in f ≡ Some (on.Finish origin id)
 finish_read f origin id from is =
     ap (λ (o : Option ℕ). option_and_then (λ (n : ℕ). option_map (λ (i : ℕ). on.Finish n i) (number_in f.id)) o) from ∙ ap (λ (o : Option ℕ). option_map (λ (i : ℕ). on.Finish origin i) o) is

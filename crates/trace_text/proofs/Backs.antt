@@ -24,9 +24,9 @@ use Rattle.trace_check.specs.declared.trace.Deed.TheVariants as deed
 use Rattle.trace_check.specs.declared.trace.RecoverFault.TheVariants as recover
 use Rattle.trace_check.specs.Claims.{Claim}
 use Rattle.trace_text.specs.declared.fault.Spot.{Spot}
-use Rattle.trace_text.specs.Fields.{found_in}
+use Rattle.trace_text.specs.Fields.{fields_in}
 use Rattle.trace_text.specs.Entries.{good, message_in, with_first, messages_in, below, short, priority_in, submitted, done_in, deed_in, claim_in}
-use Rattle.trace_text.specs.Fits.{WorkFits, DeedFits, ClaimFits, TraceFits, HasName, IsTellable}
+use Rattle.trace_text.specs.Fits.{WorkFits, DeedFits, ClaimFits, TraceFits, HasName, IsWritable}
 use Rattle.trace_text.specs.Wholes.{first_entry, entries_from, first_history, histories_from, count_items, all_lists, shape_in, in_shape}
 use Rattle.trace_text.specs.Written.{message_data, entry_data, history_data, trace_data}
 
@@ -77,7 +77,7 @@ parts_back : (failed : Bool) (w : Work) (queue priority : Option ℕ) (payload :
     → option_and_then (λ (event : Event). Some (done_in event failed)) (submitted queue priority payload) ≡ Some (done_in (on.Submit w) failed)
 parts_back failed w queue priority payload a b c = rw (a, b, c) refl
 
-submit_back : (failed b : Bool) (w : Work) (ms : List Envelope) → (w.priority == 0) ≡ b → WorkFits w → deed_in (found_in (object (work_members failed b w ms))) ≡ Some (done_in (on.Submit w) failed)
+submit_back : (failed b : Bool) (w : Work) (ms : List Envelope) → (w.priority == 0) ≡ b → WorkFits w → deed_in (fields_in (object (work_members failed b w ms))) ≡ Some (done_in (on.Submit w) failed)
 submit_back true true w ms is fits = parts_back true w _ _ _ (below_back QUEUES w.queue fits.queue) (priority_back true w.priority is fits.priority) (payload_back w.payload fits.payload fits.bytes)
 submit_back true false w ms is fits = parts_back true w _ _ _ (below_back QUEUES w.queue fits.queue) (priority_back false w.priority is fits.priority) (payload_back w.payload fits.payload fits.bytes)
 submit_back false true w ms is fits = parts_back false w _ _ _ (below_back QUEUES w.queue fits.queue) (priority_back true w.priority is fits.priority) (payload_back w.payload fits.payload fits.bytes)
@@ -94,7 +94,7 @@ finish_back failed origin id h = ap (λ (x : Option ℕ). option_and_then (λ (e
 abbrev pub claim_with : Deed → List Envelope → Claim
 claim_with d ms = record { deed = d; sent = ms }
 
-deed_back : (d : Deed) (ms : List Envelope) → DeedFits d → HasName d → deed_in (found_in (entry_data (claim_with d ms))) ≡ Some d
+deed_back : (d : Deed) (ms : List Envelope) → DeedFits d → HasName d → deed_in (fields_in (entry_data (claim_with d ms))) ≡ Some d
 deed_back deed.Nothing ms fits named = refl
 deed_back (deed.Done (on.Timer timer.Check)) ms fits named = refl
 deed_back (deed.Done (on.Timer _)) ms fits named = refl
@@ -139,7 +139,7 @@ sent_there (deed.NotRecovered kept fault) ms = refl
 
 claim_back : (c : Claim) → ClaimFits c → HasName c.deed → claim_in (entry_data c) ≡ Some c
 claim_back c fits named =
-    ap (λ (o : Option Data). option_and_then (λ (done : Deed). option_map (λ (sent : List Envelope). claim_with done sent) (option_and_then messages_in (option_and_then as_array o))) (deed_in (found_in (entry_data c)))) (sent_there c.deed c.sent)
+    ap (λ (o : Option Data). option_and_then (λ (done : Deed). option_map (λ (sent : List Envelope). claim_with done sent) (option_and_then messages_in (option_and_then as_array o))) (deed_in (fields_in (entry_data c)))) (sent_there c.deed c.sent)
     ∙ ap (λ (o : Option Deed). option_and_then (λ (done : Deed). option_map (λ (sent : List Envelope). claim_with done sent) (messages_in (items_of (map message_data c.sent)))) o) (deed_back c.deed c.sent fits.0 named)
     ∙ ap (λ (o : Option (List Envelope)). option_map (λ (sent : List Envelope). claim_with c.deed sent) o) (messages_back c.sent fits.1)
 
@@ -170,5 +170,5 @@ shape_back hs some most =
     let more : 0 < length hs = omega (arith, some) in
     rw (lt-ltb 0 (length hs) more, le-leb (length hs) NODES most, eq-eqb (count_items (items_of (map history_data hs))) (length hs) (as_many hs), are_lists hs) refl
 
-pub trace_back : (hs : List (List Claim)) → length hs ≤ NODES → TraceFits hs → IsTellable hs → in_shape (shape_in (trace_data hs)) ≡ Ok hs
-trace_back hs most fits tells = ap in_shape (shape_back hs tells.some most) ∙ histories_back 0 hs fits tells.named
+pub trace_back : (hs : List (List Claim)) → length hs ≤ NODES → TraceFits hs → IsWritable hs → in_shape (shape_in (trace_data hs)) ≡ Ok hs
+trace_back hs most fits writable = ap in_shape (shape_back hs writable.some most) ∙ histories_back 0 hs fits writable.named

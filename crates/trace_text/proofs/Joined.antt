@@ -25,19 +25,19 @@ entry_joined d ms =
 
 pub entry_added : (d : Deed) (ms : List Envelope) (r : Result (Unit {0}) AllocError) (a b c e : Written) → Adds a b (head_tokens d) → Adds b c (message_tokens ms) → OnOk r (Adds c e end_tokens)
     → OnOk r (Adds a e (entry_tokens (record { deed = d; sent = ms })))
-entry_added d ms r a b c e begun told ended =
-    subst (λ (ts : List Token). OnOk r (Adds a e ts)) (entry_joined d ms) (ok_then r a b e (head_tokens d) (message_tokens ms ++ end_tokens) begun (ok_then r b c e (message_tokens ms) end_tokens told ended))
+entry_added d ms r a b c e begun middle ended =
+    subst (λ (ts : List Token). OnOk r (Adds a e ts)) (entry_joined d ms) (ok_then r a b e (head_tokens d) (message_tokens ms ++ end_tokens) begun (ok_then r b c e (message_tokens ms) end_tokens middle ended))
 
 pub no_messages : (a : Written) → Adds a a (message_tokens [])
 no_messages a = record { before = refl; tokens = sym (append-nil a.tokens) }
 
 pub entry_written : (d : Deed) (ms : List Envelope) (a b c e : Written) (items : List ℕ) → a.before ≡ [] → a.tokens ≡ [] → Adds a b (head_tokens d) → Adds b c (message_tokens ms) → Adds c e end_tokens
     → items ≡ e.before ++ print e.tokens → items ≡ compact_text (entry_data (record { deed = d; sent = ms }))
-entry_written d ms a b c e items none empty begun told ended is =
+entry_written d ms a b c e items none empty begun middle ended is =
     let tokens : e.tokens ≡ entry_tokens (record { deed = d; sent = ms }) =
-    ended.tokens ∙ ap (λ (ts : List Token). ts ++ end_tokens) (told.tokens ∙ ap (λ (ts : List Token). ts ++ message_tokens ms) (begun.tokens ∙ ap (λ (ts : List Token). ts ++ head_tokens d) empty))
+    ended.tokens ∙ ap (λ (ts : List Token). ts ++ end_tokens) (middle.tokens ∙ ap (λ (ts : List Token). ts ++ message_tokens ms) (begun.tokens ∙ ap (λ (ts : List Token). ts ++ head_tokens d) empty))
     ∙ append_assoc (head_tokens d) (message_tokens ms) end_tokens ∙ entry_joined d ms in
-    is ∙ ap (λ (xs : List ℕ). xs ++ print e.tokens) (ended.before ∙ told.before ∙ begun.before ∙ none) ∙ ap print tokens ∙ entry_printed (record { deed = d; sent = ms })
+    is ∙ ap (λ (xs : List ℕ). xs ++ print e.tokens) (ended.before ∙ middle.before ∙ begun.before ∙ none) ∙ ap print tokens ∙ entry_printed (record { deed = d; sent = ms })
 
 -- ---- a message that is spelled
 

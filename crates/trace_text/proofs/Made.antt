@@ -13,7 +13,7 @@ use Rattle.wire_msg.specs.Envelope.{Envelope}
 use Rattle.trace_check.specs.declared.trace.Deed.{Deed}
 use Rattle.trace_check.specs.Claims.{Claim}
 use Rattle.trace_text.specs.declared.fault.Spot.{Spot}
-use Rattle.trace_text.specs.Fields.{found_in, found_put}
+use Rattle.trace_text.specs.Fields.{fields_in, fields_put}
 use Rattle.trace_text.specs.Entries.{good, with_first, spelled_in, messages_in, message_in, number_in, deed_in, claim_in}
 use Rattle.trace_text.specs.Streams.{data_at, members_at, each_in, texts_of, history_of, histories_of, messages_of, claim_with, claim_drafted, Drafted, undrafted, drafted_put, Parted, unparted, parted_put}
 use Rattle.trace_text.specs.Wholes.{trace_of, first_entry, entries_from, first_history, history_in, histories_from, count_items, all_lists, is_shape, shape_in, in_shape}
@@ -54,10 +54,10 @@ no_deed : (o : Option Deed) → claim_with o None ≡ None
 no_deed None = refl
 no_deed (Some d) = refl
 
-claim_by : (ms : Members) (o : Option (List (List ℕ))) (c : Claim) → option_and_then texts_of (get_member (codes "sent") ms) ≡ o → claim_with (deed_in (found_in (object ms))) (option_and_then messages_of o) ≡ Some c
+claim_by : (ms : Members) (o : Option (List (List ℕ))) (c : Claim) → option_and_then texts_of (get_member (codes "sent") ms) ≡ o → claim_with (deed_in (fields_in (object ms))) (option_and_then messages_of o) ≡ Some c
     → claim_in (object ms) ≡ Some c
-claim_by ms None c is e = absurd (let never : None ≡ Some c = sym (no_deed (deed_in (found_in (object ms)))) ∙ e in cc)
-claim_by ms (Some texts) c is e = ap (claim_with (deed_in (found_in (object ms)))) (sent_read (get_member (codes "sent") ms) texts is) ∙ e
+claim_by ms None c is e = absurd (let never : None ≡ Some c = sym (no_deed (deed_in (fields_in (object ms)))) ∙ e in cc)
+claim_by ms (Some texts) c is e = ap (claim_with (deed_in (fields_in (object ms)))) (sent_read (get_member (codes "sent") ms) texts is) ∙ e
 
 -- the entry of a draft is that of the object
 pub claim_made : (s : Drafted) (c : Claim) → claim_drafted s ≡ Some c → (ms : Members) → drafted_in ms ≡ s → claim_in (object ms) ≡ Some c
@@ -117,7 +117,7 @@ module _ (s : Drafted) (key : List ℕ) (ts r : List Token) where
   pub sent_put : (texts : List (List ℕ)) → bytes_eq key (codes "sent") ≡ true → converted texts_of (data_at 123 ts) ≡ Some (texts, r) → parse_map (drafted_put s key) (data_at 123 ts) ≡ Some ((s.0, Some texts), r)
   sent_put texts named e = let d = converted_some texts_of (data_at 123 ts) texts r e in ap (parse_map (drafted_put s key)) d.1 ∙ rw (named, d.2) refl
 
-  pub field_put : (d : Data) → bytes_eq key (codes "sent") ≡ false → data_at 123 ts ≡ Some (d, r) → parse_map (drafted_put s key) (data_at 123 ts) ≡ Some ((found_put s.0 key d, s.1), r)
+  pub field_put : (d : Data) → bytes_eq key (codes "sent") ≡ false → data_at 123 ts ≡ Some (d, r) → parse_map (drafted_put s key) (data_at 123 ts) ≡ Some ((fields_put s.0 key d, s.1), r)
   field_put d other e = ap (parse_map (drafted_put s key)) e ∙ rw other refl
 
 module _ (s : Parted) (key : List ℕ) (ts r : List Token) where

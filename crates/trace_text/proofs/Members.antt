@@ -1,11 +1,11 @@
--- What is found of the members of an object, one after another.
+-- What is read of the members of an object, one after another.
 use Rattle.std.proofs.Common.{◌≡◌, ℕ, Bool, true, false, true≢false, List, Option, Some, option_and_then, codes, bytes_eq, refl, sym, ap, ap₂, ◌∙◌}
 use Rattle.std.specs.Prelude.{if◌then◌else◌}
 use Rattle.std.proofs.lemmas.Slice.Eq.{bytes_eq-Decides}
 use Rattle.serde_json.specs.Data.{Data, Members, put, object}
 use Rattle.serde_json.specs.Find.{get_member}
 use Rattle.serde_json.proofs.Views.{get_member-put, get_member-put_other}
-use Rattle.trace_text.specs.Fields.{Found, found_in, found_put}
+use Rattle.trace_text.specs.Fields.{FieldData, fields_in, fields_put}
 use Rattle.trace_text.specs.Entries.{number_in}
 use Rattle.trace_text.specs.Streams.{Drafted, drafted_put, texts_of, Parted, parted_put, histories_of}
 
@@ -28,7 +28,7 @@ either key name f a rest is other = by_key key name f a rest (bytes_eq key name)
 
 -- ---- the fields of an entry
 
-abbrev seen : (List ℕ → Option Data) → Found
+abbrev seen : (List ℕ → Option Data) → FieldData
 seen g = record {
   name = g (codes "do");
   message = g (codes "msg");
@@ -45,11 +45,11 @@ same_seen : (g h : List ℕ → Option Data) → ((q : List ℕ) → g q ≡ h q
 same_seen g h e =
     rw (e (codes "do"), e (codes "msg"), e (codes "fault"), e (codes "kept"), e (codes "queue"), e (codes "priority"), e (codes "payload"), e (codes "origin"), e (codes "id")) refl
 
-abbrev seen_put : Data → Members → List ℕ → Found
+abbrev seen_put : Data → Members → List ℕ → FieldData
 seen_put d ms key = seen (λ (q : List ℕ). if bytes_eq key q then Some d else get_member q ms)
 
 module _ (key : List ℕ) (d : Data) (ms : Members) where
-  seen_is : seen_put d ms key ≡ found_put (found_in (object ms)) key d
+  seen_is : seen_put d ms key ≡ fields_put (fields_in (object ms)) key d
   seen_is =
       either key (codes "do") (seen_put d ms) _ _ refl (λ a.
       either key (codes "msg") (seen_put d ms) _ _ refl (λ b.
@@ -62,23 +62,23 @@ module _ (key : List ℕ) (d : Data) (ms : Members) where
       either key (codes "id") (seen_put d ms) _ _ refl (λ j.
       rw (a, b, c, e, f, g, h, i, j) refl)))))))))
 
-  found_law : found_in (object (put key d ms)) ≡ found_put (found_in (object ms)) key d
-  found_law = same_seen (λ (q : List ℕ). get_member q (put key d ms)) (λ (q : List ℕ). if bytes_eq key q then Some d else get_member q ms) (λ q. get_put q key d ms) ∙ seen_is
+  fields_law : fields_in (object (put key d ms)) ≡ fields_put (fields_in (object ms)) key d
+  fields_law = same_seen (λ (q : List ℕ). get_member q (put key d ms)) (λ (q : List ℕ). if bytes_eq key q then Some d else get_member q ms) (λ q. get_put q key d ms) ∙ seen_is
 
-found_sent : (d : Data) (ms : Members) → found_in (object (put (codes "sent") d ms)) ≡ found_in (object ms)
-found_sent d ms = found_law (codes "sent") d ms
+fields_sent : (d : Data) (ms : Members) → fields_in (object (put (codes "sent") d ms)) ≡ fields_in (object ms)
+fields_sent d ms = fields_law (codes "sent") d ms
 
 abbrev pub drafted_in : Members → Drafted
-drafted_in ms = (found_in (object ms), option_and_then texts_of (get_member (codes "sent") ms))
+drafted_in ms = (fields_in (object ms), option_and_then texts_of (get_member (codes "sent") ms))
 
-abbrev draft : Found → Option Data → Drafted
+abbrev draft : FieldData → Option Data → Drafted
 draft f o = (f, option_and_then texts_of o)
 
 pub drafted_law : (key : List ℕ) (d : Data) (ms : Members) → drafted_in (put key d ms) ≡ drafted_put (drafted_in ms) key d
 drafted_law key d ms =
     either key (codes "sent") (λ (x : List ℕ). drafted_in (put x d ms)) _ _
-    (ap₂ draft (found_sent d ms) (get_member-put (codes "sent") d ms))
-    (λ e. ap₂ draft (found_law key d ms) (get_by (codes "sent") key d ms false e))
+    (ap₂ draft (fields_sent d ms) (get_member-put (codes "sent") d ms))
+    (λ e. ap₂ draft (fields_law key d ms) (get_by (codes "sent") key d ms false e))
 
 -- ---- the whole
 

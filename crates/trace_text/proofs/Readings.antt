@@ -23,7 +23,7 @@ use Rattle.histories.specs.Lists.{Each}
 use Rattle.trace_check.specs.declared.trace.Deed.{Deed}
 use Rattle.trace_check.specs.declared.trace.Deed.TheVariants as deed
 use Rattle.trace_check.specs.Claims.{Claim}
-use Rattle.trace_text.specs.Fits.{WorkFits, DeedFits, ClaimFits, TraceFits, IsTellable}
+use Rattle.trace_text.specs.Fits.{WorkFits, DeedFits, ClaimFits, TraceFits, IsWritable}
 use Rattle.trace_text.specs.Tokens.{Adds, trace_tokens}
 use Rattle.trace_text.specs.Wholes.{trace_of}
 use Rattle.trace_text.specs.Written.{message_data, event_members, deed_members, entry_data, history_data, trace_data}
@@ -101,7 +101,7 @@ event_flat on.Recover rest = omega arith
 deed_flat : (d : Deed) (rest : Members) → tree.members_depth (members_outline (deed_members d rest)) ≤ tree.members_depth (members_outline rest)
 deed_flat deed.Nothing rest = omega arith
 deed_flat (deed.Done event) rest = event_flat event rest
-deed_flat (deed.Faulted event) rest = let told = event_flat event rest in omega (arith, told)
+deed_flat (deed.Faulted event) rest = let flat = event_flat event rest in omega (arith, flat)
 deed_flat deed.Crashed rest = omega arith
 deed_flat (deed.Recovered kept) rest = omega arith
 deed_flat (deed.NotRecovered kept fault) rest = omega arith
@@ -128,15 +128,15 @@ trace_flat hs = let inside = histories_flat hs in omega (arith, inside)
 value_read : (text : List ℕ) (j : json.Json) (d : Data) → json.value max_depth (tokens text) ≡ Some (j, []) → of_json j ≡ Some d → read text ≡ Some d
 value_read text j d is means = ap (λ (r : Option (json.Json × List Token)). option_and_then of_json (option_and_then (λ (p : json.Json × List Token). json.if_last p.0 p.1) r)) is ∙ means
 
-reads_back : (hs : List (List Claim)) (text : List ℕ) → tokens text ≡ trace_tokens hs → IsUtf8 text → length hs ≤ NODES → TraceFits hs → IsTellable hs → trace_of text ≡ Ok hs
-reads_back hs text same utf8 most fits tells =
+reads_back : (hs : List (List Claim)) (text : List ℕ) → tokens text ≡ trace_tokens hs → IsUtf8 text → length hs ≤ NODES → TraceFits hs → IsWritable hs → trace_of text ≡ Ok hs
+reads_back hs text same utf8 most fits writable =
     let j = outline (trace_data hs) in
     let is : read text ≡ Some (trace_data hs) =
     value_read text j (trace_data hs) (ap (json.value max_depth) (same ∙ sym (trace_tokens_of hs) ∙ sym (append-nil (tree.json_tokens j))) ∙ value-json_tokens j max_depth [] (trace_flat hs)) (trace_read hs most fits) in
-    good_text text (trace_data hs) utf8 is ∙ trace_back hs most fits tells
+    good_text text (trace_data hs) utf8 is ∙ trace_back hs most fits writable
 
 pub printed_back : (hs : List (List Claim)) (a b : Written) (items : List ℕ) → a.before ≡ [] → a.tokens ≡ [] → Adds a b (trace_tokens hs) → items ≡ b.before ++ print b.tokens
-    → tokens (print b.tokens) ≡ b.tokens → IsUtf8 (print b.tokens) → length hs ≤ NODES → TraceFits hs → IsTellable hs → trace_of items ≡ Ok hs
-printed_back hs a b items none empty adds is again utf8 most fits tells =
+    → tokens (print b.tokens) ≡ b.tokens → IsUtf8 (print b.tokens) → length hs ≤ NODES → TraceFits hs → IsWritable hs → trace_of items ≡ Ok hs
+printed_back hs a b items none empty adds is again utf8 most fits writable =
     let text : items ≡ print b.tokens = is ∙ ap (λ (xs : List ℕ). xs ++ print b.tokens) (adds.before ∙ none) in
-    ap trace_of text ∙ reads_back hs (print b.tokens) (again ∙ adds.tokens ∙ ap (λ (ts : List Token). ts ++ trace_tokens hs) empty) utf8 most fits tells
+    ap trace_of text ∙ reads_back hs (print b.tokens) (again ∙ adds.tokens ∙ ap (λ (ts : List Token). ts ++ trace_tokens hs) empty) utf8 most fits writable

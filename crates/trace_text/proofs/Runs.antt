@@ -33,10 +33,10 @@ lane_top false false true = refl
 lane_top false false false = refl
 
 -- what the three tests of sixteen lanes say of each
-pub stops_told : (v : List ℕ) → length v ≡ 16
+pub stops_are : (v : List ℕ) → length v ≡ 16
     → mask_l (map (top 7) (zip2 bit_or (zip2 bit_or (zip2 (λ a b. lane (eqb a b)) v (replicate 16 34)) (zip2 (λ a b. lane (eqb a b)) v (replicate 16 92))) (zip2 (λ a b. lane (ltb a b)) v (replicate 16 32)))) % 2 ^ 64
     ≡ mask_l (map is_stop v)
-stops_told v long =
+stops_are v long =
     let quotes = zip2_splat (λ a b. lane (eqb a b)) v 16 34 long in
     let slashes = zip2_splat (λ a b. lane (eqb a b)) v 16 92 long in
     let controls = zip2_splat (λ a b. lane (ltb a b)) v 16 32 long in

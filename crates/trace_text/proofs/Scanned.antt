@@ -52,28 +52,28 @@ module _ (t s : List ℕ) (same : lex between s ≡ lex between t) where
       ap (punctuate fresh) (front_text u text r is inside behind)
       ∙ ap (λ (mark : Bool). place_token fresh (string text) mark (λ (next : Place). punctuate next (lex between r))) ends.no_key ∙ ap (λ (ts : List Token). string text ∷ ts) ends.behind
 
-  pub key_found : (u text r value : List ℕ) → s ≡ 34 ∷ u → content plain u ≡ Some text → lex in_string u ≡ lex between r → lex between r ≡ colon ∷ lex between value
+  pub key_read : (u text r value : List ℕ) → s ≡ 34 ∷ u → content plain u ≡ Some text → lex in_string u ≡ lex between r → lex between r ≡ colon ∷ lex between value
       → read_key (tokens t) ≡ Some (Some text, tokens value)
   unfolding punctuate
-  key_found u text r value is inside behind mark =
+  key_read u text r value is inside behind mark =
       ap (λ (l : List Lexeme). read_key (punctuate fresh l)) (front_text u text r is inside behind ∙ ap (λ (l : List Lexeme). token (string text) ∷ l) mark)
 
   -- ---- words
 
-  pub number_found : (digits r new : List ℕ) → s ≡ digits ++ r → IsNumber digits → EndsValue r new → tokens t ≡ number digits ∷ tokens new
+  pub number_read : (digits r new : List ℕ) → s ≡ digits ++ r → IsNumber digits → EndsValue r new → tokens t ≡ number digits ∷ tokens new
   unfolding punctuate
-  number_found digits r new is numeral ends =
+  number_read digits r new is numeral ends =
       ap (punctuate fresh) (as_front (digits ++ r) is ∙ lex-number digits r numeral ends.no_word) ∙ ap (λ (ts : List Token). number digits ∷ ts) ends.behind
 
-  pub true_found : (r new : List ℕ) → s ≡ 116 ∷ 114 ∷ 117 ∷ 101 ∷ r → EndsValue r new → tokens t ≡ boolean true ∷ tokens new
+  pub true_read : (r new : List ℕ) → s ≡ 116 ∷ 114 ∷ 117 ∷ 101 ∷ r → EndsValue r new → tokens t ≡ boolean true ∷ tokens new
   unfolding lex word punctuate
-  true_found r new is ends =
+  true_read r new is ends =
       ap (punctuate fresh) (as_front _ is ∙ ap₂ (λ (b : Bool) (l : List Lexeme). token (cond b (boolean true) bad) ∷ l) ends.no_word (in_word-ended r ends.no_word))
       ∙ ap (λ (ts : List Token). boolean true ∷ ts) ends.behind
 
-  pub false_found : (r new : List ℕ) → s ≡ 102 ∷ 97 ∷ 108 ∷ 115 ∷ 101 ∷ r → EndsValue r new → tokens t ≡ boolean false ∷ tokens new
+  pub false_read : (r new : List ℕ) → s ≡ 102 ∷ 97 ∷ 108 ∷ 115 ∷ 101 ∷ r → EndsValue r new → tokens t ≡ boolean false ∷ tokens new
   unfolding lex word punctuate
-  false_found r new is ends =
+  false_read r new is ends =
       ap (punctuate fresh) (as_front _ is ∙ ap₂ (λ (b : Bool) (l : List Lexeme). token (cond b (boolean false) bad) ∷ l) ends.no_word (in_word-ended r ends.no_word))
       ∙ ap (λ (ts : List Token). boolean false ∷ ts) ends.behind
 

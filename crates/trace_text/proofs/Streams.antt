@@ -99,14 +99,14 @@ module _ {S : Type 0} (step : S → List ℕ → Data → S) where
 
   -- what is seen of the members of a value
   module _ (seen : Members → S) (law : (k : List ℕ) (d : Data) (ms : Members) → seen (put k d ms) ≡ step (seen ms) k d) where
-    folded_by : (k : List ℕ) (js : json.Members) (found : Members) (o : Option Data) → ((more : Members) → folded step js (seen more) ≡ option_map seen (of_members js more))
-        → option_and_then (λ (d : Data). folded step js (step (seen found) k d)) o ≡ option_map seen (option_and_then (λ (d : Data). of_members js (put k d found)) o)
-    folded_by k js found None more = refl
-    folded_by k js found (Some d) more = ap (λ (s : S). folded step js s) (sym (law k d found)) ∙ more (put k d found)
+    folded_by : (k : List ℕ) (js : json.Members) (here_read : Members) (o : Option Data) → ((more : Members) → folded step js (seen more) ≡ option_map seen (of_members js more))
+        → option_and_then (λ (d : Data). folded step js (step (seen here_read) k d)) o ≡ option_map seen (option_and_then (λ (d : Data). of_members js (put k d here_read)) o)
+    folded_by k js here_read None more = refl
+    folded_by k js here_read (Some d) more = ap (λ (s : S). folded step js s) (sym (law k d here_read)) ∙ more (put k d here_read)
 
-    folded_seen : (js : json.Members) (found : Members) → folded step js (seen found) ≡ option_map seen (of_members js found)
-    folded_seen json.no_members found = refl
-    folded_seen (json.member k j js) found = folded_by k js found (of_json j) (λ more. folded_seen js more)
+    folded_seen : (js : json.Members) (here_read : Members) → folded step js (seen here_read) ≡ option_map seen (of_members js here_read)
+    folded_seen json.no_members here_read = refl
+    folded_seen (json.member k j js) here_read = folded_by k js here_read (of_json j) (λ more. folded_seen js more)
 
     seen_some : (o : Option Members) (s : S) → option_map seen o ≡ Some s → (ms : Members) × (o ≡ Some ms) × (seen ms ≡ s)
     seen_some None s e = absurd (cc)
@@ -120,6 +120,6 @@ module _ {S : Type 0} (step : S → List ℕ → Data → S) where
         let ms = seen_some (of_members js.0 no_members) s (sym (folded_seen js.0 no_members) ∙ js.2) in
         ap (λ (o : Option (json.Json × List Token)). converted g (converted of_json o)) (value-begin_object depth ts some)
         ∙ ap (converted g) (converted_object (members (value (depth - 1)) (length ts) ts))
-        ∙ ap (λ (o : Option (json.Members × List Token)). converted g (parse_map object (converted (λ (found : json.Members). of_members found no_members) o))) js.1
-        ∙ ap (λ (o : Option Members). converted g (parse_map object (option_map (λ (found : Members). (found, r)) o))) ms.1
+        ∙ ap (λ (o : Option (json.Members × List Token)). converted g (parse_map object (converted (λ (here_read : json.Members). of_members here_read no_members) o))) js.1
+        ∙ ap (λ (o : Option Members). converted g (parse_map object (option_map (λ (here_read : Members). (here_read, r)) o))) ms.1
         ∙ ap (λ (o : Option A). option_map (λ (b : A). (b, r)) o) (means ms.0 ms.2)

@@ -28,10 +28,10 @@ good_entry node index old x (Err spot) = refl
 
 pub entry_more : (node i : ℕ) (old new : List Claim) (vs : List Value) (v : Value) (x : Claim) → i < length vs → v ≡ slice_index_or vs i v → Some x ≡ claim_in (view v) → new ≡ old ++ x ∷ []
     → after_good new (entries_from node (i + 1) (items_view (drop (i + 1) vs))) ≡ after_good old (entries_from node i (items_view (drop i vs)))
-entry_more node i old new vs v x within is found more =
+entry_more node i old new vs v x within is here_read more =
     let later = entries_from node (i + 1) (items_view (drop (i + 1) vs)) in
     ap (λ (cs : List Claim). after_good cs later) more ∙ good_entry node i old x later
-    ∙ ap (λ (o : Option Claim). after_good old (first_entry node i o later)) found
+    ∙ ap (λ (o : Option Claim). after_good old (first_entry node i o later)) here_read
     ∙ ap (λ (ws : List Value). after_good old (entries_from node i (items_view ws))) (sym (the_rest vs i v within is))
 
 good_history : (old : List (List Claim)) (h : List Claim) (later : Result (List (List Claim)) (Option Spot)) → after_good (old ++ h ∷ []) later ≡ after_good old (first_history (Ok h) later)
@@ -40,8 +40,8 @@ good_history old h (Err spot) = refl
 
 pub history_more : (i : ℕ) (old new : List (List Claim)) (vs : List Value) (v : Value) (h : List Claim) → i < length vs → v ≡ slice_index_or vs i v → history_in i (as_array (view v)) ≡ Ok h → new ≡ old ++ h ∷ []
     → after_good new (histories_from (i + 1) (items_view (drop (i + 1) vs))) ≡ after_good old (histories_from i (items_view (drop i vs)))
-history_more i old new vs v h within is found more =
+history_more i old new vs v h within is here_read more =
     let later = histories_from (i + 1) (items_view (drop (i + 1) vs)) in
     ap (λ (hs : List (List Claim)). after_good hs later) more ∙ good_history old h later
-    ∙ ap (λ (r : Result (List Claim) (Option Spot)). after_good old (first_history r later)) (sym found)
+    ∙ ap (λ (r : Result (List Claim) (Option Spot)). after_good old (first_history r later)) (sym here_read)
     ∙ ap (λ (ws : List Value). after_good old (histories_from i (items_view ws))) (sym (the_rest vs i v within is))

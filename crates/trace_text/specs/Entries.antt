@@ -4,7 +4,7 @@ use Rattle.std.specs.Option.{option_or}
 use Rattle.std.specs.Str.{bytes_eq}
 use Rattle.serde_json.specs.Data.{Data, Items, no_items, item}
 use Rattle.serde_json.specs.Find.{get, as_str, as_bool, as_array, as_number, as_u64}
-use Rattle.trace_text.specs.Fields.{Found, found_in}
+use Rattle.trace_text.specs.Fields.{FieldData, fields_in}
 use Rattle.hex.specs.Hex.{decode_of}
 use Rattle.group_task.specs.declared.node.TheConstants.{NODES}
 use Rattle.job_model.specs.declared.payload.TheConstants.{PAYLOAD_CAPACITY}
@@ -74,17 +74,17 @@ submitted (Some queue) None payload = None
 submitted (Some queue) (Some priority) None = None
 submitted (Some queue) (Some priority) (Some payload) = Some (on.Submit (record { queue = queue; priority = priority; payload = payload }))
 
-abbrev pub deliver_in : Found → Option Event
+abbrev pub deliver_in : FieldData → Option Event
 deliver_in f = option_map (λ (m : Envelope). on.Deliver m) (message_in f.message)
 
-abbrev pub submit_in : Found → Option Event
+abbrev pub submit_in : FieldData → Option Event
 submit_in f = submitted (option_and_then (below QUEUES) (number_in f.queue)) (priority_in f.priority) (option_and_then short (bytes_in f.payload))
 
-abbrev pub finish_in : Found → Option Event
+abbrev pub finish_in : FieldData → Option Event
 finish_in f = option_and_then (λ (origin : ℕ). option_map (λ (id : ℕ). on.Finish origin id) (number_in f.id)) (option_and_then (below NODES) (number_in f.origin))
 
 -- an event: of a timer the name says all
-abbrev pub event_in : Found → List ℕ → Option Event
+abbrev pub event_in : FieldData → List ℕ → Option Event
 event_in f name =
     option_or (option_map (λ (timer : Timer). on.Timer timer) (timer_named name))
     (if bytes_eq name (codes "deliver") then deliver_in f else
@@ -110,21 +110,21 @@ abbrev pub recovered_in : Bool → Option Data → Option Deed
 recovered_in kept None = Some (deed.Recovered kept)
 recovered_in kept (Some d) = failed_in kept (as_str d)
 
-abbrev pub recover_in : Found → Option Deed
+abbrev pub recover_in : FieldData → Option Deed
 recover_in f = option_and_then (λ (kept : Bool). recovered_in kept f.fault) (option_and_then as_bool f.kept)
 
-abbrev pub deed_named : Found → List ℕ → Option Deed
+abbrev pub deed_named : FieldData → List ℕ → Option Deed
 deed_named f name =
     if bytes_eq name (codes "none") then Some deed.Nothing else
     if bytes_eq name (codes "crash") then Some deed.Crashed else
     if bytes_eq name (codes "recover") then recover_in f else
     option_and_then (λ (event : Event). option_map (λ (failed : Bool). done_in event failed) (device_in f.fault)) (event_in f name)
 
-abbrev pub deed_in : Found → Option Deed
+abbrev pub deed_in : FieldData → Option Deed
 deed_in f = option_and_then (deed_named f) (option_and_then as_str f.name)
 
 -- the entry; None where a field is missing or wrong
 abbrev pub claim_in : Data → Option Claim
 claim_in d =
     option_and_then (λ (done : Deed). option_map (λ (sent : List Envelope). record { deed = done; sent = sent }) (option_and_then messages_in (option_and_then as_array (get (codes "sent") d))))
-    (deed_in (found_in d))
+    (deed_in (fields_in d))

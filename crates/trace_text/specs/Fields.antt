@@ -14,8 +14,8 @@ data_of (field.Number n) = number (unsigned n)
 data_of (field.Flag b) = boolean b
 data_of (field.Tree v) = view v.now
 
--- what was found of the fields, wherever it lies in memory
-pub record Found : Type 0 where
+-- what was read of the fields, wherever it lies in memory
+pub record FieldData : Type 0 where
   pub name : Option Data
   pub message : Option Data
   pub fault : Option Data
@@ -26,11 +26,11 @@ pub record Found : Type 0 where
   pub origin : Option Data
   pub id : Option Data
 
-abbrev pub nothing_found : Found
-nothing_found = record { name = None; message = None; fault = None; kept = None; queue = None; priority = None; payload = None; origin = None; id = None }
+abbrev pub no_fields : FieldData
+no_fields = record { name = None; message = None; fault = None; kept = None; queue = None; priority = None; payload = None; origin = None; id = None }
 
-abbrev pub found_by : Fields → Found
-found_by f = record {
+abbrev pub fields_by : Fields → FieldData
+fields_by f = record {
   name = option_map data_of f.name;
   message = option_map data_of f.message;
   fault = option_map data_of f.fault;
@@ -43,8 +43,8 @@ found_by f = record {
 }
 
 -- those of a JSON value
-abbrev pub found_in : Data → Found
-found_in d = record {
+abbrev pub fields_in : Data → FieldData
+fields_in d = record {
   name = get (codes "do") d;
   message = get (codes "msg") d;
   fault = get (codes "fault") d;
@@ -57,8 +57,8 @@ found_in d = record {
 }
 
 -- one more member: of equal keys the last counts, and a key that isn't asked for is passed over
-abbrev pub found_put : Found → List ℕ → Data → Found
-found_put f key d =
+abbrev pub fields_put : FieldData → List ℕ → Data → FieldData
+fields_put f key d =
     if bytes_eq key (codes "do") then record f { name = Some d } else
     if bytes_eq key (codes "msg") then record f { message = Some d } else
     if bytes_eq key (codes "fault") then record f { fault = Some d } else

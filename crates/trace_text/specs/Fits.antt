@@ -41,7 +41,7 @@ ClaimFits c = DeedFits c.deed × Each IsMessage c.sent
 abbrev pub TraceFits : List (List Claim) → Type 0
 TraceFits hs = Each (λ (h : List Claim). Each ClaimFits h) hs
 
--- ---- each deed has a name of its own: a recovery is told as Recovered or NotRecovered
+-- ---- each deed has a name of its own: a recovery is written as Recovered or NotRecovered
 
 abbrev pub IsNamed : Event → Type 0
 IsNamed on.Recover = ⊥
@@ -52,7 +52,7 @@ HasName (deed.Done event) = IsNamed event
 HasName (deed.Faulted event) = IsNamed event
 HasName d = ⊤
 
--- the trace can be told: it has a node, and each of its entries a name
-pub record IsTellable (hs : List (List Claim)) : Type 0 where
+-- the trace can be written: it has a node, and each of its entries a name
+pub record IsWritable (hs : List (List Claim)) : Type 0 where
   pub some : 1 ≤ length hs
   pub named : Each (λ (h : List Claim). Each (λ (c : Claim). HasName c.deed) h) hs

@@ -1,7 +1,7 @@
 -- What was read into a place.
 use Rattle.std.specs.Prelude.{◌≡◌, Bool, true, false, Option, Some, None, option_map, option_and_then}
 use Rattle.node_core.specs.declared.event.Event.{Event}
-use Rattle.trace_text.specs.Fields.{Found}
+use Rattle.trace_text.specs.Fields.{FieldData}
 use Rattle.trace_text.specs.Entries.{done_in, device_in}
 use Rattle.trace_check.specs.declared.trace.Deed.{Deed}
 use Rattle.trace_check.specs.declared.trace.Deed.TheVariants as deed
@@ -21,5 +21,5 @@ recovery_said r = said r.0 r.1
     said kept (Some fault) = deed.NotRecovered kept fault
 
 -- the event was handled, or the device failed in it
-abbrev pub with_device : Found → Option Event → Option Deed
+abbrev pub with_device : FieldData → Option Event → Option Deed
 with_device f event = option_and_then (λ (e : Event). option_map (λ (failed : Bool). done_in e failed) (device_in f.fault)) event

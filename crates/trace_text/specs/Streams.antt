@@ -9,7 +9,7 @@ use Rattle.serde_json.specs.Read.{of_json, of_items, converted}
 use Rattle.wire_msg.specs.Envelope.{Envelope}
 use Rattle.trace_check.specs.declared.trace.Deed.{Deed}
 use Rattle.trace_check.specs.Claims.{Claim}
-use Rattle.trace_text.specs.Fields.{Found, found_put, nothing_found}
+use Rattle.trace_text.specs.Fields.{FieldData, fields_put, no_fields}
 use Rattle.trace_text.specs.Entries.{with_first, spelled_in, number_in, deed_in, claim_in}
 
 -- the value at the front
@@ -52,13 +52,13 @@ members_at step depth n s ts = converted (λ (ms : json.Members). folded step ms
 
 -- an entry: its fields, and the texts of the messages that it sent
 abbrev pub Drafted : Type 0
-Drafted = Found × Option (List (List ℕ))
+Drafted = FieldData × Option (List (List ℕ))
 
 abbrev pub undrafted : Drafted
-undrafted = (nothing_found, None)
+undrafted = (no_fields, None)
 
 abbrev pub drafted_put : Drafted → List ℕ → Data → Drafted
-drafted_put s key d = if bytes_eq key (codes "sent") then (s.0, texts_of d) else (found_put s.0 key d, s.1)
+drafted_put s key d = if bytes_eq key (codes "sent") then (s.0, texts_of d) else (fields_put s.0 key d, s.1)
 
 abbrev pub messages_of : List (List ℕ) → Option (List Envelope)
 messages_of [] = Some []

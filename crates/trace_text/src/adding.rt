@@ -5,7 +5,7 @@ ghost use Rattle.std.specs.Str.{bytes_eq};
 ghost use Rattle.trace_check.specs.Claims.{Claim};
 ghost use Rattle.wire_msg.specs.declared.body.Body.TheVariants.{AreYouCoordinator};
 ghost use Rattle.trace_text.specs.Digits.{AreTables};
-ghost use Rattle.trace_text.specs.Fields.{found_by};
+ghost use Rattle.trace_text.specs.Fields.{fields_by};
 ghost use Rattle.trace_text.specs.Entries.{deed_in, deed_named, deliver_in, finish_in, spelled_in, submit_in};
 ghost use Rattle.trace_text.specs.Places.{with_device};
 ghost use Rattle.trace_text.specs.Streams.{messages_of, claim_with};
@@ -57,7 +57,7 @@ pub(crate) fn add_entry(
     history: &mut HistoryBuilder,
 ) -> Result<(), Halt>
     requires { history.old.pending ≡ [] }
-    ensures entry { OnOk result (option_map (λ (c : Claim). history.old.claims ++ c ∷ []) (claim_with (deed_in (found_by fields.now)) (messages_of (map (λ s. s.now) texts.now))) ≡ Some history.new.claims) }
+    ensures entry { OnOk result (option_map (λ (c : Claim). history.old.claims ++ c ∷ []) (claim_with (deed_in (fields_by fields.now)) (messages_of (map (λ s. s.now) texts.now))) ≡ Some history.new.claims) }
     ensures finished { OnOk result (history.new.pending ≡ []) }
 {
     let name = text_of(fields.name).ok_or(Halt::Odd)?;
@@ -82,7 +82,7 @@ fn add_delivery(
 ) -> Result<(), Halt>
     requires pending { history.old.pending ≡ [] }
     requires room { length texts.now + 1 ≤ history.old.room }
-    ensures entry { OnOk result (option_map (λ (c : Claim). history.old.claims ++ c ∷ []) (claim_with (with_device (found_by fields.now) (deliver_in (found_by fields.now))) (messages_of (map (λ s. s.now) texts.now))) ≡ Some history.new.claims) }
+    ensures entry { OnOk result (option_map (λ (c : Claim). history.old.claims ++ c ∷ []) (claim_with (with_device (fields_by fields.now) (deliver_in (fields_by fields.now))) (messages_of (map (λ s. s.now) texts.now))) ≡ Some history.new.claims) }
     ensures finished { OnOk result (history.new.pending ≡ []) }
 {
     let failed = read_device(fields.fault).ok_or(Halt::Odd)?;
@@ -114,7 +114,7 @@ fn add_submit(
 ) -> Result<(), Halt>
     requires pending { history.old.pending ≡ [] }
     requires room { length texts.now ≤ history.old.room }
-    ensures entry { OnOk result (option_map (λ (c : Claim). history.old.claims ++ c ∷ []) (claim_with (with_device (found_by fields.now) (submit_in (found_by fields.now))) (messages_of (map (λ s. s.now) texts.now))) ≡ Some history.new.claims) }
+    ensures entry { OnOk result (option_map (λ (c : Claim). history.old.claims ++ c ∷ []) (claim_with (with_device (fields_by fields.now) (submit_in (fields_by fields.now))) (messages_of (map (λ s. s.now) texts.now))) ≡ Some history.new.claims) }
     ensures finished { OnOk result (history.new.pending ≡ []) }
 {
     let failed = read_device(fields.fault).ok_or(Halt::Odd)?;
@@ -147,7 +147,7 @@ fn add_finish(
 ) -> Result<(), Halt>
     requires pending { history.old.pending ≡ [] }
     requires room { length texts.now ≤ history.old.room }
-    ensures entry { OnOk result (option_map (λ (c : Claim). history.old.claims ++ c ∷ []) (claim_with (with_device (found_by fields.now) (finish_in (found_by fields.now))) (messages_of (map (λ s. s.now) texts.now))) ≡ Some history.new.claims) }
+    ensures entry { OnOk result (option_map (λ (c : Claim). history.old.claims ++ c ∷ []) (claim_with (with_device (fields_by fields.now) (finish_in (fields_by fields.now))) (messages_of (map (λ s. s.now) texts.now))) ≡ Some history.new.claims) }
     ensures finished { OnOk result (history.new.pending ≡ []) }
 {
     let failed = read_device(fields.fault).ok_or(Halt::Odd)?;
@@ -175,7 +175,7 @@ fn add_other(
     requires other { bytes_eq name.now (codes "deliver") ≡ false }
     requires pending { history.old.pending ≡ [] }
     requires room { length texts.now ≤ history.old.room }
-    ensures entry { OnOk result (option_map (λ (c : Claim). history.old.claims ++ c ∷ []) (claim_with (deed_named (found_by fields.now) name.now) (messages_of (map (λ s. s.now) texts.now))) ≡ Some history.new.claims) }
+    ensures entry { OnOk result (option_map (λ (c : Claim). history.old.claims ++ c ∷ []) (claim_with (deed_named (fields_by fields.now) name.now) (messages_of (map (λ s. s.now) texts.now))) ≡ Some history.new.claims) }
     ensures finished { OnOk result (history.new.pending ≡ []) }
 {
     if !read_other(&mut desk.room, fields, name, &mut desk.deed)? {

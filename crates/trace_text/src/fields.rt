@@ -2,13 +2,13 @@ ghost use Rattle.std.specs.Prelude.{◌≡◌, option_map, option_and_then, if�
 ghost use Rattle.std.specs.Str.{bytes_eq};
 ghost use Rattle.serde_json.specs.Find.{get, as_str, as_bool};
 ghost use Rattle.serde_json.specs.View.{view};
-ghost use Rattle.trace_text.specs.Fields.{data_of, found_by, found_in, found_put, nothing_found};
+ghost use Rattle.trace_text.specs.Fields.{data_of, fields_by, fields_in, fields_put, no_fields};
 ghost use Rattle.trace_text.specs.Entries.{number_in};
 
 use line_words::is_word;
 use serde_json::Value;
 
-/// The value of a field: as a reader of tokens found it, or in a tree.
+/// The value of a field: as a reader of tokens read it, or in a tree.
 #[derive(Clone, Copy, Drop)]
 pub enum Field<'a> {
     Text(&'a [u8]),
@@ -65,7 +65,7 @@ pub struct Fields<'a> {
 
 impl<'a> Fields<'a> {
     pub(crate) fn new() -> Fields<'a>
-        ensures { found_by result ≡ nothing_found }
+        ensures { fields_by result ≡ no_fields }
     {
         Fields {
             name: None,
@@ -82,7 +82,7 @@ impl<'a> Fields<'a> {
 
     /// Forgets all fields.
     pub(crate) fn clear(&mut self)
-        ensures { found_by self.new ≡ nothing_found }
+        ensures { fields_by self.new ≡ no_fields }
     {
         self.name = None;
         self.message = None;
@@ -97,7 +97,7 @@ impl<'a> Fields<'a> {
 
     /// The fields of a JSON value.
     pub(crate) fn of_tree(value: &'a Value) -> Fields<'a>
-        ensures { found_by result ≡ found_in (view value.now) }
+        ensures { fields_by result ≡ fields_in (view value.now) }
     {
         Fields {
             name: member(value, "do"),
@@ -114,7 +114,7 @@ impl<'a> Fields<'a> {
 
     /// Takes one more member of an object: of equal keys the last counts, and a key that nobody asks for is passed over.
     pub(crate) fn put(&mut self, key: &[u8], field: Field<'a>)
-        ensures { found_by self.new ≡ found_put (found_by self.old) key.now (data_of field.entry) }
+        ensures { fields_by self.new ≡ fields_put (fields_by self.old) key.now (data_of field.entry) }
     {
         if is_word(key, "do") {
             self.name = Some(field);

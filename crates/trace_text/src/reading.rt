@@ -6,7 +6,7 @@ ghost use Rattle.hex.specs.Hex.{decode_of};
 ghost use Rattle.wire_msg.specs.Reading.{message_of};
 ghost use Rattle.group_task.specs.declared.node.TheConstants.{NODES};
 ghost use Rattle.job_model.specs.declared.queue.TheConstants.{QUEUES};
-ghost use Rattle.trace_text.specs.Fields.{data_of, found_by};
+ghost use Rattle.trace_text.specs.Fields.{data_of, fields_by};
 ghost use Rattle.trace_text.specs.Entries.{claim_of, good, below, bytes_in, spelled_in, messages_in, number_in, priority_in, deliver_in, submit_in, finish_in, event_in, device_in, recover_in, deed_named, deed_in, claim_in};
 ghost use Rattle.trace_text.specs.Places.{IsRead, recovery_said, with_device};
 
@@ -122,7 +122,7 @@ fn read_messages(alloc: Global, values: &[Value]) -> Result<Option<Vec<Message>>
 
 /// What was done, in place of another deed. False where the fields say none.
 fn read_deed(room: &mut Vec<u8>, fields: &Fields<'_>, deed: &mut Deed) -> Result<bool, AllocError>
-    ensures { IfOk result (λ some. IsRead some deed.new (deed_in (found_by fields.now))) }
+    ensures { IfOk result (λ some. IsRead some deed.new (deed_in (fields_by fields.now))) }
 {
     match text_of(fields.name) {
         Some(name) => read_named(room, fields, name, deed),
@@ -138,7 +138,7 @@ fn read_named(
     name: &[u8],
     deed: &mut Deed,
 ) -> Result<bool, AllocError>
-    ensures { IfOk result (λ some. IsRead some deed.new (deed_named (found_by fields.now) name.now)) }
+    ensures { IfOk result (λ some. IsRead some deed.new (deed_named (fields_by fields.now) name.now)) }
 {
     if is_word(name, "deliver") {
         return read_deliver(room, fields, deed);
@@ -154,7 +154,7 @@ pub(crate) fn read_other(
     deed: &mut Deed,
 ) -> Result<bool, AllocError>
     requires { bytes_eq name.now (codes "deliver") ≡ false }
-    ensures { IfOk result (λ some. IsRead some deed.new (deed_named (found_by fields.now) name.now)) }
+    ensures { IfOk result (λ some. IsRead some deed.new (deed_named (fields_by fields.now) name.now)) }
 {
     if is_word(name, "none") {
         *deed = Deed::Nothing;
@@ -180,7 +180,7 @@ fn read_done(
     deed: &mut Deed,
 ) -> Result<bool, AllocError>
     requires { bytes_eq name.now (codes "deliver") ≡ false }
-    ensures { IfOk result (λ some. IsRead some deed.new (with_device (found_by fields.now) (event_in (found_by fields.now) name.now))) }
+    ensures { IfOk result (λ some. IsRead some deed.new (with_device (fields_by fields.now) (event_in (fields_by fields.now) name.now))) }
 {
     let mut event = Event::Recover;
     if !read_event(room, fields, name, &mut event)? {
@@ -210,7 +210,7 @@ pub(crate) fn read_device(fault: Option<Field<'_>>) -> Option<bool>
 
 /// A recovery, in place of another deed.
 fn read_recover(fields: &Fields<'_>, deed: &mut Deed) -> bool
-    ensures { IsRead result deed.new (recover_in (found_by fields.now)) }
+    ensures { IsRead result deed.new (recover_in (fields_by fields.now)) }
 {
     let Some((kept, fault)) = recovery_of(fields) else {
         return false;
@@ -224,7 +224,7 @@ fn read_recover(fields: &Fields<'_>, deed: &mut Deed) -> bool
 
 /// What a recovery says: whether the command in doubt was kept, and how it failed.
 fn recovery_of(fields: &Fields<'_>) -> Option<(bool, Option<RecoverFault>)>
-    ensures { option_map recovery_said result ≡ recover_in (found_by fields.now) }
+    ensures { option_map recovery_said result ≡ recover_in (fields_by fields.now) }
 {
     let kept = fields.kept?.flag()?;
     let Some(fault) = fields.fault else {
@@ -248,7 +248,7 @@ fn read_event(
     event: &mut Event,
 ) -> Result<bool, AllocError>
     requires { bytes_eq name.now (codes "deliver") ≡ false }
-    ensures { IfOk result (λ some. IsRead some event.new (event_in (found_by fields.now) name.now)) }
+    ensures { IfOk result (λ some. IsRead some event.new (event_in (fields_by fields.now) name.now)) }
 {
     if let Some(timer) = Timer::from_word(name) {
         *event = Event::Timer(timer);
@@ -270,7 +270,7 @@ fn read_deliver(
     fields: &Fields<'_>,
     deed: &mut Deed,
 ) -> Result<bool, AllocError>
-    ensures { IfOk result (λ some. IsRead some deed.new (with_device (found_by fields.now) (deliver_in (found_by fields.now)))) }
+    ensures { IfOk result (λ some. IsRead some deed.new (with_device (fields_by fields.now) (deliver_in (fields_by fields.now)))) }
 {
     let Some(failed) = read_device(fields.fault) else {
         return Ok(false);
@@ -298,7 +298,7 @@ fn read_submit(
     fields: &Fields<'_>,
     event: &mut Event,
 ) -> Result<bool, AllocError>
-    ensures { IfOk result (λ some. IsRead some event.new (submit_in (found_by fields.now))) }
+    ensures { IfOk result (λ some. IsRead some event.new (submit_in (fields_by fields.now))) }
 {
     let Some(queue) = queue_of(number_of(fields.queue)) else {
         return Ok(false);
@@ -338,7 +338,7 @@ pub(crate) fn priority_of(priority: Option<Field<'_>>) -> Option<u8>
 }
 
 fn read_finish(fields: &Fields<'_>, event: &mut Event) -> bool
-    ensures { IsRead result event.new (finish_in (found_by fields.now)) }
+    ensures { IsRead result event.new (finish_in (fields_by fields.now)) }
 {
     let Some(origin) = node_of(number_of(fields.origin)) else {
         return false;

@@ -15,9 +15,9 @@ pub(crate) fn plain_end(text: &[u8]) -> usize
 {
     let mut end = 0;
     while text.len() - end >= 16 {
-        let found = stops(u8x16::from_slice(&text[end..]));
-        if found != 0 {
-            return end + found.trailing_zeros() as usize;
+        let hits = stops(u8x16::from_slice(&text[end..]));
+        if hits != 0 {
+            return end + hits.trailing_zeros() as usize;
         }
         end += 16;
     }

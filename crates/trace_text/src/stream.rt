@@ -1,7 +1,7 @@
 //! Reading a trace entry by entry, with no tree of the whole text beside it.
 //!
 //! The reader goes on as long as all is as `write` writes it, in any order of keys and with any spaces. Where anything is wrong or
-//! rare it stops, and says nothing of the text: `read_tree` then tells what is in it.
+//! rare it stops, and says nothing of the text: `read_tree` then says what is in it.
 
 ghost use Rattle.std.specs.Prelude.{◌≡◌, ◌<◌, ◌≤◌, ◌∷◌, [], ◌++◌, ℕ, length, map, true, IfOk, OnOk, IfSome, option_map, Ok, Some, None};
 ghost use Rattle.std.specs.List.{list_all};

@@ -24,7 +24,7 @@ pub fn read(alloc: Global, text: &[u8]) -> Result<Trace, TraceFault>
     }
 }
 
-/// The trace of a text, by way of the tree of its JSON value. It takes far more time and memory than `read_stream`, and tells
+/// The trace of a text, by way of the tree of its JSON value. It takes far more time and memory than `read_stream`, and says
 /// what is wrong, and where.
 fn read_tree(alloc: Global, text: &[u8]) -> Result<Trace, TraceFault>
     ensures ok { IfOk result (λ trace. trace_of text.now ≡ Ok trace) }

@@ -4,7 +4,7 @@ ghost use Rattle.json.specs.Token.{begin_array, begin_object, end_array, end_obj
 ghost use Rattle.serde_json.specs.Written.{compact_text};
 ghost use Rattle.trace_check.specs.Traces.{claim_seen};
 ghost use Rattle.trace_text.specs.Tokens.{Adds, deed_tokens, event_tokens, priority_tokens, rank_tokens, work_tokens, message_tokens, head_tokens, end_tokens, entry_tokens, history_tokens, histories_tokens, trace_tokens};
-ghost use Rattle.trace_text.specs.Fits.{WorkFits, EventFits, DeedFits, ClaimFits, TraceFits, IsTellable};
+ghost use Rattle.trace_text.specs.Fits.{WorkFits, EventFits, DeedFits, ClaimFits, TraceFits, IsWritable};
 ghost use Rattle.trace_text.specs.Wholes.{trace_of};
 ghost use Rattle.trace_text.specs.Written.{trace_data, deed_name, event_name, fault_name};
 ghost use Rattle.wire_msg.specs.Spelling.{spelling, AreBytes, IsMessage};
@@ -23,7 +23,7 @@ use wire_msg::{Message, encode};
 /// A trace of no node has no text that is read back, nor has one with an entry that is `Done` or `Faulted` of Recover.
 pub fn write(alloc: Global, trace: &Trace) -> Result<Vec<u8>, AllocError>
     ensures text { IfOk result (λ text. text.items ≡ compact_text (trace_data trace.now)) }
-    ensures reads_back { IfOk result (λ text. IsTellable trace.now → trace_of text.items ≡ Ok trace.now) }
+    ensures reads_back { IfOk result (λ text. IsWritable trace.now → trace_of text.items ≡ Ok trace.now) }
 {
     let mut out = Writer::new(Vec::new(alloc));
     write_trace(alloc, &mut out, trace)?;

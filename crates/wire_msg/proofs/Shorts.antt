@@ -17,7 +17,7 @@ use Rattle.wire_msg.specs.Spelling.{content, place, answered, nodes_in, IsGroup,
 use Rattle.wire_msg.specs.Reading.{named_at, answer_at, short_at}
 use Rattle.wire_msg.proofs.Fields.{wide64, number_again, truth_again, group_again}
 
--- a body is told by its shape
+-- a body is known by its shape
 pub shaped : (b : Body) → body_of (shape_of b) ≡ b
 shaped says.AreYouCoordinator = refl
 shaped (says.Coordinator answer) = refl

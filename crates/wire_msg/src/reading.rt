@@ -283,7 +283,7 @@ pub(crate) fn read(bytes: &[u8], body: &mut Body) -> Option<(NodeId, NodeId)>
 /// The message that the bytes spell, all of them: `Malformed` where they are no spelling, also where more bytes follow one.
 pub fn decode(bytes: &[u8]) -> Result<Message, WireFault>
     // What is read is spelled so.
-    ensures found { IfOk result (λ m. Spells m bytes.now) }
+    ensures read { IfOk result (λ m. Spells m bytes.now) }
     // What is spelled so is read.
     ensures only { (m : Envelope) → Spells m bytes.now → result ≡ Ok m }
     ensures fault { IfErr result (λ e. e ≡ WireFault.Malformed) }
@@ -296,7 +296,7 @@ pub fn decode(bytes: &[u8]) -> Result<Message, WireFault>
 /// Makes `message` the one that the bytes spell, as `decode` reads it, but in place, since a message is long. Where they spell
 /// none, it is some message.
 pub fn decode_into(bytes: &[u8], message: &mut Message) -> Result<(), WireFault>
-    ensures found { OnOk result (Spells message.new bytes.now) }
+    ensures read { OnOk result (Spells message.new bytes.now) }
     ensures only { (m : Envelope) → Spells m bytes.now → IsOk result × (message.new ≡ m) }
     ensures fault { IfErr result (λ e. e ≡ WireFault.Malformed) }
 {

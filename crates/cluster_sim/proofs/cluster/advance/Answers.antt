@@ -3,40 +3,40 @@ use Rattle.std.proofs.lemmas.Option.{slice_get_read}
 use Rattle.histories.specs.declared.attempt.Attempt.{Attempt}
 use Rattle.runs.specs.Reporting.{own_commands}
 use Rattle.runs.proofs.PublicLaws.{own_few}
-use Rattle.cluster_sim.specs.Recorded.{command_in, recorded, report_in, with_deed}
-use Rattle.cluster_sim.proofs.Advancing.{hand_fits, jobs_fit, step_is_told, goes_on, recorded_on, named_in}
+use Rattle.cluster_sim.specs.Cluster.{command_in, cluster_with, report_in, with_deed}
+use Rattle.cluster_sim.proofs.Advancing.{hand_fits, jobs_fit, step_reported, goes_on, cluster_on, named_in}
 use Rattle.cluster_sim.proofs.cluster.advance.Goals.{then-is_some, else-is_some}
 use Rattle.cluster_sim.proofs.cluster.advance.Goals as goal
 
 pub add-requires-clause-hand : goal.add-requires-clause-hand
 add-requires-clause-hand c =
-    let inv = c.requires.recorded in
-    hand_fits c.args.simulation.now c.perform.new.self inv.world c.args.act c.in_ok-deed.deed c.node_named-id.result c.node.result.now c.node-2.result.now inv.tells.stands (c.in_ok-deed.ensures.acted inv.world inv.tells.stands)
-    (named_in c.args.simulation.now inv.world c.args.act c.node_named-id.result c.count.result c.net.result.now.network inv.tells.stands c.count.ensures.value c.net.ensures c.node_named-id.ensures.named) c.node.ensures c.node-2.ensures
-    _ c.in_ok-room.room.vector.hand.room inv.tells
+    let inv = c.requires.cluster in
+    hand_fits c.args.world.now c.perform.new.self inv.last c.args.act c.in_ok-deed.deed c.node_named-id.result c.node.result.now c.node-2.result.now inv.reports.stands (c.in_ok-deed.ensures.acted inv.last inv.reports.stands)
+    (named_in c.args.world.now inv.last c.args.act c.node_named-id.result c.count.result c.net.result.now.network inv.reports.stands c.count.ensures.value c.net.ensures c.node_named-id.ensures.named) c.node.ensures c.node-2.ensures
+    _ c.in_ok-room.room.vector.hand.room inv.reports
     (rw (← c.slots.ensures.value) c.in_ok-room.ensures.hand)
 
 pub add-requires-clause-jobs : goal.add-requires-clause-jobs
-add-requires-clause-jobs c found =
-    let inv = c.requires.recorded in
-    jobs_fit c.args.simulation.now c.perform.new.self inv.world c.args.act c.in_ok-deed.deed c.node_named-id.result c.node.result.now c.node-2.result.now inv.tells.stands (c.in_ok-deed.ensures.acted inv.world inv.tells.stands)
-    (named_in c.args.simulation.now inv.world c.args.act c.node_named-id.result c.count.result c.net.result.now.network inv.tells.stands c.count.ensures.value c.net.ensures c.node_named-id.ensures.named) c.node.ensures c.node-2.ensures
-    _ (vec_capacity c.in_ok-room.room.pending) found inv.tells (λ down. rw (← c.slots.ensures.value) (c.in_ok-room.ensures.jobs down))
+add-requires-clause-jobs c mounted =
+    let inv = c.requires.cluster in
+    jobs_fit c.args.world.now c.perform.new.self inv.last c.args.act c.in_ok-deed.deed c.node_named-id.result c.node.result.now c.node-2.result.now inv.reports.stands (c.in_ok-deed.ensures.acted inv.last inv.reports.stands)
+    (named_in c.args.world.now inv.last c.args.act c.node_named-id.result c.count.result c.net.result.now.network inv.reports.stands c.count.ensures.value c.net.ensures c.node_named-id.ensures.named) c.node.ensures c.node-2.ensures
+    _ (vec_capacity c.in_ok-room.room.pending) mounted inv.reports (λ down. rw (← c.slots.ensures.value) (c.in_ok-room.ensures.jobs down))
 
 pub add-requires-clause-count : goal.add-requires-clause-count
 add-requires-clause-count c = λ count raise.
-    let inv = c.requires.recorded in
-    (step_is_told c.args.simulation.now c.perform.new.self inv.world c.args.act c.in_ok-deed.deed c.node_named-id.result c.node.result.now c.node-2.result.now inv.tells.stands (c.in_ok-deed.ensures.acted inv.world inv.tells.stands)
-    (named_in c.args.simulation.now inv.world c.args.act c.node_named-id.result c.count.result c.net.result.now.network inv.tells.stands c.count.ensures.value c.net.ensures c.node_named-id.ensures.named) c.node.ensures c.node-2.ensures
-    (recorded c.args.simulation.now c.args.report.now).report).parts.raises count (ap (λ (t : Option Attempt). command_in c.args.act t) raise)
+    let inv = c.requires.cluster in
+    (step_reported c.args.world.now c.perform.new.self inv.last c.args.act c.in_ok-deed.deed c.node_named-id.result c.node.result.now c.node-2.result.now inv.reports.stands (c.in_ok-deed.ensures.acted inv.last inv.reports.stands)
+    (named_in c.args.world.now inv.last c.args.act c.node_named-id.result c.count.result c.net.result.now.network inv.reports.stands c.count.ensures.value c.net.ensures c.node_named-id.ensures.named) c.node.ensures c.node-2.ensures
+    (cluster_with c.args.world.now c.args.report.now).report).parts.raises count (ap (λ (t : Option Attempt). command_in c.args.act t) raise)
 
 pub overflow_add-before : goal.overflow_add-before
 overflow_add-before c =
-    let inv = c.requires.recorded in
+    let inv = c.requires.cluster in
     let id = c.from-place.ensures ∙ c.number.ensures.value in
     let within : c.from-place.result < length c.args.counts.now.items = (let many = inv.counted.as_many in let within = c.node_named-id.ensures.within in let value = c.count.ensures.value in omega (arith, id, within, many, value)) in
     let at = slice_get_read c.args.counts.now.items _ c.from-place.result c.index-before.result.now refl within c.index-before.ensures in
-    let commands = (recorded c.args.simulation.now c.args.report.now).report.commands in
+    let commands = (cluster_with c.args.world.now c.args.report.now).report.commands in
     let count : c.index-before.result.now ≡ length (own_commands c.from-place.result commands) = inv.counted.each c.from-place.result c.index-before.result.now at in
     let kept = c.args.report.now.commands in
     omega (arith, count, own_few c.from-place.result commands, kept.ok.0, kept.ok.1, kept.small)
@@ -45,30 +45,30 @@ added : (c : goal.After-result-1) → report_in c.add.new.self c.perform.new.sel
     ≡ with_deed c.perform.new.self.net.sent c.node_named-id.result c.index-before.result.now c.args.act c.in_ok-deed.deed c.node-2.result.now (report_in c.args.report.now c.perform.new.self.net.sent)
 added c =
     let sent = c.perform.new.self.net.sent in
-    c.add.ensures sent ∙ ap (with_deed sent c.node_named-id.result c.index-before.result.now c.args.act c.in_ok-deed.deed c.node-2.result.now) (c.in_ok-room.ensures.told sent)
+    c.add.ensures sent ∙ ap (with_deed sent c.node_named-id.result c.index-before.result.now c.args.act c.in_ok-deed.deed c.node-2.result.now) (c.in_ok-room.ensures.same sent)
 
 pub returns-clause-goes_on : goal.returns-clause-goes_on
-returns-clause-goes_on c w tells =
-    let inv = c.requires.recorded in
+returns-clause-goes_on c w reports =
+    let inv = c.requires.cluster in
     let at_id = c.from-place.ensures ∙ c.number.ensures.value in
     let id = c.node_named-id.result in
     let within : c.from-place.result < length c.args.counts.now.items = (let many = inv.counted.as_many in let within = c.node_named-id.ensures.within in let value = c.count.ensures.value in omega (arith, at_id, within, many, value)) in
     let at : slice_get c.args.counts.now.items id ≡ Some c.index-before.result.now = rw (← at_id) (slice_get_read c.args.counts.now.items _ c.from-place.result c.index-before.result.now refl within c.index-before.ensures) in
-    goes_on c.args.simulation.now c.perform.new.self w c.args.act c.in_ok-deed.deed id c.node.result.now c.node-2.result.now tells.stands (c.in_ok-deed.ensures.acted w tells.stands)
-    (named_in c.args.simulation.now w c.args.act id c.count.result c.net.result.now.network tells.stands c.count.ensures.value c.net.ensures c.node_named-id.ensures.named) c.node.ensures c.node-2.ensures
-    c.args.report.now c.add.new.self c.index-before.result.now tells c.in_ok-deed.ensures.slots (inv.counted.each id c.index-before.result.now at)
+    goes_on c.args.world.now c.perform.new.self w c.args.act c.in_ok-deed.deed id c.node.result.now c.node-2.result.now reports.stands (c.in_ok-deed.ensures.acted w reports.stands)
+    (named_in c.args.world.now w c.args.act id c.count.result c.net.result.now.network reports.stands c.count.ensures.value c.net.ensures c.node_named-id.ensures.named) c.node.ensures c.node-2.ensures
+    c.args.report.now c.add.new.self c.index-before.result.now reports c.in_ok-deed.ensures.slots (inv.counted.each id c.index-before.result.now at)
     (added c)
 
-pub returns-clause-recorded : goal.returns-clause-recorded
-returns-clause-recorded c =
-    let inv = c.requires.recorded in
+pub returns-clause-cluster : goal.returns-clause-cluster
+returns-clause-cluster c =
+    let inv = c.requires.cluster in
     let at_id = c.from-place.ensures ∙ c.number.ensures.value in
     let id = c.node_named-id.result in
     let within : c.from-place.result < length c.args.counts.now.items = (let many = inv.counted.as_many in let within = c.node_named-id.ensures.within in let value = c.count.ensures.value in omega (arith, at_id, within, many, value)) in
     let at : slice_get c.args.counts.now.items id ≡ Some c.index-before.result.now = rw (← at_id) (slice_get_read c.args.counts.now.items _ c.from-place.result c.index-before.result.now refl within c.index-before.ensures) in
-    recorded_on c.args.simulation.now c.perform.new.self inv.world c.args.act c.in_ok-deed.deed id c.node.result.now c.node-2.result.now inv.tells.stands (c.in_ok-deed.ensures.acted inv.world inv.tells.stands)
-    (named_in c.args.simulation.now inv.world c.args.act id c.count.result c.net.result.now.network inv.tells.stands c.count.ensures.value c.net.ensures c.node_named-id.ensures.named) c.node.ensures c.node-2.ensures
-    c.args.report.now c.add.new.self c.index-before.result.now inv.tells c.in_ok-deed.ensures.slots (inv.counted.each id c.index-before.result.now at)
+    cluster_on c.args.world.now c.perform.new.self inv.last c.args.act c.in_ok-deed.deed id c.node.result.now c.node-2.result.now inv.reports.stands (c.in_ok-deed.ensures.acted inv.last inv.reports.stands)
+    (named_in c.args.world.now inv.last c.args.act id c.count.result c.net.result.now.network inv.reports.stands c.count.ensures.value c.net.ensures c.node_named-id.ensures.named) c.node.ensures c.node-2.ensures
+    c.args.report.now c.add.new.self c.index-before.result.now inv.reports c.in_ok-deed.ensures.slots (inv.counted.each id c.index-before.result.now at)
     (added c) c.args.counts.now.items c.if-is_some.counts.items inv.counted at
     (elim c.if-is_some.branch [
       | then-is_some b ↦ inl (sym b.if-is_some.ensures, (λ i. (b.counts-is i).items) ∙ (λ i. slice_set c.args.counts.now.items (at_id i) (c.index-before.result.now + 1)))

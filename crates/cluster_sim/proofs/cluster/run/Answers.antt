@@ -4,7 +4,7 @@ use Rattle.std.proofs.lemmas.Simd.{map-map}
 use Rattle.runs.specs.World.{start}
 use Rattle.runs.specs.Growth.{acts_in}
 use Rattle.runs.specs.Reporting.{Moment, Report}
-use Rattle.cluster_sim.specs.Recorded.{HasRun, moment_in, report_in}
+use Rattle.cluster_sim.specs.Cluster.{HasRun, moment_in, report_in}
 use Rattle.runs.proofs.PublicLaws.{length_openings}
 use Rattle.cluster_sim.proofs.Promised.{promised}
 use Rattle.cluster_sim.proofs.cluster.run.Goals as goal
@@ -26,7 +26,7 @@ returns-clause-keeps c =
     let ms = c.into_parts.result.0.moments in
     let short : length (report_in c.into_parts.result.0 sent).moments + 1 < 2 ^ 64 = omega (arith, length-map ms.items (moment_in sent), ms.ok.0, ms.ok.1, ms.small) in
     let many : length (report_in c.into_parts.result.0 sent).moments ≡ length c.step_all.new.self.report.moments = (λ i. length (is c i).moments) in
-    rw (is c, ← h.of_acts, ← h.as_many, ← c.step_all.ensures.slots ∙ c.in_ok-cluster.ensures.slots) (promised c.step_all.new.self h.world h.tells (omega (arith, short, many)))
+    rw (is c, ← h.of_acts, ← h.as_many, ← c.step_all.ensures.slots ∙ c.in_ok-cluster.ensures.slots) (promised c.step_all.new.self h.last h.reports (omega (arith, short, many)))
 
 pub returns-clause-acts : goal.returns-clause-acts
 returns-clause-acts c = sym (map-map (λ (m : Moment). m.act) (moment_in c.into_parts.result.1.network.sent) c.into_parts.result.0.moments.items) ∙ ap acts_in (is c) ∙ (ran c).of_acts

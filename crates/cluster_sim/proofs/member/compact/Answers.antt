@@ -1,7 +1,7 @@
 use Rattle.std.proofs.Common.{length, ◌∙◌}
 use Rattle.cluster_sim.specs.Operated.{IsCompacted}
-use Rattle.cluster_sim.specs.Told.{compaction_told}
-use Rattle.cluster_sim.proofs.Coming.{some_of, same_by, compacted, compacted_comes, told_so, nothing_found, compact_counted}
+use Rattle.cluster_sim.specs.Outcomes.{compaction_outcome}
+use Rattle.cluster_sim.proofs.Coming.{some_of, same_by, compacted, compacted_comes, outcome_so, nothing_mounted, compact_counted}
 use Rattle.cluster_sim.proofs.member.compact.Goals as goal
 
 pub returns-clause-same : goal.returns-clause-same
@@ -10,7 +10,7 @@ returns-clause-same c =
     same_by c.args.node.now c.compact-answer.new.self c.compact-answer.result e.id e.nodes e.counts
 
 -- what it leaves
-leaves : (c : goal.After-compaction_told) → IsCompacted c.args.node.now c.compact-answer.new.self (compaction_told (length c.args.net.now.network.sent) c.compact-answer.result)
+leaves : (c : goal.After-compaction_outcome) → IsCompacted c.args.node.now c.compact-answer.new.self (compaction_outcome (length c.args.net.now.network.sent) c.compact-answer.result)
 leaves c =
     let e = c.compact-answer.ensures in
     compacted c.args.node.now c.compact-answer.new.self (length c.args.net.now.network.sent) c.compact-answer.result e.answers e.moved e.fallen e.refused e.images
@@ -21,13 +21,13 @@ returns-clause-came c = λ slots n s stands.
     let e = c.compact-answer.ensures in
     let was = some_of old.disk e.counts.was_there in
     let came = e.step was.0 s was.1 stands in
-    let told = told_so old.id old.nodes (length c.args.net.now.network.sent) n s came.0 c.compact-answer.result came.1 in
-    compacted_comes slots n old.id old.nodes s c.compaction_told.result c.compact-answer.new.self c.args.net.now.network came.0 told.0 came.2 (c.compaction_told.ensures ∙ told.1)
-    (nothing_found old c.compact-answer.new.self _ (leaves c).left) came.3
+    let reported = outcome_so old.id old.nodes (length c.args.net.now.network.sent) n s came.0 c.compact-answer.result came.1 in
+    compacted_comes slots n old.id old.nodes s c.compaction_outcome.result c.compact-answer.new.self c.args.net.now.network came.0 reported.0 came.2 (c.compaction_outcome.ensures ∙ reported.1)
+    (nothing_mounted old c.compact-answer.new.self _ (leaves c).left) came.3
 
 pub returns-clause-counted : goal.returns-clause-counted
 returns-clause-counted c =
-    rw c.compaction_told.ensures (compact_counted c.args.node.now.disk c.compact-answer.new.self.disk (length c.args.net.now.network.sent) c.compact-answer.result c.compact-answer.ensures.counts)
+    rw c.compaction_outcome.ensures (compact_counted c.args.node.now.disk c.compact-answer.new.self.disk (length c.args.net.now.network.sent) c.compact-answer.result c.compact-answer.ensures.counts)
 
 pub returns-clause-compacted : goal.returns-clause-compacted
-returns-clause-compacted c = rw c.compaction_told.ensures (leaves c)
+returns-clause-compacted c = rw c.compaction_outcome.ensures (leaves c)

@@ -1,4 +1,4 @@
-use Rattle.cluster_sim.specs.Machine.{AreOpened}
+use Rattle.cluster_sim.specs.World.{AreOpened}
 use Rattle.cluster_sim.proofs.nodes.opened.Given as goal
 
 abbrev pub invariant-loop-number : goal.invariant-loop-number

@@ -7,7 +7,7 @@ use Rattle.durable_node.proofs.advance.advance.Goals as goal
 pub returns-in_default-clause-reads : goal.returns-in_default-clause-reads
 returns-in_default-clause-reads g c = λ _ on.
     let same : c.in_default.disk ≡ c.args.disk.now = search rules in
-    rw same at (c.while_down.ensures.found on).1
+    rw same at (c.while_down.ensures.mounted on).1
 
 pub handle-requires : goal.handle-requires
 handle-requires g c =
@@ -29,4 +29,4 @@ returns-in-Mounted-clause-step g c =
     let up = sym c.is_down.ensures ∙ c.if-not-is_down.true in
     let node = rw c.in-Mounted.is at c.requires.node in
     rw c.in-Mounted.is (serves g.D.SectorDisk.state c.args.id c.args.nodes c.args.core.now c.handle.new.core store c.handle.new.store c.args.doubt.now c.handle.new.doubt c.args.event.now
-    up (node.slots store refl) _ e.store c.args.found.now c.handle.result e.what e.tried e.disk)
+    up (node.slots store refl) _ e.store c.args.mounted.now c.handle.result e.what e.tried e.disk)

@@ -9,7 +9,7 @@ use Rattle.durable_node.specs.Carrying.{Writes}
 use Rattle.durable_node.proofs.Mounts.{written}
 use Rattle.durable_node.proofs.carry.write.Goals as goal
 
--- what is told as done was done
+-- what is answered as done was done
 done_of : (r : Result ℕ StoreFault) (t : Result (Option ℕ) NodeFault) → IfErr r (λ fault. t ≡ Err (fault_for fault)) → IsOk t → IsOk r
 done_of (Ok n) t err ok = refl
 done_of (Err fault) t err ok = (let failed = rw err at ok in absurd cc)
@@ -17,6 +17,6 @@ done_of (Err fault) t err ok = (let failed = rw err at ok in absurd cc)
 pub returns-in-Put-clause-disk : goal.returns-in-Put-clause-disk
 returns-in-Put-clause-disk g c =
     let e = c.put.ensures in
-    subst (λ (w : Option Command). Writes g.D.SectorDisk.state c.args.store.now c.put.new.self w (IsOk c.told-in-Put.result)) (sym (ap lent_by c.in-Put.is))
-    (written g.D.SectorDisk.state c.args.store.now c.put.new.self (Put c.in-Put.work.now) (IsOk c.told-in-Put.result) c.requires.ready.whole e.areas.slots e.images
-    (λ honest ok. e.after honest (done_of c.put.result c.told-in-Put.result c.told-in-Put.ensures.err ok)))
+    subst (λ (w : Option Command). Writes g.D.SectorDisk.state c.args.store.now c.put.new.self w (IsOk c.node_answer-in-Put.result)) (sym (ap lent_by c.in-Put.is))
+    (written g.D.SectorDisk.state c.args.store.now c.put.new.self (Put c.in-Put.work.now) (IsOk c.node_answer-in-Put.result) c.requires.ready.whole e.areas.slots e.images
+    (λ honest ok. e.after honest (done_of c.put.result c.node_answer-in-Put.result c.node_answer-in-Put.ensures.err ok)))

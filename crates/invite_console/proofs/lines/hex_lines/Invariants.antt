@@ -6,7 +6,7 @@ use Rattle.invite_console.proofs.lines.hex_lines.Given as goal
 abbrev pub invariant-loop-line : goal.invariant-loop-line
 invariant-loop-line l = record {
   counted : l.number + length l.left ≤ length l.input + 1;
-  told : joined l.number (Some l.bytes.items) (hex_lines_from l.number (lines_of l.left)) ≡ hex_lines_of l.input;
+  written : joined l.number (Some l.bytes.items) (hex_lines_from l.number (lines_of l.left)) ≡ hex_lines_of l.input;
 }
 
 abbrev pub decreases-loop-line : goal.decreases-loop-line

@@ -5,6 +5,6 @@ use Rattle.invite_console.proofs.running.keep_acts.Given as goal
 
 abbrev pub invariant-loop-act : goal.invariant-loop-act
 invariant-loop-act l = record {
-  world : HasWorld l.cluster;
-  kept : (nodes slots : ℕ) → IsKeptSoFar l.telling nodes slots l.fn.cluster [] l.fn.kept.items l.fn.text.items → IsKeptSoFar l.telling nodes slots l.cluster (take l.act-index l.acts) l.kept.items l.text.items;
+  world : HasWorld l.world;
+  kept : (nodes slots : ℕ) → IsKeptSoFar l.details nodes slots l.fn.world [] l.fn.kept.items l.fn.text.items → IsKeptSoFar l.details nodes slots l.world (take l.act-index l.acts) l.kept.items l.text.items;
 }

@@ -14,4 +14,4 @@ loop-filled-preserved g c =
     writing_more _ _ refl (λ k is. (omega (arith, is), omega (arith, is))) c.loop-filled.invariant c.in-Ok.ensures.counts c.fill.ensures.run
     (λ honest so_far. written_fill _ _ _ c.loop-filled.filled _ _ (c.fill.ensures.run honest).contents
     (ap record_of (c.in-Ok.ensures.written honest refl) ∙ c.to_sector-body.ensures.read_back ∙ sym c.record_at.ensures) so_far)
-    (λ honest. c.in-Ok.ensures.settled honest refl)
+    (λ honest. c.in-Ok.ensures.synced honest refl)

@@ -13,4 +13,4 @@ pub loop-sealed-preserved : goal.loop-sealed-preserved
 loop-sealed-preserved g c =
     writing_more _ _ refl (λ k is. (omega (arith, is), omega (arith, is))) c.loop-sealed.invariant c.in-Ok.ensures.counts c.seal.ensures.run
     (λ honest so_far. written_seal _ _ _ _ c.loop-sealed.sealed _ _ (c.seal.ensures.run honest).contents (c.in-Ok.ensures.sealed honest refl) so_far)
-    (λ honest. c.in-Ok.ensures.settled honest refl)
+    (λ honest. c.in-Ok.ensures.synced honest refl)

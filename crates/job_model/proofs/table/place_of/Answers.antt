@@ -1,12 +1,12 @@
 use Rattle.std.proofs.Common.{◌≡◌, ◌<◌, ◌∙◌, true, false, ltb, sym, ap, arith, rules, length}
 use Rattle.std.proofs.lemmas.List.Sorted.{IsPartitionPoint-from_clause, IsPartitionedBy-ltb}
 use Rattle.job_model.specs.declared.job.Job.{Job}
-use Rattle.job_model.proofs.Places.{IsOther, ids_rise, without_at, without_other, pending_other, other_found}
+use Rattle.job_model.proofs.Places.{IsOther, ids_rise, without_at, without_other, pending_other, other_at}
 use Rattle.job_model.proofs.table.place_of.Goals.{else-at-jobs-via-then-at-jobs+else-jobs-at, else-at-jobs-via-else-at-jobs}
 use Rattle.job_model.proofs.table.place_of.Goals as goal
 
-pub returns-then-jobs-at-clause-found : goal.returns-then-jobs-at-clause-found
-returns-then-jobs-at-clause-found c =
+pub returns-then-jobs-at-clause-at_place : goal.returns-then-jobs-at-clause-at_place
+returns-then-jobs-at-clause-at_place c =
     let jobs = c.args.jobs.now in
     let at = c.partition_point-at.result in
     let on : at < length jobs = omega (arith, c.if-at-jobs.true) in
@@ -19,7 +19,7 @@ returns-else-at-jobs-clause-none c =
     let id = c.args.id in
     let parted = IsPartitionedBy-ltb (λ (job : Job). job.id) jobs id (ids_rise 0 c.args.next jobs c.requires) in
     let point = IsPartitionPoint-from_clause (λ (job : Job). ltb job.id id) jobs c.partition_point-at.result c.partition_point-at.ensures.partitioned parted (λ a r q k. search rules) in
-    let other : IsOther jobs id = other_found c.args.next jobs id c.partition_point-at.result c.requires point
+    let other : IsOther jobs id = other_at c.args.next jobs id c.partition_point-at.result c.requires point
     (elim c.else-at-jobs.branch [
       | else-at-jobs-via-then-at-jobs+else-jobs-at w ↦ λ on. (w.index-jobs-at.result, λ is. omega (arith, w.if-jobs-at.false, ap (λ (job : Job). job.id) w.index-jobs-at.is, is))
       | else-at-jobs-via-else-at-jobs w ↦ λ on. absurd (omega (arith, on, w.if-at-jobs.false))
@@ -32,7 +32,7 @@ returns-else-at-jobs-clause-pending c =
     let id = c.args.id in
     let parted = IsPartitionedBy-ltb (λ (job : Job). job.id) jobs id (ids_rise 0 c.args.next jobs c.requires) in
     let point = IsPartitionPoint-from_clause (λ (job : Job). ltb job.id id) jobs c.partition_point-at.result c.partition_point-at.ensures.partitioned parted (λ a r q k. search rules) in
-    let other : IsOther jobs id = other_found c.args.next jobs id c.partition_point-at.result c.requires point
+    let other : IsOther jobs id = other_at c.args.next jobs id c.partition_point-at.result c.requires point
     (elim c.else-at-jobs.branch [
       | else-at-jobs-via-then-at-jobs+else-jobs-at w ↦ λ on. (w.index-jobs-at.result, λ is. omega (arith, w.if-jobs-at.false, ap (λ (job : Job). job.id) w.index-jobs-at.is, is))
       | else-at-jobs-via-else-at-jobs w ↦ λ on. absurd (omega (arith, on, w.if-at-jobs.false))

@@ -22,7 +22,7 @@ returns-clause-images g c = λ honest.
     let state = g.D.SectorDisk.state in
     let erased = c.is_err.ensures.negation ∙ ap not c.if-is_err.false in
     let still = c.erase.ensures.counts.honest ∙ honest in
-    format_images c.args.at c.args.value (state c.args.disk.now) (state c.erase.new.disk) (state c.store.new.disk) c.body_for.result c.body_for.ensures (c.erase.ensures.settled honest erased)
+    format_images c.args.at c.args.value (state c.args.disk.now) (state c.erase.new.disk) (state c.store.new.disk) c.body_for.result c.body_for.ensures (c.erase.ensures.synced honest erased)
     (c.erase.ensures.first honest erased) (c.erase.ensures.second honest erased) (c.erase.ensures.run honest) (c.store.ensures.run still) (c.store.ensures.images still)
 
 formatted_all : (g : Over) (c : goal.After-or g) → IsTrue (g.D.SectorDisk.state c.args.disk.now).honest → IsOk c.or.result
@@ -33,7 +33,7 @@ formatted_all g c honest ok =
     let still = c.erase.ensures.counts.honest ∙ honest in
     let done : IsOk c.store.result = grind arith in
     all_formatted c.args.at c.args.value (state c.erase.new.disk) (state c.store.new.disk) c.body_for.result c.body_for.ensures (omega (arith, c.ranges))
-    (c.erase.ensures.second honest erased) (c.store.ensures.run still) (c.store.ensures.settled still done) (c.store.ensures.sealed still done)
+    (c.erase.ensures.second honest erased) (c.store.ensures.run still) (c.store.ensures.synced still done) (c.store.ensures.sealed still done)
 
 pub returns-clause-value : goal.returns-clause-value
 returns-clause-value g c = λ honest ok. (formatted_all g c honest ok).0

@@ -6,7 +6,7 @@ use Rattle.schedule.proofs.reading.read_acts.Given as goal
 abbrev pub invariant-loop-line : goal.invariant-loop-line
 invariant-loop-line l = record {
   counted : l.number + length l.left ≤ l.before + length l.text;
-  told : behind l.acts.items (acts_from l.number (length l.acts.items) (lines_of l.left)) ≡ acts_from l.before 0 (lines_of l.text);
+  rest_read : behind l.acts.items (acts_from l.number (length l.acts.items) (lines_of l.left)) ≡ acts_from l.before 0 (lines_of l.text);
 }
 
 abbrev pub decreases-loop-line : goal.decreases-loop-line

@@ -6,7 +6,7 @@ use Rattle.schedule.proofs.reading.read_schedule.Given as goal
 abbrev pub invariant-loop-line : goal.invariant-loop-line
 invariant-loop-line l = record {
   counted : l.before + length l.left ≤ length l.input;
-  told : plan_from l.before (lines_of l.left) ≡ plan_of l.input;
+  rest_read : plan_from l.before (lines_of l.left) ≡ plan_of l.input;
 }
 
 abbrev pub decreases-loop-line : goal.decreases-loop-line

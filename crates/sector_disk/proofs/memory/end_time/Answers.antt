@@ -2,7 +2,7 @@ use Rattle.std.proofs.Common.{◌≡◌, ◌∙◌, ◌==◌, ap, sym, ℕ, List
 use Rattle.std.proofs.lemmas.Bool.{false≢true}
 use Rattle.sector_disk.specs.Noted.{Noted}
 use Rattle.sector_disk.specs.declared.overwritten.Overwritten.{Overwritten}
-use Rattle.sector_disk.proofs.Calls.{no_items, no_notes, none_flagged, all_settled}
+use Rattle.sector_disk.proofs.Calls.{no_items, no_notes, none_flagged, all_are_synced}
 use Rattle.sector_disk.proofs.Undoing.{ends_time}
 use Rattle.sector_disk.proofs.memory.end_time.Goals as goal
 
@@ -24,8 +24,8 @@ none c at =
 pub returns-then-is_empty-clause-ended : goal.returns-then-is_empty-clause-ended
 returns-then-is_empty-clause-ended c = λ ok. inr (record { none = none c; same = c.note_torn.ensures.times })
 
-pub returns-then-is_empty-clause-settled : goal.returns-then-is_empty-clause-settled
-returns-then-is_empty-clause-settled c = λ ok. all_settled c.args.unsynced.now (none c)
+pub returns-then-is_empty-clause-synced : goal.returns-then-is_empty-clause-synced
+returns-then-is_empty-clause-synced c = λ ok. all_are_synced c.args.unsynced.now (none c)
 
 -- where nothing is unsynced there are no notes
 pub returns-clause-idle : goal.returns-clause-idle

@@ -26,9 +26,9 @@ returns-clause-images g c = λ honest knows.
     let h2 = subst (λ b. IsTrue b) (sym c.fill.ensures.counts.honest) h1 in
     let none = c.fill.ensures.images h1 (c.clear.ensures.cleared honest knows (ap is_ok c.in_ok-clear.was)) in
     let filled = filled_images c.args.slot c.args.body.now (c.clear.ensures.run honest) (c.fill.ensures.run h1) (c.clear.ensures.images honest knows) none in
-    let settled = c.fill.ensures.settled h1 (ap is_ok c.in_ok-fill.was) in
+    let synced = c.fill.ensures.synced h1 (ap is_ok c.in_ok-fill.was) in
     let written = c.fill.ensures.written h1 (ap is_ok c.in_ok-fill.was) in
     one_more c.args.slot c.args.body.now (state c.args.disk.now) (state c.fill.new.disk) (state c.seal.new.disk)
     (filled_run c.args.slot c.clear.ensures.counts.honest c.clear.ensures.run c.fill.ensures.run honest)
     (run_widen _ (InSlot c.args.slot) _ _ (λ k is. inr is) (c.seal.ensures.run h2))
-    (λ i since. ⊎_elim (λ none. inl none) (λ some. inr (some ∙ ap (λ b. Some b) written)) (c.seal.ensures.images h2 (settled c.args.slot) i since)) filled
+    (λ i since. ⊎_elim (λ none. inl none) (λ some. inr (some ∙ ap (λ b. Some b) written)) (c.seal.ensures.images h2 (synced c.args.slot) i since)) filled

@@ -6,7 +6,7 @@ use Rattle.store_console.proofs.reading.read_requests.Given as goal
 abbrev pub invariant-loop-line : goal.invariant-loop-line
 invariant-loop-line l = record {
   counted : l.number + length l.left ≤ length l.input;
-  told : behind l.requests.items (requests_from l.number (lines_of l.left)) ≡ requests_of l.input;
+  rest_read : behind l.requests.items (requests_from l.number (lines_of l.left)) ≡ requests_of l.input;
 }
 
 abbrev pub decreases-loop-line : goal.decreases-loop-line

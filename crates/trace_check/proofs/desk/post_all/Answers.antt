@@ -19,10 +19,10 @@ pub loop-place-preserved : goal.loop-place-preserved
 loop-place-preserved c =
     let sent = c.args.sent.now in
     let i = c.loop-place.place in
-    let found = there sent i (let test = c.loop-place-test.true in let len = c.len-place-end.ensures in omega (arith, test, len)) in
-    let m = found.0 in
+    let at_i = there sent i (let test = c.loop-place-test.true in let len = c.len-place-end.ensures in omega (arith, test, len)) in
+    let m = at_i.0 in
     let next : i + 1 ≡ suc i = omega arith in
-    let here : slice_get sent i ≡ Some m = found.1 in
+    let here : slice_get sent i ≡ Some m = at_i.1 in
     let more : take i sent ++ m ∷ [] ≡ take (i + 1) sent = sym (take_more sent i m here) ∙ ap (λ (k : ℕ). take k sent) (sym next) in
     subst (λ (ms : List Envelope). PostsAll c.args.stopped.now c.args.posted.now c.post.new.posted c.args.ready.now c.post.new.ready ms) more
     (posts_more c.args.stopped.now c.args.posted.now c.loop-place.posted c.post.new.posted c.args.ready.now c.loop-place.ready c.post.new.ready (take i sent) (m ∷ []) c.loop-place.invariant (c.in_ok-post.ensures m here))

@@ -10,5 +10,5 @@ same_lists (x ∷ xs) ys len each = ext_get_or x (x ∷ xs) ys len (λ k within.
 
 pub returns : goal.returns
 returns c =
-    let len : length c.args.told.now ≡ length c.args.sent.now = let told = c.len.ensures in let test = c.if-told-len.false in omega (arith, told, test) in
-    (λ _. same_lists c.args.told.now c.args.sent.now len (λ k d within. c.loop-place.invariant k d (omega (arith, within, c.loop-place-test.false))), λ _. refl)
+    let len : length c.args.made.now ≡ length c.args.sent.now = let made = c.len.ensures in let test = c.if-made-len.false in omega (arith, made, test) in
+    (λ _. same_lists c.args.made.now c.args.sent.now len (λ k d within. c.loop-place.invariant k d (omega (arith, within, c.loop-place-test.false))), λ _. refl)

@@ -5,7 +5,7 @@ use Rattle.node_core.specs.declared.event.Event.TheVariants.{Finish}
 use Rattle.trace_check.specs.Building.{handled}
 use Rattle.trace_check.specs.Claims.{Claim}
 use Rattle.trace_check.specs.Traces.{claim}
-use Rattle.trace_text.specs.Fields.{found_by}
+use Rattle.trace_text.specs.Fields.{fields_by}
 use Rattle.trace_text.specs.Entries.{below, number_in, device_in, finish_in}
 use Rattle.trace_text.specs.Streams.{messages_of}
 use Rattle.trace_text.proofs.Added.{event_added, finish_read}
@@ -13,7 +13,7 @@ use Rattle.trace_text.proofs.adding.add_finish.Goals as goal
 
 pub returns-clause-entry : goal.returns-clause-entry
 returns-clause-entry c =
-    let f = found_by c.args.fields.now in
+    let f = fields_by c.args.fields.now in
     let was = c.args.history.now in
     let all = c.add_messages.new.history.pending in
     let device : device_in f.fault ≡ Some c.in_ok-failed.failed = search rules in

@@ -9,7 +9,7 @@ use Rattle.node_core.specs.declared.event.Event.TheVariants.{Submit}
 use Rattle.trace_check.specs.Building.{handled}
 use Rattle.trace_check.specs.Claims.{Claim}
 use Rattle.trace_check.specs.Traces.{claim}
-use Rattle.trace_text.specs.Fields.{found_by}
+use Rattle.trace_text.specs.Fields.{fields_by}
 use Rattle.trace_text.specs.Entries.{good, below, number_in, priority_in, device_in, submit_in}
 use Rattle.trace_text.specs.Streams.{messages_of}
 use Rattle.trace_text.proofs.Added.{event_added, submit_read}
@@ -17,7 +17,7 @@ use Rattle.trace_text.proofs.adding.add_submit.Goals as goal
 
 pub returns-clause-entry : goal.returns-clause-entry
 returns-clause-entry c =
-    let f = found_by c.args.fields.now in
+    let f = fields_by c.args.fields.now in
     let was = c.args.history.now in
     let all = c.add_messages.new.history.pending in
     let payload = c.read_bytes.new.room.items in

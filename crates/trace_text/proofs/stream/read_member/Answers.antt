@@ -2,7 +2,7 @@ use Rattle.std.proofs.Common.{◌≡◌, List, map, Some, true, false, codes, by
 use Rattle.json.specs.Token.{Token}
 use Rattle.serde_json.specs.Find.{as_str}
 use Rattle.serde_json.specs.Read.{converted}
-use Rattle.trace_text.specs.Fields.{Found, data_of}
+use Rattle.trace_text.specs.Fields.{FieldData, data_of}
 use Rattle.trace_text.specs.Drafts.{drafted_by}
 use Rattle.trace_text.specs.Streams.{data_at, texts_of}
 use Rattle.trace_text.proofs.Streams.{list_there}
@@ -22,4 +22,4 @@ returns-in_ok-field-clause-member c =
     let r = c.read_scalar.new.reader in
     let old = drafted_by c.args.draft.now in
     let other : bytes_eq c.args.key.now (codes "sent") ≡ false = search rules in
-    field_put old c.args.key.now c.args.reader.now r (data_of c.in_ok-field.field) other (c.in_ok-field.ensures.value 123) ∙ ap (λ (f : Found). Some ((f, old.1), r)) (sym c.put.ensures)
+    field_put old c.args.key.now c.args.reader.now r (data_of c.in_ok-field.field) other (c.in_ok-field.ensures.value 123) ∙ ap (λ (f : FieldData). Some ((f, old.1), r)) (sym c.put.ensures)

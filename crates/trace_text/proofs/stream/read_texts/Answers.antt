@@ -22,13 +22,13 @@ texts-preserved c =
     let going : (after_end_array l.reader ≡ None) × (c.take_end_list.new.self ≡ l.reader) = grind arith in
     let x = c.in_ok-text.text in
     let there : l.reader ≡ Token.string x.now ∷ r = sym going.1 ∙ c.in_ok-text.ensures in
-    let found : converted as_str (data_at 122 l.reader) ≡ Some (x.now, r) = ap (λ (ts : List Token). converted as_str (data_at 122 ts)) there ∙ ap (converted as_str) (text_there 122 x.now r) in
+    let here_read : converted as_str (data_at 122 l.reader) ≡ Some (x.now, r) = ap (λ (ts : List Token). converted as_str (data_at 122 ts)) there ∙ ap (converted as_str) (text_there 122 x.now r) in
     let less : length r < length l.reader = omega (arith, ap (λ (ts : List Token). length ts) there) in
     let pushed : c.push_reserved.new.self.items ≡ l.texts.items ++ x ∷ [] = search rules in
     let more : map (λ s. s.now) c.push_reserved.new.self.items ≡ map (λ s. s.now) l.texts.items ++ x.now ∷ [] = ap (map (λ s. s.now)) pushed ∙ map-append (λ s. s.now) l.texts.items (x ∷ []) in (
       n - 1,
       omega (arith, l.invariant.1),
-      l.invariant.2 ∙ item_turn as_str 122 n l.reader r x.now (map (λ s. s.now) l.texts.items) (omega (arith, l.invariant.1)) going.0 found
+      l.invariant.2 ∙ item_turn as_str 122 n l.reader r x.now (map (λ s. s.now) l.texts.items) (omega (arith, l.invariant.1)) going.0 here_read
           ∙ ap (λ xs. parse_map (λ ys. xs ++ ys) (items_at as_str 122 (n - 1) r)) (sym more),
       omega (arith, l.invariant.3),
     )

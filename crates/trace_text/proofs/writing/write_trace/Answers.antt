@@ -10,10 +10,10 @@ pub returns-clause-text : goal.returns-clause-text
 returns-clause-text c =
     let hs = c.args.trace.now in
     let begun = c.write_head.new.out in
-    let told = c.write_histories.new.out in
+    let middle = c.write_histories.new.out in
     let last = c.write_nodes.new.out in
     let rest = end_array ∷ key (codes "nodes") ∷ number (decimal (length hs)) ∷ end_object ∷ [] in
     ok_then c.write_nodes.result c.args.out.now begun last (begin_object ∷ key (codes "histories") ∷ begin_array ∷ []) (histories_tokens hs ++ rest) c.in_ok-write_head.ensures
-    (ok_then c.write_nodes.result begun told last (histories_tokens hs) rest
-    (subst (λ (xs : List (List Claim)). Adds begun told (histories_tokens xs)) c.histories.ensures c.in_ok-write_histories.ensures.text)
-    (subst (λ (n : ℕ). OnOk c.write_nodes.result (Adds told last (end_array ∷ key (codes "nodes") ∷ number (decimal n) ∷ end_object ∷ []))) c.nodes-nodes.ensures.value c.write_nodes.ensures))
+    (ok_then c.write_nodes.result begun middle last (histories_tokens hs) rest
+    (subst (λ (xs : List (List Claim)). Adds begun middle (histories_tokens xs)) c.histories.ensures c.in_ok-write_histories.ensures.text)
+    (subst (λ (n : ℕ). OnOk c.write_nodes.result (Adds middle last (end_array ∷ key (codes "nodes") ∷ number (decimal n) ∷ end_object ∷ []))) c.nodes-nodes.ensures.value c.write_nodes.ensures))

@@ -3,8 +3,8 @@ use Rattle.wire_msg.proofs.Frames.{some_read, none_read}
 use Rattle.wire_msg.proofs.Messages.{message_takes, none_reads, one_reads}
 use Rattle.wire_msg.proofs.reading.decode_into.Goals as goal
 
-pub returns-clause-found : goal.returns-clause-found
-returns-clause-found c =
+pub returns-clause-read : goal.returns-clause-read
+returns-clause-read c =
     message_takes c.args.bytes.now c.read.new.self (λ i. omega (arith, c.type_inv.bytes i)) (sym (some_read c.read.result c.read.new.self _ (c.is_none.ensures ∙ ap not c.if-is_none.false) c.read.ensures))
 
 pub returns-clause-only : goal.returns-clause-only

@@ -2,7 +2,7 @@ use Rattle.std.proofs.Common.{◌≡◌, ℕ, ◌≤◌, length, nat_lt, slice_g
 use Rattle.std.proofs.lemmas.Option.{slice_get_read}
 use Rattle.runs.specs.Acts.{At}
 use Rattle.runs.proofs.PublicLaws.{get_set_same}
-use Rattle.cluster_sim.specs.Machine.{bare}
+use Rattle.cluster_sim.specs.World.{bare}
 use Rattle.cluster_sim.specs.Operated.{OperatedAs}
 use Rattle.cluster_sim.proofs.Members.{denied_at, still_cluster, takes, faults_if}
 use Rattle.cluster_sim.proofs.Doings.{operates, quietly, performed}

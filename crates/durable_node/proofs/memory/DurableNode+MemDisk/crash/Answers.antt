@@ -13,7 +13,7 @@ invariant_of-self c =
 pub returns-clause-stands : goal.returns-clause-stands
 returns-clause-stands c =
     let was = c.self.inside in
-    rw (← c.self.view_is) (λ s stands. crashes was.id was.nodes was.core c.down.result was.disk c.take-disk.result c.crash.new.self was.doubt was.found s c.take-disk.ensures.disk
+    rw (← c.self.view_is) (λ s stands. crashes was.id was.nodes was.core c.down.result was.disk c.take-disk.result c.crash.new.self was.doubt was.mounted s c.take-disk.ensures.disk
     c.down.ensures.state c.crash.ensures.left c.crash.ensures.anew stands)
 
 pub returns-clause-there : goal.returns-clause-there

@@ -8,7 +8,7 @@ use Rattle.durable_node.proofs.Opens.{opens}
 use Rattle.durable_node.proofs.memory.DurableNode+MemDisk.open_on.Goals as goal
 
 pub returns-clause-opens : goal.returns-clause-opens
-returns-clause-opens c = subst (λ (n : Node Memory). Stands state_of (record n { found = None }) (opening c.args.id)) (sym c.node.view_is)
+returns-clause-opens c = subst (λ (n : Node Memory). Stands state_of (record n { mounted = None }) (opening c.args.id)) (sym c.node.view_is)
     (opens c.args.id c.args.nodes c.args.disk c.recover.new.self c.in-Ok.came c.in-Recovered.field-0 c.in-Recovered.is c.requires.fresh
     (subst (λ (n : Node Memory). Steps state_of n c.recover.new.self Recover c.in-Ok.came) c.down-node.ensures c.in-Ok.ensures.step))
 

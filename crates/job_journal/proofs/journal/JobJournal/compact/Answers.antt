@@ -1,6 +1,6 @@
 use Rattle.job_journal.proofs.Common.{◌≡◌, ◌∙◌, IsOk, raised, refl, arith, nat_tests}
-use Rattle.job_journal.proofs.Changes.{still_since, area_run, area_stays, told_since, compact_run, compact_since, compact_after}
-use Rattle.job_journal.proofs.Frames.{told_of}
+use Rattle.job_journal.proofs.Changes.{still_since, area_run, area_stays, jobs_held_since, compact_run, compact_since, compact_after}
+use Rattle.job_journal.proofs.Frames.{jobs_held}
 use Rattle.job_journal.proofs.journal.JobJournal.compact.Goals as goal
 
 pub returns-in-Some-clause-images : goal.returns-in-Some-clause-images
@@ -15,7 +15,7 @@ returns-in_default-write_area-clause-run g c = λ honest. area_run c.self.view_i
 
 pub returns-in_default-write_area-clause-images : goal.returns-in_default-write_area-clause-images
 returns-in_default-write_area-clause-images g c = λ honest.
-    told_since c.self.view_is (λ all image since. told_of (area_stays _ honest all c.other_sector-other.ensures (c.write_area.ensures.run honest) image since))
+    jobs_held_since c.self.view_is (λ all image since. jobs_held (area_stays _ honest all c.other_sector-other.ensures (c.write_area.ensures.run honest) image since))
 
 pub returns-clause-run : goal.returns-clause-run
 returns-clause-run g c =
@@ -24,7 +24,7 @@ returns-clause-run g c =
 pub returns-clause-images : goal.returns-clause-images
 returns-clause-images g c = λ honest.
     compact_since c.self.view_is honest c.self.invariant c.record_count-records.ensures.in_order c.write_area.ensures.counts.honest
-    (record { at = c.other_sector-other.ensures; run = c.write_area.ensures.run honest; written = c.in-Ok.ensures.written honest refl; settled = c.in-Ok.ensures.settled honest refl })
+    (record { at = c.other_sector-other.ensures; run = c.write_area.ensures.run honest; written = c.in-Ok.ensures.written honest refl; synced = c.in-Ok.ensures.synced honest refl })
     c.raise-raised.ensures.run (λ still. c.raise-raised.ensures.images 4 still c.self.invariant.cell)
 
 pub returns-clause-after : goal.returns-clause-after
@@ -33,9 +33,9 @@ returns-clause-after g c = λ honest ok.
     let went : IsOk c.raise-raised.result = grind arith in
     let raised : c.raise-raised.new.self ≡ raised c.self.inside.area = grind arith in
     record {
-      settled = c.raise-raised.ensures.settled still went;
+      synced = c.raise-raised.ensures.synced still went;
       holds = compact_after c.self.view_is honest c.self.invariant c.record_count-records.ensures.in_order
-          (record { at = c.other_sector-other.ensures; run = c.write_area.ensures.run honest; written = c.in-Ok.ensures.written honest refl; settled = c.in-Ok.ensures.settled honest refl })
+          (record { at = c.other_sector-other.ensures; run = c.write_area.ensures.run honest; written = c.in-Ok.ensures.written honest refl; synced = c.in-Ok.ensures.synced honest refl })
           (c.raise-raised.ensures.run still) raised c.record_count-records.ensures.count
           (λ stand. (c.raise-raised.ensures.after 4 still c.self.invariant.cell stand went).1);
     }

@@ -12,11 +12,11 @@ returns-clause-images g c = λ honest sound all.
 pub returns-clause-after : goal.returns-clause-after
 returns-clause-after g c = λ honest ok.
     let stored : IsOk c.store-stored.result = grind arith in
-    let done : c.settle.new.self ≡ appended c.args.self.now c.args.command = grind arith in
-    let settled = c.store-stored.ensures.settled honest stored in
+    let done : c.conclude.new.self ≡ appended c.args.self.now c.args.command = grind arith in
+    let synced = c.store-stored.ensures.synced honest stored in
     record {
-      settled = settled;
+      synced = synced;
       holds = λ known. subst (λ w. AllHold w (g.D.SectorDisk.state c.store-stored.new.disk)) (sym done)
           (append_after honest c.next_slot-slot.ensures.kept c.requires.admitted c.body_for-body.ensures c.next_slot-slot.ensures.slot known.0 known.1
-          (c.store-stored.ensures.run honest) settled (c.store-stored.ensures.sealed honest stored));
+          (c.store-stored.ensures.run honest) synced (c.store-stored.ensures.sealed honest stored));
     }

@@ -7,7 +7,7 @@ use Rattle.node_lock.specs.HeldView.{HeldView}
 use Rattle.node_lock.specs.Taking.{turn_of}
 use Rattle.node_lock.proofs.Keeping.{gives_in}
 use Rattle.node_lock.proofs.Taking.{takes_next, keeps_next_past}
-use Rattle.node_lock.proofs.Telling.{none_of_order}
+use Rattle.node_lock.proofs.Comings.{none_of_order}
 use Rattle.node_lock.proofs.held.Held.next_operator.Goals as goal
 
 pub invariant_of-self-2 : goal.invariant_of-self-2

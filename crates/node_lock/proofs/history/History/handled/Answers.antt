@@ -1,7 +1,7 @@
 use Rattle.std.proofs.Common.{◌≡◌, List, Some, slice_get, ap, sym, ◌∙◌, subst}
 use Rattle.std.proofs.lemmas.Option.{slice_get-get_or}
 use Rattle.histories.specs.declared.fate.Fate.{Fate}
-use Rattle.node_lock.specs.declared.line.Told.TheVariants.{Came}
+use Rattle.node_lock.specs.declared.line.KeptWhat.TheVariants.{Came}
 use Rattle.node_lock.specs.declared.line.Line.{Line}
 use Rattle.node_lock.specs.Kept.{Log, IsHandledAt, part}
 use Rattle.node_lock.proofs.Lines.{handled_at}

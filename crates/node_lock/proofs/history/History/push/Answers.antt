@@ -2,7 +2,7 @@ use Rattle.std.proofs.Common.{◌≡◌, ◌+◌, List, [], ◌∷◌, ◌++◌,
 use Rattle.std.proofs.lemmas.List.{length-append}
 use Rattle.wire_msg.specs.Envelope.{Envelope}
 use Rattle.histories.specs.Fates.{what_of}
-use Rattle.node_lock.specs.declared.line.Told.TheVariants.{Came}
+use Rattle.node_lock.specs.declared.line.KeptWhat.TheVariants.{Came}
 use Rattle.node_lock.specs.Events.{EventsKept}
 use Rattle.node_lock.specs.Kept.{Log}
 use Rattle.node_lock.proofs.Lines.{line_by, line_for, turn_by, turns_more, all_stand_more}

@@ -5,6 +5,6 @@ use Rattle.node_session.proofs.session.Session.answer_tick.Goals as goal
 pub returns-clause-line : goal.returns-clause-line
 returns-clause-line g c = λ line asks.
     on_ok c.push_closing.result
-    (λ told. tick_line g.D.SectorDisk.state c.args.self.now c.next_number.new.self c.send_again.new.self c.fire_due.new.self _ line c.args.now c.in_ok-number.number c.in_ok-ended.ended c.push_closing.new.text.items c.requires asks
-    c.in_ok-number.ensures.number.0 c.in_ok-number.ensures.number.1 c.in_ok-send_again.ensures.again c.in_ok-ended.ensures.calls (c.self.view_is ∙ c.stop_where_failed.ensures) told)
+    (λ said. tick_line g.D.SectorDisk.state c.args.self.now c.next_number.new.self c.send_again.new.self c.fire_due.new.self _ line c.args.now c.in_ok-number.number c.in_ok-ended.ended c.push_closing.new.text.items c.requires asks
+    c.in_ok-number.ensures.number.0 c.in_ok-number.ensures.number.1 c.in_ok-send_again.ensures.again c.in_ok-ended.ensures.calls (c.self.view_is ∙ c.stop_where_failed.ensures) said)
     c.push_closing.ensures

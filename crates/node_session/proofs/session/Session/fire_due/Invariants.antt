@@ -2,11 +2,11 @@ use Rattle.std.proofs.Common.{◌≡◌, None}
 use Rattle.node_session.specs.declared.ended.Ended.TheVariants as end
 use Rattle.node_session.specs.Chains.{AreTimely}
 use Rattle.node_session.specs.Serving.{Calls}
-use Rattle.node_session.specs.Text.{fired_told}
+use Rattle.node_session.specs.Text.{fired_news}
 use Rattle.node_session.proofs.session.Session.fire_due.Given as goal
 
 abbrev pub invariant-loop-fired : goal.invariant-loop-fired
 invariant-loop-fired g l = record {
   rest : l.self.rest ≡ l.fn.self.rest;
-  calls : Calls g.D.SectorDisk.state l.fn.self l.self fired_told (AreTimely l.fn.self.node.id l.fn.self.node.nodes) (end.Done None) l.ended;
+  calls : Calls g.D.SectorDisk.state l.fn.self l.self fired_news (AreTimely l.fn.self.node.id l.fn.self.node.nodes) (end.Done None) l.ended;
 }

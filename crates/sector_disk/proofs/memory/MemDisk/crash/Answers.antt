@@ -11,10 +11,10 @@ use Rattle.sector_disk.proofs.memory.MemDisk.crash.Goals as goal
 pub tear-requires : goal.tear-requires
 tear-requires c =
     let i = c.self.inside in
-    let test = c.is_settled-settled.ensures in
+    let test = c.is_synced-synced.ensures in
     record {
       flags = ap length c.deref.ensures.value ∙ c.self.invariant.size ∙ sym (length-undone i.notes.since i.sectors) ∙ sym (ap length c.undo.ensures.back);
-      settled = λ is at. subst (λ u. IsFalse (get_or u at false)) (sym c.deref.ensures.value)
+      synced = λ is at. subst (λ u. IsFalse (get_or u at false)) (sym c.deref.ensures.value)
           (none_flagged i.sectors i.unsynced.items i.notes.since i.torn c.self.invariant (test.untorn is) (test.none is) at);
     }
 
@@ -41,11 +41,11 @@ pub returns-clause-anew : goal.returns-clause-anew
 returns-clause-anew c =
     let after = c.tear.new.sectors in
     let cleared = c.clear.ensures in
-    begun_anew after c.settle.new.unsynced.items c.clear.new.self.since c.clear.new.self.times c.self.inside.failures (length c.self.inside.unsynced.items)
-    (ap (λ (n : Noted). n.since) cleared) (ap (λ (n : Noted). n.times) cleared) c.settle.ensures (same_size c)
+    begun_anew after c.mark_synced.new.unsynced.items c.clear.new.self.since c.clear.new.self.times c.self.inside.failures (length c.self.inside.unsynced.items)
+    (ap (λ (n : Noted). n.since) cleared) (ap (λ (n : Noted). n.times) cleared) c.mark_synced.ensures (same_size c)
     ∙ ap (λ (m : Memory). all_synced after m.failures) c.self.view_is
 
 pub invariant_of-self : goal.invariant_of-self
 invariant_of-self c =
-    none_noted c.tear.new.sectors c.settle.new.unsynced.items c.clear.new.self.since (length c.self.inside.unsynced.items)
-    (ap (λ (n : Noted). n.since) c.clear.ensures) c.settle.ensures (same_size c)
+    none_noted c.tear.new.sectors c.mark_synced.new.unsynced.items c.clear.new.self.since (length c.self.inside.unsynced.items)
+    (ap (λ (n : Noted). n.since) c.clear.ensures) c.mark_synced.ensures (same_size c)

@@ -29,15 +29,15 @@ returns-clause-touches c = λ honest.
     let new = c.end_time.new in
     let flags = with_items i.unsynced new.unsynced in
     let size : length new.unsynced ≡ i.unsynced.len = search rules in
-    let settled = with_items_is i.unsynced new.unsynced size ∙ c.end_time.ensures.settled (done c) in
+    let synced = with_items_is i.unsynced new.unsynced size ∙ c.end_time.ensures.synced (done c) in
     let after = seen i.sectors flags.items new.notes.since new.notes.times i.failures c.spend-passes.new.left in
     let begun = c.end_time.ensures.begun (done c) in
     subst (λ (m : Memory). Touches nothing (state_of m) (state_of after)) c.self.view_is
     (⊎_elim
     (λ ended. sync_touches i.sectors i.unsynced.items flags.items i.notes.since new.notes.since i.notes.times new.notes.times i.failures i.left c.spend-passes.new.left
-    (length c.deref_mut.result.now) ended begun settled)
+    (length c.deref_mut.result.now) ended begun synced)
     (λ nothing_ended. idle_touches i.sectors i.unsynced.items flags.items i.notes.since new.notes.since i.notes.times new.notes.times i.failures i.left c.spend-passes.new.left
-    i.torn c.self.invariant nothing_ended begun (settled ∙ ap (λ u. replicate (length u) false) c.deref_mut.ensures.value))
+    i.torn c.self.invariant nothing_ended begun (synced ∙ ap (λ u. replicate (length u) false) c.deref_mut.ensures.value))
     (ends c))
 
 of_err : {T E P : Type 0} (r : Result T E) → is_ok r ≡ false → OnErr r P → P

@@ -13,7 +13,7 @@ invariant_of-self-2 c =
     let t = c.args.self.now in
     let event = Deliver c.args.message.now in
     let done = carried_out t event c.plan_delivery.new.self c.table.result.now.pending c.in-Ok.plan (lent_by c.wanted-wants.result) c.in_ok-answer.answer _
-    (search rules) (search rules) (search rules) (search rules) c.in-Ok.ensures.plan c.wanted-wants.ensures (search rules) c.commit_step-told.ensures.step in (
+    (search rules) (search rules) (search rules) (search rules) c.in-Ok.ensures.plan c.wanted-wants.ensures (search rules) c.commit_step-made.ensures.step in (
       record {
         twin = twin_handled t _ event (search rules) (search rules) (search rules) (search rules) (search rules) (search rules ∙ ap (λ (e : Effect). e.state) done.made) (search rules ∙ ap (λ (o : Option Command). after_wanted t.node.durable o) done.wanted);
         size = search rules;
@@ -28,6 +28,6 @@ returns-clause-judged c =
     let t = c.args.self.now in
     let event = Deliver c.args.message.now in
     let done = carried_out t event c.plan_delivery.new.self c.table.result.now.pending c.in-Ok.plan (lent_by c.wanted-wants.result) c.in_ok-answer.answer _
-    (search rules) (search rules) (search rules) (search rules) c.in-Ok.ensures.plan c.wanted-wants.ensures (search rules) c.commit_step-told.ensures.step in
-    judged_handled t (twin c.commit_step-told.new.self c.take.new.self (wanted_by c.self.inside.doubt)) event c.args.sent.now c.commit_step-told.result.items c.same-as_sent.result (search rules) (ap (λ (e : Effect). e.sent) done.made) (search rules) (search rules)
+    (search rules) (search rules) (search rules) (search rules) c.in-Ok.ensures.plan c.wanted-wants.ensures (search rules) c.commit_step-made.ensures.step in
+    judged_handled t (twin c.commit_step-made.new.self c.take.new.self (wanted_by c.self.inside.doubt)) event c.args.sent.now c.commit_step-made.result.items c.same-as_sent.result (search rules) (ap (λ (e : Effect). e.sent) done.made) (search rules) (search rules)
     (search rules ∙ ap (λ (e : Effect). e.state) done.made) (search rules ∙ ap (λ (o : Option Command). after_wanted t.node.durable o) done.wanted)

@@ -1,0 +1,166 @@
+-- What contracts see of the world of a cluster, and what it stands for.
+use Rattle.std.specs.Prelude.{ℕ, ◌≡◌, ◌≢◌, ◌+◌, ◌*◌, ◌≤◌, ◌⊎◌, Bool, true, false, List, length, slice_get, Option, Some, None, option_map}
+use Rattle.group_task.specs.declared.node.TheConstants.{NODES}
+use Rattle.sector_disk.specs.Disk.{Counts}
+use Rattle.sector_disk.specs.Memory.{Memory, state_of}
+use Rattle.sim_net.specs.Network.{Network, after_all_sent}
+use Rattle.durable_node.specs.Forgetting.{forgotten_disk}
+use Rattle.durable_node.specs.Node.{Node, Stands}
+use Rattle.histories.specs.NodeState.{NodeState, opening}
+use Rattle.histories.specs.declared.what.What.{What}
+use Rattle.histories.specs.declared.what.What.TheVariants.{Did, Refused, Faulted, Rests, Crashed, Recovered, MountFailed, RaiseFailed, RaiseRefused}
+use Rattle.histories.specs.After.{after, sent_at, mounted_at}
+use Rattle.histories.specs.Possible.{IsPossible, IsOfSlots}
+use Rattle.schedule.specs.declared.act.Act.{Act}
+use Rattle.cluster_sim.specs.declared.deed.Deed.{Deed}
+use Rattle.durable_node.specs.Stepping.{answer_at, command_at}
+use Rattle.histories.specs.Fates.{attempt_of}
+use Rattle.runs.specs.declared.outcome.Outcome.{Outcome}
+use Rattle.runs.specs.declared.outcome.Outcome.TheVariants as outcome
+use Rattle.runs.specs.World.{World}
+use Rattle.runs.specs.Step.{Step, Takes, world_after}
+use Rattle.runs.specs.Run.{IsAllowed}
+use Rattle.runs.specs.Acts.{StepOfSlots, what_outcome, act_outcome}
+use Rattle.runs.specs.Growth.{IsNext}
+
+-- the slots of a disk's area, the nodes by their ids, and the network
+pub record WorldView : Type 0 where
+  pub slots : ℕ
+  pub nodes : List (Node Memory)
+  pub net : Network
+
+-- a disk, where there is one, has two areas of so many slots
+abbrev pub IsOfSize : ℕ → Option Memory → Type 0
+IsOfSize slots disk = (d : Memory) → disk ≡ Some d → length d.contents ≡ 8 + 4 * slots
+
+-- a node of this id, in a cluster of so many nodes over disks of so many slots
+pub record IsMember (slots count id : ℕ) (node : Node Memory) : Type 0 where
+  pub id_is : node.id ≡ id
+  pub nodes_is : node.nodes ≡ count
+  pub size : IsOfSize slots node.disk
+
+-- what is true of every cluster
+pub record IsWorld (slots : ℕ) (nodes : List (Node Memory)) : Type 0 where
+  pub least_slots : 4 ≤ slots
+  pub most_slots : slots ≤ 4096
+  pub least : 1 ≤ length nodes
+  pub most : length nodes ≤ NODES
+  pub members : (k : ℕ) (node : Node Memory) → slice_get nodes k ≡ Some node → IsMember slots (length nodes) k node
+
+-- each node of a cluster is in its state, and its disk too, and the network is as it is
+pub record StandsFor (view : WorldView) (w : World) : Type 0 where
+  pub count : length view.nodes ≡ length w.states
+  pub net : view.net ≡ w.net
+  pub each : (k : ℕ) (node : Node Memory) (s : NodeState) → slice_get view.nodes k ≡ Some node → slice_get w.states k ≡ Some s → Stands state_of node s
+
+-- the first of so many nodes, each of which has just opened over a disk of so many slots
+pub record AreOpened (slots count so_far : ℕ) (nodes : List (Node Memory)) : Type 0 where
+  pub len : length nodes ≡ so_far
+  pub member : (k : ℕ) (node : Node Memory) → slice_get nodes k ≡ Some node → IsMember slots count k node
+  pub opens : (k : ℕ) (node : Node Memory) → slice_get nodes k ≡ Some node → Stands state_of node (opening k)
+
+-- ---- one node
+
+-- whether it mounted the disk
+abbrev pub is_mounting : What → Bool
+is_mounting (Did event) = false
+is_mounting (Refused event fault) = false
+is_mounting (Faulted event) = false
+is_mounting (Rests rest) = false
+is_mounting Crashed = false
+is_mounting (Recovered kept) = true
+is_mounting MountFailed = false
+is_mounting (RaiseFailed kept) = true
+is_mounting (RaiseRefused kept) = true
+
+-- an act in which no node called its disk for a command, nor mounted it
+abbrev pub bare : Outcome → Deed
+bare o = record { outcome = o; tried = None; acked = None; mounted = false }
+
+-- the node says this of its disk
+pub record DeedOf (id nodes : ℕ) (s : NodeState) (what : What) (deed : Deed) : Type 0 where
+  pub tried : deed.tried ≡ option_map attempt_of (command_at id nodes s what)
+  pub acked : deed.acked ≡ answer_at id nodes s what
+  pub mounted : deed.mounted ≡ is_mounting what
+
+-- one such thing came of a call at a node that was in this state, and so it is reported of this act, sent and kept
+pub record Comes (slots id nodes : ℕ) (a : Act) (P : What → Type 0) (s : NodeState) (deed : Deed) (new : Node Memory) (net net' : Network) : Type 0 where
+  pub what : What
+  pub is : P what
+  pub possible : IsPossible id nodes s what
+  pub of_slots : IsOfSlots slots id nodes s what
+  pub outcome_is : deed.outcome ≡ what_outcome id nodes (length net.sent) s what a
+  pub reports : DeedOf id nodes s what deed
+  pub sent : net' ≡ after_all_sent net (sent_at id nodes s what)
+  pub mounted : new.mounted ≡ mounted_at s what
+  pub stands : Stands state_of new (after id nodes s what)
+
+-- an act that didn't fault left a disk's count of failures as it was; in one that faulted it rose, or stands at its greatest value
+abbrev pub IsCounted : Option Memory → Option Memory → Outcome → Type 0
+IsCounted old new o = (was now : Memory) → old ≡ Some was → new ≡ Some now → Counts (state_of was) (state_of now) (o ≡ outcome.Faulted) (o ≢ outcome.Faulted)
+
+-- the node stays the one of its id, over a disk of its size
+pub record IsSame (old new : Node Memory) : Type 0 where
+  pub id : new.id ≡ old.id
+  pub nodes : new.nodes ≡ old.nodes
+  pub size : (slots : ℕ) → IsOfSize slots old.disk → IsOfSize slots new.disk
+
+-- nothing but what the last call mounted has changed
+abbrev pub IsUntouchedNode : Node Memory → Node Memory → Type 0
+IsUntouchedNode old new = new ≡ record old { mounted = new.mounted }
+
+-- it is as it was, or its disk forgot the moments before
+abbrev pub MayHaveForgotten : Node Memory → Node Memory → Type 0
+MayHaveForgotten old new = (new ≡ old) ⊎ (new ≡ record old { disk = forgotten_disk old.disk })
+
+-- ---- the cluster
+
+-- nothing has changed, but for what a node's last call mounted
+pub record IsUntouched (old new : WorldView) : Type 0 where
+  pub count : length new.nodes ≡ length old.nodes
+  pub net : new.net ≡ old.net
+  pub each : (k : ℕ) (was now : Node Memory) → slice_get old.nodes k ≡ Some was → slice_get new.nodes k ≡ Some now → IsUntouchedNode was now
+
+-- the node of a step shows what it mounted in it, if it mounted anything
+abbrev pub Shows : World → Step → WorldView → Type 0
+Shows w (Takes n number what) view = (node : Node Memory) (s : NodeState) → slice_get view.nodes n ≡ Some node → slice_get w.states n ≡ Some s → node.mounted ≡ mounted_at s what
+Shows w step view = Unit {0}
+
+-- the act had one of its steps
+pub record Acted (w : World) (act : Act) (outcome : Outcome) (new : WorldView) : Type 0 where
+  pub step : Step
+  pub next : IsNext (length w.states) new.slots w act step
+  pub outcome_is : outcome ≡ act_outcome (length w.states) w act step
+  pub shows : Shows w step new
+  pub stands : StandsFor new (world_after (length w.states) w step)
+
+-- what the node of a step says of its disk: where no node takes it, nothing
+abbrev pub ReportsDeed : World → Step → Deed → Type 0
+ReportsDeed w (Takes n number what) deed = (s : NodeState) → slice_get w.states n ≡ Some s → DeedOf n (length w.states) s what deed
+ReportsDeed w step deed = (deed.tried ≡ None) × (deed.mounted ≡ false)
+
+-- a step of this kind led from what the cluster stood for to what it stands for now, and so it is reported of this act
+pub record Makes (a : Act) (Q : Step → Type 0) (w : World) (deed : Deed) (new : WorldView) : Type 0 where
+  pub step : Step
+  pub is : Q step
+  pub allowed : IsAllowed (length w.states) w step
+  pub of_slots : StepOfSlots new.slots (length w.states) w step
+  pub outcome_is : deed.outcome ≡ act_outcome (length w.states) w a step
+  pub shows : Shows w step new
+  pub reports : ReportsDeed w step deed
+  pub stands : StandsFor new (world_after (length w.states) w step)
+
+-- the act, and what its node says
+pub record Performed (w : World) (act : Act) (deed : Deed) (new : WorldView) : Type 0 where
+  pub acted : Acted w act deed.outcome new
+  pub reports : ReportsDeed w acted.step deed
+
+-- the disk of a node, if there is such a node
+abbrev pub disk_of : Option (Node Memory) → Option Memory
+disk_of None = None
+disk_of (Some node) = node.disk
+
+-- an act faulted exactly where the disk of its node failed in it, and no other node changed
+pub record FaultsAt (at : ℕ) (old new : WorldView) (o : Outcome) : Type 0 where
+  pub here : IsCounted (disk_of (slice_get old.nodes at)) (disk_of (slice_get new.nodes at)) o
+  pub elsewhere : (k : ℕ) → k ≢ at → slice_get new.nodes k ≡ slice_get old.nodes k

@@ -1,0 +1,161 @@
+// The world of a simulated cluster, act by act.
+ghost use Rattle.std.specs.Prelude.{◌≡◌, ◌≤◌, ◌<◌, length, slice_get, Some, IfOk, OnErr};
+ghost use Rattle.group_task.specs.declared.node.TheConstants.{NODES};
+ghost use Rattle.schedule.specs.declared.act.Act.TheVariants as acts;
+ghost use Rattle.cluster_sim.specs.World.{IsUntouched, StandsFor, Acted, Performed, FaultsAt};
+ghost use Rattle.cluster_sim.specs.Operated.{Operates};
+ghost use Rattle.cluster_sim.specs.Names.{node_named};
+ghost use Rattle.runs.specs.Acts.{receiver_or_first};
+ghost use Rattle.runs.specs.World.{World as RunWorld, start};
+
+use crate::acts::{event_at, read_delivery, some_delivery};
+use crate::deed::Deed;
+use crate::nodes::Nodes;
+use durable_node::DurableNode;
+use group_task::NodeId;
+use node_core::Event;
+use runs::{Outcome, Refusal};
+use schedule::Act;
+use sector_disk::MemDisk;
+use sim_net::Net;
+use std::alloc::{AllocError, Global};
+use std::marker::Model;
+
+/// The nodes of a cluster by their ids, each over its own disk in memory, and the network between them.
+#[derive(Drop)]
+pub struct World {
+    nodes: Nodes,
+    // Events are long: so each message that comes is read in the place of the last one, and each other event is made in that of the last.
+    delivery: Event,
+    event: Event,
+}
+
+impl Model for World {
+    ghost use Rattle.cluster_sim.specs.Deliveries.{IsDelivery};
+    ghost use Rattle.cluster_sim.specs.World.{WorldView};
+
+    ghost Value = { WorldView };
+
+    ghost view = { λ a. a.nodes };
+
+    ghost invariant = { λ a. IsDelivery a.delivery };
+}
+
+impl World {
+    /// Nodes over new disks of so many slots, each of which was formatted, mounted and recovered. Nothing is sent.
+    ///
+    /// Refused where there is no memory.
+    pub fn open(alloc: Global, nodes: u8, slots: u64) -> Result<World, AllocError>
+        requires least { 1 ≤ nodes }
+        requires most { nodes ≤ NODES }
+        requires least_slots { 4 ≤ slots }
+        requires most_slots { slots ≤ 4096 }
+        ensures slots { IfOk result (λ world. world.slots ≡ slots) }
+        ensures starts { IfOk result (λ world. StandsFor world (start nodes)) }
+    {
+        Ok(World {
+            nodes: Nodes::open(alloc, nodes, slots)?,
+            delivery: some_delivery(),
+            event: Event::Recover,
+        })
+    }
+
+    /// One act. It is refused where it names a node outside the cluster, and else as the node or the network refuses it:
+    /// then nothing changed. An error says that there was no memory for it, and nothing changed either, but that a node may not show any more
+    /// what it mounted last.
+    pub fn step(&mut self, act: &Act) -> Result<Outcome, AllocError>
+        ensures slots { self.new.slots ≡ self.old.slots }
+        ensures acted { (w : RunWorld) → StandsFor self.old w → IfOk result (λ outcome. Acted w act.now outcome self.new) }
+        ensures memory { (w : RunWorld) → StandsFor self.old w → OnErr result (StandsFor self.new w) }
+        ensures untouched { (w : RunWorld) → StandsFor self.old w → OnErr result (IsUntouched self.old self.new) }
+        ensures faults { IfOk result (FaultsAt (node_named (length self.old.nodes) self.old.net.sent act.now) self.old self.new) }
+        ensures disk { IfOk result (Operates act.now self.old self.new) }
+    {
+        match self.perform(act) {
+            Ok(deed) => Ok(deed.outcome),
+            Err(error) => Err(error),
+        }
+    }
+
+    /// One act, with what its node says of its disk.
+    pub(crate) fn perform(&mut self, act: &Act) -> Result<Deed, AllocError>
+        ensures slots { self.new.slots ≡ self.old.slots }
+        ensures acted { (w : RunWorld) → StandsFor self.old w → IfOk result (λ deed. Performed w act.now deed self.new) }
+        ensures memory { (w : RunWorld) → StandsFor self.old w → OnErr result (StandsFor self.new w) }
+        ensures untouched { (w : RunWorld) → StandsFor self.old w → OnErr result (IsUntouched self.old self.new) }
+        ensures faults { IfOk result (λ deed. FaultsAt (node_named (length self.old.nodes) self.old.net.sent act.now) self.old self.new deed.outcome) }
+        ensures disk { IfOk result (λ deed. Operates act.now self.old self.new deed.outcome) }
+    {
+        if let Act::Deliver(number) = act {
+            return self.deliver(*number);
+        }
+        if let Some(id) = event_at(act, &mut self.event) {
+            return self.nodes.take(id, &self.event);
+        }
+        Ok(Deed {
+            outcome: self.nodes.apply(act),
+            tried: None,
+            acked: None,
+            mounted: false,
+        })
+    }
+
+    /// The node of this id.
+    pub fn node(&self, id: NodeId) -> &DurableNode<MemDisk>
+        requires { id < length self.now.nodes }
+        ensures { slice_get self.now.nodes id ≡ Some result.now }
+    {
+        self.nodes.node(id)
+    }
+
+    /// The network, with all that was ever sent.
+    pub fn net(&self) -> &Net
+        ensures { result.now.network ≡ self.now.net }
+    {
+        self.nodes.net()
+    }
+
+    /// The network alone, with all that was ever sent.
+    pub fn into_net(self) -> Net
+        ensures { result.network ≡ self.net }
+    {
+        let World { nodes, .. } = self;
+        nodes.into_net()
+    }
+
+    /// How many slots an area of each disk has.
+    pub fn slots(&self) -> u64
+        ensures value { result ≡ self.now.slots }
+        ensures most { result ≤ 4096 }
+    {
+        self.nodes.slots()
+    }
+
+    /// How many nodes there are.
+    pub fn count(&self) -> u8
+        ensures value { result ≡ length self.now.nodes }
+        ensures least { 1 ≤ result }
+        ensures most { result ≤ NODES }
+    {
+        self.nodes.count()
+    }
+
+    /// Delivers the message of this number at its receiver.
+    fn deliver(&mut self, number: u64) -> Result<Deed, AllocError>
+        ensures slots { self.new.slots ≡ self.old.slots }
+        ensures acted { (w : RunWorld) → StandsFor self.old w → IfOk result (λ deed. Performed w (acts.Deliver number) deed self.new) }
+        ensures memory { (w : RunWorld) → StandsFor self.old w → OnErr result (StandsFor self.new w) }
+        ensures untouched { (w : RunWorld) → StandsFor self.old w → OnErr result (IsUntouched self.old self.new) }
+        ensures faults { IfOk result (λ deed. FaultsAt (receiver_or_first (length self.old.nodes) (slice_get self.old.net.sent number)) self.old self.new deed.outcome) }
+    {
+        match read_delivery(self.nodes.net(), number, &mut self.delivery) {
+            Ok(receiver) => self.nodes.take(receiver, &self.delivery),
+            Err(fault) => Ok(Deed {
+                outcome: Outcome::Refused(Refusal::Net(fault)),
+                tried: None,
+                acked: None,
+                mounted: false,
+            }),
+        }
+    }
+}

@@ -1,0 +1,97 @@
+-- What is written down of a turn is what came of it.
+use Rattle.std.proofs.Common.{◌≡◌, List, [], ◌∷◌, refl, sym, ◌∙◌, ap, subst, Option, Some, None, IsSome}
+use Rattle.wire_msg.specs.Envelope.{Envelope}
+use Rattle.sector_disk.specs.Memory.{Memory, state_of}
+use Rattle.node_core.specs.declared.event.Event.{Event}
+use Rattle.node_core.specs.declared.event.Event.TheVariants as on
+use Rattle.node_core.specs.declared.timer.Timer.{Timer}
+use Rattle.histories.specs.declared.what.What.{What}
+use Rattle.histories.specs.declared.what.What.TheVariants as what
+use Rattle.histories.specs.declared.what.Rest.TheVariants.{Nothing}
+use Rattle.histories.specs.NodeState.{NodeState}
+use Rattle.histories.specs.What.{brought, event_of, IsOf}
+use Rattle.histories.specs.After.{after, sent_at}
+use Rattle.histories.specs.Possible.{IsPossible}
+use Rattle.durable_node.specs.declared.fault.NodeFault.{NodeFault}
+use Rattle.durable_node.specs.declared.fault.NodeFault.TheVariants as fault
+use Rattle.durable_node.specs.Node.{Node, Stands}
+use Rattle.durable_node.specs.Stepping.{IsUnmountable, Stuck}
+use Rattle.node_lock.specs.declared.order.Order.{Order}
+use Rattle.node_lock.specs.declared.order.Order.TheVariants as order
+use Rattle.node_lock.specs.Asking.{Asked, Hand, Rest, Arm, Crash, asked_in, asked_by}
+use Rattle.node_lock.specs.Doing.{Did, Gives, StandsForSome, TurnDid}
+use Rattle.node_lock.specs.History.{listed}
+
+some_of : {A : Type 0} (o : Option A) → IsSome o → (a : A) × (o ≡ Some a)
+some_of (Some a) is = (a, refl)
+some_of None is = absurd cc
+
+-- from the state that the node stood for, one possible entry came of what was asked
+pub record Comes (old : Node Memory) (s : NodeState) (asked : Asked) (w : What) (sent : List Envelope) (new : Node Memory) : Type 0 where
+  pub gives : Gives asked w
+  pub possible : IsPossible old.id old.nodes s w
+  pub is_sent : sent ≡ sent_at old.id old.nodes s w
+  pub stands : Stands state_of new (after old.id old.nodes s w)
+
+did_comes : (old new : Node Memory) (event : Event) (w : What) (sent : List Envelope) → Did old event w sent new → (s : NodeState) → Stands state_of old s → Comes old s (Hand event) w sent new
+did_comes old new event w sent did s stands =
+    let disk = some_of old.disk did.has in
+    let came = did.steps disk.0 s disk.1 stands (λ _. refl) in
+    record {
+      gives = subst (λ (x : What). IsOf event x) (sym did.written) came.0.of;
+      possible = subst (λ (x : What). IsPossible old.id old.nodes s x) (sym did.written) came.0.possible;
+      is_sent = did.is_sent ∙ (came.0.sent ∙ ap (λ (x : What). sent_at old.id old.nodes s x) (sym did.written));
+      stands = subst (λ (x : What). Stands state_of new (after old.id old.nodes s x)) (sym did.written) came.1;
+    }
+
+rests : (old new : Node Memory) (s : NodeState) (asked : Asked) (w : What) (sent : List Envelope) → Gives asked (what.Rests Nothing) → Stands state_of new s → w ≡ what.Rests Nothing → sent ≡ [] → Comes old s asked w sent new
+rests old new s asked w sent gives stands is none =
+    subst (λ (x : What). Comes old s asked x sent new) (sym is) (record { gives = gives; possible = tt; is_sent = none; stands = stands })
+
+-- one turn
+pub turn_comes : (old new : Node Memory) (asked : Asked) (w : What) (sent : List Envelope) → TurnDid old asked w sent new → (s : NodeState) → Stands state_of old s → Comes old s asked w sent new
+turn_comes old new (Hand event) w sent did s stands = did_comes old new event w sent did s stands
+turn_comes old new Rest w sent did s stands = rests old new s Rest w sent refl (subst (λ (n : Node Memory). Stands state_of n s) (sym did.0) stands) did.1 did.2
+turn_comes old new (Arm calls) w sent did s stands = rests old new s (Arm calls) w sent refl (did.0.stands s stands) did.1 did.2
+turn_comes old new (Crash fill) w sent did s stands =
+    subst (λ (x : What). Comes old s (Crash fill) x sent new) (sym did.1) (record { gives = refl; possible = tt; is_sent = did.2; stands = did.0.stands s stands })
+
+-- ---- what a turn was brought
+
+brought_by : (m : Envelope) (w : What) → IsOf (on.Deliver m) w → brought (event_of w) ≡ m ∷ []
+brought_by m w is = ap brought is
+
+-- a poll brings what it took
+pub brought_polled : (arrived : Option Envelope) (w : What) → Gives (asked_by arrived) w → brought (event_of w) ≡ listed arrived
+brought_polled (Some m) w is = brought_by m w is
+brought_polled None w is = ap (λ (x : What). brought (event_of x)) is
+
+-- an event that brings nothing
+none_by : (event : Event) (w : What) → brought (Some event) ≡ [] → IsOf event w → brought (event_of w) ≡ []
+none_by event w none is = ap brought is ∙ none
+
+-- timers and orders bring no message
+pub none_of_tick : (t : Timer) (w : What) → Gives (Hand (on.Timer t)) w → brought (event_of w) ≡ []
+none_of_tick t w is = none_by (on.Timer t) w refl is
+
+pub none_of_order : (o : Order) (w : What) → Gives (asked_in o) w → brought (event_of w) ≡ []
+none_of_order (order.Submit work) w is = none_by (on.Submit work) w refl is
+none_of_order (order.Finish origin id) w is = none_by (on.Finish origin id) w refl is
+none_of_order (order.Arm calls) w is = ap (λ (x : What). brought (event_of x)) is
+none_of_order (order.Crash fill) w is = ap (λ (x : What). brought (event_of x)) is
+none_of_order order.Recover w is = none_by on.Recover w refl is
+
+-- ---- want of memory
+
+strange : (old new : Node Memory) (event : Event) → IsSome old.disk → StandsForSome old → IsUnmountable state_of old new event → ⊥
+strange old new event has s is = let disk = some_of old.disk has in is.strange disk.0 s.0 disk.1 s.1 refl
+
+-- the disk of a node that stands for a state can be mounted, so a step that came to nothing lacked memory
+pub stuck_is : (old new : Node Memory) (event : Event) (f : NodeFault) → IsSome old.disk → StandsForSome old → Stuck state_of old new event f → new ≡ record old { mounted = None }
+stuck_is old new event (fault.Core f) has s is = is.1
+stuck_is old new event fault.Full has s is = absurd is
+stuck_is old new event fault.Exhausted has s is = absurd is
+stuck_is old new event fault.Device has s is = absurd is
+stuck_is old new event fault.NotFormatted has s is = absurd (strange old new event has s is)
+stuck_is old new event (fault.Damaged sector) has s is = absurd (strange old new event has s is)
+stuck_is old new event fault.TooSmall has s is = absurd (strange old new event has s is)

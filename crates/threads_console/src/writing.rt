@@ -1,0 +1,258 @@
+//! The histories of a run as the text of its trace: an entry for each turn, a poll that took nothing among them.
+
+ghost use Rattle.std.specs.Prelude.{◌≡◌, ◌≤◌, ◌<◌, ◌++◌, [], ◌∷◌, IfOk, OnOk, false, length, vec_len};
+ghost use Rattle.group_task.specs.declared.node.TheConstants.{NODES};
+ghost use Rattle.serde_json.specs.Written.{comma_if, compact_text};
+ghost use Rattle.node_lock.specs.Kept.{what_quiet};
+ghost use Rattle.run_trace.specs.Traced.{deed_of, done, failed};
+ghost use Rattle.trace_text.specs.Tokens.{Adds, head_tokens, message_tokens};
+ghost use Rattle.trace_text.specs.Written.{entry_data, history_data, trace_data};
+ghost use Rattle.threads_console.specs.Texts.{AreKnown, IsTextAt, entries_text, histories_text, log_claims, quiet_claim, run_claims};
+
+use histories::What;
+use json::Writer;
+use node_core::Event;
+use node_lock::{History, Quiet, Sent};
+use node_threads::Gathered;
+use std::alloc::{AllocError, Global};
+use trace_check::{Deed, RecoverFault};
+use trace_text::{
+    begin_entry, begin_handled, begin_items, begin_trace, end_entry, end_items, end_trace,
+    push_item, write_spelled,
+};
+
+/// The texts of the entries of quiet turns. Most turns are such, so that their texts are made once.
+#[derive(Drop)]
+struct Known {
+    rested: Vec<u8>,
+    crashed: Vec<u8>,
+}
+
+/// The text of the trace of a run. What was written is let go at once, so that no two copies of it all stand in memory.
+pub(crate) fn write_run(alloc: Global, run: Gathered) -> Result<Vec<u8>, AllocError>
+    requires { vec_len run.histories ≤ NODES }
+    ensures { IfOk result (λ text. text.items ≡ compact_text (trace_data (run_claims run.histories.items))) }
+{
+    let Gathered { histories, links } = run;
+    drop(links);
+    let nodes = histories.len() as u8;
+    let known = make_known(alloc)?;
+    let mut text = begin_trace(alloc)?;
+    write_histories(alloc, &known, &mut text, histories)?;
+    end_trace(text, nodes)
+}
+
+/// Makes the texts of the entries of quiet turns.
+fn make_known(alloc: Global) -> Result<Known, AllocError>
+    ensures { IfOk result AreKnown }
+{
+    Ok(Known {
+        rested: quiet_text(alloc, Quiet::Rested)?,
+        crashed: quiet_text(alloc, Quiet::Crashed)?,
+    })
+}
+
+/// The text of the entry of a quiet turn.
+fn quiet_text(alloc: Global, quiet: Quiet) -> Result<Vec<u8>, AllocError>
+    ensures { IfOk result (λ text. text.items ≡ compact_text (entry_data (quiet_claim quiet))) }
+{
+    let mut out = Writer::new(Vec::new(alloc));
+    begin_entry(alloc, &mut out, &quiet_deed(quiet))?;
+    end_entry(&mut out)?;
+    Ok(out.into_inner())
+}
+
+/// How a trace has what came of a turn that handed no event to its node.
+fn quiet_deed(quiet: Quiet) -> Deed
+    ensures { result ≡ deed_of (what_quiet quiet) }
+{
+    match quiet {
+        Quiet::Rested => Deed::Nothing,
+        Quiet::Crashed => Deed::Crashed,
+    }
+}
+
+/// Adds the histories of all these nodes, but for the bracket behind them.
+#[tactic(auto, using(crate::proofs::Texts::history_more))]
+fn write_histories(
+    alloc: Global,
+    known: &Known,
+    text: &mut Vec<u8>,
+    left: Vec<History>,
+) -> Result<(), AllocError>
+    requires { AreKnown known.now }
+    ensures { OnOk result (text.new.items ++ 93 ∷ [] ≡ text.old.items ++ histories_text false left.items) }
+{
+    let mut left = left.into_iter();
+    let mut later = false;
+    while let Some(history) = left.next() {
+        write_history(alloc, known, text, later, &history)?;
+        later = true;
+    }
+    Ok(())
+}
+
+/// Adds the history of a node, and says whether others stand before it.
+fn write_history(
+    alloc: Global,
+    known: &Known,
+    text: &mut Vec<u8>,
+    later: bool,
+    history: &History,
+) -> Result<(), AllocError>
+    requires { AreKnown known.now }
+    ensures { OnOk result (text.new.items ≡ text.old.items ++ (comma_if later ++ compact_text (history_data (log_claims history.now)))) }
+{
+    begin_items(text, later)?;
+    write_turns(alloc, known, text, history)?;
+    end_items(text)
+}
+
+/// Adds the entries of a node, but for the bracket behind them.
+#[tactic(auto, using(crate::proofs::Texts::quiet_more, crate::proofs::Texts::turn_more, crate::proofs::Texts::turns_all))]
+fn write_turns(
+    alloc: Global,
+    known: &Known,
+    text: &mut Vec<u8>,
+    history: &History,
+) -> Result<(), AllocError>
+    requires { AreKnown known.now }
+    ensures { OnOk result (text.new.items ++ 93 ∷ [] ≡ text.old.items ++ entries_text false history.now.turns) }
+{
+    let mut entry = Vec::new(alloc);
+    let mut event = Event::Recover;
+    let mut spelled = Vec::new(alloc);
+    let mut later = false;
+    for place in 0..history.len() {
+        match history.quiet(place) {
+            Some(quiet) => push_item(text, later, text_of(known, quiet))?,
+            None => {
+                entry = entry_text(alloc, history, place, entry, &mut event, &mut spelled)?;
+                push_item(text, later, &entry)?;
+            }
+        }
+        later = true;
+    }
+    Ok(())
+}
+
+/// The text of the entry of a quiet turn, as it was made.
+fn text_of(known: &Known, quiet: Quiet) -> &[u8]
+    requires { AreKnown known.now }
+    ensures { result.now ≡ compact_text (entry_data (quiet_claim quiet)) }
+{
+    match quiet {
+        Quiet::Rested => &known.rested,
+        Quiet::Crashed => &known.crashed,
+    }
+}
+
+/// The text of the entry of the turn at this place, in the room of another. It stands apart, since each call of a function pays for
+/// the size of its locals, and here a whole event is one.
+#[inline(never)]
+fn entry_text(
+    alloc: Global,
+    history: &History,
+    place: usize,
+    mut room: Vec<u8>,
+    event: &mut Event,
+    spelled: &mut Vec<u8>,
+) -> Result<Vec<u8>, AllocError>
+    requires { place < length history.now.turns }
+    ensures { IfOk result (λ text. IsTextAt place history.now.turns text.items) }
+{
+    room.clear();
+    let Some(sent) = history.handled(place, event) else {
+        return other_text(alloc, history, place, room, spelled);
+    };
+    let mut out = Writer::new(room);
+    begin_done(alloc, &mut out, event)?;
+    write_sent(alloc, &mut out, &sent, spelled)?;
+    end_entry(&mut out)?;
+    Ok(out.into_inner())
+}
+
+/// Begins the entry of an event that was handled.
+fn begin_done(alloc: Global, out: &mut Writer, event: &Event) -> Result<(), AllocError>
+    ensures { OnOk result (Adds out.old out.new (head_tokens (done event.now))) }
+{
+    match event {
+        Event::Recover => begin_entry(alloc, out, &Deed::Recovered(false)),
+        _ => begin_handled(alloc, out, event),
+    }
+}
+
+/// The text of an entry in which an event wasn't handled.
+#[inline(never)]
+fn other_text(
+    alloc: Global,
+    history: &History,
+    place: usize,
+    mut room: Vec<u8>,
+    spelled: &mut Vec<u8>,
+) -> Result<Vec<u8>, AllocError>
+    requires { place < length history.now.turns }
+    ensures { IfOk result (λ text. IsTextAt place history.now.turns text.items) }
+{
+    let Some(entry) = history.entry(place) else {
+        unreachable!()
+    };
+    room.clear();
+    let mut out = Writer::new(room);
+    begin_entry(alloc, &mut out, &deed_of(&entry.what))?;
+    write_sent(alloc, &mut out, &entry.sent, spelled)?;
+    end_entry(&mut out)?;
+    Ok(out.into_inner())
+}
+
+/// Writes the messages that a turn sent.
+#[tactic(auto, using(crate::proofs::Texts::message_more))]
+fn write_sent(
+    alloc: Global,
+    out: &mut Writer,
+    messages: &Sent<'_>,
+    spelled: &mut Vec<u8>,
+) -> Result<(), AllocError>
+    ensures { OnOk result (Adds out.old out.new (message_tokens messages.now)) }
+{
+    for place in 0..messages.len() {
+        messages.spell(place, spelled)?;
+        write_spelled(alloc, out, spelled)?;
+    }
+    Ok(())
+}
+
+/// How a trace has what came of a turn.
+fn deed_of(what: &What) -> Deed
+    ensures { result ≡ deed_of what.now }
+{
+    match what {
+        What::Did(event) => done(event),
+        What::Faulted(event) => failed(event),
+        What::Refused(_, _) | What::Rests(_) | What::RaiseRefused(_) => Deed::Nothing,
+        What::Crashed => Deed::Crashed,
+        What::Recovered(kept) => Deed::Recovered(*kept),
+        What::MountFailed => Deed::NotRecovered(false, RecoverFault::Mount),
+        What::RaiseFailed(kept) => Deed::NotRecovered(*kept, RecoverFault::Raise),
+    }
+}
+
+/// An event that was handled.
+fn done(event: &Event) -> Deed
+    ensures { result ≡ done event.now }
+{
+    match event {
+        Event::Recover => Deed::Recovered(false),
+        _ => Deed::Done(*event),
+    }
+}
+
+/// An event in whose command the device failed.
+fn failed(event: &Event) -> Deed
+    ensures { result ≡ failed event.now }
+{
+    match event {
+        Event::Recover => Deed::NotRecovered(false, RecoverFault::Raise),
+        _ => Deed::Faulted(*event),
+    }
+}
