@@ -1,9 +1,9 @@
 -- What an append leaves of the journal, also behind a compaction, and what a compaction leaves, in each image: an area
 -- written slot by slot, what it reads as in the end, and the area cell's raise.
 use Rattle.job_journal.proofs.Common.{◌≡◌, ◌+◌, ◌*◌, ◌<◌, ◌⊎◌, inl, inr, ⊎_elim, ℕ, List, [], ◌∷◌, length, get_or, set, Bool, false, Some, None, is_some, sym, ◌∙◌, ap, subst, subst₂, refl}
-use Rattle.job_journal.proofs.Common.{arith, IsTrue, Result, Ok, Err, IfOk, ◌-◌, ◌≤◌, zero, suc, ◌++◌, map, slice_get, Option, length-append, append-nil, append_assoc, length-map, nat_tests}
+use Rattle.job_journal.proofs.Common.{arith, IsTrue, Result, Ok, Err, IfOk, ◌-◌, ◌≤◌, zero, suc, ◌++◌, map, slice_get, length-append, append-nil, append_assoc, length-map, nat_tests}
 use Rattle.job_journal.proofs.Common.{Image, DiskState, SameBut, AllSynced, Laws, Counts, sector_at, IsImage, Run, Each, run_widen, each_of_two, slot_at, InSlot, InSlots, run_on, Erased}
-use Rattle.job_journal.proofs.Common.{erased_start, slot_same, Stands, CellState, IsCellAt, AllStand, raised, stands_same, cell_at, Command, record_of, Table, Job, Record, IsInOrder}
+use Rattle.job_journal.proofs.Common.{erased_start, slot_same, Stands, CellState, IsCellAt, AllStand, raised, stands_same, cell_at, Command, record_of, Job, Record, IsInOrder}
 use Rattle.job_journal.proofs.Common.{jobs_of, jobs_after, id_of, Jobs, Reads, fresh, taken, replay_at, then_slot, replayed, JournalFault, slots_from, sealed_prefix, IsPrefix, first_of}
 use Rattle.job_journal.proofs.Common.{jobs_in, IsSound, IsSoundImage, ImagesSince, InJournal, replay_from, JournalState, Holds, AllHold, IsJournal, first_sector, next_slot, Admitted}
 use Rattle.job_journal.proofs.Common.{BeforeOrAfter, appended, record_for, with_slot, KeepsJobs, HasAppended, IsWritten, records_for, other_sector}

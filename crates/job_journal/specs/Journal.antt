@@ -1,5 +1,6 @@
 -- What an image stands for as a journal of jobs.
 use Rattle.std.specs.Prelude.{◌≡◌, ◌<◌, ◌≤◌, ℕ, ◌+◌, ◌*◌, Bool, false, List, Option, Some, None, is_none, if◌then◌else◌, IsTrue}
+use Rattle.disk_sector.specs.Layout.{sectors_for}
 use Rattle.sector_disk.specs.Disk.{Image, DiskState, IsImage}
 use Rattle.sector_disk.specs.Run.{Each}
 use Rattle.slot_gate.specs.Slot.{slot_at}
@@ -62,7 +63,7 @@ pub record ImagesSince (slots : ℕ) (old new : DiskState) (Stands : Image → T
 
 -- the sectors of the area cell and of both areas
 abbrev pub InJournal : ℕ → ℕ → Type 0
-InJournal slots at = (4 ≤ at) × (at < 8 + 4 * slots)
+InJournal slots at = (4 ≤ at) × (at < sectors_for slots)
 
 -- the journal of an image is as a format leaves it: the area cell has the value 1, and no gate of either area is sealed
 pub record IsFormatted (slots : ℕ) (image : Image) : Type 0 where

@@ -1,5 +1,7 @@
 // A journal moved into its other area, with no record in it but those of the pending jobs.
 ghost use Rattle.std.specs.Prelude.{◌≡◌, ◌≢◌, ◌⊎◌, ◌<◌, ◌≤◌, ◌+◌, ◌-◌, ◌*◌, ◌^◌, IsTrue, IsOk, IsErrOf, IsSome, Some, None};
+ghost use Rattle.disk_sector.specs.Layout.{sectors_for};
+ghost use Rattle.disk_sector.specs.declared.layout.TheConstants.{MOST_SLOTS};
 ghost use Rattle.sector_disk.specs.Disk.{Counts};
 ghost use Rattle.sector_disk.specs.Run.{Run};
 ghost use Rattle.job_journal.specs.Appending.{Answers};
@@ -21,7 +23,7 @@ impl JobJournal {
     /// Refused in the order `Broken`, `Exhausted` (the area cell), `Device`; after `Device` the journal is broken
     /// until it is mounted again.
     pub fn compact<D: SectorDisk>(&mut self, disk: &mut D) -> Result<(), JournalFault>
-        requires on_disk { 8 + 4 * self.old.slots ≤ (D.state disk.old).sectors }
+        requires on_disk { sectors_for self.old.slots ≤ (D.state disk.old).sectors }
 
         ensures counts { Counts (D.state disk.old) (D.state disk.new)
             (IsErrOf result JournalFault.Device) (IsErrOf result JournalFault.Device → ⊥) }
@@ -64,7 +66,7 @@ impl JobJournal {
 
     // Compacts where no slot is free.
     pub(crate) fn make_room<D: SectorDisk>(&mut self, disk: &mut D) -> Result<(), JournalFault>
-        requires on_disk { 8 + 4 * self.old.slots ≤ (D.state disk.old).sectors }
+        requires on_disk { sectors_for self.old.slots ≤ (D.state disk.old).sectors }
         requires can { self.old.used ≡ self.old.slots → compaction_refusal self.old ≡ None }
         ensures counts { Counts (D.state disk.old) (D.state disk.new)
             (IsErrOf result JournalFault.Device) (IsErrOf result JournalFault.Device → ⊥) }
@@ -103,7 +105,7 @@ impl JobJournal {
 
 // The first sector of the area that isn't present.
 fn other_sector(slots: u64, area: &SafeCell) -> u64
-    requires most { slots ≤ 4096 }
+    requires most { slots ≤ MOST_SLOTS }
     requires below { area.now.value ≢ 2 ^ 64 - 1 }
     ensures { result ≡ first_of slots (area.now.value + 1) }
 {

@@ -1,5 +1,7 @@
 // A journal made on its disk.
 ghost use Rattle.std.specs.Prelude.{◌≡◌, ◌⊎◌, ◌<◌, ◌≤◌, ◌+◌, ◌*◌, IsTrue, IsOk, IsErrOf, Some};
+ghost use Rattle.disk_sector.specs.Layout.{sectors_for};
+ghost use Rattle.disk_sector.specs.declared.layout.TheConstants.{MOST_SLOTS};
 ghost use Rattle.sector_disk.specs.Disk.{Image, IsImage, Counts, AllSynced};
 ghost use Rattle.sector_disk.specs.Run.{Run};
 ghost use Rattle.job_journal.specs.Jobs.{no_jobs};
@@ -14,8 +16,8 @@ use slot_gate::unseal_all;
 /// was there before may then be lost.
 #[tactic(auto, using(crate::proofs::Areas::areas_within))]
 pub fn format<D: SectorDisk>(disk: &mut D, slots: u64) -> Result<(), JournalFault>
-    requires on_disk { 8 + 4 * slots ≤ (D.state disk.old).sectors }
-    requires most { slots ≤ 4096 }
+    requires on_disk { sectors_for slots ≤ (D.state disk.old).sectors }
+    requires most { slots ≤ MOST_SLOTS }
 
     ensures device_alone { IsOk result ⊎ IsErrOf result JournalFault.Device }
     ensures counts { Counts (D.state disk.old) (D.state disk.new)

@@ -1,5 +1,7 @@
 -- What a disk with a counter and a journal stands for, and what a mounted store knows of it.
-use Rattle.std.specs.Prelude.{◌≡◌, ◌⊎◌, ◌<◌, ◌≤◌, ℕ, ◌+◌, ◌-◌, ◌*◌, ◌/◌, ◌^◌, ◌==◌, min, Bool, IsTrue, IsFalse, Option, Some, None, if◌then◌else◌, Result}
+use Rattle.std.specs.Prelude.{◌≡◌, ◌⊎◌, ◌<◌, ◌≤◌, ℕ, ◌-◌, ◌/◌, ◌^◌, ◌==◌, min, Bool, IsTrue, IsFalse, Option, Some, None, if◌then◌else◌, Result}
+use Rattle.disk_sector.specs.Layout.{sectors_for}
+use Rattle.disk_sector.specs.declared.layout.TheConstants.{MOST_SLOTS}
 use Rattle.sector_disk.specs.Disk.{Image, DiskState, IsImage, AllSynced, sector_at}
 use Rattle.safe_cell.specs.Answered.{AnswersOr}
 use Rattle.safe_cell.specs.Cell.{cell_at}
@@ -19,7 +21,7 @@ use Rattle.node_store.specs.declared.fault.StoreFault.{StoreFault}
 
 -- how many slots an area of a disk has
 abbrev pub slots_for : ℕ → ℕ
-slots_for sectors = min 4096 ((sectors - 8) / 4)
+slots_for sectors = min MOST_SLOTS ((sectors - 8) / 4)
 
 abbrev pub durable_by : Option ℕ → Option Jobs → Option Durable
 durable_by None jobs = None
@@ -53,7 +55,7 @@ durable_of store = kept store.counter.value (jobs_of store.journal.table)
 -- what is true of every mounted store
 pub record IsStore (disk : DiskState) (counter : CellState) (journal : JournalState) (broken : Bool) : Type 0 where
   pub cell : IsCellAt 0 counter
-  pub on_disk : 8 + 4 * journal.slots ≤ disk.sectors
+  pub on_disk : sectors_for journal.slots ≤ disk.sectors
   pub slots : journal.slots ≡ slots_for disk.sectors
   -- until the device fails
   pub whole : IsFalse broken → (IsFalse counter.broken) × (IsFalse journal.broken)
@@ -116,7 +118,7 @@ pub record KeepsAreas {Disk : Type 0} (state : Disk → DiskState) (old new : St
 
 -- the sectors of a store
 abbrev pub InStore : ℕ → ℕ → Type 0
-InStore slots at = at < 8 + 4 * slots
+InStore slots at = at < sectors_for slots
 
 -- While a disk is formatted an image has the counter that an image of before had, or a journal that is formatted already: so a
 -- format that was cut off leaves no new counter over an old journal.

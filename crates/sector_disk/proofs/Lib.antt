@@ -6,5 +6,4 @@ mod Halves
 mod Parts
 mod Calls
 mod Crashed
-mod Blanks
 pub mod PublicLaws

@@ -1,7 +1,5 @@
 -- What proofs of other crates may cite of this one: its other lemmas are its own.
 
--- Bytes that are all zeros.
-pub use Rattle.sector_disk.proofs.Blanks.{blank}
 -- A disk in memory after a crash, for the layers that go on with it.
 pub use Rattle.sector_disk.proofs.Crashed.{only_image}
 -- How a run of device calls starts, goes on and is put together.

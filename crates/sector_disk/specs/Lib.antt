@@ -9,4 +9,3 @@ pub mod Kept
 pub mod Halves
 pub mod Noted
 pub mod Times
-pub mod Blank

@@ -12,6 +12,6 @@ mod sector;
 mod sectors;
 
 pub use disk::SectorDisk;
+pub use disk_sector::Sector;
 pub use fault::DiskFault;
 pub use memory::MemDisk;
-pub use sector::{Sector, is_blank};

@@ -1,38 +1,17 @@
 // A sector, and its bytes without the zeros at its end.
-ghost use Rattle.std.specs.Prelude.{◌≡◌, ◌≤◌, ◌↔◌, IsTrue, IfSome, drop, length, replicate};
-ghost use Rattle.sector_disk.specs.Blank.{is_blank};
+ghost use Rattle.std.specs.Prelude.{◌≡◌, ◌≤◌, ◌↔◌, IsTrue, IfSome, drop, replicate};
 ghost use Rattle.sector_disk.specs.Crash.{filled};
 ghost use Rattle.sector_disk.specs.Undo.{whole};
 
-/// What a disk reads and writes at once.
-pub type Sector = [u8; 512];
-
-/// Whether all bytes from there on are zero.
-pub fn is_blank(sector: &Sector, from: usize) -> bool
-    requires { from ≤ 512 }
-    ensures { result ≡ is_blank (drop from sector.now) }
-{
-    is_zero_block(&sector[from..])
-}
+pub use disk_sector::Sector;
+use disk_sector::is_zero_block;
 
 // Whether a sector is all zeros.
-#[tactic(auto, using(crate::proofs::Blanks::blank))]
+#[tactic(auto, using(disk_sector::proofs::PublicLaws::blank))]
 pub fn is_zero(sector: &Sector) -> bool
     ensures { IsTrue result ↔ (sector.now ≡ replicate 512 0) }
 {
     is_zero_block(sector)
-}
-
-// Whether a block of bytes is all zeros. It looks at all of them, many at a time.
-fn is_zero_block(block: &[u8]) -> bool
-    ensures value { result ≡ is_blank block.now }
-    ensures zeros { IsTrue result → block.now ≡ replicate (length block.now) 0 }
-{
-    let mut zeros = true;
-    for at in 0..block.len() {
-        zeros &= block[at] == 0;
-    }
-    zeros
 }
 
 // The first bytes of a sector, if all behind them are zeros.

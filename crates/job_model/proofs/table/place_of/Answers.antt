@@ -1,4 +1,4 @@
-use Rattle.std.proofs.Common.{◌≡◌, ◌<◌, ◌∙◌, true, false, ltb, sym, ap, arith, rules, length}
+use Rattle.std.proofs.Common.{◌≡◌, ◌<◌, ◌∙◌, ltb, sym, ap, arith, rules, length}
 use Rattle.std.proofs.lemmas.List.Sorted.{IsPartitionPoint-from_clause, IsPartitionedBy-ltb}
 use Rattle.job_model.specs.declared.job.Job.{Job}
 use Rattle.job_model.proofs.Places.{IsOther, ids_rise, without_at, without_other, pending_other, other_at}

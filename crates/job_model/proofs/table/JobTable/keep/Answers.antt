@@ -1,5 +1,5 @@
 use Rattle.std.proofs.Common.{◌∙◌, drop, vec_capacity, subst, sym}
-use Rattle.job_model.specs.Table.{Table, CanKeep}
+use Rattle.job_model.specs.Table.{CanKeep}
 use Rattle.job_model.proofs.Places.{placed}
 use Rattle.job_model.proofs.table.JobTable.keep.Goals as goal
 

@@ -1,4 +1,4 @@
-use Rattle.std.proofs.Common.{◌≡◌, ◌<◌, ◌≤◌, ◌∙◌, ◌++◌, ◌-◌, ap, set, length, arith}
+use Rattle.std.proofs.Common.{◌<◌, ◌≤◌, ◌∙◌, ◌++◌, ◌-◌, ap, set, length, arith}
 use Rattle.sector_disk.specs.Crash.{filled}
 use Rattle.sector_disk.specs.Disk.{sector_at}
 use Rattle.sector_disk.proofs.Halves.{set_low, set_high, at_low, at_high}

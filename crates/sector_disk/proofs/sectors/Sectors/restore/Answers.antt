@@ -1,4 +1,4 @@
-use Rattle.std.proofs.Common.{◌≡◌, ◌<◌, ◌≤◌, ◌∙◌, ◌++◌, ◌-◌, ap, set, length, arith}
+use Rattle.std.proofs.Common.{◌∙◌, ◌++◌, ◌-◌, ap, set, arith}
 use Rattle.sector_disk.proofs.Halves.{set_low, set_high}
 use Rattle.sector_disk.specs.Undo.{whole}
 use Rattle.sector_disk.proofs.sectors.Sectors.restore.Goals as goal

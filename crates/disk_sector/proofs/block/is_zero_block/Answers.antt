@@ -1,8 +1,8 @@
 use Rattle.std.proofs.Common.{◌∙◌, ap, sym}
 use Rattle.std.proofs.lemmas.List.{take_all}
-use Rattle.sector_disk.specs.Blank.{is_blank}
-use Rattle.sector_disk.proofs.Blanks.{blank_more, zeros_alone}
-use Rattle.sector_disk.proofs.sector.is_zero_block.Goals as goal
+use Rattle.disk_sector.specs.Blank.{is_blank}
+use Rattle.disk_sector.proofs.Blanks.{blank_more, zeros_alone}
+use Rattle.disk_sector.proofs.block.is_zero_block.Goals as goal
 
 pub loop-at-preserved : goal.loop-at-preserved
 loop-at-preserved c = blank_more c.args.block.now c.loop-at.at c.loop-at.zeros c.loop-at-test.true c.loop-at.invariant

@@ -3,7 +3,7 @@ use Rattle.std.proofs.Common.{◌≡◌, ◌<◌, ◌+◌, ◌&&◌, ⊎_elim, �
 use Rattle.std.proofs.lemmas.Bool.{false≢true}
 use Rattle.std.proofs.lemmas.Bool.Decides.{eqb_tells}
 use Rattle.std.proofs.lemmas.List.Sums.{sum_by-cons, count_by_more_yes, count_by_more_no}
-use Rattle.sector_disk.specs.Blank.{is_blank}
+use Rattle.disk_sector.specs.Blank.{is_blank}
 
 no_other : (n : ℕ) → count_by (λ byte. not (byte == 0)) (replicate n 0) ≡ 0
 no_other zero = refl

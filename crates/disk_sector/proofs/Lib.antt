@@ -1,0 +1,2 @@
+mod Blanks
+pub mod PublicLaws

@@ -1,0 +1,18 @@
+// How many sectors a store takes.
+ghost use Rattle.std.specs.Prelude.{◌≡◌, ◌≤◌};
+ghost use Rattle.disk_sector.specs.Layout.{sectors_for};
+ghost use Rattle.disk_sector.specs.declared.layout.TheConstants.{MOST_SLOTS};
+
+/// How many slots an area of a journal has at least.
+pub const LEAST_SLOTS: u64 = 4;
+
+/// How many slots an area of a journal has at most.
+pub const MOST_SLOTS: u64 = 4096;
+
+/// How many sectors a store takes whose areas have so many slots.
+pub fn sectors_for(slots: u64) -> u64
+    requires { slots ≤ MOST_SLOTS }
+    ensures { result ≡ sectors_for slots }
+{
+    8 + 4 * slots
+}
