@@ -15,41 +15,63 @@ has() {
     if [ "$found" = "$(IFS=$'\n' && echo "$*")" ]; then mark '' "$name"; else mark "it has '${found:0:300}'" "$name"; fi
 }
 
-# A repository of empty crates, and an rt that writes down what it is asked for and where, and says what rt says.
-mkdir -p "$room/bin" "$room/repo/crates"
-cp "$top/invite" "$top/crates.txt" "$room/repo"
-crates=$(grep -oE '^[a-z_]+' "$top/crates.txt")
-for crate in $crates; do mkdir "$room/repo/crates/$crate"; done
+# A repository of crates of a file each, and an rt that writes down what it is asked for and what lies where it is, and says what rt says.
+mkdir -p "$room/bin" "$room/repo/crates" "$room/tmp"
+cp "$top/invite" "$top/crates.txt" "$top/HANDLES" "$room/repo"
+for crate in $(grep -oE '^[a-z_]+' "$top/crates.txt"); do
+    mkdir -p "$room/repo/crates/$crate/"{src,proofs,must-fail}
+    touch "$room/repo/crates/$crate/src/lib.rt" "$room/repo/crates/$crate/must-fail/x.edit"
+done
+touch "$room/repo/crates/invite/"{args,stdin,stdout}
 cat >"$room/bin/rt" <<'RT'
 #!/usr/bin/env bash
-echo "$(basename "$PWD"): $*" >>"$ROOM/log"
+echo "$*" >>"$ROOM/log"
+find . -type f | sort >"$ROOM/files"
+cp crates.txt HANDLES "$ROOM"
+stat -c %a "$PWD/.." "$TMPDIR" >"$ROOM/modes"
 sleep "${NAP-0.02}"
-if [ "$1" = run ]; then
-    [ "${REFUSED-}" != program ] || { echo 'no such compiler'; exit 1; }
-    mkdir -p out
-    printf '%s\n' '#!/usr/bin/env bash' 'echo "$@"; cat' >out/invite
-    chmod +x out/invite
-    exit
-fi
-[ "${REFUSED-}" != all ] || { echo 'a file that no check reads'; exit 2; }
-for crate in $(grep -oE '^[a-z_]+' ../crates.txt); do
-    echo "== $crate"
-    [ "$crate" != "${REFUSED-}" ] || echo "a goal of $crate is open"
+[ "${REFUSED-}" != all ] || { echo 'rt: a file that no check reads' >&2; echo '0 passed, 1 failed'; exit 2; }
+for crate in $(grep -oE '^[a-z_]+' crates.txt); do
+    mkdir "crates/$crate/out"
+    [ "$crate" != "${SLOW-}" ] || sleep 16
+    if [ "$crate" = "${REFUSED-}" ]; then
+        printf '== %s\na goal of %s is open\nrt: %s NOT PROVED\n' "$crate" "$crate" "$crate"
+        lost=$crate
+    elif [ -n "${lost-}" ]; then
+        echo "rt: $crate NOT PROVED: its library $lost failed"
+    elif [ "$crate" = "${KEPT-}" ]; then
+        echo "rt: $crate is kept: an earlier run on this machine proved the same files over the same libraries"
+    else
+        printf '== %s\nfn f: proved\nrt: %s proved\n' "$crate" "$crate"
+    fi
 done
-echo '== summary'
-for crate in $(grep -oE '^[a-z_]+' ../crates.txt); do
-    if [ "$crate" = "${REFUSED-}" ]; then echo "$crate: failed (1)"; else echo "$crate: ok"; fi
-done
-[ -z "${REFUSED-}" ] || [ "$REFUSED" = program ] || exit 1
+[ -z "${lost-}" ] || { echo "rt: FAILED: $lost"; echo '34 passed, 1 failed'; exit 1; }
+[ -z "${EDITED-}" ] || touch "$ROOM/repo/crates/$EDITED/src/lib.rt"
+printf '%s\n' '#!/usr/bin/env bash' 'echo "$@"; cat' >crates/invite/out/invite
+chmod +x crates/invite/out/invite
+[ "${REFUSED-}" != program ] || { echo 'rt: invite: the program ended with status 1, and not 0'; echo '34 passed, 1 failed'; exit 1; }
 echo end >>"$ROOM/log"
 RT
 chmod +x "$room/bin/rt"
 
+# below CRATE..: these crates and all that they stand on, by crates.txt
+below() {
+    local before='' now="$*"
+    while [ "$before" != "$now" ]; do
+        before=$now
+        now=$(grep -E "^(${now// /|})[ :]" "$top/crates.txt" | sed 's/^\([a-z_]*\)[^:]*:/\1/' | tr -s ' ' '\n' | cat - <(tr ' ' '\n' <<<"$now") |
+            grep -xF "$(grep -oE '^[a-z_]+' "$top/crates.txt")" | sort -u | paste -sd' ')
+    done
+    tr ' ' '\n' <<<"$now"
+}
+mapfile -t crates < <(below invite)
+
 # call COMMAND..: runs it in the repository; $status is its status, $room/out and err what it prints, log what rt was asked for
 call() {
     : >"$room/log"
-    (cd "$room/repo" && ROOM=$room PATH=$room/bin:$PATH "$@" <<<input >"$room/out" 2>"$room/err")
+    (cd "$room/repo" && ROOM=$room TMPDIR=$room/tmp PATH=$room/bin:$PATH "$@" <<<input >"$room/out" 2>"$room/err")
     status=$?
+    has "$*: nothing is left" <(ls -A "$room/tmp")
 }
 
 # anew: the program isn't built
@@ -65,50 +87,74 @@ expect() {
 call ./invite answer 0 3
 expect 'the first call' 0
 has 'the first call prints' "$room/out" 'answer 0 3' input
-has 'what rt is asked for' <(sed 's/[0-9]*$//' "$room/log") 'crates: all check --jobs ' end 'invite: run -- show'
-has 'each crate is named' <(sed -n 's/^invite: checked \([a-z_]*\) (.*/\1/p' "$room/err") "$crates"
-has 'the last is named' <(grep -c "^invite: checked .* ($(wc -w <<<"$crates") of $(wc -w <<<"$crates")), 0 min so far" "$room/err") 1
+has 'what rt is asked for' "$room/log" ci end
+has 'the crates that rt finds' <(sort "$room/crates.txt") "$(grep -E "^($(IFS='|' && echo "${crates[*]}"))[ :]" "$top/crates.txt" | sort)"
+has 'the handles that rt finds' "$room/HANDLES" "$(cat "$top/HANDLES")"
+has 'the files that rt finds' "$room/files" \
+    "$(printf '%s\n' ./HANDLES ./crates.txt ./crates/invite/{args,stdin,stdout} "${crates[@]/%//src/lib.rt}" | sed 's,^[^.],./crates/&,' | sort)"
+has 'others may pass, and see nothing' "$room/modes" 711 711
+has 'each crate is named' <(sed -n 's/^invite: proved \([a-z_]*\) (.*/\1/p' "$room/err" | sort) "${crates[@]}"
+has 'the last is named' <(grep -c "^invite: proved invite (${#crates[@]} of ${#crates[@]}), 0 min [0-9]* s so far" "$room/err") 1
+has 'no crate stands before one that it uses' <(
+    seen=' '
+    while IFS= read -r line; do
+        seen+="${line%%[: ]*} "
+        for need in ${line#*:}; do [[ " ${crates[*]} " != *" $need "* || $seen == *" $need "* ]] || echo "$need"; done
+    done <"$room/crates.txt"
+)
 
 call ./invite show
 expect 'the second call' 0
 has 'the second call proves nothing' "$room/log"
 has 'the second call says nothing' "$room/err"
 
-touch "$room/repo/crates/wire_msg/lib.rt"
+for file in crates/wire_msg/src/lib.rt crates/wire_msg/proofs/F.antt crates.txt HANDLES; do
+    touch "$room/repo/$file"
+    call ./invite show
+    has "$file changed" "$room/log" ci end
+done
+for file in crates/thread_tests/src/lib.rt crates/wire_msg/must-fail/x.edit; do
+    touch "$room/repo/$file"
+    call ./invite show
+    has "$file, which the program does not stand on" "$room/log"
+done
+
+# a source that changes while the program is built: the next call builds again
+anew
+EDITED=node_core call ./invite show
 call ./invite show
-has 'a source that changed' <(tail -n 1 "$room/log") 'invite: run -- show'
-touch "$room/repo/crates/thread_tests/lib.rt"
+has 'a source that changed meanwhile' "$room/log" ci end
 call ./invite show
-has 'a source that the program does not stand on' "$room/log"
+has 'and no more' "$room/log"
 
 ln -s "$room/repo/invite" "$room/link"
 anew
 call "$room/link" show
 has 'through a link' "$room/out" show input
 
-# as many side by side as there are processors, where there is memory
+# what takes long: a word at least every 15 seconds, before the first crate and at one
 anew
-call taskset -c "$(taskset -cp $$ | sed 's/.*: //; s/[,-].*//')" ./invite show
-has 'one at a time' <(head -n 1 "$room/log") 'crates: all check --jobs 1'
-if [ "$(awk '/^MemAvailable:/ { print int($2 / 2000000) }' /proc/meminfo)" -ge "$(nproc)" ]; then
-    anew
-    call ./invite show
-    has 'several at a time' <(head -n 1 "$room/log") "crates: all check --jobs $(nproc)"
-fi
+NAP=16 SLOW=node_core KEPT=job_model call ./invite show
+has 'while the sources are looked through' <(grep -cE "^invite: looking through the sources of ${#crates[@]} crates, 0 min 1[5-6] s so far" "$room/err") 1
+has 'while a crate is proved' <(grep -cE "^invite: proved [0-9]+ of ${#crates[@]} crates, at work on node_core, 0 min 3[0-3] s so far" "$room/err") 1
+has 'a crate that was proved before' <(grep -cE '^invite: job_model was proved by an earlier run \(' "$room/err") 1
 
 for name in node_core invite; do
     anew
     REFUSED=$name call ./invite show
     expect "$name is refused" 1
-    has "$name: what is printed" <(tail -n 3 "$room/err") "== $name" "a goal of $name is open" 'invite: the program was not built'
-    has "$name: what is built" <(grep -c run "$room/log") 0
+    has "$name: what is said" <(tail -n 4 "$room/err") "== $name" "a goal of $name is open" "rt: $name NOT PROVED" 'invite: the program was not built'
     has "$name: what is printed" "$room/out"
+    has "$name: what is built" <(find "$room/repo/crates/invite" -name 'invite*' -type f)
 done
 anew
 REFUSED=all call ./invite show
-has 'rt comes to no crate' <(tail -n 2 "$room/err") 'a file that no check reads' 'invite: the program was not built'
+expect 'rt comes to no crate' 1
+has 'rt comes to no crate' <(tail -n 3 "$room/err") 'rt: a file that no check reads' '0 passed, 1 failed' 'invite: the program was not built'
 REFUSED=program call ./invite show
-has 'the program is not compiled' <(tail -n 2 "$room/err") 'no such compiler' 'invite: the program was not built'
+expect 'the program ends badly' 1
+has 'the program ends badly' <(tail -n 3 "$room/err") 'rt: invite: the program ended with status 1, and not 0' '34 passed, 1 failed' 'invite: the program was not built'
+has 'a program that ends badly is not built' <(find "$room/repo/crates/invite" -name 'invite*' -type f)
 
 anew
 # shellcheck disable=SC2016 # the inner shell expands it
