@@ -1,0 +1,172 @@
+"""Tries must-fail edits of tests/more_edits, which the gate leaves out: the prover has to refuse each. tests/more_edits.sh calls it:
+
+    tests/more_edits.sh [CRATE..]           tries the edits of these crates, or all
+    tests/more_edits.sh --sample N SEED     tries N of all, drawn by the seed
+    tests/more_edits.sh --apply [CRATE..]   says at once, without the prover, which edits don't fit the sources that they turn, those of crates/NAME/must-fail among them
+
+With --jobs J before these words J checks run side by side, whatever memory they take; without it as many as processors and memory hold. rt ci tries the edits in a
+copy of the repository that has the crates that they turn, those below and no other edits: it takes over what the gate proved, and proves a crate once more for all its edits.
+Each edit is printed behind what refused it:
+
+    goal      a goal of a function that it turns
+    other     a goal of another function
+    script    an answer or a lemma in proofs/ that no longer fits: this says less of the contract
+    limit     a limit of the prover, which gave no verdict
+    passed    nothing: the crate is proved with it
+    untried   it can't be applied, compiled or read, or its check was cut off
+
+The last line counts the edits that were refused, and the others: 'N passed, M failed'.
+"""
+import os
+import random
+import re
+import shutil
+import subprocess
+import sys
+import tempfile
+
+sys.dont_write_bytecode = True
+from crate_copy import TOP, lay, lines_of_crates, text_of
+
+EDITS = f"{TOP}/tests/more_edits"
+KINDS = ("goal", "other", "script", "limit", "passed", "untried")
+# The front of a function, with what stands above it.
+FUNCTION = re.compile(r"^(?:[ \t]*(?:#\[|///).*\n)*[ \t]*(?:pub(?:\([^)]*\))? )?(?:const )?fn ", re.M)
+
+
+def stop(why):
+    sys.exit(f"more_edits.sh: {why}")
+
+
+def names_in(folder):
+    return sorted(os.listdir(folder)) if os.path.isdir(folder) else []
+
+
+def pairs_in(edit):
+    """Returns the pairs of an edit, each a file, a text and what stands in its place, or says which line can't be read."""
+    file, old, pairs = None, None, []
+    for line in text_of(edit).split("\n"):
+        word, _, rest = line.partition(": ")
+        if word == "file":
+            file = rest
+        elif word == "old":
+            old = rest
+        elif line.startswith("new:") and file and old:
+            pairs.append((file, old, re.sub(r"\A ", "", line[len("new:") :])))
+            old = None
+        elif line:
+            return [], f"this line can't be read: {line}"
+    return pairs, None if pairs else "it changes nothing"
+
+
+def misfit(crate, edit):
+    """Returns what keeps an edit from being applied, or None: each old text stands once in its file, behind the earlier changes."""
+    pairs, why = pairs_in(edit)
+    texts = {}
+    for file, old, new in pairs:
+        path = f"{TOP}/crates/{crate}/{file}"
+        if file not in texts and not os.path.isfile(path):
+            return f"there is no file {file}"
+        text = texts.get(file) or text_of(path)
+        if text.count(old) != 1:
+            return f"{file} has this text {text.count(old)} times: {old}"
+        if old == new:
+            return "it changes nothing"
+        texts[file] = text.replace(old, new)
+    return why
+
+
+def apply(crates):
+    """Says which edits don't fit, and counts them all."""
+    passed = failed = 0
+    for crate in crates or sorted({*names_in(EDITS), *lines_of_crates()}):
+        for folder in (f"{EDITS}/{crate}", f"{TOP}/crates/{crate}/must-fail"):
+            for name in names_in(folder):
+                why = misfit(crate, f"{folder}/{name}") if name.endswith(".edit") else "its name doesn't end in .edit"
+                passed, failed = passed + (not why), failed + bool(why)
+                if why:
+                    print(f"{crate}/{name}: {why}")
+    print(f"{passed} passed, {failed} failed")
+    return 1 if failed or not passed else 0
+
+
+def turned(crate, edit):
+    """Returns the functions that an edit turns: the file of each, and its first and last line."""
+    found = []
+    for file, old, _ in pairs_in(edit)[0]:
+        text = text_of(f"{TOP}/crates/{crate}/{file}")
+        starts = [it.start() for it in FUNCTION.finditer(text)]
+        at = text.find(old) + len(old) - 1
+        first = max([it for it in starts if it <= at], default=0)
+        last = min([it for it in starts if it > at], default=len(text))
+        found.append((file, text.count("\n", 0, first) + 1, text.count("\n", 0, last)))
+    return found
+
+
+def kind_of(crate, edit, said):
+    """Returns what refused an edit, by what rt said of it."""
+    if "NOT REFUSED" in said:
+        return "passed"
+    if "refused, as it must be" not in said:
+        return "untried"
+    if "only by a limit" in said:
+        return "limit"
+    at = re.search(r"(?:\./)?(src/\S+?):(\d+):\d+: ", said)
+    if not at or re.search(r"(\./)?proofs/", said[: at.start()]):
+        return "script"
+    is_own = any(file == at[1] and first <= int(at[2]) <= last for file, first, last in turned(crate, edit))
+    return "goal" if is_own else "other"
+
+
+def attempt(chosen, jobs):
+    """Tries the chosen edits, prints what refused each, and counts them."""
+    said = {}
+    with tempfile.TemporaryDirectory() as folder:
+        lay(f"{folder}/repository", [crate for crate, _ in chosen])
+        for crate, name in chosen:
+            os.makedirs(f"{folder}/repository/crates/{crate}/must-fail", exist_ok=True)
+            shutil.copy(f"{EDITS}/{crate}/{name}", f"{folder}/repository/crates/{crate}/must-fail")
+        how = {"cwd": f"{folder}/repository", "stdin": subprocess.DEVNULL, "stdout": subprocess.PIPE, "stderr": subprocess.STDOUT, "errors": "replace"}
+        with subprocess.Popen(["rt", "ci"], env={**os.environ, **({"RT_JOBS": jobs} if jobs else {})}, **how) as ran:
+            for line in ran.stdout:
+                at = re.match(r"rt: must-fail (\w+)/(\S+\.edit): ", line)
+                if at:
+                    said[at[1], at[2]] = line[at.end() :].strip()
+                elif not re.match(r"fn \S+: proved$|statements |logic |\d+ passed, ", line):
+                    print(line, end="", flush=True)
+    counts = dict.fromkeys(KINDS, 0)
+    for crate, name in chosen:
+        why = said.get((crate, name), "")
+        kind = kind_of(crate, f"{EDITS}/{crate}/{name}", why)
+        counts[kind] += 1
+        print(f"{kind:9} {crate}/{name}: {why.replace('refused, as it must be: ', '')}")
+    print(f"tried {len(chosen)}: refused at a goal of a function that is turned {counts['goal']}, at another goal {counts['other']}, by a script that no longer fits {counts['script']}, "
+          f"by a limit {counts['limit']}; passed {counts['passed']}, untried {counts['untried']}")
+    failed = counts["passed"] + counts["untried"]
+    print(f"{len(chosen) - failed} passed, {failed} failed")
+    return 1 if failed or not chosen else 0
+
+
+def main(words):
+    jobs = None
+    if words[:1] == ["--jobs"] and len(words) > 1 and re.fullmatch(r"[1-9]\d*", words[1]):
+        jobs, words = words[1], words[2:]
+    every = [(crate, name) for crate in names_in(EDITS) for name in names_in(f"{EDITS}/{crate}")]
+    if words[:1] == ["--sample"]:
+        if len(words) != 3 or not words[1].isdigit() or not 0 < int(words[1]) <= len(every):
+            stop(f"--sample takes how many of the {len(every)} edits to draw, and a seed")
+        return attempt(sorted(random.Random(words[2]).sample(every, int(words[1]))), jobs)
+    crates = words[1:] if words[:1] == ["--apply"] else words
+    lost = [it for it in crates if not os.path.isdir(f"{TOP}/crates/{it}") or not re.fullmatch(r"\w+", it)]
+    if lost:
+        stop(f"there is no crate {lost[0]}")
+    if words[:1] == ["--apply"]:
+        return apply(crates)
+    lost = [it for it in crates if not names_in(f"{EDITS}/{it}")]
+    if lost:
+        stop(f"no edits in tests/more_edits: {lost[0]}")
+    return attempt([it for it in every if not crates or it[0] in crates], jobs)
+
+
+if __name__ == "__main__":
+    sys.exit(main(sys.argv[1:]))
