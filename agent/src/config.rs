@@ -1,0 +1,186 @@
+//! The configuration: a file of TOML, one node of a cluster.
+
+use serde::Deserialize;
+use std::fs;
+use std::net::SocketAddr;
+use std::path::{Path, PathBuf};
+use thiserror::Error;
+
+#[derive(Clone, Debug, Deserialize)]
+#[serde(deny_unknown_fields)]
+pub struct Config {
+    /// The cluster's name: with a key, nodes of clusters of another name don't hear each other.
+    pub cluster: String,
+    /// The node's number: its place in `nodes`.
+    pub id: u8,
+    /// All nodes in their order, as HOST:PORT; the same list on each machine.
+    pub nodes: Vec<String>,
+    /// Where datagrams are received, if that isn't the node's own entry of `nodes`.
+    pub listen: Option<String>,
+    /// The node's file, made by `dumgerokctl format`.
+    pub file: PathBuf,
+    /// The proved program.
+    #[serde(default = "default_program")]
+    pub program: PathBuf,
+    /// A file of 64 hex digits by which messages are sealed; a second line has a key that is only opened by.
+    pub key: Option<PathBuf>,
+    /// Where local services ask.
+    #[serde(default = "default_socket")]
+    pub socket: PathBuf,
+    /// An address of the loopback for probes, metrics and the page.
+    pub http: Option<SocketAddr>,
+    /// What a round trip between nodes takes at most, in milliseconds, with what their disks take for three syncs.
+    #[serde(default = "default_round_trip")]
+    pub round_trip_ms: u64,
+    #[serde(default)]
+    pub log: LogLevel,
+    /// Where what the node is asked and answers is written, from the start; `record on` of a service writes beside the node's file.
+    pub record: Option<PathBuf>,
+    /// A file of the record holds at most so many megabytes.
+    #[serde(default = "default_record_mb")]
+    pub record_mb: u64,
+    /// So many full files of the record are kept.
+    #[serde(default = "default_record_files")]
+    pub record_files: u32,
+}
+
+#[derive(Clone, Copy, Debug, Default, Deserialize, PartialEq, Eq)]
+#[serde(rename_all = "lowercase")]
+pub enum LogLevel {
+    Error,
+    Warning,
+    #[default]
+    Info,
+    Debug,
+}
+
+#[derive(Debug, Error)]
+pub enum ConfigError {
+    #[error("{0}")]
+    Unreadable(#[from] std::io::Error),
+    #[error("{0}")]
+    NoToml(#[from] toml::de::Error),
+    #[error("{setting}: {why}")]
+    Setting { setting: &'static str, why: String },
+}
+
+fn default_program() -> PathBuf {
+    PathBuf::from("/usr/lib/dumgerok/invite")
+}
+
+fn default_socket() -> PathBuf {
+    PathBuf::from("/run/dumgerok/agent.sock")
+}
+
+fn default_round_trip() -> u64 {
+    20
+}
+
+fn default_record_mb() -> u64 {
+    64
+}
+
+fn default_record_files() -> u32 {
+    8
+}
+
+impl Config {
+    pub fn read(path: &Path) -> Result<Config, ConfigError> {
+        Config::parse(&fs::read_to_string(path)?)
+    }
+
+    pub fn parse(text: &str) -> Result<Config, ConfigError> {
+        let config: Config = toml::from_str(text)?;
+        config.check()?;
+        Ok(config)
+    }
+
+    fn check(&self) -> Result<(), ConfigError> {
+        let rows = [
+            ("nodes", (1..=128).contains(&self.nodes.len()), "is a list of 1 to 128 strings HOST:PORT".to_string()),
+            ("id", usize::from(self.id) < self.nodes.len(), format!("is a number below {}", self.nodes.len())),
+            ("cluster", (1..=64).contains(&self.cluster.len()), "is a name of 1 to 64 bytes".to_string()),
+            ("http", self.http.map_or(true, |at| at.ip().is_loopback()), "is an address of the loopback".to_string()),
+            ("round_trip_ms", (1..=60_000).contains(&self.round_trip_ms), "is a number from 1 to 60000".to_string()),
+            ("record_mb", (1..=4096).contains(&self.record_mb), "is a number from 1 to 4096".to_string()),
+            ("record_files", (1..=1000).contains(&self.record_files), "is a number from 1 to 1000".to_string()),
+        ];
+        if let Some((setting, _, why)) = rows.into_iter().find(|(_, is_right, _)| !is_right) {
+            return Err(ConfigError::Setting { setting, why });
+        }
+        for node in &self.nodes {
+            host_and_port(node)?;
+        }
+        Ok(())
+    }
+
+    /// The node's own address, where datagrams are received.
+    pub fn listens_at(&self) -> &str {
+        self.listen.as_deref().unwrap_or(&self.nodes[usize::from(self.id)])
+    }
+
+    /// What of a changed configuration is taken without a restart: the addresses of the same nodes.
+    pub fn addresses_of(&self, changed: &Config) -> Result<Vec<String>, ConfigError> {
+        let is_same =
+            (changed.id, changed.nodes.len()) == (self.id, self.nodes.len()) && changed.cluster == self.cluster;
+        if is_same {
+            return Ok(changed.nodes.clone());
+        }
+        let why = "cluster, id and the number of nodes stay what they are until the agent is started anew".to_string();
+        Err(ConfigError::Setting { setting: "nodes", why })
+    }
+}
+
+fn host_and_port(node: &str) -> Result<(), ConfigError> {
+    let parts = node.rsplit_once(':').filter(|(host, _)| !host.is_empty());
+    match parts.and_then(|(_, port)| port.parse::<u16>().ok()) {
+        Some(port) if port > 0 => Ok(()),
+        _ => Err(ConfigError::Setting { setting: "nodes", why: format!("{node:?} is no HOST:PORT") }),
+    }
+}
+
+#[cfg(test)]
+mod tests {
+    use super::*;
+
+    const WHOLE: &str =
+        "cluster = \"prod\" # a name\nid = 1\nnodes = [\n  \"a:1\",\n  \"[::1]:2\", # two\n]\nfile = \"/f#1\"\n";
+
+    #[test]
+    fn a_whole_one() {
+        let config = Config::parse(WHOLE).unwrap();
+        assert_eq!((config.id, config.nodes.len(), config.listens_at()), (1, 2, "[::1]:2"));
+        assert_eq!((config.round_trip_ms, config.key, config.http), (20, None, None));
+        assert_eq!(config.file, Path::new("/f#1"));
+    }
+
+    #[test]
+    fn faults_are_named() {
+        for (more, said) in [
+            ("id = 2\n", "duplicate field `id`"),
+            ("tick = 3\n", "unknown field `tick`"),
+            ("log = info\n", "line 8"),
+            ("log = \"loud\"\n", "unknown variant `loud`"),
+            ("[part]\n", "unknown field `part`"),
+            ("round_trip_ms = 0\n", "round_trip_ms: is a number from 1 to 60000"),
+            ("http = \"10.0.0.1:80\"\n", "http: is an address of the loopback"),
+        ] {
+            let error = Config::parse(&format!("{WHOLE}{more}")).unwrap_err().to_string();
+            assert!(error.contains(said), "{more}: {error}");
+        }
+        assert!(Config::parse("cluster = \"c\"\n").unwrap_err().to_string().contains("missing field"));
+        for node in ["a", ":7", "a:0", "a:x", "a:70000"] {
+            let text = format!("cluster = \"c\"\nid = 0\nfile = \"f\"\nnodes = [\"{node}\"]\n");
+            assert!(Config::parse(&text).unwrap_err().to_string().starts_with("nodes: "), "{node}");
+        }
+    }
+
+    #[test]
+    fn addresses_alone_change_without_a_restart() {
+        let config = Config::parse(WHOLE).unwrap();
+        let moved = Config::parse(&WHOLE.replace("a:1", "b:1")).unwrap();
+        assert_eq!(config.addresses_of(&moved).unwrap()[0], "b:1");
+        let other = Config::parse(&WHOLE.replace("id = 1", "id = 0")).unwrap();
+        assert!(config.addresses_of(&other).is_err());
+    }
+}

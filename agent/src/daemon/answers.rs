@@ -1,0 +1,187 @@
+//! What the node answers.
+
+use super::{Asker, Daemon};
+use crate::forward::{Given, Outcome};
+use crate::node::{Answer, Closing, Group, Job, JobKey, Line, Refusal};
+use crate::protocol::Reply;
+use crate::service::Given as GivenJob;
+use log::{error, info};
+use serde::Serialize;
+use std::time::Instant;
+
+/// A job, as `jobs` has it.
+#[derive(Serialize)]
+struct Row {
+    /// Whether this node keeps it; else it only works on it.
+    kept: bool,
+    #[serde(flatten)]
+    job: GivenJob,
+}
+
+impl Daemon {
+    pub(super) fn take_answer(&mut self, answer: Answer<Asker>) {
+        let now = Instant::now();
+        self.view.answered = now;
+        for line in &answer.lines {
+            self.take_line(line, now);
+        }
+        if let Closing::Refused(refusal) = &answer.closing {
+            self.metrics.refused.with_label_values(&[name_of(refusal)]).inc();
+        }
+        if let Closing::Ok(Some(_)) = answer.closing {
+            self.metrics.jobs.with_label_values(&["kept"]).inc();
+            self.metrics.pending.inc();
+        }
+        if answer.closing == Closing::Fault {
+            error!("the device of {} failed", self.config.file.display());
+        }
+        self.close(answer, now);
+    }
+
+    fn take_line(&mut self, line: &Line, now: Instant) {
+        match line {
+            Line::Send { to, hex } => self.carry(*to, hex),
+            Line::Group(group) => self.enter(group.clone(), now),
+            Line::Take(job) => self.take_job(job.clone()),
+            Line::Drop(key) => self.drop_job(*key),
+            Line::Gone { id } => {
+                self.metrics.jobs.with_label_values(&["gone"]).inc();
+                self.metrics.pending.dec();
+                self.tell(Reply::event("gone").with("origin", self.config.id).with("id", id));
+            }
+            Line::Keeps { count, next, pending } => {
+                info!("mounted: count {count}, next id {next}, {pending} jobs");
+                self.metrics.pending.set(*pending as i64);
+            }
+            Line::Fired(timer) => self.metrics.fired.with_label_values(&[timer]).inc(),
+            Line::Next { .. } | Line::Pending(_) | Line::InHand(_) => {}
+        }
+    }
+
+    fn enter(&mut self, group: Group, now: Instant) {
+        self.metrics.groups.inc();
+        self.view.enter(group, now);
+        let status = self.view.status(now);
+        let said =
+            format!("{:?} {} of {:?}, coordinator {}", status.phase, status.group, status.members, status.coordinator);
+        info!("group {said}");
+        self.notify.status(format!("group {said}"));
+        self.tell(Reply::event("group").and(status));
+    }
+
+    fn take_job(&mut self, job: Job) {
+        self.metrics.jobs.with_label_values(&["taken"]).inc();
+        let event = Reply::event("take").and(GivenJob::of(&job));
+        self.hand.take(job);
+        self.tell(event);
+        self.hand_out();
+    }
+
+    fn drop_job(&mut self, key: JobKey) {
+        self.metrics.jobs.with_label_values(&["dropped"]).inc();
+        if let Some(holder) = self.hand.leave(key) {
+            self.clients.tell(holder, &Reply::event("stop").and(key));
+        }
+        self.tell(Reply::event("drop").and(key));
+    }
+
+    /// Tells watchers of a change.
+    fn tell(&mut self, event: Reply) {
+        let line = self.changes.put(event);
+        self.clients.tell_watchers(&line);
+    }
+
+    fn close(&mut self, answer: Answer<Asker>, now: Instant) {
+        match answer.asker {
+            Asker::Start => self.started(&answer.closing),
+            Asker::Tick => {
+                let due = answer.lines.iter().rev().find_map(|line| match line {
+                    Line::Next { ms } => Some(*ms),
+                    _ => None,
+                });
+                self.clock.ticked(due, now);
+            }
+            Asker::Datagram { sender, kind } => {
+                if let Closing::Ok(_) = answer.closing {
+                    self.peers.hear(sender, now);
+                    self.metrics.messages_in.with_label_values(&[kind]).inc();
+                } else if answer.closing == Closing::Bad {
+                    self.metrics.refused.with_label_values(&["NoMessage"]).inc();
+                }
+            }
+            Asker::Submission { serial } => {
+                let given = match answer.closing {
+                    Closing::Ok(Some(id)) => Given::Kept { origin: self.config.id, id },
+                    Closing::Refused(Refusal::NotCoordinator(coordinator)) => Given::Elsewhere { coordinator },
+                    other => Given::Refused { error: error_of(&other) },
+                };
+                self.tried(serial, given, now);
+            }
+            Asker::Forwarded { from, token } => {
+                let outcome = match answer.closing {
+                    Closing::Ok(Some(id)) => Outcome::Kept { id },
+                    other => Outcome::Refused { error: error_of(&other) },
+                };
+                self.reply_to_agent(from, token, outcome);
+            }
+            Asker::Finish { client, tag, key } => {
+                self.hand.leave(key);
+                self.clients.tell(client, &reply_of(&answer.closing).tagged(&tag));
+            }
+            Asker::Compact { client, tag } => self.clients.tell(client, &reply_of(&answer.closing).tagged(&tag)),
+            Asker::Jobs { client, tag, queue, skip, limit } => {
+                let reply = jobs_of(&answer.lines, queue, skip, limit).tagged(&tag);
+                self.clients.tell(client, &reply);
+            }
+            Asker::Page => self.count_jobs(&answer.lines),
+        }
+    }
+
+    fn started(&mut self, closing: &Closing) {
+        if let Closing::Ok(_) = closing {
+            self.view.is_ready = true;
+            self.notify.ready();
+        } else {
+            let why = error_of(closing);
+            error!("{} can't be mounted: {why}", self.config.file.display());
+            self.notify.status(format!("the file can't be mounted: {why}"));
+        }
+    }
+}
+
+fn name_of(refusal: &Refusal) -> &str {
+    match refusal {
+        Refusal::NotCoordinator(_) => "NotCoordinator",
+        Refusal::Named(name) => name,
+    }
+}
+
+fn error_of(closing: &Closing) -> String {
+    match closing {
+        Closing::Ok(_) => "NoAnswer".to_string(),
+        Closing::Refused(refusal) => name_of(refusal).to_string(),
+        Closing::Bad => "Unreadable".to_string(),
+        Closing::Fault => "Device".to_string(),
+    }
+}
+
+fn reply_of(closing: &Closing) -> Reply {
+    match closing {
+        Closing::Ok(_) => Reply::ok(),
+        other => Reply::refused(&error_of(other)),
+    }
+}
+
+fn jobs_of(lines: &[Line], queue: Option<u8>, skip: usize, limit: usize) -> Reply {
+    let rows: Vec<(bool, &Job)> = lines
+        .iter()
+        .filter_map(|line| match line {
+            Line::Pending(job) => Some((true, job)),
+            Line::InHand(job) => Some((false, job)),
+            _ => None,
+        })
+        .filter(|(_, job)| queue.map_or(true, |queue| queue == job.queue))
+        .collect();
+    let shown = rows.iter().skip(skip).take(limit).map(|(kept, job)| Row { kept: *kept, job: GivenJob::of(job) });
+    Reply::ok().with("total", rows.len()).with("jobs", shown.collect::<Vec<_>>())
+}

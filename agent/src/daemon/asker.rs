@@ -1,0 +1,44 @@
+//! On whose behalf the node is asked.
+
+use crate::forward::Token;
+use crate::node::JobKey;
+use crate::protocol::Tag;
+use crate::service::ClientId;
+
+#[derive(Clone, Debug)]
+pub enum Asker {
+    Start,
+    Tick,
+    /// A message that names `sender`, of this kind.
+    Datagram {
+        sender: u8,
+        kind: &'static str,
+    },
+    /// A submission of a local client, by its number in the outbox.
+    Submission {
+        serial: u64,
+    },
+    /// A submission of another agent.
+    Forwarded {
+        from: u8,
+        token: Token,
+    },
+    Finish {
+        client: ClientId,
+        tag: Tag,
+        key: JobKey,
+    },
+    Compact {
+        client: ClientId,
+        tag: Tag,
+    },
+    Jobs {
+        client: ClientId,
+        tag: Tag,
+        queue: Option<u8>,
+        skip: usize,
+        limit: usize,
+    },
+    /// The page asks for the jobs.
+    Page,
+}

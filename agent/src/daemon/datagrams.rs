@@ -1,0 +1,62 @@
+//! What comes over the network, and what goes out.
+
+use super::{Asker, Daemon};
+use crate::config::Config;
+use crate::forward::is_of_agents;
+use crate::metrics::kind_of;
+use crate::net::MAX_DATAGRAM;
+use log::{info, warn};
+use std::time::Instant;
+
+/// So many datagrams are taken at a time.
+const MAX_AT_A_TIME: usize = 256;
+
+impl Daemon {
+    pub(super) fn receive(&mut self, now: Instant) {
+        let mut bytes = [0; MAX_DATAGRAM];
+        for _ in 0..MAX_AT_A_TIME {
+            let datagram = match self.link.receive(&mut bytes) {
+                Some(datagram) => datagram.to_vec(),
+                None => return,
+            };
+            if is_of_agents(&datagram) {
+                self.take_of_agent(&datagram, now);
+            } else if self.node.has_room() {
+                self.deliver(&datagram);
+            } else {
+                self.metrics.dropped.with_label_values(&["NoRoom"]).inc();
+            }
+        }
+    }
+
+    fn deliver(&mut self, message: &[u8]) {
+        if message.is_empty() {
+            return self.metrics.dropped.with_label_values(&["Empty"]).inc();
+        }
+        let sender = message.get(2).copied().unwrap_or(u8::MAX);
+        let asker = Asker::Datagram { sender, kind: kind_of(message) };
+        self.ask(asker, format!("deliver {}", hex::encode(message)));
+    }
+
+    /// Carries a message of the node. One that can't be carried is the same as one that is lost.
+    pub(super) fn carry(&self, to: u8, digits: &str) {
+        let (message, address) = (hex::decode(digits).unwrap_or_default(), self.peers.address(to));
+        self.metrics.messages_out.with_label_values(&[kind_of(&message)]).inc();
+        if !address.map_or(false, |address| self.link.send(&message, address)) {
+            self.metrics.dropped.with_label_values(&["NotSent"]).inc();
+        }
+    }
+
+    /// Reads the configuration again, and takes its addresses.
+    pub(super) fn reload(&mut self) {
+        let read = Config::read(&self.path).and_then(|changed| self.config.addresses_of(&changed));
+        match read {
+            Ok(names) => {
+                self.peers.rename(&names);
+                self.config.nodes = names;
+                info!("the addresses were read again");
+            }
+            Err(error) => warn!("{}: {error}: nothing was taken of it", self.path.display()),
+        }
+    }
+}

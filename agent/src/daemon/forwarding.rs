@@ -1,0 +1,107 @@
+//! Submissions on their way between agents.
+
+use super::{Asker, Daemon};
+use crate::forward::{Client, Datagram, Due, Given, Outcome, Submission, Token, Verdict, What};
+use crate::protocol::Reply;
+use std::time::Instant;
+
+fn line_of(job: &Submission) -> String {
+    let payload = if job.payload.is_empty() { "-" } else { &job.payload };
+    match job.priority {
+        0 => format!("submit {} {payload}", job.queue),
+        priority => format!("submit {} {payload} {priority}", job.queue),
+    }
+}
+
+impl Daemon {
+    /// A local client submits a job.
+    pub(super) fn submit(&mut self, client: Client, job: Submission, now: Instant) {
+        let text = line_of(&job);
+        match self.outbox.add(client.clone(), job, now) {
+            None => self.clients.tell(client.id, &Reply::refused("Busy").tagged(&client.tag)),
+            // where another node leads the own one would only say so
+            Some(serial) if self.view.group.is_normal() && !self.view.is_coordinator() => {
+                self.tried(serial, Given::Elsewhere { coordinator: self.view.group.coordinator }, now);
+            }
+            Some(serial) => self.ask(Asker::Submission { serial }, text),
+        }
+    }
+
+    /// What came of a try to have a job kept.
+    pub(super) fn tried(&mut self, serial: u64, given: Given, now: Instant) {
+        if let Given::Elsewhere { coordinator } = given {
+            if let Some((token, what)) = self.outbox.datagram(serial, coordinator) {
+                self.send_to_agent(coordinator, token, what);
+            }
+        }
+        if let Some((client, reply)) = self.outbox.settle(serial, given, now) {
+            self.clients.tell(client.id, &reply.tagged(&client.tag));
+        }
+    }
+
+    /// Tries once more what has no answer yet.
+    pub(super) fn try_again(&mut self, now: Instant) {
+        while self.node.has_room() {
+            match self.outbox.due(now) {
+                Some((Due::Ask { serial }, _)) => {
+                    if let Some(text) = self.outbox.job(serial).map(line_of) {
+                        self.ask(Asker::Submission { serial }, text);
+                    }
+                }
+                Some((Due::Told, told)) => {
+                    if let Some((client, reply)) = told {
+                        self.clients.tell(client.id, &reply.tagged(&client.tag));
+                    }
+                }
+                None => return,
+            }
+        }
+    }
+
+    fn send_to_agent(&self, to: u8, token: Token, what: What) {
+        let datagram = Datagram { from: self.config.id, to, token, what };
+        let address = self.peers.address(to);
+        if !address.map_or(false, |address| self.link.send(&datagram.encode(&self.seal), address)) {
+            self.metrics.dropped.with_label_values(&["NotSent"]).inc();
+        }
+    }
+
+    /// A datagram of another agent came.
+    pub(super) fn take_of_agent(&mut self, bytes: &[u8], now: Instant) {
+        let datagram = match Datagram::decode(bytes, &self.seal).filter(|datagram| datagram.to == self.config.id) {
+            Some(datagram) => datagram,
+            None => return self.metrics.dropped.with_label_values(&["Forged"]).inc(),
+        };
+        let (from, token) = (datagram.from, datagram.token);
+        match datagram.what {
+            What::Submit { life, number, job } => self.take_forwarded(from, token, (life, number), &job),
+            What::Reply(outcome) => {
+                if let Some((serial, given)) = self.outbox.replied(from, token, outcome) {
+                    self.tried(serial, given, now);
+                }
+            }
+        }
+    }
+
+    /// Another agent forwards a submission, with the stamps by which an old one is known.
+    fn take_forwarded(&mut self, from: u8, token: Token, (life, number): (u64, u64), job: &Submission) {
+        match self.inbox.judge(from, token, life, number) {
+            Some(Verdict::Ask) if self.node.has_room() => {
+                self.inbox.asked(token);
+                self.metrics.forwarded.with_label_values(&["taken"]).inc();
+                self.ask(Asker::Forwarded { from, token }, line_of(job));
+            }
+            Some(Verdict::Answer(outcome)) => {
+                self.metrics.forwarded.with_label_values(&["again"]).inc();
+                self.send_to_agent(from, token, What::Reply(outcome));
+            }
+            Some(Verdict::Ask | Verdict::Wait) | None => {}
+        }
+    }
+
+    /// The node answered what another agent forwarded.
+    pub(super) fn reply_to_agent(&mut self, from: u8, token: Token, outcome: Outcome) {
+        self.inbox.answered(token, &outcome);
+        self.send_to_agent(from, token, What::Reply(outcome));
+    }
+}

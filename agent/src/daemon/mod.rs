@@ -1,0 +1,226 @@
+//! The agent: one loop over all that comes. Nothing in it blocks.
+
+mod answers;
+mod asker;
+mod datagrams;
+mod forwarding;
+mod pages;
+mod requests;
+mod signals;
+
+pub use asker::Asker;
+
+use crate::clock::Clock;
+use crate::config::Config;
+use crate::forward::{self, Inbox, Outbox, Seal};
+use crate::http::Server;
+use crate::metrics::Metrics;
+use crate::net::{Link, Peers};
+use crate::node::{Answer, NodeProcess};
+use crate::notify::Notify;
+use crate::record::Record;
+use crate::resolver::Resolver;
+use crate::service::{Changes, Clients, Hand};
+use crate::view::View;
+use anyhow::Context;
+use log::info;
+use mio::{Events, Poll, Token, Waker};
+use pages::PendingJobs;
+use signals::Signals;
+use std::os::unix::process::ExitStatusExt;
+use std::path::PathBuf;
+use std::process::ExitStatus;
+use std::sync::Arc;
+use std::time::{Duration, Instant};
+
+const NODE_INPUT: Token = Token(0);
+const NODE_OUTPUT: Token = Token(1);
+const LINK: Token = Token(2);
+const LISTENER: Token = Token(3);
+const SIGNALS: Token = Token(4);
+const WAKER: Token = Token(5);
+/// Tokens from this one on are clients'.
+const FIRST_CLIENT: usize = 16;
+
+/// A node whose input ended may take so long to end: SIGTERM ends the agent within a second.
+const PATIENCE_AT_END: Duration = Duration::from_millis(700);
+
+pub struct Daemon {
+    config: Config,
+    path: PathBuf,
+    poll: Poll,
+    node: NodeProcess<Asker>,
+    clock: Clock,
+    link: Link,
+    peers: Peers,
+    resolver: Resolver,
+    clients: Clients,
+    hand: Hand,
+    changes: Changes,
+    seal: Seal,
+    inbox: Inbox,
+    outbox: Outbox,
+    view: View,
+    metrics: Metrics,
+    notify: Notify,
+    signals: Signals,
+    http: Option<Server>,
+    pending_jobs: PendingJobs,
+}
+
+impl Daemon {
+    /// Starts the node of a configuration that was read at this path.
+    pub fn start(config: Config, path: PathBuf) -> anyhow::Result<Daemon> {
+        let now = Instant::now();
+        let (poll, nodes) = (Poll::new()?, config.nodes.len());
+        let signals = Signals::register(poll.registry(), SIGNALS)?;
+        let waker = Arc::new(Waker::new(poll.registry(), WAKER)?);
+        let seal = match &config.key {
+            Some(key) => Seal::read(key, &config.cluster, nodes).with_context(|| key.display().to_string())?,
+            None => Seal::default(),
+        };
+        let at = config.listens_at();
+        let link =
+            Link::bind(at, poll.registry(), LINK).with_context(|| format!("datagrams can't be received at {at}"))?;
+        let clients = Clients::listen(&config.socket, poll.registry(), LISTENER, FIRST_CLIENT)
+            .with_context(|| config.socket.display().to_string())?;
+        let http = match config.http {
+            Some(at) => Some(Server::start(at, Arc::clone(&waker)).with_context(|| format!("HTTP at {at}"))?),
+            None => None,
+        };
+        let mut node = NodeProcess::start(&config, poll.registry(), NODE_INPUT, NODE_OUTPUT)
+            .with_context(|| config.program.display().to_string())?;
+        if let Some(path) = &config.record {
+            node.set_record(Some(Record::open(path, &config).with_context(|| path.display().to_string())?));
+            node.write_down(["start"]);
+        }
+        let life = forward::new_life()?;
+        Ok(Daemon {
+            node,
+            clock: Clock::new(config.round_trip_ms, now),
+            peers: Peers::new(config.id, &config.nodes, link.is_ipv6()),
+            link,
+            resolver: Resolver::start(waker),
+            clients,
+            hand: Hand::default(),
+            changes: Changes::default(),
+            seal,
+            inbox: Inbox::new(life, nodes),
+            outbox: Outbox::new(life, nodes, Duration::from_millis(config.round_trip_ms)),
+            view: View::new(&config.cluster, config.id, nodes, now),
+            metrics: Metrics::new()?,
+            notify: Notify::of_environment(),
+            signals,
+            http,
+            pending_jobs: PendingJobs::default(),
+            poll,
+            config,
+            path,
+        })
+    }
+
+    /// Runs until the node ends or a signal ends it; the status to exit with.
+    pub fn run(mut self) -> anyhow::Result<u8> {
+        let mut events = Events::with_capacity(256);
+        self.ask(Asker::Start, "recover".to_string());
+        loop {
+            self.node.flush();
+            match self.poll.poll(&mut events, Some(self.sleep(Instant::now()))) {
+                Err(error) if error.kind() != std::io::ErrorKind::Interrupted => return Err(error.into()),
+                _ => {}
+            }
+            let tokens: Vec<Token> = events.iter().map(|event| event.token()).collect();
+            for token in tokens {
+                self.wake(token);
+            }
+            if !self.hear() {
+                let status = self.node.end(PATIENCE_AT_END)?;
+                return Ok(self.ended(status));
+            }
+            if self.signals.take_end() {
+                self.notify.stopping();
+                self.node.end(PATIENCE_AT_END)?;
+                info!("ended by a signal");
+                return Ok(0);
+            }
+            self.work(Instant::now());
+        }
+    }
+
+    fn wake(&mut self, token: Token) {
+        match token {
+            NODE_INPUT | NODE_OUTPUT | WAKER => {}
+            LINK => self.link.wake(),
+            LISTENER => self.clients.accept(self.poll.registry()),
+            SIGNALS => self.signals.read(),
+            Token(client) => self.clients.wake(client),
+        }
+    }
+
+    /// Reads what the node answered, and answers whether it goes on.
+    fn hear(&mut self) -> bool {
+        let mut answers: Vec<Answer<Asker>> = Vec::new();
+        let goes_on = self.node.read(&mut answers);
+        for answer in answers {
+            self.take_answer(answer);
+        }
+        goes_on
+    }
+
+    /// All that may be to be done, each kind by a bounded number at a time.
+    fn work(&mut self, now: Instant) {
+        if self.signals.take_reload() {
+            self.reload();
+        }
+        self.receive(now);
+        self.obey(now);
+        self.give_up_gone();
+        self.try_again(now);
+        self.look_up(now);
+        self.serve_pages(now);
+        if let Some(ms) = self.clock.tick(now) {
+            self.node.ask(Asker::Tick, format!("tick {ms}"));
+        }
+        if self.view.is_ready && self.view.is_alive(now) {
+            self.notify.lives(now);
+        }
+    }
+
+    /// How long to wait for something to come.
+    fn sleep(&self, now: Instant) -> Duration {
+        let is_busy = self.link.is_readable() || (self.node.has_room() && !self.clients.with_input().is_empty());
+        if is_busy {
+            return Duration::ZERO;
+        }
+        let until = self.outbox.next().map_or(Duration::MAX, |next| next.saturating_duration_since(now));
+        self.clock.sleep(now).min(until)
+    }
+
+    /// Asks the node something else than the time.
+    fn ask(&mut self, asker: Asker, text: String) {
+        self.clock.asked();
+        self.node.ask(asker, text);
+    }
+
+    fn look_up(&mut self, now: Instant) {
+        while let Some(found) = self.resolver.found() {
+            if !self.peers.found(found.at, &found.name, &found.addresses) {
+                info!("node {}: {} has no address", found.at, found.name);
+            }
+        }
+        if !self.resolver.is_busy() {
+            if let Some((at, name)) = self.peers.next_look_up(now) {
+                self.resolver.look_up(at, name);
+            }
+        }
+    }
+
+    /// The status of the agent, where its node ended with this one.
+    fn ended(&self, status: ExitStatus) -> u8 {
+        match (status.code(), status.signal()) {
+            (Some(code), _) => info!("the node ended with status {code}"),
+            (_, signal) => info!("the node was ended by signal {}", signal.unwrap_or(0)),
+        }
+        status.code().and_then(|code| u8::try_from(code).ok()).unwrap_or(1)
+    }
+}

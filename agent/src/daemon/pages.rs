@@ -1,0 +1,79 @@
+//! What is shown over HTTP.
+
+use super::{Asker, Daemon};
+use crate::http::{Page, Response, PAGE};
+use crate::node::Line;
+use serde_json::json;
+use std::time::{Duration, Instant};
+
+/// The node is asked for its jobs at most so often for the page.
+const PAUSE: Duration = Duration::from_secs(2);
+
+/// The jobs that the node keeps, by queue, when it was last asked for the page.
+#[derive(Default)]
+pub(super) struct PendingJobs {
+    by_queue: [usize; 16],
+    asked: Option<Instant>,
+}
+
+impl Daemon {
+    pub(super) fn serve_pages(&mut self, now: Instant) {
+        while let Some(page) = self.http.as_ref().and_then(|http| http.next()) {
+            let response = self.response_to(&page, now);
+            page.answer(response);
+        }
+    }
+
+    fn response_to(&mut self, page: &Page, now: Instant) -> Response {
+        let is_alive = self.view.is_ready && self.view.is_alive(now);
+        match page.path.as_str() {
+            "/healthz" => Response::probe(is_alive, "the node doesn't answer"),
+            "/readyz" => Response::probe(is_alive && self.view.is_majority(), "not at work in a majority"),
+            "/status" => Response::json(json!(self.view.status(now)).to_string()),
+            "/members" => Response::json(json!(self.view.members(&self.peers, now)).to_string()),
+            "/state" => self.state(now),
+            "/metrics" => {
+                self.metrics.in_hand.set(self.hand.count() as i64);
+                self.metrics.held.set(self.hand.count_held() as i64);
+                self.metrics.clients.set(self.clients.count() as i64);
+                self.metrics.waiting.set(self.clients.waiting_count() as i64);
+                self.metrics.cut_off.set(self.clients.cut_off as i64);
+                let content_type = "text/plain; version=0.0.4";
+                Response { status: 200, content_type, body: self.metrics.text(&self.view, now) }
+            }
+            "/" => Response { status: 200, content_type: "text/html; charset=utf-8", body: PAGE.to_string() },
+            _ => Response::text(404, "no such page"),
+        }
+    }
+
+    /// All that the page draws.
+    fn state(&mut self, now: Instant) -> Response {
+        let is_old = self.pending_jobs.asked.map_or(true, |asked| now - asked >= PAUSE);
+        if is_old && self.node.has_room() {
+            self.pending_jobs.asked = Some(now);
+            self.ask(Asker::Page, "jobs".to_string());
+        }
+        let state = json!({
+            "status": self.view.status(now),
+            "members": self.view.members(&self.peers, now),
+            "past": self.view.past,
+            "pending": self.metrics.pending.get(),
+            "pending_by_queue": self.pending_jobs.by_queue,
+            "in_hand": self.hand.count(),
+            "held": self.hand.count_held(),
+        });
+        Response::json(state.to_string())
+    }
+
+    /// The node said which jobs it keeps.
+    pub(super) fn count_jobs(&mut self, lines: &[Line]) {
+        self.pending_jobs.by_queue = [0; 16];
+        for line in lines {
+            if let Line::Pending(job) = line {
+                if let Some(count) = self.pending_jobs.by_queue.get_mut(usize::from(job.queue)) {
+                    *count += 1;
+                }
+            }
+        }
+    }
+}

@@ -1,0 +1,45 @@
+//! Signals: SIGTERM and SIGINT end the agent, SIGHUP has it read its configuration again.
+
+use mio::net::UnixStream;
+use mio::{Interest, Registry, Token};
+use signal_hook::consts::{SIGHUP, SIGINT, SIGTERM};
+use signal_hook::{flag, low_level::pipe};
+use std::io::{self, Read};
+use std::sync::atomic::{AtomicBool, Ordering};
+use std::sync::Arc;
+
+pub struct Signals {
+    woken: UnixStream,
+    end: Arc<AtomicBool>,
+    reload: Arc<AtomicBool>,
+}
+
+impl Signals {
+    pub fn register(registry: &Registry, token: Token) -> io::Result<Signals> {
+        let (from, to) = std::os::unix::net::UnixStream::pair()?;
+        from.set_nonblocking(true)?;
+        let (end, reload) = (Arc::new(AtomicBool::new(false)), Arc::new(AtomicBool::new(false)));
+        // the flag first: it is set once the pipe wakes
+        for (signal, is_set) in [(SIGTERM, &end), (SIGINT, &end), (SIGHUP, &reload)] {
+            flag::register(signal, Arc::clone(is_set))?;
+            pipe::register(signal, to.try_clone()?)?;
+        }
+        let mut woken = UnixStream::from_std(from);
+        registry.register(&mut woken, token, Interest::READABLE)?;
+        Ok(Signals { woken, end, reload })
+    }
+
+    /// Empties the pipe by which signals wake the loop.
+    pub fn read(&mut self) {
+        let mut bytes = [0; 64];
+        while matches!(self.woken.read(&mut bytes), Ok(count) if count > 0) {}
+    }
+
+    pub fn take_end(&self) -> bool {
+        self.end.swap(false, Ordering::SeqCst)
+    }
+
+    pub fn take_reload(&self) -> bool {
+        self.reload.swap(false, Ordering::SeqCst)
+    }
+}

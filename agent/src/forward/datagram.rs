@@ -1,0 +1,89 @@
+//! What agents send each other.
+
+use super::Seal;
+use serde::{Deserialize, Serialize};
+
+/// A datagram of agents begins so; a message of nodes begins with 1 or 2.
+const HEAD: [u8; 2] = [0xd6, 1];
+
+/// Names a submission over all lives of all agents.
+#[derive(Clone, Copy, Debug, PartialEq, Eq, PartialOrd, Ord, Hash, Serialize, Deserialize)]
+pub struct Token {
+    pub life: u64,
+    pub serial: u64,
+}
+
+#[derive(Clone, Debug, PartialEq, Eq, Serialize, Deserialize)]
+pub struct Submission {
+    pub queue: u8,
+    pub priority: u8,
+    /// As hex digits.
+    pub payload: String,
+}
+
+#[derive(Clone, Debug, PartialEq, Eq, Serialize, Deserialize)]
+#[serde(rename_all = "lowercase")]
+pub enum Outcome {
+    Kept {
+        id: u64,
+    },
+    Refused {
+        error: String,
+    },
+    /// The request named another life of its receiver, or a number that was used before: it is to be sent again with these.
+    Stale {
+        life: u64,
+        last: u64,
+    },
+}
+
+#[derive(Clone, Debug, PartialEq, Eq, Serialize, Deserialize)]
+#[serde(rename_all = "lowercase")]
+pub enum What {
+    Submit { life: u64, number: u64, job: Submission },
+    Reply(Outcome),
+}
+
+#[derive(Clone, Debug, PartialEq, Eq, Serialize, Deserialize)]
+pub struct Datagram {
+    pub from: u8,
+    pub to: u8,
+    pub token: Token,
+    pub what: What,
+}
+
+/// Whether a datagram is one of agents, and not a message of nodes.
+pub fn is_of_agents(bytes: &[u8]) -> bool {
+    bytes.first() == Some(&HEAD[0])
+}
+
+impl Datagram {
+    pub fn encode(&self, seal: &Seal) -> Vec<u8> {
+        let mut bytes = HEAD.to_vec();
+        bytes.extend(serde_json::to_vec(self).unwrap_or_default());
+        seal.seal(bytes)
+    }
+
+    pub fn decode(bytes: &[u8], seal: &Seal) -> Option<Datagram> {
+        let body = seal.open(bytes)?.strip_prefix(&HEAD)?;
+        serde_json::from_slice(body).ok()
+    }
+}
+
+#[cfg(test)]
+mod tests {
+    use super::*;
+    use crate::net::MAX_DATAGRAM;
+
+    #[test]
+    fn the_longest_fits_and_is_read_back() {
+        let job = Submission { queue: 15, priority: 255, payload: "ff".repeat(400) };
+        let token = Token { life: u64::MAX, serial: u64::MAX };
+        let what = What::Submit { life: u64::MAX, number: u64::MAX, job };
+        let datagram = Datagram { from: 127, to: 126, token, what };
+        let bytes = datagram.encode(&Seal::default());
+        assert!(is_of_agents(&bytes) && bytes.len() + 32 < MAX_DATAGRAM.min(1400), "{}", bytes.len());
+        assert_eq!(Datagram::decode(&bytes, &Seal::default()), Some(datagram));
+        assert_eq!(Datagram::decode(&bytes[1..], &Seal::default()), None);
+    }
+}

@@ -1,0 +1,22 @@
+//! A job that is submitted at a machine whose node doesn't coordinate: the agents carry it to the coordinator's machine, at least once, and its id
+//! back. Their datagrams are sealed where there is a key, and none is taken that was recorded: each names the life of its receiver and a
+//! number that rises in it.
+
+mod datagram;
+mod inbox;
+mod outbox;
+mod seal;
+
+pub use datagram::{is_of_agents, Datagram, Outcome, Submission, Token, What};
+pub use inbox::{Inbox, Verdict};
+pub use outbox::{Client, Due, Given, Outbox};
+pub use seal::{KeyError, Seal};
+
+use std::io::Read;
+
+/// A number that no other life of an agent has.
+pub fn new_life() -> std::io::Result<u64> {
+    let mut bytes = [0; 8];
+    std::fs::File::open("/dev/urandom")?.read_exact(&mut bytes)?;
+    Ok(u64::from_be_bytes(bytes))
+}

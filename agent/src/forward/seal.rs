@@ -1,0 +1,105 @@
+//! Seals datagrams of agents by HMAC-SHA256, under keys of their own that are drawn from the cluster's.
+
+use hmac::{Hmac, Mac};
+use sha2::Sha256;
+use std::fs;
+use std::path::Path;
+use thiserror::Error;
+
+const CONTEXT: &[u8] = b"dumgerok agent 1";
+const TAG: usize = 32;
+
+type HmacSha256 = Hmac<Sha256>;
+
+#[derive(Debug, Error)]
+pub enum KeyError {
+    #[error("{0}")]
+    Unreadable(#[from] std::io::Error),
+    #[error("a key file has one or two lines of 64 hex digits")]
+    NoKey,
+}
+
+/// Without keys datagrams are carried as they are.
+#[derive(Default)]
+pub struct Seal {
+    /// The first one seals, all open.
+    keys: Vec<HmacSha256>,
+}
+
+impl Seal {
+    /// Reads the cluster's key file. The keys are bound to the cluster's name and its number of nodes.
+    pub fn read(path: &Path, cluster: &str, nodes: usize) -> Result<Seal, KeyError> {
+        Seal::of(&fs::read_to_string(path)?, cluster, nodes)
+    }
+
+    fn of(text: &str, cluster: &str, nodes: usize) -> Result<Seal, KeyError> {
+        let key = |line: &str| {
+            let secret = hex::decode(line.trim()).ok().filter(|secret| secret.len() == 32).ok_or(KeyError::NoKey)?;
+            let mut mac = HmacSha256::new_from_slice(&secret).map_err(|_| KeyError::NoKey)?;
+            mac.update(CONTEXT);
+            mac.update(&[nodes as u8]);
+            mac.update(cluster.as_bytes());
+            HmacSha256::new_from_slice(&mac.finalize().into_bytes()).map_err(|_| KeyError::NoKey)
+        };
+        let keys = text.lines().filter(|line| !line.trim().is_empty()).map(key).collect::<Result<Vec<_>, _>>()?;
+        if (1..=2).contains(&keys.len()) {
+            Ok(Seal { keys })
+        } else {
+            Err(KeyError::NoKey)
+        }
+    }
+
+    pub fn seal(&self, mut bytes: Vec<u8>) -> Vec<u8> {
+        if let Some(key) = self.keys.first() {
+            let tag = key.clone().chain_update(&bytes).finalize().into_bytes();
+            bytes.extend_from_slice(&tag);
+        }
+        bytes
+    }
+
+    /// The bytes that were sealed, where one of the keys sealed them.
+    pub fn open<'a>(&self, bytes: &'a [u8]) -> Option<&'a [u8]> {
+        if self.keys.is_empty() {
+            return Some(bytes);
+        }
+        let (body, tag) = bytes.split_at(bytes.len().checked_sub(TAG)?);
+        let is_sealed = |key: &HmacSha256| key.clone().chain_update(body).verify_slice(tag).is_ok();
+        self.keys.iter().any(is_sealed).then_some(body)
+    }
+}
+
+#[cfg(test)]
+mod tests {
+    use super::*;
+
+    const ONE: &str = "000102030405060708090a0b0c0d0e0f101112131415161718191a1b1c1d1e1f\n";
+    const TWO: &str = "ff0102030405060708090a0b0c0d0e0f101112131415161718191a1b1c1d1e1f\n";
+
+    #[test]
+    fn what_was_sealed_is_opened_and_nothing_else() {
+        let seal = Seal::of(ONE, "prod", 3).unwrap();
+        let sealed = seal.seal(b"hello".to_vec());
+        assert_eq!(seal.open(&sealed), Some(&b"hello"[..]));
+        for at in 0..sealed.len() * 8 {
+            let mut spoiled = sealed.clone();
+            spoiled[at / 8] ^= 1 << (at % 8);
+            assert_eq!(seal.open(&spoiled), None);
+        }
+        assert_eq!(seal.open(&sealed[..31]), None);
+        for other in [Seal::of(TWO, "prod", 3), Seal::of(ONE, "test", 3), Seal::of(ONE, "prod", 4)] {
+            assert_eq!(other.unwrap().open(&sealed), None);
+        }
+    }
+
+    #[test]
+    fn a_second_key_is_only_opened_by() {
+        let both = Seal::of(&format!("{ONE}{TWO}"), "prod", 3).unwrap();
+        let (one, two) = (Seal::of(ONE, "prod", 3).unwrap(), Seal::of(TWO, "prod", 3).unwrap());
+        assert!(both.open(&two.seal(b"x".to_vec())).is_some());
+        assert!(one.open(&both.seal(b"x".to_vec())).is_some());
+        assert!(two.open(&both.seal(b"x".to_vec())).is_none());
+        for bad in ["", "00\n", "zz", &ONE.repeat(3)] {
+            assert!(Seal::of(bad, "prod", 3).is_err(), "{bad:?}");
+        }
+    }
+}

@@ -1,0 +1,8 @@
+//! HTTP on the loopback: probes, Prometheus, and a page for a look at the cluster.
+
+mod server;
+
+pub use server::{Page, Response, Server};
+
+/// The page that `/` shows: one file, which asks `/state` for all that it draws.
+pub const PAGE: &str = include_str!("page.html");

@@ -1,0 +1,20 @@
+//! One agent for each machine: it owns `invite node` as its child, carries the node's messages as datagrams, tells it the time, and answers
+//! local services. It decides nothing: whatever it does wrong may cost a message, and never a promise.
+
+#![forbid(unsafe_code)]
+
+pub mod clock;
+pub mod config;
+pub mod daemon;
+pub mod device_marker;
+pub mod forward;
+pub mod http;
+pub mod metrics;
+pub mod net;
+pub mod node;
+pub mod notify;
+pub mod protocol;
+pub mod record;
+pub mod resolver;
+pub mod service;
+pub mod view;

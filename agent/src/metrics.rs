@@ -1,0 +1,119 @@
+//! Counts and gauges for Prometheus.
+
+use crate::view::View;
+use prometheus::{Encoder, Gauge, IntCounter, IntCounterVec, IntGauge, Opts, Registry, TextEncoder};
+use std::time::Instant;
+
+/// The kinds of messages, by their number.
+const KINDS: [&str; 12] = [
+    "unknown",
+    "AreYouCoordinator",
+    "Coordinator",
+    "AreYouThere",
+    "Here",
+    "Invitation",
+    "Accept",
+    "Ready",
+    "ReadyAck",
+    "Work",
+    "Done",
+    "Work",
+];
+
+/// The name of a message's kind.
+pub fn kind_of(message: &[u8]) -> &'static str {
+    let number = message.get(1).map_or(0, |byte| usize::from(*byte));
+    KINDS.get(number).copied().unwrap_or(KINDS[0])
+}
+
+pub struct Metrics {
+    registry: Registry,
+    pub messages_in: IntCounterVec,
+    pub messages_out: IntCounterVec,
+    pub refused: IntCounterVec,
+    pub fired: IntCounterVec,
+    pub dropped: IntCounterVec,
+    pub forwarded: IntCounterVec,
+    pub jobs: IntCounterVec,
+    pub groups: IntCounter,
+    pub cut_off: IntGauge,
+    up: IntGauge,
+    normal: IntGauge,
+    coordinator: IntGauge,
+    majority: IntGauge,
+    members: IntGauge,
+    nodes: IntGauge,
+    pub in_hand: IntGauge,
+    pub held: IntGauge,
+    pub pending: IntGauge,
+    pub clients: IntGauge,
+    pub waiting: IntGauge,
+    group_age: Gauge,
+}
+
+/// Makes metrics of one registry. A name stands once in this file, so none is registered twice.
+struct Maker(Registry);
+
+impl Maker {
+    fn counters(&self, name: &str, help: &str, label: &str) -> prometheus::Result<IntCounterVec> {
+        let made = IntCounterVec::new(Opts::new(format!("dumgerok_{name}_total"), help), &[label])?;
+        self.0.register(Box::new(made.clone()))?;
+        Ok(made)
+    }
+
+    fn gauge(&self, name: &str, help: &str) -> prometheus::Result<IntGauge> {
+        let made = IntGauge::with_opts(Opts::new(format!("dumgerok_{name}"), help))?;
+        self.0.register(Box::new(made.clone()))?;
+        Ok(made)
+    }
+}
+
+impl Metrics {
+    pub fn new() -> prometheus::Result<Metrics> {
+        let maker = Maker(Registry::new());
+        let groups = IntCounter::new("dumgerok_groups_total", "Changes of the node's group or phase.")?;
+        let group_age = Gauge::new("dumgerok_group_age_seconds", "Since the node's group last changed.")?;
+        maker.0.register(Box::new(groups.clone()))?;
+        maker.0.register(Box::new(group_age.clone()))?;
+        Ok(Metrics {
+            messages_in: maker.counters("messages_in", "Messages that the node took, by kind.", "kind")?,
+            messages_out: maker.counters("messages_out", "Messages that the node sent, by kind.", "kind")?,
+            refused: maker.counters("refused", "What the node refused, by reason.", "reason")?,
+            fired: maker.counters("fired", "Timers that fired.", "timer")?,
+            dropped: maker.counters("dropped", "Datagrams that were dropped, by reason.", "reason")?,
+            forwarded: maker.counters("forwarded", "Submissions between agents, by what came of them.", "event")?,
+            jobs: maker.counters("jobs", "Jobs, by what happened to them.", "event")?,
+            cut_off: maker.gauge("clients_cut_off", "Clients that were cut off since they didn't read.")?,
+            up: maker.gauge("up", "Whether the node answers.")?,
+            normal: maker.gauge("normal", "Whether the node is at work in a group.")?,
+            coordinator: maker.gauge("coordinator", "Whether it coordinates its group.")?,
+            majority: maker.gauge("majority", "Whether its group has more than half of all nodes.")?,
+            members: maker.gauge("members", "Members of its group.")?,
+            nodes: maker.gauge("nodes", "Nodes of the cluster.")?,
+            in_hand: maker.gauge("jobs_in_hand", "Jobs that the node is to work on.")?,
+            held: maker.gauge("jobs_held", "Of these, jobs that a client works on.")?,
+            pending: maker.gauge("jobs_pending", "Jobs that the node keeps and that aren't done.")?,
+            clients: maker.gauge("clients", "Local clients.")?,
+            waiting: maker.gauge("clients_waiting", "Requests of clients that wait for a job.")?,
+            groups,
+            group_age,
+            registry: maker.0,
+        })
+    }
+
+    /// The text of all, as of now.
+    pub fn text(&self, view: &View, now: Instant) -> String {
+        self.up.set(i64::from(view.is_ready && view.is_alive(now)));
+        self.normal.set(i64::from(view.group.is_normal()));
+        self.coordinator.set(i64::from(view.is_coordinator()));
+        self.majority.set(i64::from(view.is_majority()));
+        self.members.set(view.group.members.len() as i64);
+        self.nodes.set(view.nodes as i64);
+        self.group_age.set(now.saturating_duration_since(view.changed).as_secs_f64());
+        let mut text = Vec::new();
+        match TextEncoder::new().encode(&self.registry.gather(), &mut text) {
+            Ok(()) => String::from_utf8_lossy(&text).into_owned(),
+            Err(error) => format!("# {error}\n"),
+        }
+    }
+}

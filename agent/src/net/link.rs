@@ -1,0 +1,63 @@
+//! The UDP socket of an agent.
+
+use mio::net::UdpSocket;
+use mio::{Interest, Registry, Token};
+use std::io::{self, ErrorKind};
+use std::net::{SocketAddr, ToSocketAddrs};
+
+/// A sealed message of the node, and one of an agent, are far shorter; what is longer is cut, and refused by its form.
+pub const MAX_DATAGRAM: usize = 2048;
+
+pub struct Link {
+    socket: UdpSocket,
+    /// Whether datagrams may be waiting.
+    is_readable: bool,
+}
+
+impl Link {
+    /// Receives at HOST:PORT.
+    pub fn bind(at: &str, registry: &Registry, token: Token) -> io::Result<Link> {
+        let mut last = io::Error::new(ErrorKind::AddrNotAvailable, "the name has no address");
+        for address in at.to_socket_addrs()? {
+            match UdpSocket::bind(address) {
+                Ok(mut socket) => {
+                    registry.register(&mut socket, token, Interest::READABLE)?;
+                    return Ok(Link { socket, is_readable: true });
+                }
+                Err(error) => last = error,
+            }
+        }
+        Err(last)
+    }
+
+    /// Whether it reaches IPv6 addresses, and IPv4 ones by their mapped form.
+    pub fn is_ipv6(&self) -> bool {
+        self.socket.local_addr().map_or(false, |address| address.is_ipv6())
+    }
+
+    pub fn wake(&mut self) {
+        self.is_readable = true;
+    }
+
+    pub fn is_readable(&self) -> bool {
+        self.is_readable
+    }
+
+    /// The next datagram that came, if any.
+    pub fn receive<'a>(&mut self, bytes: &'a mut [u8; MAX_DATAGRAM]) -> Option<&'a [u8]> {
+        while self.is_readable {
+            match self.socket.recv_from(bytes) {
+                Ok((count, _)) => return Some(&bytes[..count]),
+                Err(error) if error.kind() == ErrorKind::WouldBlock => self.is_readable = false,
+                // an answer of the network to a datagram that was sent, as "connection refused"
+                Err(_) => {}
+            }
+        }
+        None
+    }
+
+    /// Whether it left; one that didn't is the same as one that is lost.
+    pub fn send(&self, bytes: &[u8], to: SocketAddr) -> bool {
+        self.socket.send_to(bytes, to).is_ok()
+    }
+}

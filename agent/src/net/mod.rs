@@ -1,0 +1,7 @@
+//! Datagrams between the machines of a cluster.
+
+mod link;
+mod peers;
+
+pub use link::{Link, MAX_DATAGRAM};
+pub use peers::{Peer, Peers};

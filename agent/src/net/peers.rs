@@ -1,0 +1,128 @@
+//! The other nodes: where they are, and when they were heard.
+
+use std::net::SocketAddr;
+use std::time::{Duration, Instant};
+
+/// The name of a peer that was silent for so long is looked up anew, and again after as long.
+const SILENCE: Duration = Duration::from_secs(5);
+
+pub struct Peer {
+    /// HOST:PORT, as the configuration has it.
+    pub name: String,
+    pub address: Option<SocketAddr>,
+    /// When the node last took a message that names this one as its sender.
+    pub heard: Option<Instant>,
+    looked_up: Option<Instant>,
+}
+
+pub struct Peers {
+    own: usize,
+    is_ipv6: bool,
+    peers: Vec<Peer>,
+}
+
+impl Peers {
+    pub fn new(own: u8, names: &[String], is_ipv6: bool) -> Peers {
+        let peer = |name: &String| Peer { name: name.clone(), address: None, heard: None, looked_up: None };
+        let mut peers = Peers { own: usize::from(own), is_ipv6, peers: names.iter().map(peer).collect() };
+        (0..peers.peers.len()).for_each(|at| peers.take_literal(at));
+        peers
+    }
+
+    pub fn all(&self) -> &[Peer] {
+        &self.peers
+    }
+
+    pub fn address(&self, node: u8) -> Option<SocketAddr> {
+        self.peers.get(usize::from(node)).and_then(|peer| peer.address)
+    }
+
+    pub fn hear(&mut self, node: u8, now: Instant) {
+        if let Some(peer) = self.peers.get_mut(usize::from(node)) {
+            peer.heard = Some(now);
+        }
+    }
+
+    /// Other names for the same nodes.
+    pub fn rename(&mut self, names: &[String]) {
+        for (at, name) in names.iter().enumerate().take(self.peers.len()) {
+            if self.peers[at].name != *name {
+                self.peers[at].name = name.clone();
+                self.peers[at].looked_up = None;
+                self.take_literal(at);
+            }
+        }
+    }
+
+    /// An address that is spelled out needs no look-up.
+    fn take_literal(&mut self, at: usize) {
+        if let Ok(address) = self.peers[at].name.parse::<SocketAddr>() {
+            self.peers[at].address = self.usable(address);
+        }
+    }
+
+    /// The address as this machine's socket reaches it.
+    fn usable(&self, address: SocketAddr) -> Option<SocketAddr> {
+        match address {
+            SocketAddr::V4(v4) if self.is_ipv6 => Some((v4.ip().to_ipv6_mapped(), v4.port()).into()),
+            SocketAddr::V6(_) if !self.is_ipv6 => None,
+            _ => Some(address),
+        }
+    }
+
+    /// The next peer whose name is to be looked up now: one that is silent, and not by an address that is spelled out.
+    pub fn next_look_up(&mut self, now: Instant) -> Option<(usize, String)> {
+        let is_old = |at: Option<Instant>| at.map_or(true, |at| now.saturating_duration_since(at) >= SILENCE);
+        let own = self.own;
+        let mut others = self.peers.iter_mut().enumerate().filter(|(at, _)| *at != own);
+        let is_wanted =
+            |peer: &Peer| is_old(peer.heard) && is_old(peer.looked_up) && peer.name.parse::<SocketAddr>().is_err();
+        let (at, peer) = others.find(|(_, peer)| is_wanted(peer))?;
+        peer.looked_up = Some(now);
+        Some((at, peer.name.clone()))
+    }
+
+    /// What a name was found to mean. Where it means nothing now, the last address stays.
+    pub fn found(&mut self, at: usize, name: &str, addresses: &[SocketAddr]) -> bool {
+        let usable = addresses.iter().find_map(|address| self.usable(*address));
+        match self.peers.get_mut(at) {
+            Some(peer) if peer.name == name && usable.is_some() => peer.address = usable,
+            _ => return usable.is_some(),
+        }
+        true
+    }
+}
+
+#[cfg(test)]
+mod tests {
+    use super::*;
+
+    fn names() -> Vec<String> {
+        ["127.0.0.1:1", "b:2", "[::1]:3"].map(str::to_string).to_vec()
+    }
+
+    #[test]
+    fn silent_names_are_looked_up_anew() {
+        let now = Instant::now();
+        let mut peers = Peers::new(0, &names(), false);
+        assert_eq!(peers.next_look_up(now), Some((1, "b:2".to_string())));
+        assert_eq!(peers.next_look_up(now), None);
+        peers.found(1, "b:2", &["[::1]:2".parse().unwrap(), "10.0.0.2:2".parse().unwrap()]);
+        assert_eq!(peers.address(1), Some("10.0.0.2:2".parse().unwrap()));
+        peers.hear(1, now + SILENCE);
+        assert_eq!(peers.next_look_up(now + SILENCE), None);
+        assert!(peers.next_look_up(now + SILENCE * 2).is_some());
+        assert!(!peers.found(1, "b:2", &[]));
+        assert_eq!(peers.address(1), Some("10.0.0.2:2".parse().unwrap()));
+    }
+
+    #[test]
+    fn a_socket_of_ipv6_reaches_both() {
+        let mut peers = Peers::new(0, &names(), true);
+        assert_eq!(peers.address(2), Some("[::1]:3".parse().unwrap()));
+        assert_eq!(peers.address(0), Some("[::ffff:127.0.0.1]:1".parse().unwrap()));
+        assert_eq!(Peers::new(0, &names(), false).address(2), None);
+        peers.rename(&["127.0.0.1:1".to_string(), "10.0.0.9:2".to_string(), "[::1]:3".to_string()]);
+        assert_eq!(peers.address(1), Some("[::ffff:10.0.0.9]:2".parse().unwrap()));
+    }
+}

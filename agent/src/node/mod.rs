@@ -1,0 +1,13 @@
+//! The node: the process `invite node`, what it is asked, and what its lines say.
+
+mod answer;
+mod group;
+mod job;
+mod line;
+mod process;
+
+pub use answer::{Answer, Closing, Refusal};
+pub use group::{Group, GroupNumber, Phase};
+pub use job::{Job, JobKey, Payload};
+pub use line::{Line, LineError};
+pub use process::NodeProcess;

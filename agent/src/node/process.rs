@@ -1,0 +1,199 @@
+//! The process `invite node`, asked and heard over pipes that never block.
+
+use super::answer::{Answer, Closing};
+use crate::config::Config;
+use crate::record::Record;
+use log::{error, warn};
+use mio::unix::pipe;
+use mio::{Interest, Registry, Token};
+use std::collections::VecDeque;
+use std::io::{self, ErrorKind, Read, Write};
+use std::process::{Child, Command, ExitStatus, Stdio};
+use std::thread;
+use std::time::{Duration, Instant};
+
+/// Bytes of requests that may be on their way: less than a pipe holds.
+const MAX_ON_THE_WAY: usize = 48 * 1024;
+
+/// The node's longest line is far shorter.
+const MAX_LINE: usize = 64 * 1024;
+
+struct Request<A> {
+    asker: A,
+    text: String,
+}
+
+/// A node, and who asked what it hasn't answered yet.
+pub struct NodeProcess<A> {
+    own: u8,
+    child: Child,
+    input: Option<pipe::Sender>,
+    output: pipe::Receiver,
+    /// Requests that wait for the answers before them: only where there is a record.
+    waiting: VecDeque<Request<A>>,
+    asked: VecDeque<Request<A>>,
+    on_the_way: usize,
+    record: Option<Record>,
+    unwritten: Vec<u8>,
+    unread: Vec<u8>,
+    /// The lines of an answer that isn't closed yet.
+    texts: Vec<String>,
+}
+
+impl<A> NodeProcess<A> {
+    /// Starts the node; its output wakes `output`, its input, once it was full, `input`.
+    pub fn start(config: &Config, registry: &Registry, input: Token, output: Token) -> io::Result<NodeProcess<A>> {
+        let mut command = Command::new(&config.program);
+        command.arg("node").arg(&config.file).arg(config.id.to_string()).arg(config.nodes.len().to_string());
+        if let Some(key) = &config.key {
+            command.arg("--key").arg(key).arg("--cluster").arg(&config.cluster);
+        }
+        let mut child = command.stdin(Stdio::piped()).stdout(Stdio::piped()).spawn()?;
+        let pipes = child.stdin.take().zip(child.stdout.take());
+        let (stdin, stdout) = pipes.ok_or_else(|| io::Error::new(ErrorKind::Other, "the node has no pipes"))?;
+        let (mut to, mut from) = (pipe::Sender::from(stdin), pipe::Receiver::from(stdout));
+        to.set_nonblocking(true)?;
+        from.set_nonblocking(true)?;
+        registry.register(&mut to, input, Interest::WRITABLE)?;
+        registry.register(&mut from, output, Interest::READABLE)?;
+        Ok(NodeProcess {
+            own: config.id,
+            child,
+            input: Some(to),
+            output: from,
+            waiting: VecDeque::new(),
+            asked: VecDeque::new(),
+            on_the_way: 0,
+            record: None,
+            unwritten: Vec::new(),
+            unread: Vec::new(),
+            texts: Vec::new(),
+        })
+    }
+
+    pub fn pid(&self) -> u32 {
+        self.child.id()
+    }
+
+    /// Whether a request would be taken now.
+    pub fn has_room(&self) -> bool {
+        self.on_the_way < MAX_ON_THE_WAY
+    }
+
+    /// Takes a request; `flush` writes it.
+    pub fn ask(&mut self, asker: A, text: String) {
+        self.on_the_way += text.len() + 1;
+        self.waiting.push_back(Request { asker, text });
+        self.go_on();
+    }
+
+    /// Hands on the requests that may be asked now. With a record each waits for the answer before it, so that after a kill one is in doubt at most.
+    fn go_on(&mut self) {
+        while self.record.is_none() || self.asked.is_empty() {
+            let request = match self.waiting.pop_front() {
+                Some(request) => request,
+                None => return,
+            };
+            self.write_down([format!("> {}", request.text).as_str()]);
+            self.unwritten.extend_from_slice(request.text.as_bytes());
+            self.unwritten.push(b'\n');
+            self.asked.push_back(request);
+        }
+    }
+
+    /// Begins or ends the record. Where requests are on their way it begins behind them.
+    pub fn set_record(&mut self, record: Option<Record>) {
+        self.record = record;
+    }
+
+    pub fn is_recorded(&self) -> bool {
+        self.record.is_some()
+    }
+
+    /// Writes lines to the record. Where that fails there is none from then on.
+    pub fn write_down<'a>(&mut self, lines: impl IntoIterator<Item = &'a str>) {
+        if let Some(Err(why)) = self.record.as_mut().map(|record| record.write(lines)) {
+            error!("the record ends: {why}");
+            self.record = None;
+        }
+    }
+
+    /// Writes what the pipe takes now. A node that is gone is noticed at its output.
+    pub fn flush(&mut self) {
+        while let (Some(input), false) = (self.input.as_mut(), self.unwritten.is_empty()) {
+            match input.write(&self.unwritten) {
+                Ok(0) => return,
+                Ok(count) => drop(self.unwritten.drain(..count)),
+                Err(error) if error.kind() == ErrorKind::Interrupted => {}
+                Err(error) if error.kind() == ErrorKind::WouldBlock => return,
+                Err(_) => self.input = None,
+            }
+        }
+    }
+
+    /// Reads what the node wrote, and answers whether it goes on. Whole answers are put to `answers`; a piece of one that has no end is dropped.
+    pub fn read(&mut self, answers: &mut Vec<Answer<A>>) -> bool {
+        let mut piece = [0; 16 * 1024];
+        loop {
+            match self.output.read(&mut piece) {
+                Ok(0) => return false,
+                Ok(count) => self.unread.extend_from_slice(&piece[..count]),
+                Err(error) if error.kind() == ErrorKind::Interrupted => continue,
+                Err(error) => return error.kind() == ErrorKind::WouldBlock,
+            }
+            self.cut_lines(answers);
+            if self.unread.len() > MAX_LINE {
+                warn!("the node wrote a line of more than {MAX_LINE} bytes");
+                return false;
+            }
+        }
+    }
+
+    fn cut_lines(&mut self, answers: &mut Vec<Answer<A>>) {
+        let unread = std::mem::take(&mut self.unread);
+        let mut lines = unread.split(|byte| *byte == b'\n').peekable();
+        while let Some(line) = lines.next() {
+            if lines.peek().is_none() {
+                self.unread = line.to_vec();
+                return;
+            }
+            let text = String::from_utf8_lossy(line).into_owned();
+            answers.extend(self.heard(text));
+        }
+    }
+
+    /// One line; an answer where it closes one.
+    fn heard(&mut self, text: String) -> Option<Answer<A>> {
+        let closing = match Closing::read(&text) {
+            Some(closing) => closing,
+            None => {
+                self.texts.push(text);
+                return None;
+            }
+        };
+        let request = self.asked.pop_front()?;
+        self.on_the_way -= request.text.len() + 1;
+        let texts = std::mem::take(&mut self.texts);
+        self.write_down(texts.iter().chain([&text]).map(String::as_str));
+        self.go_on();
+        let (answer, faults) = Answer::of(self.own, request.asker, &texts, closing);
+        if !faults.is_empty() {
+            warn!("{} lines of the answer to {:?} can't be read", faults.len(), request.text);
+        }
+        Some(answer)
+    }
+
+    /// Ends its input, by which it ends, and kills it where it hasn't ended in time.
+    pub fn end(&mut self, within: Duration) -> io::Result<ExitStatus> {
+        self.input = None;
+        let until = Instant::now() + within;
+        while Instant::now() < until {
+            if let Some(status) = self.child.try_wait()? {
+                return Ok(status);
+            }
+            thread::sleep(Duration::from_millis(5));
+        }
+        self.child.kill()?;
+        self.child.wait()
+    }
+}

@@ -1,0 +1,171 @@
+//! Requests.
+
+use super::VERSION;
+use crate::node::Payload;
+use serde::Deserialize;
+use serde_json::{Map, Value};
+use thiserror::Error;
+
+/// What a client puts at `request`: its answer has it again.
+pub type Tag = Option<Value>;
+
+const MAX_TAG: usize = 200;
+
+#[derive(Clone, Debug, Deserialize, PartialEq, Eq)]
+#[serde(tag = "do", rename_all = "lowercase", deny_unknown_fields)]
+pub enum Request {
+    Status {},
+    Members {},
+    /// The jobs that the node keeps and works on: those of a queue or of all, without the first `skip`, and `limit` of them at most.
+    Jobs {
+        queue: Option<u8>,
+        #[serde(default)]
+        skip: usize,
+        limit: Option<usize>,
+    },
+    Submit {
+        queue: u8,
+        #[serde(default)]
+        priority: u8,
+        text: Option<String>,
+        hex: Option<String>,
+    },
+    /// A job to be worked on: one that nobody works on now, or, with `wait`, the next one.
+    Take {
+        queue: Option<u8>,
+        #[serde(default)]
+        wait: bool,
+    },
+    Finish {
+        origin: u8,
+        id: u64,
+    },
+    /// Each change from now on, behind the state; or all that came behind change `since`.
+    Watch {
+        since: Option<u64>,
+    },
+    Compact {},
+    Record {
+        on: bool,
+    },
+}
+
+#[derive(Debug, Error, PartialEq, Eq)]
+pub enum RequestError {
+    #[error("a request is one object of JSON a line")]
+    NoObject,
+    #[error("this agent speaks version {VERSION}")]
+    Version,
+    #[error("{0}")]
+    Unreadable(String),
+    #[error("a queue is a number from 0 to 15")]
+    Queue,
+    #[error("a payload is `text` or `hex`, of at most 400 bytes")]
+    Payload,
+}
+
+impl RequestError {
+    /// The word at `error` in the reply.
+    pub fn name(&self) -> &'static str {
+        match self {
+            RequestError::NoObject => "NoObject",
+            RequestError::Version => "Version",
+            RequestError::Unreadable(_) => "Unreadable",
+            RequestError::Queue => "BadQueue",
+            RequestError::Payload => "BadPayload",
+        }
+    }
+}
+
+/// A request, and what its answer is to be known by.
+pub struct Envelope {
+    pub tag: Tag,
+    pub request: Result<Request, RequestError>,
+}
+
+impl Envelope {
+    pub fn read(line: &[u8]) -> Envelope {
+        let mut object = match serde_json::from_slice::<Map<String, Value>>(line) {
+            Ok(object) => object,
+            Err(_) => return Envelope { tag: None, request: Err(RequestError::NoObject) },
+        };
+        let is_short = |tag: &Value| tag.is_number() || tag.as_str().map_or(false, |text| text.len() <= MAX_TAG);
+        let tag = object.remove("request").filter(is_short);
+        let request = match object.remove("v") {
+            Some(version) if version != VERSION => Err(RequestError::Version),
+            _ => Envelope::request_of(object),
+        };
+        Envelope { tag, request }
+    }
+
+    fn request_of(object: Map<String, Value>) -> Result<Request, RequestError> {
+        let read = serde_json::from_value::<Request>(Value::Object(object));
+        let request = read.map_err(|error| RequestError::Unreadable(error.to_string()))?;
+        match request.queue() {
+            Some(queue) if queue > 15 => Err(RequestError::Queue),
+            _ => Ok(request),
+        }
+    }
+}
+
+impl Request {
+    fn queue(&self) -> Option<u8> {
+        match self {
+            Request::Submit { queue, .. } => Some(*queue),
+            Request::Jobs { queue, .. } | Request::Take { queue, .. } => *queue,
+            _ => None,
+        }
+    }
+}
+
+/// The payload of a submitted job.
+pub fn payload_of(text: Option<String>, hex: Option<String>) -> Result<Payload, RequestError> {
+    let payload = match (text, hex) {
+        (Some(text), None) => Payload::of_bytes(text.as_bytes()),
+        (None, Some(hex)) => Payload::of_hex(&hex),
+        _ => None,
+    };
+    payload.ok_or(RequestError::Payload)
+}
+
+#[cfg(test)]
+mod tests {
+    use super::*;
+
+    fn read(line: &str) -> Result<Request, RequestError> {
+        Envelope::read(line.as_bytes()).request
+    }
+
+    #[test]
+    fn requests() {
+        assert_eq!(read(r#"{"do":"status"}"#), Ok(Request::Status {}));
+        assert_eq!(read(r#"{"v":1,"do":"take","wait":true}"#), Ok(Request::Take { queue: None, wait: true }));
+        let job = Request::Submit { queue: 3, priority: 0, text: Some("hi".to_string()), hex: None };
+        assert_eq!(read(r#"{"do":"submit","queue":3,"text":"hi","request":7}"#), Ok(job));
+        assert_eq!(Envelope::read(br#"{"do":"status","request":"a"}"#).tag, Some(Value::from("a")));
+        assert_eq!(Envelope::read(br#"{"do":"status","request":[1]}"#).tag, None);
+    }
+
+    #[test]
+    fn what_is_no_request() {
+        for (line, name) in [
+            ("", "NoObject"),
+            ("[1]", "NoObject"),
+            ("{} x", "NoObject"),
+            ("{}", "Unreadable"),
+            (r#"{"do":1}"#, "Unreadable"),
+            (r#"{"do":"dance"}"#, "Unreadable"),
+            (r#"{"do":"status","all":true}"#, "Unreadable"),
+            (r#"{"do":"submit","queue":-1,"text":""}"#, "Unreadable"),
+            (r#"{"do":"submit","queue":16,"text":""}"#, "BadQueue"),
+            (r#"{"do":"take","queue":16}"#, "BadQueue"),
+            (r#"{"v":2,"do":"status"}"#, "Version"),
+        ] {
+            assert_eq!(read(line).unwrap_err().name(), name, "{line}");
+        }
+        assert!(payload_of(Some("a".repeat(401)), None).is_err());
+        assert!(payload_of(None, Some("0".to_string())).is_err());
+        assert!(payload_of(Some(String::new()), Some(String::new())).is_err());
+        assert_eq!(payload_of(Some("hi".to_string()), None).unwrap().hex(), "6869");
+    }
+}

@@ -1,0 +1,94 @@
+//! The jobs in the node's hand, and which client works on each.
+
+use super::ClientId;
+use crate::node::{Job, JobKey};
+use serde::Serialize;
+use std::collections::BTreeMap;
+
+/// A job as a client is given it.
+#[derive(Clone, Debug, PartialEq, Eq, Serialize)]
+pub struct Given {
+    pub origin: u8,
+    pub id: u64,
+    pub queue: u8,
+    pub priority: u8,
+    pub payload: String,
+}
+
+impl Given {
+    pub fn of(job: &Job) -> Given {
+        let JobKey { origin, id } = job.key;
+        Given { origin, id, queue: job.queue, priority: job.priority, payload: job.payload.hex().to_string() }
+    }
+}
+
+struct InHand {
+    job: Job,
+    holder: Option<ClientId>,
+}
+
+#[derive(Default)]
+pub struct Hand(BTreeMap<JobKey, InHand>);
+
+impl Hand {
+    pub fn take(&mut self, job: Job) {
+        self.0.insert(job.key, InHand { job, holder: None });
+    }
+
+    /// A job left the hand; the client that works on it, if any.
+    pub fn leave(&mut self, key: JobKey) -> Option<ClientId> {
+        self.0.remove(&key).and_then(|in_hand| in_hand.holder)
+    }
+
+    pub fn count(&self) -> usize {
+        self.0.len()
+    }
+
+    pub fn count_held(&self) -> usize {
+        self.0.values().filter(|in_hand| in_hand.holder.is_some()).count()
+    }
+
+    /// Gives a client the next job that nobody works on: the greatest priority first, then the least id.
+    pub fn give(&mut self, client: ClientId, queue: Option<u8>) -> Option<Given> {
+        let is_free =
+            |in_hand: &&mut InHand| in_hand.holder.is_none() && queue.map_or(true, |queue| queue == in_hand.job.queue);
+        let order =
+            |in_hand: &&mut InHand| (u8::MAX - in_hand.job.priority, in_hand.job.key.id, in_hand.job.key.origin);
+        let next = self.0.values_mut().filter(is_free).min_by_key(order)?;
+        next.holder = Some(client);
+        Some(Given::of(&next.job))
+    }
+
+    /// A client ended: what it worked on may be given to another.
+    pub fn give_up(&mut self, client: ClientId) {
+        for in_hand in self.0.values_mut().filter(|in_hand| in_hand.holder == Some(client)) {
+            in_hand.holder = None;
+        }
+    }
+}
+
+#[cfg(test)]
+mod tests {
+    use super::*;
+    use crate::node::Payload;
+
+    fn job(id: u64, queue: u8, priority: u8) -> Job {
+        Job { key: JobKey { origin: 0, id }, queue, payload: Payload::default(), priority }
+    }
+
+    #[test]
+    fn each_job_has_one_holder_at_a_time() {
+        let mut hand = Hand::default();
+        [job(0, 1, 0), job(1, 1, 9), job(2, 2, 0)].into_iter().for_each(|job| hand.take(job));
+        let ids = |given: Option<Given>| given.map(|given| given.id);
+        assert_eq!(ids(hand.give(7, None)), Some(1), "the greatest priority first");
+        assert_eq!(ids(hand.give(7, Some(2))), Some(2));
+        assert_eq!(ids(hand.give(8, None)), Some(0));
+        assert_eq!(ids(hand.give(9, None)), None);
+        hand.give_up(7);
+        assert_eq!(ids(hand.give(9, Some(2))), Some(2), "handed to another where its holder ended");
+        assert_eq!(hand.leave(JobKey { origin: 0, id: 0 }), Some(8));
+        assert_eq!(hand.leave(JobKey { origin: 0, id: 0 }), None);
+        assert_eq!((hand.count(), hand.count_held()), (2, 1));
+    }
+}
