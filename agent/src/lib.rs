@@ -5,10 +5,12 @@
 
 pub mod clock;
 pub mod config;
+pub mod ctl;
 pub mod daemon;
 pub mod device_marker;
 pub mod forward;
 pub mod http;
+pub mod judge;
 pub mod metrics;
 pub mod net;
 pub mod node;

@@ -1,0 +1,51 @@
+//! A connection to the agent.
+
+use serde_json::Value;
+use std::io::{self, BufRead, BufReader, ErrorKind, Write};
+use std::os::unix::net::UnixStream;
+use std::path::{Path, PathBuf};
+
+pub struct Agent {
+    stream: UnixStream,
+    lines: BufReader<UnixStream>,
+}
+
+/// Where the agent listens.
+pub fn socket(given: Option<PathBuf>) -> PathBuf {
+    let from_environment = || std::env::var_os("DUMGEROK_SOCKET").map(PathBuf::from);
+    given.or_else(from_environment).unwrap_or_else(|| PathBuf::from("/run/dumgerok/agent.sock"))
+}
+
+impl Agent {
+    pub fn connect(socket: &Path) -> io::Result<Agent> {
+        let named = |error: io::Error| io::Error::new(error.kind(), format!("{}: {error}", socket.display()));
+        let stream = UnixStream::connect(socket).map_err(named)?;
+        let lines = BufReader::new(stream.try_clone()?);
+        Ok(Agent { stream, lines })
+    }
+
+    pub fn say(&mut self, request: &Value) -> io::Result<()> {
+        self.stream.write_all(format!("{request}\n").as_bytes())
+    }
+
+    /// The next line of the agent.
+    pub fn hear(&mut self) -> io::Result<Value> {
+        let mut line = String::new();
+        if self.lines.read_line(&mut line)? == 0 {
+            return Err(io::Error::new(ErrorKind::UnexpectedEof, "the agent ended the connection"));
+        }
+        Ok(serde_json::from_str(&line)?)
+    }
+
+    /// A second one that hears the same connection, for a thread; then this one hears nothing more.
+    pub fn reader(&mut self) -> io::Result<Agent> {
+        let stream = self.stream.try_clone()?;
+        let lines = std::mem::replace(&mut self.lines, BufReader::new(self.stream.try_clone()?));
+        Ok(Agent { stream, lines })
+    }
+
+    pub fn ask(&mut self, request: &Value) -> io::Result<Value> {
+        self.say(request)?;
+        self.hear()
+    }
+}

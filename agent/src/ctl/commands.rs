@@ -1,0 +1,101 @@
+//! What each command does.
+
+use super::agent::{socket, Agent};
+use super::arguments::{Arguments, Command, OnOff};
+use super::worker::{self, Worker};
+use super::{program, show, Failure};
+use clap::CommandFactory;
+use serde_json::{json, Value};
+use std::io::{self, Write};
+use std::path::Path;
+
+/// Writes text; a reader that went away ends the command without a word.
+fn print(text: &str) -> Result<(), Failure> {
+    let mut out = io::stdout().lock();
+    if out.write_all(text.as_bytes()).and_then(|()| out.flush()).is_err() {
+        std::process::exit(0);
+    }
+    Ok(())
+}
+
+pub fn run(arguments: Arguments) -> Result<(), Failure> {
+    let Arguments { socket: given, json: is_json, command } = arguments;
+    match &command {
+        Command::Format { config, slots, first } => program::format(config, *slots, *first),
+        Command::Inspect { config } => program::look(config, "inspect"),
+        Command::Export { config } => program::look(config, "export"),
+        Command::Judge { files, program: _, trace: true } => print(&format!("{}\n", program::trace_of(files)?)),
+        Command::Judge { files, program, trace: false } => program::judge(files, program),
+        Command::Completions { shell } => {
+            clap_complete::generate(*shell, &mut Arguments::command(), "dumgerokctl", &mut io::stdout());
+            Ok(())
+        }
+        _ => with_agent(&socket(given), is_json, command),
+    }
+}
+
+fn with_agent(socket: &Path, is_json: bool, command: Command) -> Result<(), Failure> {
+    let asked = |request: Value, shown: fn(&Value) -> String| ask(socket, is_json, &request, shown);
+    match command {
+        Command::Status => asked(json!({"do": "status"}), show::status),
+        Command::Members => asked(json!({"do": "members"}), show::members),
+        Command::Jobs { queue, skip, limit } => {
+            asked(json!({"do": "jobs", "queue": queue, "skip": skip, "limit": limit}), show::jobs)
+        }
+        Command::Submit { queue, text, priority, hex } => {
+            let field = if hex { "hex" } else { "text" };
+            asked(json!({"do": "submit", "queue": queue, "priority": priority, field: text}), kept)
+        }
+        Command::Finish { origin, id } => asked(json!({"do": "finish", "origin": origin, "id": id}), silent),
+        Command::Compact => asked(json!({"do": "compact"}), silent),
+        Command::Record { state } => asked(json!({"do": "record", "on": state == OnOff::On}), silent),
+        Command::Watch { since } => watch(socket, is_json, since),
+        Command::Take { queue, once: _, command } if command.is_empty() => {
+            let job = worker::next_job(&mut Agent::connect(socket)?, queue)?;
+            print(&if is_json { format!("{job}\n") } else { worker::shown(&job) })
+        }
+        Command::Take { queue, once, command } => Worker { socket, queue, once, command: &command }.work(),
+        // these ask no agent
+        Command::Format { .. }
+        | Command::Inspect { .. }
+        | Command::Export { .. }
+        | Command::Judge { .. }
+        | Command::Completions { .. } => Ok(()),
+    }
+}
+
+fn kept(reply: &Value) -> String {
+    format!("node {} keeps it as {}\n", reply["origin"], reply["id"])
+}
+
+fn silent(_: &Value) -> String {
+    String::new()
+}
+
+fn ask(socket: &Path, is_json: bool, request: &Value, shown: fn(&Value) -> String) -> Result<(), Failure> {
+    let reply = Agent::connect(socket)?.ask(request)?;
+    if is_json {
+        print(&format!("{reply}\n"))?;
+    } else if reply["ok"] == true {
+        print(&shown(&reply))?;
+    }
+    if reply["ok"] == true {
+        return Ok(());
+    }
+    let why = reply["why"].as_str().map_or(String::new(), |why| format!(" ({why})"));
+    let maybe = if reply["may_be_kept"] == true { ", it may be kept all the same" } else { "" };
+    Err(Failure::Refused(format!("{}{maybe}{why}", reply["error"].as_str().unwrap_or("?"))))
+}
+
+fn watch(socket: &Path, is_json: bool, since: Option<u64>) -> Result<(), Failure> {
+    let mut agent = Agent::connect(socket)?;
+    agent.say(&json!({"do": "watch", "since": since}))?;
+    loop {
+        let line = agent.hear()?;
+        if is_json {
+            print(&format!("{line}\n"))?;
+        } else if !line["event"].is_null() {
+            print(&show::event(&line))?;
+        }
+    }
+}

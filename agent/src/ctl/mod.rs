@@ -1,0 +1,41 @@
+//! `dumgerokctl`: what an operator types.
+
+mod agent;
+mod arguments;
+mod commands;
+mod program;
+mod show;
+mod table;
+mod worker;
+
+pub use arguments::{Arguments, Command};
+pub use commands::run;
+
+use std::process::ExitCode;
+use thiserror::Error;
+
+/// Why a command fails.
+#[derive(Debug, Error)]
+pub enum Failure {
+    /// The agent answered that it didn't do it.
+    #[error("refused: {0}")]
+    Refused(String),
+    #[error("{0}")]
+    Usage(String),
+    #[error("no agent answers: {0}")]
+    NoAgent(#[from] std::io::Error),
+    /// A program that was called ended with this status.
+    #[error("the program ended with status {0}")]
+    Program(u8),
+}
+
+impl Failure {
+    pub fn status(&self) -> ExitCode {
+        ExitCode::from(match self {
+            Failure::Refused(_) => 1,
+            Failure::Usage(_) => 2,
+            Failure::NoAgent(_) => 3,
+            Failure::Program(status) => *status,
+        })
+    }
+}

@@ -1,0 +1,61 @@
+//! Commands that the proved program does, over the file of a configuration.
+
+use super::Failure;
+use crate::config::Config;
+use crate::judge;
+use serde_json::Value;
+use std::ffi::OsString;
+use std::path::{Path, PathBuf};
+use std::process::{Command, Stdio};
+use std::time::{SystemTime, UNIX_EPOCH};
+
+fn read(path: &Path) -> Result<Config, Failure> {
+    Config::read(path).map_err(|why| Failure::Usage(format!("{}: {why}", path.display())))
+}
+
+fn call(config: &Config, words: &[OsString]) -> Result<(), Failure> {
+    let named = |why| Failure::Usage(format!("{}: {why}", config.program.display()));
+    let status = Command::new(&config.program).args(words).status().map_err(named)?;
+    match status.code().and_then(|code| u8::try_from(code).ok()) {
+        Some(0) => Ok(()),
+        code => Err(Failure::Program(code.unwrap_or(1))),
+    }
+}
+
+/// Makes the node's file. Its counts begin behind the time, so that a machine which lost its file gives no number again.
+pub fn format(path: &Path, slots: u32, first: Option<u64>) -> Result<(), Failure> {
+    let config = read(path)?;
+    let since = SystemTime::now().duration_since(UNIX_EPOCH).map_err(|why| Failure::Usage(why.to_string()))?;
+    let first = first.unwrap_or(since.as_millis() as u64);
+    let numbers = [u64::from(slots), u64::from(config.id), config.nodes.len() as u64, first];
+    let mut words: Vec<OsString> = vec!["format".into(), config.file.clone().into()];
+    words.extend(numbers.iter().map(|number| number.to_string().into()));
+    call(&config, &words)
+}
+
+/// `inspect` or `export`, of the node's file.
+pub fn look(path: &Path, word: &str) -> Result<(), Failure> {
+    let config = read(path)?;
+    call(&config, &[word.into(), config.file.clone().into()])
+}
+
+/// One trace of the records of all nodes.
+pub fn trace_of(files: &[PathBuf]) -> Result<Value, Failure> {
+    let read = judge::read(files).and_then(|records| judge::trace_of(&records));
+    read.map_err(|why| Failure::Usage(why.to_string()))
+}
+
+/// Lets `invite trace` judge the records of all nodes.
+pub fn judge(files: &[PathBuf], program: &Path) -> Result<(), Failure> {
+    let trace = trace_of(files)?;
+    let named = |why| Failure::Usage(format!("{}: {why}", program.display()));
+    let mut child = Command::new(program).arg("trace").stdin(Stdio::piped()).spawn().map_err(named)?;
+    if let Some(input) = child.stdin.take() {
+        // where it doesn't read to the end its status says why
+        let _unread = serde_json::to_writer(std::io::BufWriter::new(input), &trace);
+    }
+    match child.wait().map_err(named)?.code().and_then(|code| u8::try_from(code).ok()) {
+        Some(0) => Ok(()),
+        code => Err(Failure::Program(code.unwrap_or(1))),
+    }
+}

@@ -1,0 +1,124 @@
+//! What the agent answered, for a person.
+
+use super::table::table;
+use serde_json::Value;
+
+fn word(value: &Value) -> String {
+    match value {
+        Value::Null => "-".to_string(),
+        Value::String(text) => text.clone(),
+        Value::Bool(true) => "yes".to_string(),
+        Value::Bool(false) => "no".to_string(),
+        Value::Array(all) if all.is_empty() => "-".to_string(),
+        Value::Array(all) => all.iter().map(word).collect::<Vec<_>>().join(","),
+        other => other.to_string(),
+    }
+}
+
+/// A time that is so many milliseconds ago.
+fn ago(ms: &Value) -> String {
+    match ms.as_u64() {
+        None => "-".to_string(),
+        Some(ms) if ms < 10_000 => format!("{:.1} s", ms as f64 / 1000.0),
+        Some(ms) if ms < 600_000 => format!("{} s", ms / 1000),
+        Some(ms) if ms < 36_000_000 => format!("{} min", ms / 60_000),
+        Some(ms) => format!("{} h", ms / 3_600_000),
+    }
+}
+
+pub fn status(status: &Value) -> String {
+    let of = |name: &str| word(&status[name]);
+    let rows = [
+        ("cluster", format!("{}, {} nodes", of("cluster"), of("nodes"))),
+        ("node", format!("{}{}", of("node"), if status["alive"] == true { "" } else { ", which doesn't answer" })),
+        ("phase", of("phase")),
+        ("group", format!("{} for {}", of("group"), ago(&status["since_ms"]))),
+        (
+            "coordinator",
+            format!("{}{}", of("coordinator"), if status["is_coordinator"] == true { ", this node" } else { "" }),
+        ),
+        ("members", of("members")),
+        ("majority", of("majority")),
+        ("own queues", of("queues")),
+        ("jobs in hand", of("in_hand")),
+        ("up", ago(&status["up_ms"])),
+    ];
+    rows.iter().map(|(name, value)| format!("{name:<13} {value}\n")).collect()
+}
+
+pub fn members(reply: &Value) -> String {
+    let rows = reply["members"].as_array().map(Vec::as_slice).unwrap_or_default().iter().map(|member| {
+        let role = match (&member["coordinates"], &member["in_group"]) {
+            (Value::Bool(true), _) => "coordinator",
+            (_, Value::Bool(true)) => "member",
+            _ => "-",
+        };
+        let heard = if member["is_self"] == true { "this node".to_string() } else { ago(&member["heard_ms"]) };
+        vec![word(&member["node"]), word(&member["name"]), role.to_string(), word(&member["queues"]), heard]
+    });
+    table(&["NODE", "ADDRESS", "IN THE GROUP", "QUEUES", "HEARD"], &rows.collect::<Vec<_>>())
+}
+
+/// A payload as text where it can be read as such.
+pub fn payload(digits: &str) -> String {
+    let text = hex::decode(digits).ok().and_then(|bytes| String::from_utf8(bytes).ok());
+    match text {
+        Some(text) if !text.chars().any(char::is_control) => text,
+        _ => format!("0x{digits}"),
+    }
+}
+
+pub fn jobs(reply: &Value) -> String {
+    let jobs = reply["jobs"].as_array().map(Vec::as_slice).unwrap_or_default();
+    let rows = jobs.iter().map(|job| {
+        let state = if job["kept"] == true { "pending" } else { "in hand" };
+        let [origin, id, queue, priority] = ["origin", "id", "queue", "priority"].map(|name| word(&job[name]));
+        vec![state.to_string(), origin, id, queue, priority, payload(job["payload"].as_str().unwrap_or_default())]
+    });
+    let text = table(&["STATE", "ORIGIN", "ID", "QUEUE", "PRIORITY", "PAYLOAD"], &rows.collect::<Vec<_>>());
+    format!("{text}{} of {}\n", jobs.len(), word(&reply["total"]))
+}
+
+/// One change, in a line.
+pub fn event(event: &Value) -> String {
+    let of = |name: &str| word(&event[name]);
+    let job = || format!("{}:{}", of("origin"), of("id"));
+    let what = match event["event"].as_str().unwrap_or_default() {
+        name @ ("state" | "group") => format!(
+            "{name} {} {} of {}, coordinator {}, own queues {}",
+            of("phase"),
+            of("group"),
+            of("members"),
+            of("coordinator"),
+            of("queues")
+        ),
+        "take" => format!(
+            "take {} of queue {}: {}",
+            job(),
+            of("queue"),
+            payload(event["payload"].as_str().unwrap_or_default())
+        ),
+        name => format!("{name} {}", job()),
+    };
+    format!("{:>6}  {what}\n", of("change"))
+}
+
+#[cfg(test)]
+mod tests {
+    use super::*;
+    use serde_json::json;
+
+    #[test]
+    fn for_a_person() {
+        let reply = json!({"jobs": [{"kept": true, "origin": 1, "id": 7, "queue": 3, "priority": 0, "payload": "6869"}], "total": 1});
+        let text = "STATE    ORIGIN  ID  QUEUE  PRIORITY  PAYLOAD\npending  1       7   3      0         hi\n1 of 1\n";
+        assert_eq!(jobs(&reply), text);
+        let change = json!({"event": "drop", "origin": 1, "id": 7, "change": 12});
+        assert_eq!(event(&change), "    12  drop 1:7\n");
+        assert_eq!((payload("ff00"), payload("")), ("0xff00".to_string(), String::new()));
+        assert_eq!(
+            [json!(400), json!(90_000), json!(700_000), json!(null)].map(|ms| ago(&ms)),
+            ["0.4 s", "90 s", "11 min", "-"]
+        );
+    }
+}

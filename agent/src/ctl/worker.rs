@@ -1,0 +1,167 @@
+//! Works on jobs by running a command for each.
+
+use super::agent::Agent;
+use super::show;
+use super::Failure;
+use serde_json::{json, Value};
+use std::ffi::OsString;
+use std::io::{self, Write};
+use std::path::Path;
+use std::process::{Child, Command, Stdio};
+use std::sync::mpsc::{channel, Receiver, RecvTimeoutError};
+use std::thread;
+use std::time::Duration;
+
+/// How often a running command is looked at.
+const LOOK: Duration = Duration::from_millis(20);
+
+/// After a command failed its job is left alone for so long, twice as long after each further one.
+const FIRST_PAUSE: Duration = Duration::from_millis(500);
+const LONGEST_PAUSE: Duration = Duration::from_secs(30);
+
+/// What came of a job.
+#[derive(PartialEq, Eq)]
+enum Outcome {
+    Done,
+    Failed,
+    /// It isn't this node's any more.
+    Stopped,
+}
+
+pub struct Worker<'a> {
+    pub socket: &'a Path,
+    pub queue: Option<u8>,
+    pub once: bool,
+    pub command: &'a [OsString],
+}
+
+fn take(queue: Option<u8>) -> Value {
+    match queue {
+        Some(queue) => json!({"do": "take", "wait": true, "queue": queue}),
+        None => json!({"do": "take", "wait": true}),
+    }
+}
+
+/// Waits for the next job. Events of jobs before it are passed over.
+pub fn next_job(agent: &mut Agent, queue: Option<u8>) -> Result<Value, Failure> {
+    agent.say(&take(queue))?;
+    loop {
+        let line = agent.hear()?;
+        if line["ok"] == true && !line["origin"].is_null() {
+            return Ok(line);
+        }
+        if line["ok"] == false {
+            return Err(Failure::Refused(line["error"].to_string()));
+        }
+    }
+}
+
+impl Worker<'_> {
+    pub fn work(&self) -> Result<(), Failure> {
+        let mut pause = FIRST_PAUSE;
+        loop {
+            // a connection for each job: where it ends the job is given to another
+            let mut agent = Agent::connect(self.socket)?;
+            let job = next_job(&mut agent, self.queue)?;
+            let outcome = self.run(agent, &job)?;
+            let name = format!("{}:{}", job["origin"], job["id"]);
+            match outcome {
+                Outcome::Done => pause = FIRST_PAUSE,
+                Outcome::Stopped => eprintln!("dumgerokctl: job {name} went to another node, its command was killed"),
+                Outcome::Failed => {
+                    eprintln!("dumgerokctl: the command of job {name} failed, it is taken again");
+                    if !self.once {
+                        thread::sleep(pause);
+                        pause = (pause * 2).min(LONGEST_PAUSE);
+                    }
+                }
+            }
+            if self.once {
+                return if outcome == Outcome::Done { Ok(()) } else { Err(Failure::Refused("NotDone".to_string())) };
+            }
+        }
+    }
+
+    fn run(&self, mut agent: Agent, job: &Value) -> Result<Outcome, Failure> {
+        let mut child = self.spawn(job)?;
+        let events = agent.listen()?;
+        let is_done = loop {
+            if let Some(status) = child.try_wait()? {
+                break status.success();
+            }
+            match events.recv_timeout(LOOK) {
+                Ok(event) if is_stop(&event, job) => {
+                    end(&mut child)?;
+                    return Ok(Outcome::Stopped);
+                }
+                Ok(_) | Err(RecvTimeoutError::Timeout) => {}
+                Err(RecvTimeoutError::Disconnected) => {
+                    end(&mut child)?;
+                    return Err(io::Error::new(io::ErrorKind::UnexpectedEof, "the agent ended the connection").into());
+                }
+            }
+        };
+        if !is_done {
+            return Ok(Outcome::Failed);
+        }
+        self.finish(&mut agent, &events, job)
+    }
+
+    fn finish(&self, agent: &mut Agent, events: &Receiver<Value>, job: &Value) -> Result<Outcome, Failure> {
+        agent.say(&json!({"do": "finish", "origin": job["origin"], "id": job["id"]}))?;
+        let is_reply = |line: &Value| !line["ok"].is_null();
+        match events.iter().find(is_reply) {
+            Some(reply) if reply["ok"] == true => Ok(Outcome::Done),
+            Some(_) => Ok(Outcome::Stopped),
+            None => Err(io::Error::new(io::ErrorKind::UnexpectedEof, "the agent ended the connection").into()),
+        }
+    }
+
+    fn spawn(&self, job: &Value) -> Result<Child, Failure> {
+        let (program, words) = self.command.split_first().ok_or_else(|| Failure::Usage("no COMMAND".to_string()))?;
+        let digits = job["payload"].as_str().unwrap_or_default();
+        let mut command = Command::new(program);
+        command.args(words).stdin(Stdio::piped()).env("DUMGEROK_PAYLOAD", digits);
+        for (name, field) in [("ORIGIN", "origin"), ("ID", "id"), ("QUEUE", "queue"), ("PRIORITY", "priority")] {
+            command.env(format!("DUMGEROK_{name}"), job[field].to_string());
+        }
+        let named = |why| Failure::Usage(format!("{}: {why}", program.to_string_lossy()));
+        let mut child = command.spawn().map_err(named)?;
+        if let Some(mut input) = child.stdin.take() {
+            // 400 bytes at most, which a pipe holds; a command needn't read them
+            let _unread = input.write_all(&hex::decode(digits).unwrap_or_default());
+        }
+        Ok(child)
+    }
+}
+
+fn is_stop(event: &Value, job: &Value) -> bool {
+    event["event"] == "stop" && event["origin"] == job["origin"] && event["id"] == job["id"]
+}
+
+fn end(child: &mut Child) -> io::Result<()> {
+    child.kill()?;
+    child.wait().map(drop)
+}
+
+impl Agent {
+    /// Its lines from now on, read by a thread.
+    fn listen(&mut self) -> io::Result<Receiver<Value>> {
+        let mut reader = self.reader()?;
+        let (to, from) = channel();
+        thread::spawn(move || {
+            while let Ok(line) = reader.hear() {
+                if to.send(line).is_err() {
+                    return;
+                }
+            }
+        });
+        Ok(from)
+    }
+}
+
+/// One job for a person.
+pub fn shown(job: &Value) -> String {
+    let [origin, id, queue] = ["origin", "id", "queue"].map(|name| job[name].to_string());
+    format!("{origin}:{id} of queue {queue}: {}\n", show::payload(job["payload"].as_str().unwrap_or_default()))
+}

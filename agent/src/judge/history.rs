@@ -1,0 +1,256 @@
+//! What one node did, as the entries of a trace.
+
+use super::message::{message_of, Begin};
+use super::{NodeRecord, RecordError};
+use crate::node::{Closing, Group, Phase};
+use serde_json::{json, Map, Value};
+
+const TIMERS: [&str; 7] = ["check", "merge", "accept", "ready", "coord", "dispatch", "recover"];
+
+/// An event and the lines that stand behind it in the answer.
+struct Event<'a> {
+    name: &'a str,
+    lines: Vec<&'a str>,
+}
+
+/// What the node's file keeps: the count of groups, the next id, how many jobs.
+#[derive(Clone, Copy)]
+struct Kept {
+    count: u64,
+    next: u64,
+    pending: u64,
+}
+
+pub struct History<'a> {
+    own: u8,
+    begins: &'a [Begin],
+    entries: Vec<Value>,
+    kept: Kept,
+    is_up: bool,
+    leads: bool,
+    phase: Phase,
+    is_checking: bool,
+    /// The request that a kill left without an answer; empty where there was none.
+    doubt: Option<String>,
+    /// Recoveries that kills left without an answer since.
+    recoveries: u64,
+}
+
+impl<'a> History<'a> {
+    /// Reads a record. At a kill one request at most is in doubt: what the next recovery finds says whether its command counted.
+    pub fn of(own: u8, record: &NodeRecord, begins: &'a [Begin]) -> Result<History<'a>, RecordError> {
+        let mut history = History {
+            own,
+            begins,
+            entries: Vec::new(),
+            kept: Kept { count: 1, next: 0, pending: 0 },
+            is_up: false,
+            leads: true,
+            phase: Phase::Normal,
+            is_checking: false,
+            doubt: None,
+            recoveries: 0,
+        };
+        let (mut request, mut answer): (Option<&str>, Vec<&str>) = (None, Vec::new());
+        for line in &record.lines {
+            if let Some(asked) = line.strip_prefix("> ") {
+                request = Some(asked);
+                answer.clear();
+            } else if line == "start" {
+                history.killed(request.take());
+            } else if let Some(closing) = Closing::read(line) {
+                let fault = || RecordError::Line { node: record.node, line: line.clone() };
+                history.answered(request.take().ok_or_else(fault)?, &answer, &closing).ok_or_else(fault)?;
+            } else {
+                answer.push(line);
+            }
+        }
+        Ok(history)
+    }
+
+    pub fn entries(self) -> Vec<Value> {
+        self.entries
+    }
+
+    fn put(&mut self, name: &str, sent: Vec<String>, fields: Map<String, Value>) {
+        let mut entry = fields;
+        entry.insert("do".to_string(), json!(name));
+        entry.insert("sent".to_string(), json!(sent));
+        self.entries.push(Value::Object(entry));
+    }
+
+    /// The process ended, with this request unanswered.
+    fn killed(&mut self, request: Option<&str>) {
+        if self.is_up {
+            self.is_up = false;
+            self.doubt = Some(request.unwrap_or_default().to_string());
+        } else if request == Some("recover") {
+            self.recoveries += 1;
+        }
+    }
+
+    /// The lines of an answer belong to the event of the request, or each to the event that was fired before it.
+    fn answered(&mut self, request: &str, answer: &[&str], closing: &Closing) -> Option<()> {
+        let word = request.split(' ').next()?;
+        let mut events = vec![Event { name: word, lines: Vec::new() }];
+        for line in answer {
+            if let Some(name) = line.strip_prefix("fired ") {
+                events.push(Event { name, lines: Vec::new() });
+            }
+            events.last_mut()?.lines.push(line);
+        }
+        if ["tick", "lost"].contains(&word) {
+            events.remove(0); // what stands before was sent before
+        } else if !TIMERS.contains(&word) && !["deliver", "submit", "finish"].contains(&word) {
+            return Some(());
+        }
+        let count = events.len();
+        for (place, event) in events.into_iter().enumerate() {
+            if matches!(closing, Closing::Ok(_)) || place + 1 < count {
+                self.event(&event, request)?;
+            }
+        }
+        match closing {
+            Closing::Ok(Some(id)) => {
+                self.kept.next = id.wrapping_sub(self.begins[usize::from(self.own)].id) + 1;
+                self.kept.pending += 1;
+            }
+            Closing::Fault => self.killed(Some(request)),
+            _ => {}
+        }
+        Some(())
+    }
+
+    fn event(&mut self, event: &Event, request: &str) -> Option<()> {
+        if event.name == "recover" && !self.is_up {
+            let keeps = event.lines.iter().find_map(|line| line.strip_prefix("keeps "))?;
+            self.recovered(keeps)?;
+        } else {
+            let sent = event.lines.iter().filter_map(|line| line.strip_prefix("send ")?.split(' ').nth(1));
+            let sent = sent.map(|digits| message_of(digits, self.begins)).collect();
+            let fields = self.fields_of(event.name, request)?;
+            self.put(event.name, sent, fields);
+        }
+        if ["check", "merge"].contains(&event.name) {
+            self.is_checking = event.name == "check";
+        }
+        for line in &event.lines {
+            if let Some(words) = line.strip_prefix("group ") {
+                self.entered(&Group::read(&words.split(' ').collect::<Vec<_>>()).ok()?);
+            } else if line.starts_with("gone ") {
+                self.kept.pending = self.kept.pending.saturating_sub(1);
+            }
+        }
+        Some(())
+    }
+
+    fn entered(&mut self, group: &Group) {
+        self.phase = group.phase;
+        self.leads = group.coordinator == self.own;
+        self.is_checking = false;
+        if group.number.creator == self.own && group.phase != Phase::Down {
+            self.kept.count = self.own_count(group.number.count);
+        }
+    }
+
+    fn own_count(&self, count: u64) -> u64 {
+        count.wrapping_sub(self.begins[usize::from(self.own)].count)
+    }
+
+    /// The file was mounted: the command in doubt counted where something else was found than was known.
+    fn recovered(&mut self, keeps: &str) -> Option<()> {
+        let numbers: Vec<u64> = keeps.split(' ').filter_map(|word| word.parse().ok()).collect();
+        let begin = self.begins[usize::from(self.own)];
+        let found = match numbers.as_slice() {
+            [count, next, pending] => {
+                Kept { count: self.own_count(*count), next: next.wrapping_sub(begin.id), pending: *pending }
+            }
+            _ => return None,
+        };
+        let is_first = self.entries.is_empty() && self.doubt.is_none() && found.count <= 1;
+        if !is_first {
+            let doubt = self.doubt.take().unwrap_or_default();
+            self.settle(&doubt, found)?;
+        }
+        self.kept = found;
+        (self.is_up, self.doubt, self.recoveries) = (true, None, 0);
+        Some(())
+    }
+
+    /// Puts what became of the request in doubt, and the recoveries behind it.
+    fn settle(&mut self, doubt: &str, found: Kept) -> Option<()> {
+        let word = doubt.split(' ').next().unwrap_or_default();
+        let mut raised = found.count.checked_sub(1)?.checked_sub(self.kept.count)?;
+        let mut has_counted = true;
+        if found.next > self.kept.next || found.pending < self.kept.pending {
+            let fields = self.fields_of(word, doubt)?;
+            self.put_failed(word, "device", fields);
+        } else if raised > self.recoveries {
+            raised -= 1;
+            let event = if ["tick", "lost"].contains(&word) { self.raiser() } else { word };
+            let fields = self.fields_of(event, doubt)?;
+            self.put_failed(event, if event == "recover" { "raise" } else { "device" }, fields);
+        } else {
+            has_counted = false;
+            self.put("crash", Vec::new(), Map::new());
+        }
+        for _ in 0..raised {
+            self.put_recovery(has_counted, Some("raise"));
+            has_counted = true;
+        }
+        self.put_recovery(has_counted, None);
+        Some(())
+    }
+
+    fn put_failed(&mut self, name: &str, fault: &str, mut fields: Map<String, Value>) {
+        fields.insert("fault".to_string(), json!(fault));
+        self.put(name, Vec::new(), fields);
+    }
+
+    fn put_recovery(&mut self, kept: bool, fault: Option<&str>) {
+        let mut fields = Map::new();
+        fields.insert("kept".to_string(), json!(kept));
+        match fault {
+            Some(fault) => self.put_failed("recover", fault, fields),
+            None => self.put("recover", Vec::new(), fields),
+        }
+    }
+
+    /// The timer that begins a group, where the node is.
+    fn raiser(&self) -> &'static str {
+        match (self.leads, self.phase, self.is_checking) {
+            (false, _, _) => "coord",
+            (_, Phase::Reorganization, _) => "ready",
+            (_, _, true) => "merge",
+            _ => "recover",
+        }
+    }
+
+    /// The fields of an event's entry.
+    fn fields_of(&self, event: &str, request: &str) -> Option<Map<String, Value>> {
+        let words: Vec<&str> = request.split(' ').collect();
+        let fields = match (event, words.as_slice()) {
+            ("deliver", [_, digits]) => json!({"msg": message_of(digits, self.begins)}),
+            ("submit", [_, queue, payload, rest @ ..]) => {
+                let (queue, payload) = (queue.parse::<u8>().ok()?, payload.trim_start_matches('-'));
+                match rest.first() {
+                    Some(priority) => {
+                        json!({"queue": queue, "payload": payload, "priority": priority.parse::<u8>().ok()?})
+                    }
+                    None => json!({"queue": queue, "payload": payload}),
+                }
+            }
+            ("finish", [_, origin, id]) => {
+                let origin = origin.parse::<u8>().ok()?;
+                let begin = self.begins.get(usize::from(origin)).copied().unwrap_or_default();
+                json!({"origin": origin, "id": id.parse::<u64>().ok()?.wrapping_sub(begin.id)})
+            }
+            ("recover", _) => json!({"kept": false}),
+            _ => json!({}),
+        };
+        match fields {
+            Value::Object(fields) => Some(fields),
+            _ => None,
+        }
+    }
+}
