@@ -50,10 +50,12 @@ pub enum Act {
 }
 
 /// What an event will make of a node, with the memory that this takes.
+///
+/// Its messages come out by [`NodeCore::commit_step`](crate::NodeCore::commit_step) alone, so a caller can't send them before that.
 #[derive(Drop)]
 pub struct Plan {
-    pub act: Act,
-    pub messages: Vec<Message>,
+    pub(crate) act: Act,
+    pub(crate) messages: Vec<Message>,
 }
 
 impl Plan {
@@ -84,7 +86,7 @@ impl Plan {
     }
 
     /// By how many jobs the work in hand may grow.
-    pub fn gain(&self) -> usize
+    pub(crate) fn gain(&self) -> usize
         ensures { result ≡ gain_of self.now.act }
     {
         match &self.act {
