@@ -79,11 +79,11 @@ impl Daemon {
             Some(key) => Seal::read(key, &config.cluster, nodes).with_context(|| key.display().to_string())?,
             None => Seal::default(),
         };
+        let clients = Clients::listen(&config.socket, poll.registry(), LISTENER, FIRST_CLIENT)
+            .with_context(|| config.socket.display().to_string())?;
         let at = config.listens_at();
         let link =
             Link::bind(at, poll.registry(), LINK).with_context(|| format!("datagrams can't be received at {at}"))?;
-        let clients = Clients::listen(&config.socket, poll.registry(), LISTENER, FIRST_CLIENT)
-            .with_context(|| config.socket.display().to_string())?;
         let http = match config.http {
             Some(at) => Some(Server::start(at, Arc::clone(&waker)).with_context(|| format!("HTTP at {at}"))?),
             None => None,

@@ -1,0 +1,142 @@
+"""Three agents: groups, jobs, kills, cuts."""
+import json, os, time, urllib.request
+
+
+def judged(bed, agents, name):
+    """The records of all nodes are those of a run."""
+    files = [os.path.join(agents.folder, file) for file in os.listdir(agents.folder) if ".record." in file]
+    agents.stop()
+    done = agents.ctl(0, "judge", "--program", agents.program, *files)
+    bed.tally.check("%s: the records are judged Run" % name, done.returncode == 0 and done.stdout.startswith("Run"),
+                    (done.returncode, done.stdout[-200:], done.stderr[-200:]))
+
+
+def page(agents, i, path):
+    """The status and the text of a page."""
+    try:
+        with urllib.request.urlopen("http://127.0.0.1:%d%s" % (agents.http[i], path), timeout=5) as answer:
+            return answer.status, answer.read().decode()
+    except urllib.error.HTTPError as error:
+        return error.code, error.read().decode()
+
+
+def metric(agents, i, name):
+    text = page(agents, i, "/metrics")[1]
+    return next((float(line.rsplit(" ", 1)[1]) for line in text.splitlines() if line.startswith("dumgerok_" + name + " ") or
+                 line.startswith("dumgerok_" + name + "{")), 0.0)
+
+
+def whole_life(bed):
+    """The life of a cluster."""
+    agents = bed.agents("life", loss=0.02, twice=0.02, delay=(0.001, 0.006), first=1_700_000_000_000)
+    check = bed.tally.check
+    for i in range(3):
+        agents.start(i)
+    agents.one_group()
+    job_elsewhere(agents, check)
+    workers(agents, check)
+    watched = watcher(agents, 1)
+    for turn in range(2):
+        lead = agents.status(0)["coordinator"]
+        rest = [i for i in range(3) if i != lead]
+        agents.kill(lead)
+        check("a killed coordinator is replaced", agents.one_group(rest) < 30)
+        check("a submission is taken while a node is away", agents.ask(rest[0], do="submit", queue=turn, text="away").get("ok") is True)
+        agents.start(lead)
+        check("it comes back", agents.one_group() < 30)
+    partition(agents, check)
+    changes_without_gap(agents, watched, check)
+    judged(bed, agents, "the life of a cluster")
+
+
+def job_elsewhere(agents, check):
+    """A job that is submitted at one machine is worked on at another."""
+    lead = agents.status(0)["coordinator"]
+    other = (lead + 1) % 3
+    status = agents.status(other)
+    queue = status["queues"][0]
+    taker = agents.connect(other)
+    taker.sendall(json.dumps(dict(do="take", wait=True, queue=queue, request="w")).encode() + b"\n")
+    third = (lead + 2) % 3
+    kept = agents.ask(third, do="submit", queue=queue, text="hello", request=5)
+    check("a member's machine takes a submission", kept and kept["ok"] and kept["origin"] == lead and kept["request"] == 5, kept)
+    job = json.loads(taker.makefile().readline())
+    is_it = job["request"] == "w" and bytes.fromhex(job["payload"]) == b"hello" and (job["origin"], job["id"]) == (lead, kept["id"])
+    check("who waits for it is given it, elsewhere", is_it, job)
+    check("it isn't given to a second one", agents.ask(other, do="take", queue=queue) == {"ok": False, "error": "NoJob"})
+    taker.close()
+    agents.until(lambda: agents.ask(other, do="take", queue=queue)["ok"], 5)
+    check("it is handed to another where the taker's connection ended", True)
+    check("it is finished", agents.ask(other, do="finish", origin=lead, id=kept["id"])["ok"])
+    agents.until(lambda: agents.ask(lead, do="jobs")["total"] == 0, 10)
+    again = agents.ask(other, do="finish", origin=lead, id=kept["id"])
+    check("a second finish is refused", again == {"ok": False, "error": "UnknownJob"}, again)
+
+
+def workers(agents, check):
+    """dumgerokctl: submit, take, its statuses."""
+    lead = agents.status(0)["coordinator"]
+    done = agents.ctl(lead, "submit", "0", "one", "--priority", "3")
+    check("submit says where it is kept", done.returncode == 0 and done.stdout.startswith("node %d keeps it as " % lead), done)
+    owner = next(i for i in range(3) if 0 in agents.status(i)["queues"])
+    out = os.path.join(agents.folder, "worked")
+    done = agents.ctl(owner, "take", "--queue", "0", "--once", "--", "sh", "-c", 'cat > "$1"; echo " $DUMGEROK_PRIORITY" >> "$1"', "-", out)
+    check("a worker runs its command and finishes the job", done.returncode == 0 and open(out).read() == "one 3\n", done)
+    agents.until(lambda: agents.ask(lead, do="jobs")["total"] == 0, 10)
+    agents.ctl(lead, "submit", "0", "two")
+    failed = agents.ctl(owner, "take", "--once", "--", "false")
+    check("a job whose command fails isn't finished", failed.returncode == 1 and agents.ask(lead, do="jobs")["total"] >= 1, failed)
+    agents.until(lambda: agents.ctl(owner, "take", "--once", "--", "true").returncode == 0, 5)
+    for words, status in ((["status"], 0), (["members", "--json"], 0), (["jobs"], 0), (["finish", "0", "77"], 1), (["dance"], 2), (["submit", "16", ""], 2)):
+        done = agents.ctl(owner, *words)
+        check("dumgerokctl %s ends with %d" % (" ".join(words), status), done.returncode == status, done)
+    check("without an agent it ends with 3", agents.ctl(owner, "-s", "/nowhere", "status").returncode in (2, 3))
+    for shell in ("bash", "zsh", "fish"):
+        check("completions for %s" % shell, "dumgerokctl" in agents.ctl(owner, "completions", shell).stdout)
+
+
+def watcher(agents, i):
+    link = agents.connect(i)
+    link.sendall(b'{"do":"watch"}\n')
+    return link, i
+
+
+def changes_without_gap(agents, watched, check):
+    """Each change has a number, and none is missed; a watcher that comes back is told what it missed."""
+    link, i = watched
+    link.settimeout(0.5)
+    data = b""
+    try:
+        while True:
+            piece = link.recv(65536)
+            if not piece:
+                break
+            data += piece
+    except OSError:
+        pass
+    lines = [json.loads(line) for line in data.decode().splitlines()]
+    own = [line for line in lines[1:] if "change" in line]
+    check("a watcher is told the state first", bool(lines) and lines[0].get("event") == "state", lines[:1])
+    numbers = [line["change"] for line in own]
+    check("and then each change, with no gap", numbers == list(range(lines[0]["change"] + 1, lines[0]["change"] + 1 + len(numbers))) and
+          any(line["event"] == "group" for line in own), numbers[:5])
+    with agents.connect(i) as later:
+        later.sendall(json.dumps(dict(do="watch", since=max(0, numbers[-1] - 2) if numbers else 0)).encode() + b"\n")
+        reader = later.makefile()
+        again = [json.loads(reader.readline()) for _ in range(3)] if len(numbers) > 2 else []
+        check("one that comes back is told what it missed", [line.get("change") for line in again[1:]] == numbers[-2:], again)
+
+
+def partition(agents, check):
+    out = (agents.status(0)["coordinator"] + 1) % 3
+    rest = [i for i in range(3) if i != out]
+    agents.relay.cuts |= {frozenset((i, out)) for i in rest}
+    agents.until(lambda: agents.is_one_group(rest) and agents.is_one_group([out]), 60)
+    sides = [agents.status(i)["majority"] for i in (out, *rest)]
+    check("both sides of a partition say what they know", sides == [False, True, True], sides)
+    ready = [page(agents, i, "/readyz")[0] for i in (out, *rest)]
+    check("and are ready or not by it", ready == [503, 200, 200], ready)
+    kept = agents.ask(out, do="submit", queue=0, text="alone")
+    check("the side of one takes jobs of its own", kept["ok"] and kept["origin"] == out, kept)
+    agents.relay.cuts.clear()
+    check("it heals", agents.one_group() < 60)

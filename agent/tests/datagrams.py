@@ -1,0 +1,111 @@
+"""Datagrams that nobody of the cluster sent now: spoiled, of another cluster, recorded and sent again."""
+import os, random, subprocess, time
+
+from cluster import judged, page
+
+WINDOW = 4
+
+
+def has_keys(program, folder):
+    """Whether the node seals its messages."""
+    path, key = os.path.join(folder, "keys.node"), os.path.join(folder, "keys.key")
+    subprocess.run([program, "format", path, "64", "0", "1"], check=True)
+    with open(key, "w") as file:
+        file.write("ab" * 32 + "\n")
+    os.chmod(key, 0o600)
+    done = subprocess.run([program, "node", path, "0", "1", "--key", key, "--cluster", "bed"], input=b"recover\n", stdout=subprocess.PIPE, stderr=subprocess.PIPE)
+    return done.returncode == 0 and b"ok 1" in done.stdout
+
+
+def refused(agents, i):
+    """How many datagrams were refused, by the node or by the agent."""
+    total = 0.0
+    for line in page(agents, i, "/metrics")[1].splitlines():
+        if line.startswith("dumgerok_refused_total") or line.startswith('dumgerok_dropped_total{reason="Forged"}'):
+            total += float(line.rsplit(" ", 1)[1])
+    return total
+
+
+def changes(agents):
+    return sum(open(agents.path(i, "log")).read().count("group ") for i in range(agents.count))
+
+
+def rubbish(bed):
+    """Bytes that are no message, and messages that are spoiled: nothing of it ends anybody."""
+    agents, check, chance = bed.agents("rubbish", count=2), bed.tally.check, random.Random(3)
+    agents.start_all()
+    agents.one_group()
+    sent, before = 0, refused(agents, 0)
+    for _ in range(400):
+        agents.relay.send(0, chance.randbytes(chance.randrange(1, 1500)))
+        agents.relay.send(0, b"\xd6\x01" + chance.randbytes(chance.randrange(0, 300)))
+        sent += 2
+        time.sleep(0.001)
+    agents.relay.send(0, b"")
+    agents.until(lambda: refused(agents, 0) - before >= 0.9 * sent, 10)
+    check("bytes that are no message are refused and counted", agents.status(0)["alive"])
+    check("the group stays", agents.one_group() < 30)
+    agents.stop()
+
+
+def forged(bed):
+    """With a key: each bit of a message spoiled, messages of another cluster and of another key, and messages that were recorded."""
+    if not has_keys(bed.program, bed.folder):
+        return bed.tally.left_out("spoiled, foreign and recorded datagrams", "the program has no keys")
+    key = bed.key("ab")
+    agents, check = bed.agents("forged", key=key), bed.tally.check
+    agents.start_all()
+    agents.one_group()
+    spoiled_bits(agents, check)
+    foreign(bed, agents, check)
+    recorded(agents, check)
+    judged(bed, agents, "forged datagrams")
+
+
+def spoiled_bits(agents, check):
+    _, message = max((one for one in list(agents.relay.kept) if one[0] == 0), key=lambda one: len(one[1]))
+    before, sent = refused(agents, 0), 0
+    begin = changes(agents)
+    for bit in range(8 * len(message)):
+        agents.relay.send(0, message[:bit // 8] + bytes([message[bit // 8] ^ 1 << bit % 8]) + message[bit // 8 + 1:])
+        sent += 1
+        time.sleep(0.002)
+    agents.until(lambda: refused(agents, 0) - before >= sent, 10)
+    check("a message with any bit spoiled is refused and counted", changes(agents) == begin, (sent, refused(agents, 0) - before))
+
+
+def foreign(bed, agents, check):
+    for name, more in (("cluster", dict(cluster="other")), ("key", dict(key=bed.key("cd")))):
+        others = bed.agents("other_%s" % name, **dict(dict(key=bed.key("ab")), **more))
+        others.start_all()
+        others.one_group()
+        begin, before = changes(agents), refused(agents, 0)
+        others.stop()
+        mine = [one for one in others.relay.kept if one[0] == 0][:200]
+        for _, message in mine:
+            agents.relay.send(0, message)
+            time.sleep(0.002)
+        agents.until(lambda: refused(agents, 0) - before >= len(mine), 10)
+        check("messages of another %s are refused" % name, changes(agents) == begin)
+
+
+def recorded(agents, check):
+    for _ in range(2):
+        lead = agents.status(0)["coordinator"]
+        agents.kill(lead)
+        agents.one_group([i for i in range(3) if i != lead])
+        agents.start(lead)
+        agents.one_group()
+    for i in range(3):
+        agents.ask(i, do="submit", queue=i, text="recorded")
+    time.sleep(0.5)
+    old, begin = list(agents.relay.kept), changes(agents)
+    jobs = [agents.ask(i, do="jobs")["total"] for i in range(3)]
+    end, at = time.monotonic() + WINDOW, 0
+    while time.monotonic() < end:
+        agents.relay.send(*old[at % len(old)])
+        at += 1
+        time.sleep(0.002)
+    time.sleep(0.5)
+    check("recorded datagrams sent again change no group", changes(agents) == begin, (at, changes(agents) - begin))
+    check("and no job", [agents.ask(i, do="jobs")["total"] for i in range(3)] == jobs)

@@ -1,0 +1,169 @@
+"""A node that stops or dies, and a file that can't be used."""
+import os, shutil, signal, socket, subprocess, tempfile, time
+
+from cluster import judged, page
+
+ROOT = os.path.dirname(os.path.dirname(os.path.dirname(os.path.abspath(__file__))))
+
+
+class Notices:
+    """What an agent tells systemd."""
+
+    def __init__(self, folder):
+        self.path = os.path.join(folder, "notices")
+        self.link = socket.socket(socket.AF_UNIX, socket.SOCK_DGRAM)
+        self.link.bind(self.path)
+
+    def within(self, seconds, until=None):
+        said, end = [], time.monotonic() + seconds
+        while time.monotonic() < end and until not in said:
+            self.link.settimeout(max(0.01, end - time.monotonic()))
+            try:
+                said += self.link.recv(4096).decode().split("\n")
+            except OSError:
+                pass
+        return [line for line in said if line]
+
+
+def stopped_node(bed):
+    """SIGSTOP and SIGKILL of a node, seen by its agent."""
+    agents, check = bed.agents("stopped", count=1), bed.tally.check
+    notices = Notices(agents.folder)
+    agents.start(0, NOTIFY_SOCKET=notices.path, WATCHDOG_USEC="1000000")
+    check("systemd is told that it is ready", "READY=1" in notices.within(20, "READY=1"))
+    agents.one_group()
+    check("and that it lives", notices.within(3).count("WATCHDOG=1") >= 2)
+    node = agents.node(0)
+    os.kill(node, signal.SIGSTOP)
+    agents.until(lambda: page(agents, 0, "/healthz")[0] == 503, 15)
+    notices.within(0.2)
+    check("a node that stopped: no sign of life", "WATCHDOG=1" not in notices.within(2))
+    check("the agent answers all the same", agents.status(0)["alive"] is False)
+    os.kill(node, signal.SIGCONT)
+    agents.until(lambda: page(agents, 0, "/healthz")[0] == 200, 10)
+    check("it goes on", "WATCHDOG=1" in notices.within(3, "WATCHDOG=1"))
+    os.kill(node, signal.SIGKILL)
+    check("a killed node ends its agent with 1", agents.processes[0].wait(5) == 1)
+    check("and the socket is gone", not os.path.exists(agents.path(0, "sock")))
+    judged(bed, agents, "a stopped node")
+
+
+def unread_notices(bed):
+    """A notify socket that nobody reads stops nobody."""
+    agents = bed.agents("unread", count=1)
+    notices = Notices(agents.folder)
+    agents.start(0, NOTIFY_SOCKET=notices.path, WATCHDOG_USEC="20000")
+    agents.one_group()
+    time.sleep(2)
+    bed.tally.check("a notify socket that nobody reads stops nobody", agents.status(0)["alive"])
+    begin = time.monotonic()
+    status = agents.kill(0, signal.SIGTERM)
+    bed.tally.check("SIGTERM ends it within a second", status == 0 and time.monotonic() - begin < 1.0, (status, time.monotonic() - begin))
+    agents.stop()
+
+
+def ends(agents, i=0, **more):
+    """How an agent ends by itself, and what it said."""
+    done = subprocess.run([agents.daemon, agents.path(i, "toml")], stderr=subprocess.PIPE, text=True, timeout=20, **more)
+    return done.returncode, done.stderr
+
+
+def files(bed):
+    """Files that are locked, foreign, not there, not permitted; configurations that can't be read; a second agent."""
+    agents, check = bed.agents("files", count=2), bed.tally.check
+    agents.start(0)
+    agents.until(lambda: (agents.status(0) or {}).get("alive"), 10)
+    status, said = ends(agents)
+    check("a second agent ends", status == 1 and "another agent" in said, said)
+    agents.write(1, id=0, file=agents.path(0, "node"), record=None)
+    check("a locked file: 4", ends(agents, 1)[0] == 4)
+    agents.kill(0)
+    agents.write(1, id=1, file=agents.path(0, "node"), record=None)
+    check("another node's file: 5", ends(agents, 1)[0] == 5)
+    agents.write(1, file=agents.path(1, "nowhere"), record=None)
+    status, said = ends(agents, 1)
+    check("no file: 5", status == 5 and "no such file" in said, said)
+    agents.write(1, nodes=agents.relay.peers(1)[:1], record=None)
+    check("a configuration that can't be read: 2", ends(agents, 1)[0] == 2)
+    if os.geteuid() == 0:
+        no_permission(agents, check)
+    else:
+        bed.tally.left_out("a file without permission", "this isn't root")
+    agents.stop()
+
+
+def no_permission(agents, check):
+    folder = tempfile.mkdtemp(prefix="dumgerok-nobody-", dir="/tmp")
+    os.chmod(folder, 0o777)
+    shutil.copy(agents.path(1, "node"), os.path.join(folder, "node"))
+    os.chmod(os.path.join(folder, "node"), 0o600)
+    agents.write(1, file=os.path.join(folder, "node"), socket=os.path.join(folder, "sock"), record=None)
+    config = os.path.join(folder, "toml")
+    shutil.copy(agents.path(1, "toml"), config)
+    daemon = shutil.copy(agents.daemon, os.path.join(folder, "dumgerokd"))
+    done = subprocess.run([daemon, config], stderr=subprocess.PIPE, text=True, timeout=20, preexec_fn=lambda: os.setuid(65534))
+    is_marked = os.path.exists(os.path.join(folder, "sock.device-failed"))
+    check("a file without permission: 1, and no device failed", done.returncode == 1 and "may not open" in done.stderr and not is_marked, done)
+    shutil.rmtree(folder)
+
+
+def wrapped(agents, name, **environment):
+    """A program that is the node's, with more in its environment."""
+    path = os.path.join(agents.folder, name)
+    with open(path, "w") as file:
+        words = " ".join("%s=%s" % pair for pair in environment.items())
+        file.write('#!/bin/sh\nexec env %s %s "$@"\n' % (words, agents.program))
+    os.chmod(path, 0o755)
+    return path
+
+
+def compiled(bed, name, source):
+    """A library for LD_PRELOAD, or None."""
+    path = os.path.join(bed.folder, name + ".so")
+    if not os.path.exists(path) and subprocess.run(["cc", "-shared", "-fPIC", "-O1", "-o", path, source, "-ldl"]).returncode != 0:
+        return None
+    return path
+
+
+def failed_device(bed):
+    """A device that fails: status 3, and the file isn't opened again."""
+    check = bed.tally.check
+    if not shutil.which("cc"):
+        return bed.tally.left_out("a device that fails, a slow sync", "there is no C compiler")
+    agents = bed.agents("device", count=1)
+    library = compiled(bed, "faults", os.path.join(ROOT, "tests/shim/faults.c"))
+    # the calls of a start are some 20; later ones are those of a submission
+    faulty = wrapped(agents, "faulty", LD_PRELOAD=library, FAULT_FILE=agents.path(0, "node"), FAULT=5, FAULT_AT=60)
+    agents.write(0, program=faulty)
+    agents.start(0)
+    agents.one_group()
+    answers = []
+    while agents.processes[0].poll() is None and len(answers) < 40:
+        answers.append(agents.ask(0, do="submit", queue=0, text="x"))
+    check("some jobs were kept before", bool(answers) and answers[0] is not None and answers[0].get("ok"), answers[:2])
+    check("a failed device: 3", agents.processes[0].wait(5) == 3)
+    check("a marker stands", os.path.exists(agents.path(0, "sock.device-failed")))
+    agents.write(0)
+    status, said = ends(agents)
+    check("and the file isn't opened again before the machine was started anew", status == 3 and "started anew" in said, said)
+    with open(agents.path(0, "sock.device-failed"), "w") as file:
+        file.write("another-start-of-the-machine\n")
+    agents.start(0)
+    agents.one_group()
+    kept = sum(1 for answer in answers if answer and answer.get("ok"))
+    check("then it is, and what was answered is there", agents.ask(0, do="jobs", queue=0)["total"] >= kept, kept)
+    judged(bed, agents, "a failed device")
+
+
+def slow_sync(bed):
+    """Syncs of 15 ms: a group forms, and a job is kept."""
+    if not shutil.which("cc"):
+        return
+    agents = bed.agents("slow")
+    library = compiled(bed, "slow_sync", os.path.join(os.path.dirname(os.path.abspath(__file__)), "slow_sync.c"))
+    for i in range(3):
+        agents.write(i, program=wrapped(agents, "slow%d" % i, LD_PRELOAD=library, SYNC_MS=15))
+        agents.start(i)
+    bed.tally.check("a group forms where a sync takes 15 ms", agents.one_group() < 30)
+    bed.tally.check("and a job is kept", agents.ask(0, do="submit", queue=1, text="slow")["ok"])
+    judged(bed, agents, "slow syncs")
