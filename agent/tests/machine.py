@@ -85,6 +85,8 @@ def files(bed):
     check("no file: 5", status == 5 and "no such file" in said, said)
     agents.write(1, nodes=agents.relay.peers(1)[:1], record=None)
     check("a configuration that can't be read: 2", ends(agents, 1)[0] == 2)
+    agents.write(1, key=agents.path(1, "toml"), record=None)
+    check("a key that can't be read: 6", ends(agents, 1)[0] == 6)
     if os.geteuid() == 0:
         no_permission(agents, check)
     else:

@@ -7,6 +7,7 @@ use clap::Parser;
 use dumgerok_agent::config::{Config, LogLevel};
 use dumgerok_agent::daemon::Daemon;
 use dumgerok_agent::device_marker::DeviceMarker;
+use dumgerok_agent::forward::KeyError;
 use log::{error, info, LevelFilter};
 use std::fs::OpenOptions;
 use std::io::{ErrorKind, Write};
@@ -16,6 +17,7 @@ use std::process::ExitCode;
 const CONFIG: u8 = 2;
 const DEVICE: u8 = 3;
 const FOREIGN: u8 = 5;
+const KEY: u8 = 6;
 
 /// Runs the node of a Dumgerok cluster on this machine.
 ///
@@ -98,7 +100,8 @@ fn main() -> ExitCode {
         Ok(status) => ExitCode::from(status),
         Err(why) => {
             error!("{why:#}");
-            ExitCode::from(1)
+            let is_key = why.downcast_ref::<KeyError>().is_some();
+            ExitCode::from(if is_key { KEY } else { 1 })
         }
     }
 }

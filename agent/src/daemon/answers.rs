@@ -94,36 +94,10 @@ impl Daemon {
     fn close(&mut self, answer: Answer<Asker>, now: Instant) {
         match answer.asker {
             Asker::Start => self.started(&answer.closing),
-            Asker::Tick => {
-                let due = answer.lines.iter().rev().find_map(|line| match line {
-                    Line::Next { ms } => Some(*ms),
-                    _ => None,
-                });
-                self.clock.ticked(due, now);
-            }
-            Asker::Datagram { sender, kind } => {
-                if let Closing::Ok(_) = answer.closing {
-                    self.peers.hear(sender, now);
-                    self.metrics.messages_in.with_label_values(&[kind]).inc();
-                } else if answer.closing == Closing::Bad {
-                    self.metrics.refused.with_label_values(&["NoMessage"]).inc();
-                }
-            }
-            Asker::Submission { serial } => {
-                let given = match answer.closing {
-                    Closing::Ok(Some(id)) => Given::Kept { origin: self.config.id, id },
-                    Closing::Refused(Refusal::NotCoordinator(coordinator)) => Given::Elsewhere { coordinator },
-                    other => Given::Refused { error: error_of(&other) },
-                };
-                self.tried(serial, given, now);
-            }
-            Asker::Forwarded { from, token } => {
-                let outcome = match answer.closing {
-                    Closing::Ok(Some(id)) => Outcome::Kept { id },
-                    other => Outcome::Refused { error: error_of(&other) },
-                };
-                self.reply_to_agent(from, token, outcome);
-            }
+            Asker::Tick => self.clock.ticked(due_of(&answer.lines), now),
+            Asker::Datagram { sender, kind } => self.delivered(sender, kind, &answer.closing, now),
+            Asker::Submission { serial } => self.tried(serial, given_of(answer.closing, self.config.id), now),
+            Asker::Forwarded { from, token } => self.reply_to_agent(from, token, outcome_of(answer.closing)),
             Asker::Finish { client, tag, key } => {
                 self.hand.leave(key);
                 self.clients.tell(client, &reply_of(&answer.closing).tagged(&tag));
@@ -137,6 +111,17 @@ impl Daemon {
         }
     }
 
+    fn delivered(&mut self, sender: u8, kind: &str, closing: &Closing, now: Instant) {
+        match closing {
+            Closing::Ok(_) => {
+                self.peers.hear(sender, now);
+                self.metrics.messages_in.with_label_values(&[kind]).inc();
+            }
+            Closing::Bad => self.metrics.refused.with_label_values(&["NoMessage"]).inc(),
+            Closing::Refused(_) | Closing::Fault => {}
+        }
+    }
+
     fn started(&mut self, closing: &Closing) {
         if let Closing::Ok(_) = closing {
             self.view.is_ready = true;
@@ -146,6 +131,31 @@ impl Daemon {
             error!("{} can't be mounted: {why}", self.config.file.display());
             self.notify.status(format!("the file can't be mounted: {why}"));
         }
+    }
+}
+
+/// When the node says that something is due next.
+fn due_of(lines: &[Line]) -> Option<u64> {
+    lines.iter().rev().find_map(|line| match line {
+        Line::Next { ms } => Some(*ms),
+        _ => None,
+    })
+}
+
+/// What node `own` answered to a submission of a local client.
+fn given_of(closing: Closing, own: u8) -> Given {
+    match closing {
+        Closing::Ok(Some(id)) => Given::Kept { origin: own, id },
+        Closing::Refused(Refusal::NotCoordinator(coordinator)) => Given::Elsewhere { coordinator },
+        other => Given::Refused { error: error_of(&other) },
+    }
+}
+
+/// What it answered to a submission of another agent.
+fn outcome_of(closing: Closing) -> Outcome {
+    match closing {
+        Closing::Ok(Some(id)) => Outcome::Kept { id },
+        other => Outcome::Refused { error: error_of(&other) },
     }
 }
 

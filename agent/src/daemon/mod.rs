@@ -24,7 +24,7 @@ use crate::service::{Changes, Clients, Hand};
 use crate::view::View;
 use anyhow::Context;
 use log::info;
-use mio::{Events, Poll, Token, Waker};
+use mio::{Events, Poll, Registry, Token, Waker};
 use pages::PendingJobs;
 use signals::Signals;
 use std::os::unix::process::ExitStatusExt;
@@ -71,32 +71,18 @@ pub struct Daemon {
 impl Daemon {
     /// Starts the node of a configuration that was read at this path.
     pub fn start(config: Config, path: PathBuf) -> anyhow::Result<Daemon> {
-        let now = Instant::now();
-        let (poll, nodes) = (Poll::new()?, config.nodes.len());
-        let signals = Signals::register(poll.registry(), SIGNALS)?;
-        let waker = Arc::new(Waker::new(poll.registry(), WAKER)?);
-        let seal = match &config.key {
-            Some(key) => Seal::read(key, &config.cluster, nodes).with_context(|| key.display().to_string())?,
-            None => Seal::default(),
-        };
-        let clients = Clients::listen(&config.socket, poll.registry(), LISTENER, FIRST_CLIENT)
+        let (now, poll, nodes) = (Instant::now(), Poll::new()?, config.nodes.len());
+        let (registry, life) = (poll.registry(), forward::new_life()?);
+        let signals = Signals::register(registry, SIGNALS)?;
+        let waker = Arc::new(Waker::new(registry, WAKER)?);
+        let seal = seal_of(&config)?;
+        let clients = Clients::listen(&config.socket, registry, LISTENER, FIRST_CLIENT)
             .with_context(|| config.socket.display().to_string())?;
-        let at = config.listens_at();
-        let link =
-            Link::bind(at, poll.registry(), LINK).with_context(|| format!("datagrams can't be received at {at}"))?;
-        let http = match config.http {
-            Some(at) => Some(Server::start(at, Arc::clone(&waker)).with_context(|| format!("HTTP at {at}"))?),
-            None => None,
-        };
-        let mut node = NodeProcess::start(&config, poll.registry(), NODE_INPUT, NODE_OUTPUT)
-            .with_context(|| config.program.display().to_string())?;
-        if let Some(path) = &config.record {
-            node.set_record(Some(Record::open(path, &config).with_context(|| path.display().to_string())?));
-            node.write_down(["start"]);
-        }
-        let life = forward::new_life()?;
+        let link = Link::bind(config.listens_at(), registry, LINK)
+            .with_context(|| format!("datagrams can't be received at {}", config.listens_at()))?;
+        let http = http_of(&config, &waker)?;
         Ok(Daemon {
-            node,
+            node: node_of(&config, registry)?,
             clock: Clock::new(config.round_trip_ms, now),
             peers: Peers::new(config.id, &config.nodes, link.is_ipv6()),
             link,
@@ -223,4 +209,27 @@ impl Daemon {
         }
         status.code().and_then(|code| u8::try_from(code).ok()).unwrap_or(1)
     }
+}
+
+fn seal_of(config: &Config) -> anyhow::Result<Seal> {
+    match &config.key {
+        Some(key) => Seal::read(key, &config.cluster, config.nodes.len()).with_context(|| key.display().to_string()),
+        None => Ok(Seal::default()),
+    }
+}
+
+fn http_of(config: &Config, waker: &Arc<Waker>) -> anyhow::Result<Option<Server>> {
+    let start = |at| Server::start(at, Arc::clone(waker)).with_context(|| format!("HTTP at {at}"));
+    config.http.map(start).transpose()
+}
+
+/// The node, and its record where the configuration has one.
+fn node_of(config: &Config, registry: &Registry) -> anyhow::Result<NodeProcess<Asker>> {
+    let mut node = NodeProcess::start(config, registry, NODE_INPUT, NODE_OUTPUT)
+        .with_context(|| config.program.display().to_string())?;
+    if let Some(path) = &config.record {
+        node.set_record(Some(Record::open(path, config).with_context(|| path.display().to_string())?));
+        node.write_down(["start"]);
+    }
+    Ok(node)
 }
