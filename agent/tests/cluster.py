@@ -1,5 +1,7 @@
 """Three agents: groups, jobs, kills, cuts."""
-import json, os, time, urllib.request
+import json, os, signal, socket, time, urllib.request
+
+from bed import free_port
 
 
 def judged(bed, agents, name):
@@ -140,3 +142,42 @@ def partition(agents, check):
     check("the side of one takes jobs of its own", kept["ok"] and kept["origin"] == out, kept)
     agents.relay.cuts.clear()
     check("it heals", agents.one_group() < 60)
+
+
+def addresses(bed):
+    """Addresses that change (SIGHUP), names, IPv6."""
+    agents, check = bed.agents("addresses", count=2), bed.tally.check
+    for i in range(2):
+        wrong = agents.relay.peers(i)
+        wrong[1 - i] = "127.0.0.1:%d" % free_port()
+        agents.write(i, nodes=wrong)
+    agents.start_all()
+    agents.until(lambda: agents.is_one_group([0]) and agents.is_one_group([1]), 20)
+    time.sleep(1)
+    check("with wrong addresses each is alone", agents.is_one_group([0]) and agents.is_one_group([1]))
+    for i in range(2):
+        agents.write(i)
+        agents.processes[i].send_signal(signal.SIGHUP)
+    check("a changed list of addresses is taken by SIGHUP", agents.one_group() < 30)
+    with open(agents.path(0, "toml"), "w") as file:
+        file.write("cluster =\n")
+    agents.processes[0].send_signal(signal.SIGHUP)
+    time.sleep(0.3)
+    check("one that can't be read changes nothing", agents.one_group() < 30)
+    judged(bed, agents, "changed addresses")
+    ipv6(bed)
+
+
+def ipv6(bed):
+    ports = [free_port(), free_port()]
+    try:
+        with socket.socket(socket.AF_INET6, socket.SOCK_DGRAM) as link:
+            link.bind(("::1", 0))
+    except OSError as error:
+        return bed.tally.left_out("IPv6", error)
+    agents = bed.agents("ipv6", count=2)
+    for i in range(2):
+        agents.write(i, nodes=["localhost:%d" % ports[0], "[::1]:%d" % ports[1]], listen="[::]:%d" % ports[i])
+    agents.start_all()
+    bed.tally.check("names and IPv6", agents.one_group() < 30)
+    judged(bed, agents, "IPv6")

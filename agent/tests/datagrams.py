@@ -48,6 +48,44 @@ def rubbish(bed):
     agents.stop()
 
 
+def forwarded(bed):
+    """With a key: what agents send each other, spoiled in each bit and sent again. The node is given no key, so that it may have none."""
+    agents, check = bed.agents("forwarded", key=bed.key("ab")), bed.tally.check
+    path = os.path.join(agents.folder, "without_key")
+    with open(path, "w") as file:
+        file.write('#!/bin/sh\nexec "%s" node "$2" "$3" "$4"\n' % agents.program)
+    os.chmod(path, 0o755)
+    for i in range(3):
+        agents.write(i, key=bed.key("ab"), program=path)
+    agents.start_all()
+    agents.one_group()
+    lead = agents.status(0)["coordinator"]
+    kept = [agents.ask((lead + 1) % 3, do="submit", queue=q, text="once %d" % q) for q in range(4)]
+    check("sealed submissions are taken", all(one and one["ok"] for one in kept), kept)
+    mine = [message for j, message in list(agents.relay.kept) if j == lead and message[0] == 0xd6]
+    before, bits = refused(agents, lead), 8 * len(mine[-1])
+    for bit in range(bits):
+        agents.relay.send(lead, mine[-1][:bit // 8] + bytes([mine[-1][bit // 8] ^ 1 << bit % 8]) + mine[-1][bit // 8 + 1:])
+        time.sleep(0.0005)
+    # the head's bits make it a message of nodes, which the node refuses
+    agents.until(lambda: refused(agents, lead) - before >= bits, 20)
+    for message in mine * 3:
+        agents.relay.send(lead, message)
+    time.sleep(0.5)
+    total = agents.ask(lead, do="jobs", limit=0)["total"]
+    jobs = {(job["origin"], job["id"]) for job in agents.ask(lead, do="jobs")["jobs"] if job["kept"]}
+    check("recorded submissions sent again make no further job", jobs == {(one["origin"], one["id"]) for one in kept}, (total, jobs))
+    agents.kill(lead)
+    agents.start(lead)
+    agents.until(lambda: (agents.status(lead) or {}).get("phase") == "Normal", 30)
+    for message in mine * 3:
+        agents.relay.send(lead, message)
+    time.sleep(0.5)
+    jobs = [job for job in agents.ask(lead, do="jobs")["jobs"] if job["kept"]]
+    check("nor in the agent's next life", len(jobs) == len(kept), jobs)
+    judged(bed, agents, "forwarded submissions")
+
+
 def forged(bed):
     """With a key: each bit of a message spoiled, messages of another cluster and of another key, and messages that were recorded."""
     if not has_keys(bed.program, bed.folder):

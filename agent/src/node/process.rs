@@ -28,6 +28,10 @@ pub struct NodeProcess<A> {
     own: u8,
     child: Child,
     input: Option<pipe::Sender>,
+    /// Where the loop is told that the input has room again: only while it is full, for each read of the node would wake it.
+    registry: Registry,
+    input_token: Token,
+    is_waiting_for_room: bool,
     output: pipe::Receiver,
     /// Requests that wait for the answers before them: only where there is a record.
     waiting: VecDeque<Request<A>>,
@@ -51,15 +55,17 @@ impl<A> NodeProcess<A> {
         let mut child = command.stdin(Stdio::piped()).stdout(Stdio::piped()).spawn()?;
         let pipes = child.stdin.take().zip(child.stdout.take());
         let (stdin, stdout) = pipes.ok_or_else(|| io::Error::new(ErrorKind::Other, "the node has no pipes"))?;
-        let (mut to, mut from) = (pipe::Sender::from(stdin), pipe::Receiver::from(stdout));
+        let (to, mut from) = (pipe::Sender::from(stdin), pipe::Receiver::from(stdout));
         to.set_nonblocking(true)?;
         from.set_nonblocking(true)?;
-        registry.register(&mut to, input, Interest::WRITABLE)?;
         registry.register(&mut from, output, Interest::READABLE)?;
         Ok(NodeProcess {
             own: config.id,
             child,
             input: Some(to),
+            registry: registry.try_clone()?,
+            input_token: input,
+            is_waiting_for_room: false,
             output: from,
             waiting: VecDeque::new(),
             asked: VecDeque::new(),
@@ -122,11 +128,25 @@ impl<A> NodeProcess<A> {
     pub fn flush(&mut self) {
         while let (Some(input), false) = (self.input.as_mut(), self.unwritten.is_empty()) {
             match input.write(&self.unwritten) {
-                Ok(0) => return,
-                Ok(count) => drop(self.unwritten.drain(..count)),
+                Ok(count) if count > 0 => drop(self.unwritten.drain(..count)),
                 Err(error) if error.kind() == ErrorKind::Interrupted => {}
-                Err(error) if error.kind() == ErrorKind::WouldBlock => return,
-                Err(_) => self.input = None,
+                Err(error) if error.kind() == ErrorKind::WouldBlock => return self.wait_for_room(true),
+                _ => self.input = None,
+            }
+        }
+        self.wait_for_room(false);
+    }
+
+    fn wait_for_room(&mut self, waits: bool) {
+        if let (Some(input), true) = (self.input.as_mut(), waits != self.is_waiting_for_room) {
+            let done = if waits {
+                self.registry.register(input, self.input_token, Interest::WRITABLE)
+            } else {
+                self.registry.deregister(input)
+            };
+            match done {
+                Ok(()) => self.is_waiting_for_room = waits,
+                Err(why) => error!("the node's input can't be waited for: {why}"),
             }
         }
     }
