@@ -1,5 +1,5 @@
 -- Messages as they are lent, known apart by the numbers that they say.
-use Rattle.std.specs.Prelude.{◌≡◌, ℕ, ◌+◌, ◌*◌, ◌^◌, Bool, List, ◌∷◌, length, All, IsTrue, nat_eq, slice_index_or}
+use Rattle.std.specs.Prelude.{◌≡◌, ◌==◌, ℕ, ◌+◌, ◌*◌, ◌^◌, Bool, List, ◌∷◌, ◌++◌, length, All, IsTrue, nat_eq, slice_index_or, if◌then◌else◌}
 use Rattle.std.specs.Hash as fed
 use Rattle.std.specs.Cmp.Lexicographic.{pointwise, bytes_decides}
 use Rattle.std.specs.Ordering.{on}
@@ -41,8 +41,20 @@ mark numbers = 0
 abbrev pub mark_of : Envelope → ℕ
 mark_of m = mark (numbers_of m)
 
-pub same_mark : (m n : Envelope) → IsTrue (same_message m n) → fed.u128 (mark_of m) ≡ fed.u128 (mark_of n)
-same_mark m n same = ap (λ (numbers : List ℕ). fed.u128 (mark numbers)) ((bytes_decides (numbers_of m) (numbers_of n)).0 same)
+-- the count of a Work's group, since one job is sent again in each new group; 0 of a message that is no Work
+abbrev pub count : List ℕ → ℕ
+count (sender ∷ receiver ∷ kind ∷ node ∷ number ∷ more ∷ rest) = if kind == 9 then more else 0
+count numbers = 0
+
+abbrev pub count_of : Envelope → ℕ
+count_of m = count (numbers_of m)
+
+-- what a hasher is given of a message
+abbrev pub marked : List ℕ → fed.HashWrites
+marked numbers = fed.u128 (mark numbers) ++ fed.u64 (count numbers)
+
+pub same_mark : (m n : Envelope) → IsTrue (same_message m n) → marked (numbers_of m) ≡ marked (numbers_of n)
+same_mark m n same = ap marked ((bytes_decides (numbers_of m) (numbers_of n)).0 same)
 
 -- ---- a letter, lent with what is kept beside it
 

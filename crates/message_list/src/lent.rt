@@ -1,7 +1,7 @@
 //! Messages of lists, lent as they are kept, so that a set of them takes 16 bytes for each.
 
 use crate::list::MessageList;
-use crate::opened::{is_same, mark};
+use crate::opened::{count, is_same, mark};
 use std::hash::{Hash, Hasher};
 use std::marker::Model;
 
@@ -50,14 +50,15 @@ impl<'a> Eq for LentMessage<'a> {
 }
 
 impl<'a> Hash for LentMessage<'a> {
-    ghost use Rattle.std.specs.Hash as fed;
-    ghost use Rattle.message_list.specs.Lent.{mark_of, same_mark};
+    ghost use Rattle.message_list.specs.Lent.{marked, numbers_of, same_mark};
 
-    ghost hash_input = { λ m. fed.u128 (mark_of m) };
+    ghost hash_input = { λ m. marked (numbers_of m) };
 
     ghost respects_eq = { same_mark };
 
     fn hash<H: Hasher>(&self, state: &mut H) {
-        state.write_u128(mark(&self.list.opened(self.place)))
+        let opened = self.list.opened(self.place);
+        state.write_u128(mark(&opened));
+        state.write_u64(count(&opened));
     }
 }

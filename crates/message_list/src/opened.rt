@@ -3,7 +3,7 @@
 ghost use Rattle.std.specs.Prelude.{◌≡◌, ◌↔◌, IsTrue, length};
 ghost use Rattle.message_list.specs.Letters.{HasPayload, work_said};
 ghost use Rattle.wire_msg.specs.Kinds.{body_of};
-ghost use Rattle.message_list.specs.Lent.{shape_opened, message_opened, mark_by, mark_of, IsOpened};
+ghost use Rattle.message_list.specs.Lent.{shape_opened, message_opened, mark_by, mark_of, count_of, IsOpened};
 
 use crate::letter::{KeptWork, Letter, LetterKind};
 use group_task::Task;
@@ -75,7 +75,8 @@ fn is_same_work(payloads: &[u8], one: &KeptWork, other_payloads: &[u8], other: &
             == &other_payloads[other.start..other.start + other.len]
 }
 
-/// The mark of the message: equal messages have one mark, and few others share it.
+/// The mark of the message. Equal messages have one mark; of others those share it that differ in what it leaves out: the count of a
+/// Work's group, its queue, priority and payload, the members of a Ready, an answer.
 pub fn mark(one: &Opened<'_>) -> u128
     requires { IsOpened one.now }
     ensures { result ≡ mark_of (message_opened one.now) }
@@ -92,6 +93,18 @@ pub fn mark(one: &Opened<'_>) -> u128
             let work = &one.works[number as usize];
             mark_by(letter, 9, work.group.creator().number(), work.id)
         }
+    }
+}
+
+/// The count of a Work's group, and 0 of a message that is no Work. Beside the mark it tells apart the Works of one job, which is sent
+/// again in each new group.
+pub fn count(one: &Opened<'_>) -> u64
+    requires { IsOpened one.now }
+    ensures { result ≡ count_of (message_opened one.now) }
+{
+    match one.letter.kind {
+        LetterKind::Work => one.works[one.letter.number as usize].group.count(),
+        LetterKind::Short(_) | LetterKind::Ready => 0,
     }
 }
 
