@@ -1,6 +1,6 @@
 //! The streams of a command, each of which keeps the error that it failed with.
 
-ghost use Rattle.std.specs.Prelude.{◌≡◌, ◌<◌, ◌≤◌, ◌+◌};
+ghost use Rattle.std.specs.Prelude.{◌≡◌, ◌<◌, ◌≤◌, ◌+◌, IsOk, IsErr, IfErr, Some, None};
 ghost use Rattle.std.specs.Io.{ReadsAtMost};
 ghost use Rattle.std.specs.Io.KnownBytes.{ReadConsumes};
 ghost use Rattle.console_text.specs.declared.source.TheConstants.{MAX_READS};
@@ -25,7 +25,12 @@ impl<R: Read> Model for Source<R> {
 
     ghost Value = { Feed R };
 
-    ghost view = { λ a. record { reader = a.reader; left = a.left } };
+    ghost view = { λ a. record { reader = a.reader; left = a.left; fault = a.fault } };
+
+    ghost use Rattle.std.specs.Prelude.{◌≤◌};
+    ghost use Rattle.console_text.specs.declared.source.TheConstants.{MAX_READS};
+
+    ghost invariant = { λ a. a.left ≤ MAX_READS };
 }
 
 impl<R: Read> Source<R> {
@@ -33,6 +38,7 @@ impl<R: Read> Source<R> {
     pub fn new(reader: R) -> Source<R>
         ensures reader { result.reader ≡ reader }
         ensures left { result.left ≡ MAX_READS }
+        ensures fault { result.fault ≡ None }
     {
         Source {
             reader,
@@ -42,7 +48,9 @@ impl<R: Read> Source<R> {
     }
 
     /// The error of the last read that failed. None where no read failed, also where too many were asked for.
-    pub fn fault(&self) -> Option<io::Error> {
+    pub fn fault(&self) -> Option<io::Error>
+        ensures { result ≡ self.now.fault }
+    {
         self.fault
     }
 }
@@ -53,9 +61,14 @@ impl<R: Read> Read for Source<R> {
     fn read(&mut self, buf: &mut [u8]) -> io::Result<usize>
         ensures bound { ReadsAtMost result buf.new }
         ensures bytes { ReadConsumes (R.remaining self.old.reader) (R.remaining self.new.reader) result buf.new }
+        ensures most { self.old.left ≤ MAX_READS }
         ensures counted { self.old.left ≤ self.new.left + 1 }
         ensures taken { 0 < self.old.left → self.new.left + 1 ≡ self.old.left }
-        ensures spent { self.old.left ≡ 0 → self.new ≡ self.old }
+        ensures spent { self.old.left ≡ 0 → IsErr result × (self.new ≡ self.old) }
+
+        // A read that fails leaves its error, and one that doesn't leaves what was there.
+        ensures failed { 0 < self.old.left → IfErr result (λ error. self.new.fault ≡ Some error) }
+        ensures read { IsOk result → self.new.fault ≡ self.old.fault }
     {
         if self.left == 0 {
             return Err(io::Error::from(ErrorKind::Other));

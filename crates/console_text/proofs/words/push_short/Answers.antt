@@ -1,4 +1,4 @@
-use Rattle.std.proofs.Common.{◌≡◌, ◌+◌, arith, length, take, ap, sym, ◌∙◌}
+use Rattle.std.proofs.Common.{◌≡◌, ◌+◌, arith, length, take, ap, ◌∙◌}
 use Rattle.std.specs.Prelude.{decimal}
 use Rattle.console_text.proofs.Decimals.{cut_behind, written_over}
 use Rattle.console_text.proofs.words.push_short.Goals as goal
