@@ -1,17 +1,29 @@
-//! Tests of groups, messages, lists of messages, the network and a node's core, through their public calls, against values from outside.
-//! The crate has no code beside its tests. They stand apart from the crates that they try, each of which would else be proved twice. Rows of the
-//! protocol's table are schedules, which the built program runs; rows of the core by itself stand here too.
+//! Tests of groups, messages, a node's core, jobs, sectors, slots, cells, journals and stores, through their public calls: of what no clause says and no
+//! line of the program's input shows. Bytes and texts from outside, how many device calls a call makes, what stops and crashes leave, and rows of the
+//! core by itself. The crate has no code beside its tests. They stand apart from the crates that they try, each of which would else be proved twice.
 #![tactic(auto)]
 
 #[cfg(test)]
+mod cells;
+#[cfg(test)]
+mod files;
+#[cfg(test)]
+mod gates;
+#[cfg(test)]
 mod groups;
 #[cfg(test)]
-mod lists;
+mod journals;
 #[cfg(test)]
 mod messages;
 #[cfg(test)]
-mod networks;
+mod records;
 #[cfg(test)]
 mod refused;
 #[cfg(test)]
 mod rows;
+#[cfg(test)]
+mod sectors;
+#[cfg(test)]
+mod stores;
+#[cfg(test)]
+mod texts;

@@ -170,19 +170,6 @@ fn non_messages(rt: HostRuntime) {
     }
 }
 
-/// A Work whose head tells of as many bytes as are left of it, cut at each place.
-#[test]
-fn work_cut_short(rt: HostRuntime) {
-    let whole = spelling(17);
-    for end in 6..whole.len() {
-        let mut bytes = Vec::new(rt.alloc());
-        bytes.extend_from_slice(&whole[..end]).expect(&rt, "memory");
-        bytes[5] = u8::try_from(end - 6).expect(&rt, "a byte");
-        assert!(rt; decode(&whole[..end]) == Err(WireFault::Malformed), "{end}");
-        assert!(rt; decode(&bytes) == Err(WireFault::Malformed), "{end}");
-    }
-}
-
 /// The longest body is that of a Work with a priority and 400 bytes: 421 bytes.
 #[test]
 fn longest_work(rt: HostRuntime) {
@@ -268,45 +255,4 @@ fn rest_and_malformed(rt: HostRuntime) {
     assert_eq!(rt; stream.rest(), 0);
     assert!(rt; stream.feed(spelling(0), &mut out) == Err(WireFault::Malformed));
     assert_eq!(rt; out.len(), 1);
-}
-
-#[test]
-fn malformed_behind_good_frames(rt: HostRuntime) {
-    let mut bytes = all_spellings(rt.alloc()).expect(&rt, "memory");
-    bytes
-        .extend_from_slice(
-            b"\x01\x07\x00\x01\x00\x0c\x00\x00\x00\x00\x00\x00\x00\x00\x02\x02\x01\x00",
-        )
-        .expect(&rt, "memory");
-    let mut stream = Stream::new(rt.alloc());
-    let mut out = Vec::new(rt.alloc());
-    assert!(rt; stream.feed(&bytes, &mut out) == Err(WireFault::Malformed));
-    expect_all(&rt, &out);
-    assert_eq!(rt; stream.rest(), 0);
-}
-
-#[test]
-fn frame_is_judged_once_it_is_whole(rt: HostRuntime) {
-    let mut stream = Stream::new(rt.alloc());
-    let mut out = Vec::new(rt.alloc());
-    stream
-        .feed(b"\xff\xff\xff\xff\x00\x02\x00", &mut out)
-        .expect(&rt, "a part");
-    assert_eq!(rt; stream.rest(), 7);
-    assert!(rt; stream.feed(b"\x00", &mut out) == Err(WireFault::Malformed));
-    assert_eq!(rt; stream.rest(), 0);
-}
-
-#[test]
-fn ends_and_faults(rt: HostRuntime) {
-    let message = message(0).expect(&rt, "a message");
-    assert_eq!(rt; message.sender().number(), 2);
-    assert_eq!(rt; message.receiver().number(), 0);
-    assert!(rt; *message.body() == Body::AreYouCoordinator);
-    let again = Message::new(message.sender(), message.sender(), Body::AreYouCoordinator);
-    assert!(rt; again.is_none());
-    let text = format!(in rt.alloc(); "{}, {}", WireFault::Malformed, WireFault::NoMemory).expect(
-        &rt, "memory",
-    );
-    assert_eq!(rt; text.as_str(), "malformed, no memory");
 }

@@ -242,21 +242,6 @@ fn recover_while_up_empties_the_hand(rt: HostRuntime) {
     node.expect(&rt, &leading(&rt, 9, &[0]), &[]);
 }
 
-/// The sender, a group's creator, or a member is outside the cluster, or the message is for another node.
-#[test]
-fn strangers(rt: HostRuntime) {
-    let mut node = Node::new(&rt, rt.alloc(), 0);
-    for message in [
-        Message::between(NodeId::numbered(2), NodeId::numbered(0), Body::Done(0)),
-        to_zero(Body::Invitation(group(2, 5))),
-        to_zero(Body::Ready(task(&rt, group(1, 5), &[0, 1, 2]))),
-        to_one(Body::AreYouCoordinator),
-    ] {
-        node.refuse(&rt, &Event::Deliver(message), CoreFault::Stranger);
-    }
-    node.expect(&rt, &leading(&rt, 1, &[0]), &[]);
-}
-
 /// Timers and messages change nothing, and jobs are refused. A message for another node is Stranger here, too.
 #[test]
 fn down_until_it_recovers(rt: HostRuntime) {
@@ -278,42 +263,4 @@ fn down_until_it_recovers(rt: HostRuntime) {
     node.expect(&rt, &down(), &[]);
     node.step(&rt, &Event::Recover, (Wanted::Raise, 2), &[]);
     node.expect(&rt, &leading(&rt, 2, &[0]), &[]);
-}
-
-/// Origin and id name a job together, and an origin outside the cluster is no stranger.
-#[test]
-fn finish_of_an_unknown_job(rt: HostRuntime) {
-    let mut node = Node::new(&rt, rt.alloc(), 0);
-    let job = job(&rt, 0, 2, 0);
-    node.put(&rt, job.work);
-    node.fire(&rt, Timer::Dispatch, &[]);
-    for (origin, id) in [(0, 1), (1, 0), (2, 0)] {
-        let finish = Event::Finish(NodeId::numbered(origin), id);
-        node.refuse(&rt, &finish, CoreFault::UnknownJob);
-    }
-    node.expect(&rt, &leading(&rt, 1, &[0]), &[job]);
-    let finish = Event::Finish(NodeId::numbered(0), 0);
-    node.step(&rt, &finish, (Wanted::Done(0), 1), &[]);
-    node.refuse(&rt, &finish, CoreFault::UnknownJob);
-    node.expect(&rt, &leading(&rt, 1, &[0]), &[]);
-}
-
-#[test]
-fn merge_of_two(rt: HostRuntime) {
-    let mut zero = inviting(&rt, rt.alloc());
-    let mut one = Node::new(&rt, rt.alloc(), 1);
-    let agrees = to_zero(Body::Coordinator(true));
-    one.hear(&rt, &to_one(Body::AreYouCoordinator), &[agrees]);
-    let accepts = to_zero(Body::Accept(group(0, 2)));
-    one.hear(&rt, &to_one(Body::Invitation(group(0, 2))), &[accepts]);
-    zero.hear(&rt, &accepts, &[]);
-    let tells = to_one(Body::Ready(task(&rt, group(0, 2), &[0, 1])));
-    zero.fire(&rt, Timer::Accept, &[tells]);
-    let is_ready = to_zero(Body::ReadyAck(group(0, 2)));
-    one.hear(&rt, &tells, &[is_ready]);
-    zero.hear(&rt, &is_ready, &[]);
-    let mut state = leading(&rt, 2, &[0, 1]);
-    zero.expect(&rt, &state, &[]);
-    state.up = Members::new();
-    one.expect(&rt, &state, &[]);
 }

@@ -1,4 +1,3 @@
-use crate::texts::expect_text;
 use sector_disk::{DiskFault, MemDisk, Sector, SectorDisk};
 use std::alloc::Global;
 use std::process::Abort;
@@ -114,15 +113,5 @@ fn fill_of_a_crash(rt: HostRuntime) {
         let mut disk = overwritten(&rt, rt.alloc());
         let fill = longest.get(..bytes).expect(&rt, "so many bytes");
         check_fill(&rt, &mut disk, fill, first, second);
-    }
-}
-
-#[test]
-fn faults_in_words(rt: HostRuntime) {
-    for (fault, want) in [
-        (DiskFault::Device, "the device failed"),
-        (DiskFault::OutOfRange, "the disk has no such sector"),
-    ] {
-        expect_text(&rt, rt.alloc(), &fault, want);
     }
 }

@@ -2,7 +2,6 @@
 // whole runs with stops and crashes.
 ghost use Rattle.std.specs.Prelude.{◌<◌};
 
-use crate::texts::expect_text;
 use job_journal::{JournalFault, format, mount};
 use job_model::{Command, Job, Payload, Queue, Record, Work};
 use sector_disk::{MemDisk, Sector, SectorDisk};
@@ -131,17 +130,6 @@ fn run(rt: &impl Abort, alloc: Global, disk: &mut MemDisk, rows: &[Row]) {
     }
 }
 
-// Expects that the disk mounts as this.
-fn check_mounted(
-    rt: &impl Abort,
-    alloc: Global,
-    disk: &mut MemDisk,
-    want: Result<(u64, usize), JournalFault>,
-) {
-    let actual = mounted_within(rt, alloc, disk, u64::MAX);
-    assert!(rt; actual == want);
-}
-
 fn seal_greatest_area(rt: &impl Abort, disk: &mut MemDisk) {
     disk.arm(u64::MAX);
     assert!(rt; disk.sectors() == 24);
@@ -156,37 +144,12 @@ fn crashed(rt: &impl Abort, alloc: Global, disk: &mut MemDisk, fill: &[u8]) -> (
     mounted_within(rt, alloc, disk, u64::MAX).expect(rt, "a mounted journal")
 }
 
-// Appends a job in so many device calls at most, crashes and mounts: whether the append is done, the next id and how many jobs are pending.
-fn stopped_append(rt: &impl Abort, alloc: Global, calls: u64, fill: &[u8]) -> (bool, u64, usize) {
-    let mut disk = formatted(rt, alloc);
-    let answer = call_within(rt, alloc, &mut disk, Call::Put, calls);
-    let (next, pending) = crashed(rt, alloc, &mut disk, fill);
-    (answer.is_ok(), next, pending)
-}
-
-// The body is written and synced, and then the gate: a crash after the gate's write, done or failed, keeps the job
-// where it leaves 0xA5 there.
-#[test]
-fn append_stopped_at_each_call(rt: HostRuntime) {
-    for (fill, seals) in [
-        (&[][..], false),
-        (&[0xa5][..], true),
-        (&[0x37; 512][..], false),
-    ] {
-        for k in 0..=4 {
-            let is_kept = k == 4 || (seals && k >= 2);
-            let actual = stopped_append(&rt, rt.alloc(), k, fill);
-            let want = (k == 4, u64::from(is_kept), usize::from(is_kept));
-            assert!(rt; actual == want, "{k} calls");
-        }
-    }
-}
-
 #[test]
 fn put_with_another_id(rt: HostRuntime) {
     let mut disk = formatted(&rt, rt.alloc());
     seal_over(&rt, &mut disk, 8, &Record::Put(job(&rt, 1)));
-    check_mounted(&rt, rt.alloc(), &mut disk, Err(JournalFault::Damaged(8)));
+    let mounted = mounted_within(&rt, rt.alloc(), &mut disk, u64::MAX);
+    assert!(rt; mounted == Err(JournalFault::Damaged(8)));
 }
 
 // The journal of area 0 begins with the greatest next id there is, and one job was kept.
@@ -199,22 +162,6 @@ fn no_id_left(rt: HostRuntime) {
     run(&rt, rt.alloc(), &mut disk, &[exhausted]);
     assert!(rt; disk.failures() == 0);
     run(&rt, rt.alloc(), &mut disk, &[(Call::Done(7), 4, Ok(7))]);
-}
-
-// Two jobs are pending: a Base, three jobs and a Done wouldn't fit into four slots.
-#[test]
-fn full_journal(rt: HostRuntime) {
-    let mut disk = formatted(&rt, rt.alloc());
-    run(
-        &rt,
-        rt.alloc(),
-        &mut disk,
-        &[
-            (Call::Put, 4, Ok(0)),
-            (Call::Put, 4, Ok(1)),
-            (Call::Put, 0, Err(JournalFault::Full)),
-        ],
-    );
 }
 
 // Four records stand in the four slots, and jobs 1 and 2 are pending.
@@ -325,33 +272,6 @@ fn stops_on_an_old_disk(rt: HostRuntime) {
     }
 }
 
-// An old Put stands between two others.
-#[test]
-fn old_among_new(rt: HostRuntime) {
-    let mut disk = formatted(&rt, rt.alloc());
-    run(&rt, rt.alloc(), &mut disk, &[(Call::Put, 4, Ok(0))]);
-    let old = [1, 0, 0, 0, 0, 0, 0, 0, 1, 0, 0, 1, 0x62];
-    seal_body(&rt, &mut disk, 10, &sector(&old));
-    let rows = [(Call::Done(0), 4, Ok(0)), (Call::Put, 4, Ok(2))];
-    run(&rt, rt.alloc(), &mut disk, &rows);
-    check_sector(
-        &rt,
-        &mut disk,
-        14,
-        &[5, 0, 0, 0, 0, 0, 0, 0, 2, 1, 7, 0, 2, 0x68, 0x69],
-    );
-    check_jobs(&rt, rt.alloc(), &mut disk, 3, &[old_job(&rt), job(&rt, 2)]);
-}
-
-// Compactions by turns into either area; over a sealed slot of the area cell a raise takes six calls.
-#[test]
-fn compaction_repeated(rt: HostRuntime) {
-    let mut disk = with_no_free_slot(&rt, rt.alloc());
-    run(&rt, rt.alloc(), &mut disk, &[(Call::Compact, 24, Ok(0))]);
-    run(&rt, rt.alloc(), &mut disk, &[(Call::Compact, 26, Ok(0)); 9]);
-    assert!(rt; crashed(&rt, rt.alloc(), &mut disk, &[]) == (3, 2));
-}
-
 // Slot B of the area cell has the greatest value there is, which is odd: no compaction any more.
 #[test]
 fn no_compaction_left(rt: HostRuntime) {
@@ -367,59 +287,4 @@ fn no_compaction_left(rt: HostRuntime) {
             (Call::Compact, 0, Err(JournalFault::Exhausted)),
         ],
     );
-}
-
-fn raise_area(rt: &impl Abort, disk: &mut MemDisk) {
-    assert!(rt; disk.sectors() == 24);
-    let mut area = safe_cell::mount(disk, 4).expect(rt, "a mounted cell");
-    area.raise(disk).expect(rt, "a raised cell");
-}
-
-// The area cell is raised to 2: the first slot of area 1 is in sector 16.
-#[test]
-fn second_area(rt: HostRuntime) {
-    let mut disk = formatted(&rt, rt.alloc());
-    raise_area(&rt, &mut disk);
-    seal_over(&rt, &mut disk, 16, &Record::Base(3));
-    run(&rt, rt.alloc(), &mut disk, &[(Call::Put, 4, Ok(3))]);
-    check_mounted(&rt, rt.alloc(), &mut disk, Ok((4, 1)));
-}
-
-// Whether an empty journal is mounted in so many device calls, or else the device is said to have failed.
-fn is_mounted_within(rt: &impl Abort, alloc: Global, calls: u64) -> bool {
-    let mut disk = formatted(rt, alloc);
-    match mounted_within(rt, alloc, &mut disk, calls) {
-        Ok((0, 0)) => true,
-        Err(JournalFault::Device) => false,
-        _ => panic!(rt; "another answer"),
-    }
-}
-
-// Sectors 5, 4 and 7, and the gate in sector 9. Of a disk of zeros the area cell isn't sealed.
-#[test]
-fn mounting_fails_at_each_call(rt: HostRuntime) {
-    for k in 0..=4 {
-        let is_mounted = is_mounted_within(&rt, rt.alloc(), k);
-        assert!(rt; is_mounted == (k == 4), "{k} calls");
-    }
-    let mut zeros = MemDisk::new(rt.alloc(), 24).expect(&rt, "memory for a disk");
-    check_mounted(&rt, rt.alloc(), &mut zeros, Err(JournalFault::Damaged(5)));
-}
-
-#[test]
-fn faults_as_text(rt: HostRuntime) {
-    for (fault, text) in [
-        (JournalFault::Device, "the device failed"),
-        (
-            JournalFault::Broken,
-            "the device failed earlier, mount again",
-        ),
-        (JournalFault::Exhausted, "no number is left"),
-        (JournalFault::Damaged(6), "the body in sector 6 is damaged"),
-        (JournalFault::Full, "the journal is full"),
-        (JournalFault::NoSuchJob, "no such job is pending"),
-        (JournalFault::NoMemory, "out of memory"),
-    ] {
-        expect_text(&rt, rt.alloc(), &fault, text);
-    }
 }

@@ -1,5 +1,4 @@
-// What no clause says: how many device calls a call makes, and that the definitions of a slot mean
-// its layout.
+// What no clause says: how many device calls a call makes.
 use sector_disk::{DiskFault, MemDisk, Sector, SectorDisk};
 use slot_gate::{fill, look, seal, store, unseal};
 use std::alloc::Global;
@@ -64,51 +63,5 @@ fn device_calls(rt: HostRuntime) {
             let done = is_done_within(&rt, rt.alloc(), sealed, call, k);
             assert!(rt; done == (k == calls), "{call:?} with {k} calls");
         }
-    }
-}
-
-// Whether the slot is sealed by a gate of this first byte and these others.
-fn is_sealed_by(rt: &impl Abort, alloc: Global, first: u8, others: u8) -> bool {
-    let mut disk = disk_with(rt, alloc, false);
-    let mut gate = [others; 512];
-    gate[0] = first;
-    disk.write(3, &gate).expect(rt, "a gate");
-    let content = make(rt, &mut disk, Call::Look).expect(rt, "a slot");
-    content.is_some()
-}
-
-// Only the first byte of a gate is looked at, and it is 0xA5 where the slot is sealed.
-#[test]
-fn gates(rt: HostRuntime) {
-    for (first, others, is_sealed) in [
-        (0xa5, 0x00, true),
-        (0xa5, 0xff, true),
-        (0x00, 0xa5, false),
-        (0x5a, 0x00, false),
-        (0xff, 0xff, false),
-    ] {
-        let actual = is_sealed_by(&rt, rt.alloc(), first, others);
-        assert!(rt; actual == is_sealed, "a gate of {first} and {others}");
-    }
-}
-
-// The gate after a call.
-fn gate_after(rt: &impl Abort, disk: &mut MemDisk, call: Call) -> Sector {
-    make(rt, disk, call).expect(rt, "a device that works");
-    let mut gate = [0xff; 512];
-    disk.read(3, &mut gate).expect(rt, "a gate");
-    gate
-}
-
-#[test]
-fn gates_as_written(rt: HostRuntime) {
-    let mut disk = disk_with(&rt, rt.alloc(), false);
-    for (call, first) in [(Call::Seal, 0xa5), (Call::Unseal, 0x00)] {
-        let mut expected = [0; 512];
-        expected[0] = first;
-        assert!(rt;
-            gate_after(&rt, &mut disk, call) == expected,
-            "after {call:?}"
-        );
     }
 }

@@ -1,8 +1,6 @@
-// What no clause says: how many device calls a call makes, that the definitions of a cell mean its
-// layout, and whole runs with stops and crashes.
+// What no clause says: how many device calls a call makes, and whole runs with stops and crashes.
 ghost use Rattle.std.specs.Prelude.{◌<◌};
 
-use crate::texts::expect_text;
 use safe_cell::{CellFault, format, mount};
 use sector_disk::{MemDisk, Sector, SectorDisk};
 use std::alloc::Global;
@@ -51,15 +49,6 @@ fn raised(rt: &impl Abort, alloc: Global, raises: u64) -> MemDisk {
         raise_within(rt, &mut disk, 6).expect(rt, "a raised cell");
     }
     disk
-}
-
-// The body of a value, with two bytes past it.
-fn body(value: u64, eighth: u8, last: u8) -> Sector {
-    let mut body = [0; 512];
-    body[..8].copy_from_slice(&value.to_be_bytes());
-    body[8] = eighth;
-    body[511] = last;
-    body
 }
 
 fn seal_over(rt: &impl Abort, disk: &mut MemDisk, slot: u64, body: &Sector)
@@ -196,80 +185,5 @@ fn formatting_fails_at_each_call(rt: HostRuntime) {
             is_formatted_within(&rt, rt.alloc(), k) == (k == 8),
             "{k} calls"
         );
-    }
-}
-
-// The value is the first eight bytes of a body, greatest first.
-#[test]
-fn body_as_written(rt: HostRuntime) {
-    let mut disk = MemDisk::new(rt.alloc(), 24).expect(&rt, "memory for a disk");
-    format_within(&rt, &mut disk, 8).expect(&rt, "a formatted cell");
-    disk.arm(1);
-    let mut expected = [0; 512];
-    expected[7] = 2;
-    let mut actual = [0xff; 512];
-    disk.read(4, &mut actual).expect(&rt, "a sector");
-    assert_eq!(rt; actual, expected);
-}
-
-// What a mounting answers of a cell whose slots have these bodies, where they are sealed.
-fn value_of(
-    rt: &impl Abort,
-    alloc: Global,
-    first: &Option<Sector>,
-    second: &Option<Sector>,
-) -> Result<u64, CellFault> {
-    let mut disk = MemDisk::new(alloc, 24).expect(rt, "memory for a disk");
-    if let Some(body) = first {
-        seal_over(rt, &mut disk, 4, body);
-    }
-    if let Some(body) = second {
-        seal_over(rt, &mut disk, 6, body);
-    }
-    mounted_value(rt, &mut disk)
-}
-
-#[test]
-fn what_a_mounting_answers(rt: HostRuntime) {
-    let damaged = body(9, 1, 0);
-    let torn = body(9, 0, 1);
-    for (row, first, second, want) in [
-        (1, None, None, Err(CellFault::NotFormatted)),
-        (2, Some(body(7, 0, 0)), None, Ok(7)),
-        (3, None, Some(body(7, 0, 0)), Ok(7)),
-        (4, Some(body(7, 0, 0)), Some(body(7, 0, 0)), Ok(7)),
-        (5, Some(body(2, 0, 0)), Some(body(256, 0, 0)), Ok(256)),
-        (6, Some(body(256, 0, 0)), Some(body(2, 0, 0)), Ok(256)),
-        (7, Some(damaged), None, Err(CellFault::Damaged(4))),
-        (
-            8,
-            Some(torn),
-            Some(body(7, 0, 0)),
-            Err(CellFault::Damaged(4)),
-        ),
-        (
-            9,
-            Some(body(7, 0, 0)),
-            Some(damaged),
-            Err(CellFault::Damaged(6)),
-        ),
-        (10, None, Some(torn), Err(CellFault::Damaged(6))),
-        (11, Some(torn), Some(damaged), Err(CellFault::Damaged(4))),
-    ] {
-        let actual = value_of(&rt, rt.alloc(), &first, &second);
-        assert!(rt; actual == want, "row {row}");
-    }
-}
-
-#[test]
-fn faults_as_text(rt: HostRuntime) {
-    for (fault, text) in [
-        (CellFault::Device, "the device failed"),
-        (CellFault::Broken, "the device failed earlier, mount again"),
-        (CellFault::Exhausted, "the value is the greatest there is"),
-        (CellFault::NotFormatted, "no slot is sealed"),
-        (CellFault::Damaged(6), "the body in sector 6 is damaged"),
-    ] {
-        expect_text(&rt, rt.alloc(), &fault, text);
     }
 }

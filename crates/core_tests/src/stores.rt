@@ -4,7 +4,6 @@ ghost use Rattle.sector_disk.specs.Memory.{state_of};
 ghost use Rattle.job_journal.specs.Journal.{IsSound};
 ghost use Rattle.node_store.specs.Store.{slots_for};
 
-use crate::texts::expect_text;
 use job_model::{Payload, Queue, Work};
 use node_store::{MountFault, NodeStore, StoreFault, format};
 use sector_disk::MemDisk;
@@ -43,7 +42,6 @@ fn opened(rt: &impl Abort, alloc: Global, sectors: u64) -> NodeStore<MemDisk>
 #[derive(Clone, Copy, Debug)]
 enum Call {
     Put,
-    Done(u64),
     Raise,
     Compact,
 }
@@ -63,7 +61,6 @@ fn make(rt: &impl Abort, store: &mut NodeStore<MemDisk>, call: Call) -> Result<u
 {
     match call {
         Call::Put => store.put(work(rt)),
-        Call::Done(id) => store.done(id),
         Call::Raise => store.raise(),
         Call::Compact => compact(store),
     }
@@ -99,10 +96,6 @@ fn refusal(alloc: Global, disk: MemDisk) -> Option<StoreFault> {
 
 fn mount(alloc: Global, disk: MemDisk) -> Result<NodeStore<MemDisk>, MountFault<MemDisk>> {
     NodeStore::mount(alloc, disk)
-}
-
-fn raise(store: &mut NodeStore<MemDisk>) -> Result<u64, StoreFault> {
-    store.raise()
 }
 
 fn new_disk(rt: &impl Abort, alloc: Global, sectors: u64) -> MemDisk {
@@ -233,49 +226,6 @@ fn greatest_disk(rt: HostRuntime) {
     assert!(rt; mounts_as(rt.alloc(), disk) == Ok((0, 2, 2)));
 }
 
-// Five commands for four slots: the last of them finds no free slot, and compacts.
-#[test]
-fn full_journal(rt: HostRuntime) {
-    let rows = [
-        (Call::Put, Ok(0)),
-        (Call::Put, Ok(1)),
-        (Call::Put, Err(StoreFault::Full)),
-        (Call::Done(0), Ok(0)),
-        (Call::Put, Ok(2)),
-        (Call::Done(1), Ok(1)),
-    ];
-    let store = after(&rt, rt.alloc(), 24, &rows);
-    assert!(rt; store.table().pending().len() == 1);
-}
-
-#[test]
-fn compacted_again_and_again(rt: HostRuntime) {
-    after(
-        &rt,
-        rt.alloc(),
-        24,
-        &[
-            (Call::Compact, Ok(0)),
-            (Call::Compact, Ok(0)),
-            (Call::Compact, Ok(0)),
-            (Call::Put, Ok(0)),
-        ],
-    );
-}
-
-#[test]
-fn commands_are_mounted_again(rt: HostRuntime) {
-    let rows = [
-        (Call::Put, Ok(0)),
-        (Call::Put, Ok(1)),
-        (Call::Done(0), Ok(0)),
-        (Call::Raise, Ok(1)),
-    ];
-    let mut disk = after(&rt, rt.alloc(), 24, &rows).into_disk();
-    disk.crash(&[0xff; 512]);
-    assert!(rt; mounts_as(rt.alloc(), disk) == Ok((1, 2, 1)));
-}
-
 // Mounts a disk whose counter was raised in so many device calls at most, and then with enough of them: whether the first was enough.
 fn is_mounted_within(rt: &impl Abort, alloc: Global, calls: u64) -> bool {
     let mut disk = after(rt, alloc, 24, &[(Call::Raise, Ok(1))]).into_disk();
@@ -296,35 +246,5 @@ fn mounting_fails_at_each_call(rt: HostRuntime) {
     for k in 0..=9 {
         let is_mounted = is_mounted_within(&rt, rt.alloc(), k);
         assert!(rt; is_mounted == (k == 9), "{k} calls");
-    }
-}
-
-// The mounting takes eight calls, since the second slot of the counter isn't sealed, and the raise fails in its second.
-#[test]
-fn broken_after_a_device_fault(rt: HostRuntime) {
-    let mut disk = after(&rt, rt.alloc(), 24, &[]).into_disk();
-    disk.arm(9);
-    let Ok(mut store) = mount(rt.alloc(), disk) else {
-        panic!(rt; "not mounted");
-    };
-    for fault in [StoreFault::Device, StoreFault::Broken] {
-        assert!(rt; raise(&mut store) == Err(fault), "{fault}");
-    }
-}
-
-#[test]
-fn faults_as_text(rt: HostRuntime) {
-    for (fault, text) in [
-        (StoreFault::Device, "the device failed"),
-        (StoreFault::Broken, "the device failed earlier, mount again"),
-        (StoreFault::Exhausted, "no number is left"),
-        (StoreFault::NotFormatted, "the disk isn't formatted"),
-        (StoreFault::Damaged(8), "the body in sector 8 is damaged"),
-        (StoreFault::Full, "the journal is full"),
-        (StoreFault::NoSuchJob, "no such job is pending"),
-        (StoreFault::NoMemory, "out of memory"),
-        (StoreFault::TooSmall, "the disk has too few sectors"),
-    ] {
-        expect_text(&rt, rt.alloc(), &fault, text);
     }
 }

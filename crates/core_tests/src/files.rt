@@ -7,7 +7,7 @@ use std::{env, fs, io, process};
 
 // A path in the folder for temporary files that no other process takes.
 fn temporary(rt: &HostRuntime) -> io::Result<PathBuf> {
-    let name = format!(in rt.alloc(); "disk_tests-{}-spaced", process::id(rt.process()))?;
+    let name = format!(in rt.alloc(); "core_tests-{}-spaced", process::id(rt.process()))?;
     Ok(env::temp_dir(rt)?.join(rt.alloc(), name.as_str())?)
 }
 
