@@ -2,6 +2,7 @@
 import json, os, random, socket, stat, time
 
 from cluster import judged, metric, page
+from datagrams import random_bytes
 
 REFUSED = [(b"\n", "NoObject"), (b"{}\n", "Unreadable"), (b"[1]\n", "NoObject"), (b'{"do":1}\n', "Unreadable"), (b'{"do":"x"}\n', "Unreadable"),
            (b"\xff\xfe\n", "NoObject"), (b'{"do":"submit","queue":16,"text":""}\n', "BadQueue"), (b'{"do":"finish","origin":0}\n', "Unreadable"),
@@ -43,7 +44,7 @@ def rubbish(agents, check):
     for _ in range(100):
         try:
             with agents.connect(0) as link:
-                link.sendall(chance.randbytes(chance.randrange(1, 3000)) + b"\n")
+                link.sendall(random_bytes(chance, 1, 3000) + b"\n")
         except OSError:
             pass
     check("rubbish stops nobody", agents.status(0)["ok"])

@@ -13,6 +13,21 @@ def judged(bed, agents, name):
                     (done.returncode, done.stdout[-200:], done.stderr[-200:]))
 
 
+def spoiled(bed, agents):
+    """A record without one message that was sent isn't judged Run."""
+    files = [os.path.join(agents.folder, file) for file in os.listdir(agents.folder) if ".record." in file]
+    longest = max(files, key=os.path.getsize)
+    with open(longest) as file:
+        text = file.read()
+    end = text.index("\nok", text.index("\nsend ", text.index("> deliver ")))
+    begin = text.rindex("\nsend ", 0, end)
+    spoiled_path = longest + ".spoiled"
+    with open(spoiled_path, "w") as file:
+        file.write(text[:begin] + text[text.index("\n", begin + 1):])
+    done = agents.ctl(0, "judge", "--program", agents.program, spoiled_path, *[file for file in files if file != longest])
+    bed.tally.check("a record without a message that was sent isn't judged Run", done.returncode == 1 and done.stdout.startswith("NotARun"), done)
+
+
 def page(agents, i, path):
     """The status and the text of a page."""
     try:
@@ -37,7 +52,6 @@ def whole_life(bed):
     agents.one_group()
     job_elsewhere(agents, check)
     workers(agents, check)
-    watched = watcher(agents, 1)
     for turn in range(2):
         lead = agents.status(0)["coordinator"]
         rest = [i for i in range(3) if i != lead]
@@ -46,9 +60,11 @@ def whole_life(bed):
         check("a submission is taken while a node is away", agents.ask(rest[0], do="submit", queue=turn, text="away").get("ok") is True)
         agents.start(lead)
         check("it comes back", agents.one_group() < 30)
+    watched = watcher(agents, 1)
     partition(agents, check)
     changes_without_gap(agents, watched, check)
     judged(bed, agents, "the life of a cluster")
+    spoiled(bed, agents)
 
 
 def job_elsewhere(agents, check):

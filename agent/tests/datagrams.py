@@ -7,14 +7,19 @@ WINDOW = 4
 
 
 def has_keys(program, folder):
-    """Whether the node seals its messages."""
+    """Whether the node seals its messages: the question of a check has six bytes, and more behind them where it does."""
     path, key = os.path.join(folder, "keys.node"), os.path.join(folder, "keys.key")
-    subprocess.run([program, "format", path, "64", "0", "1"], check=True)
+    subprocess.run([program, "format", path, "64", "0", "2"], check=True)
     with open(key, "w") as file:
         file.write("ab" * 32 + "\n")
     os.chmod(key, 0o600)
-    done = subprocess.run([program, "node", path, "0", "1", "--key", key, "--cluster", "bed"], input=b"recover\n", stdout=subprocess.PIPE, stderr=subprocess.PIPE)
-    return done.returncode == 0 and b"ok 1" in done.stdout
+    words = [program, "node", path, "0", "2", "--key", key, "--cluster", "bed"]
+    done = subprocess.run(words, input=b"recover\ncheck\n", stdout=subprocess.PIPE, stderr=subprocess.PIPE)
+    return any(line.startswith(b"send 1 ") and len(line) > len("send 1 010100010000") for line in done.stdout.splitlines())
+
+
+def random_bytes(chance, least, most):
+    return bytes(chance.getrandbits(8) for _ in range(chance.randrange(least, most)))
 
 
 def refused(agents, i):
@@ -37,8 +42,8 @@ def rubbish(bed):
     agents.one_group()
     sent, before = 0, refused(agents, 0)
     for _ in range(400):
-        agents.relay.send(0, chance.randbytes(chance.randrange(1, 1500)))
-        agents.relay.send(0, b"\xd6\x01" + chance.randbytes(chance.randrange(0, 300)))
+        agents.relay.send(0, random_bytes(chance, 1, 1500))
+        agents.relay.send(0, b"\xd6\x01" + random_bytes(chance, 0, 300))
         sent += 2
         time.sleep(0.001)
     agents.relay.send(0, b"")

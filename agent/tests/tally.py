@@ -1,18 +1,19 @@
 """Counts checks. A check that fails is printed; what can't be tried here is named, and isn't counted as passed."""
-import sys, time
+import sys, threading, time
 
 
 class Tally:
     def __init__(self):
         self.passed = self.failed = 0
-        self.began = time.monotonic()
+        self.began, self.lock = time.monotonic(), threading.Lock()
 
     def check(self, name, is_so, said=""):
-        if is_so:
-            self.passed += 1
-        else:
-            self.failed += 1
-            print("FAILED: %s%s" % (name, ": %s" % (said,) if said != "" else ""), flush=True)
+        with self.lock:
+            if is_so:
+                self.passed += 1
+            else:
+                self.failed += 1
+                print("FAILED: %s%s" % (name, ": %s" % (said,) if said != "" else ""), flush=True)
         return is_so
 
     def left_out(self, what, why):

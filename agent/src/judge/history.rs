@@ -254,3 +254,47 @@ impl<'a> History<'a> {
         }
     }
 }
+
+#[cfg(test)]
+mod tests {
+    use super::*;
+
+    fn entries(lines: &str) -> Vec<String> {
+        let record = NodeRecord { node: 0, lines: lines.lines().map(str::to_string).collect() };
+        let begins = [Begin { count: 100, id: 5 }];
+        let entries = History::of(0, &record, &begins).unwrap().entries();
+        entries.iter().map(Value::to_string).collect()
+    }
+
+    const START: &str = "start\n> recover\ngroup Normal 0 0:101 0\nkeeps 101 5 0\nok 1\n";
+
+    #[test]
+    fn a_record_begins_with_count_1_and_id_0() {
+        let lines = format!("{START}> submit 3 6869\ntake 0 5 3 6869\nok 2 id 5\n> finish 0 5\ngone 5\nok 3\n> tick 9\nfired check\nnext 30\nok 4\n");
+        let put = [
+            r#"{"do":"submit","payload":"6869","queue":3,"sent":[]}"#,
+            r#"{"do":"finish","id":0,"origin":0,"sent":[]}"#,
+            r#"{"do":"check","sent":[]}"#,
+        ];
+        assert_eq!(entries(&lines), put);
+    }
+
+    #[test]
+    fn what_a_kill_left_in_doubt_is_known_by_what_is_found() {
+        let kept =
+            entries(&format!("{START}> submit 3 -\nstart\n> recover\ngroup Normal 0 0:102 0\nkeeps 102 6 1\nok 1\n"));
+        assert_eq!(kept[0], r#"{"do":"submit","fault":"device","payload":"","queue":3,"sent":[]}"#);
+        assert_eq!(kept[1], r#"{"do":"recover","kept":true,"sent":[]}"#);
+        let lost =
+            entries(&format!("{START}> submit 3 -\nstart\n> recover\ngroup Normal 0 0:102 0\nkeeps 102 5 0\nok 1\n"));
+        assert_eq!(lost, [r#"{"do":"crash","sent":[]}"#, r#"{"do":"recover","kept":false,"sent":[]}"#]);
+        let raised = entries(&format!("{START}> merge\nstart\n> recover\nkeeps 103 5 0\nok 1\n"));
+        assert_eq!(raised[0], r#"{"do":"merge","fault":"device","sent":[]}"#);
+    }
+
+    #[test]
+    fn a_failed_device_leaves_its_event_in_doubt() {
+        let lines = format!("{START}> submit 3 -\ngroup Down\nfault 2 Device\nstart\n> recover\nkeeps 102 5 0\nok 1\n");
+        assert_eq!(entries(&lines), [r#"{"do":"crash","sent":[]}"#, r#"{"do":"recover","kept":false,"sent":[]}"#]);
+    }
+}
