@@ -1,7 +1,7 @@
 #!/usr/bin/env bash
 # The commands format and node: each line of the grammar, the statuses, a kill -9 and a restart, another node's file, a locked file, and,
-# where there is strace, that an answer is written only after the file was synced; where there is python3, ten seconds of the example
-# three_processes, whose trace is judged, and some of the others.
+# where there is strace, that an answer is written only after the file was synced, and in which order a file is made; where there is
+# python3, ten seconds of the example three_processes, whose trace is judged, and some of the others.
 # Called with the program, as in: tests/node.sh crates/invite/out/invite. Its last line counts the checks.
 set -u
 program=$1
@@ -152,6 +152,16 @@ if command -v strace >/dev/null && strace -o "$room/probe" true 2>/dev/null; the
     tail -n 1 "$room/calls" >/dev/null
     awk '/pwrite64\(/ { open = 1 } /fdatasync\(/ { open = 0 } /write\(1,/ && open { bad = 1 } END { exit bad }' "$room/calls" || problem='an answer was written with a write not synced'
     mark "$problem" 'no answer over an unsynced write'
+
+    # A file is locked before anything is written; its zeros and its name are synced before the store is formatted, and its label is the last write.
+    rm -f "$file"
+    strace -f -y -o "$room/calls" -e trace=openat,flock,ftruncate,write,pwrite64,fsync,fdatasync "$program" format "$file" 8 0 3
+    order=$(sed -nE "s#^[0-9]+ +([a-z0-9]+)\(.*<$file>.*#\1#p; s#^[0-9]+ +([a-z0-9]+)\(.*<$room>.*#folder:\1#p" "$room/calls" | uniq | tr '\n' ' ')
+    problem=''
+    grep -qxE 'openat flock ftruncate write fsync folder:openat folder:fsync (pwrite64 fdatasync )+pwrite64 fsync ' <<<"$order" || problem="the calls are $order"
+    mark "$problem" 'a file is made in this order'
+else
+    echo 'node.sh: there is no strace, so the order of calls is not looked at'
 fi
 
 # example NAME PATTERN COMMAND..: the example ends well, and in one of three runs its last lines show what it is for. How much comes about in
