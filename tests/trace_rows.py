@@ -326,6 +326,17 @@ PLANS = [
         "cluster 1 9\nlinks 7\n" + "0 operator submit 0 -\n" * 8,
         [('{"histories":[[' + r'{"do":"submit","payload":"","queue":0,"sent":[]},' * 7 + r'{"do":"none","sent":[]}]],"nodes":1}', "Run 0 0 0 0 0 0 0 0\n")],
     ),
+    # the second message is lost, and stands in its entry
+    (
+        "a full link",
+        "cluster 2 4\nlinks 1\n0 clock check\n0 clock check\n",
+        [(r'{"histories":[[{"do":"check","sent":["010100010000"]},{"do":"check","sent":["010100010000"]}],[]],"nodes":2}', "Run 0 0\n")],
+    ),
+    (
+        "the most turns of a node",
+        "cluster 1 4\nlinks 1\n" + "0 clock check\n" * 65_536,
+        [(r'{"histories":[[' + ",".join([r'{"do":"check","sent":[]}'] * 65_536) + r']],"nodes":1}', "Run" + " 0" * 65_536 + "\n")],
+    ),
     # the operator's turn comes before, between or behind those of the clock
     (
         "three workers of two nodes",
@@ -354,6 +365,17 @@ PLANS = [
             )
         ],
     ),
+]
+
+# Plans of nodes that have more turns than a history has room for, and which node and worker are named: each worker that is named here has by itself
+# a turn too many, so that it is refused whatever comes first.
+MANY = 65_537
+UNFINISHED = [
+    ("a turn too many", "cluster 1 4\nlinks 1\n" + "0 clock check\n" * MANY, "unfinished 0 clock"),
+    # of two nodes the first, and of its workers the clock before the operator
+    ("two nodes", "cluster 2 4\nlinks 1\n" + "1 intake 0\n0 operator finish 0 0\n0 clock ready\n" * MANY, "unfinished 0 clock"),
+    # the first node isn't refused, and of the second one's workers the intake counts
+    ("three workers", "cluster 2 4\nlinks 1\n0 clock ready\n" + "1 operator finish 0 0\n1 clock ready\n1 intake 0\n" * MANY, "unfinished 1 intake"),
 ]
 
 INTAKE = "not of the form N intake J, where J is another node"
@@ -416,6 +438,8 @@ def all_rows():
         yield Row(name, "threads", plans.encode(), 0, tuple(f"{trace}\n".encode() for trace, _ in traces))
         for trace, verdict in traces:
             yield from judged(name, trace, verdict)
+    for name, plans, text in UNFINISHED:
+        yield Row(name, "threads", plans.encode(), 1, (f"{text}\n".encode(),))
     for plans, number, flaw in NO_PLANS:
         yield Row(repr(plans), "threads", plans.encode(), 1, (f"bad line {number}\n".encode(),), f"invite: line {number}: {flaw}\n".encode())
 

@@ -97,6 +97,22 @@ awk 'BEGIN {
 judge threads "$room/polls.txt" polls
 has "$((300 * 8 * 9))" polls
 
+# A link of one slot takes a message again once the first was taken: node 1 is brought two or more. Which turns come before which is up to the
+# threads, so there are some tries.
+{
+    printf 'cluster 2 4\nlinks 1\n'
+    for _ in {1..4000}; do printf '0 clock check\n1 intake 0\n'; done
+} >"$room/again.txt"
+problem='node 1 is brought one message at most in 50 runs'
+for _ in {1..50}; do
+    "$program" threads <"$room/again.txt" >"$room/again.json" || { problem='there is no trace'; break; }
+    if [ "$(grep -o '"do":"deliver"' "$room/again.json" | wc -l)" -ge 2 ]; then
+        problem=''
+        break
+    fi
+done
+mark "$problem" 'a slot that was emptied'
+
 # The picture in docs/ is the one that is drawn of its schedule; each picture of a schedule is well-formed, with a dot for each entry.
 problem=''
 "$program" draw <"$room/record-partition_heals.json" | cmp -s - docs/partition_heals.svg || problem='docs/partition_heals.svg is another picture'

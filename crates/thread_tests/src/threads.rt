@@ -1,6 +1,6 @@
 //! Whole runs, on real threads.
 
-ghost use Rattle.std.specs.Prelude.{◌≡◌, ◌≤◌, false, IfSome, length};
+ghost use Rattle.std.specs.Prelude.{◌≡◌, ◌≤◌, IfSome, length};
 ghost use Rattle.group_task.specs.declared.node.TheConstants.{NODES};
 ghost use Rattle.node_threads.specs.Nodes.{PollOthers};
 
@@ -247,41 +247,9 @@ fn poll_finds_what_was_put(rt: HostRuntime) {
     expect_delivered(&rt, sender, receiver);
 }
 
-/// Lets all pass.
-#[derive(Drop)]
-struct Open;
-
-impl Gate for Open {
-    ghost may_shut = { λ _ _. false };
-
-    fn reach(&self, _node: NodeId, _worker: Worker) -> bool {
-        true
-    }
-
-    fn pass(&self, _node: NodeId, _worker: Worker, _index: u64) -> bool {
-        true
-    }
-}
-
-/// Expects no link, and histories of the greatest length.
-fn expect_full(rt: &impl Abort, whole: &Gathered) {
-    assert_eq!(rt; whole.links.len(), 0);
-    for history in whole.histories.iter() {
-        assert_eq!(rt; history.len(), 65_536);
-    }
-}
-
 /// The clock of node 0 has turns left.
 fn unfinished() -> Option<ThreadsFault> {
     Some(ThreadsFault::Unfinished(NodeId::numbered(0), Worker::Clock))
-}
-
-#[test]
-fn history_of_the_greatest_length(rt: HostRuntime) {
-    let plans = checking(&rt, rt.alloc(), 1, MOST_ENTRIES);
-    expect_full(&rt, &whole(&rt, rt.alloc(), &plans, &Open));
-    let plans = checking(&rt, rt.alloc(), 1, MOST_ENTRIES + 1);
-    assert!(rt; fault(&rt, rt.alloc(), &plans, &Open) == unfinished());
 }
 
 /// Shut for the workers of one node.
@@ -331,29 +299,4 @@ fn first_of_two_reasons(rt: HostRuntime) {
             "node {node}"
         );
     }
-}
-
-/// The plans of 64 nodes, of which the first checks as often as it can.
-fn first_checks(rt: &impl Abort, alloc: Global) -> Vec<Plans> {
-    let mut plans = checking(rt, alloc, 1, MOST_ENTRIES);
-    for _node in 1..64 {
-        add(rt, &mut plans, checks(alloc, 0));
-    }
-    plans
-}
-
-/// Expects 65,536 turns, of which the last sent 63 messages.
-fn expect_longest(rt: &impl Abort, history: &History) {
-    assert_eq!(rt; history.len(), 65_536);
-    let last = history.entry(65_535).expect(rt, "an entry");
-    assert_eq!(rt; last.sent.len(), 63);
-}
-
-// Each of 65,536 checks asks 63 nodes.
-#[test]
-fn longest_history_in_a_large_cluster(rt: HostRuntime) {
-    let plans = first_checks(&rt, rt.alloc());
-    let whole = whole(&rt, rt.alloc(), &plans, &Open);
-    expect_longest(&rt, whole.histories.iter().next().expect(&rt, "a history"));
-    assert_eq!(rt; whole.links.len(), 64 * 63);
 }

@@ -137,12 +137,6 @@ fn expect_polled(
     assert!(rt; came(history, place, Worker::Intake, index) == Some(what));
 }
 
-/// The message that the turn at this place sent first.
-fn sent(history: &History, place: usize) -> Option<Message> {
-    let entry = history.entry(place)?;
-    entry.sent.get(0)
-}
-
 /// Whether this message stands at this place.
 fn is_at(messages: &MessageList, place: usize, message: Message) -> bool {
     messages.get(place) == Some(message)
@@ -154,65 +148,6 @@ fn expect_taken(rt: &impl Abort, takes: &[TakeEnd], message: Message) {
         assert_eq!(rt; end.messages().len(), 1);
         assert!(rt; is_at(end.messages(), 0, message));
     }
-}
-
-/// Two nodes: the first polls so often, the second once.
-fn both(rt: &impl Abort, alloc: Global, polls: usize, capacity: usize) -> (Held, Held) {
-    let first = NodeId::numbered(0);
-    let second = NodeId::numbered(1);
-    let (put_there, take_there) = link(alloc, first, second, capacity).expect(
-        rt,
-        "memory for a link",
-    );
-    let (put_back, take_back) = link(alloc, second, first, capacity).expect(
-        rt,
-        "memory for a link",
-    );
-    let asker = paired(alloc, 0, polls, capacity, put_there, take_back).expect(
-        rt,
-        "memory for a node",
-    );
-    let other = paired(alloc, 1, 1, capacity, put_back, take_there).expect(rt, "memory for a node");
-    (asker, other)
-}
-
-/// Expects a poll that finds nothing, the question, its delivery with the answer sent, and the answer's delivery.
-fn expect_exchange(rt: &impl Abort, asker: &Parts, other: &Parts) {
-    let question = sent(&asker.history, 1).expect(rt, "a question");
-    let answer = sent(&other.history, 0).expect(rt, "an answer");
-    assert_eq!(rt; asker.history.len(), 3);
-    assert!(rt;
-        came(&asker.history, 1, Worker::Clock, 0) == Some(What::Did(Event::Timer(Timer::Check)))
-    );
-    expect_polled(rt, &asker.history, 0, 0, None);
-    expect_polled(rt, &other.history, 0, 0, Some(question));
-    expect_polled(rt, &asker.history, 2, 1, Some(answer));
-    assert!(rt; asker.waiting.is_none() && other.waiting.is_none());
-    expect_taken(rt, &asker.takes, answer);
-    expect_taken(rt, &other.takes, question);
-}
-
-#[test]
-fn question_and_answer(rt: HostRuntime) {
-    let (mut asker, mut other) = both(&rt, rt.alloc(), 2, 2);
-    take(&rt, &mut asker, Worker::Intake, 1);
-    take(&rt, &mut asker, Worker::Clock, 1);
-    take(&rt, &mut other, Worker::Intake, 1);
-    take(&rt, &mut asker, Worker::Intake, 1);
-    expect_exchange(&rt, &asker.into_parts(), &other.into_parts())
-}
-
-#[test]
-fn full_link_loses_the_message(rt: HostRuntime) {
-    let (mut asker, mut other) = both(&rt, rt.alloc(), 0, 0);
-    take(&rt, &mut asker, Worker::Clock, 1);
-    take(&rt, &mut other, Worker::Intake, 1);
-    let asker = asker.into_parts();
-    assert!(rt; sent(&asker.history, 0).is_some());
-    for end in asker.puts.iter() {
-        assert_eq!(rt; end.messages().len(), 0);
-    }
-    expect_polled(&rt, &other.into_parts().history, 0, 0, None);
 }
 
 /// Shuts from the turn of this number on.
