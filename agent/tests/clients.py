@@ -69,7 +69,7 @@ def many(agents, check):
     check("more than 256 are told that there are too many", any(b"TooManyClients" in answer for answer in answers))
     for link in links + more:
         link.close()
-    agents.until(lambda: agents.status(0) is not None, 5)
+    agents.until(lambda: (agents.status(0) or {}).get("ok"), 5)
     begin, served = time.monotonic(), 0
     for _ in range(1000):
         answer = agents.ask(0, do="status")

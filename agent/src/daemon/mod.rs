@@ -172,13 +172,15 @@ impl Daemon {
         }
     }
 
-    /// How long to wait for something to come.
+    /// How long to wait for something to come. Where the node has no room its answer is waited for.
     fn sleep(&self, now: Instant) -> Duration {
-        let is_busy = self.link.is_readable() || (self.node.has_room() && !self.clients.with_input().is_empty());
-        if is_busy {
+        let until = match self.outbox.next().filter(|_| self.node.has_room()) {
+            Some(next) => next.saturating_duration_since(now),
+            None => Duration::MAX,
+        };
+        if self.link.is_readable() || (self.node.has_room() && !self.clients.with_input().is_empty()) {
             return Duration::ZERO;
         }
-        let until = self.outbox.next().map_or(Duration::MAX, |next| next.saturating_duration_since(now));
         self.clock.sleep(now).min(until)
     }
 
