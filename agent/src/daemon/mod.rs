@@ -111,15 +111,16 @@ impl Daemon {
         self.ask(Asker::Start, "recover".to_string());
         loop {
             self.node.flush();
-            match self.poll.poll(&mut events, Some(self.sleep(Instant::now()))) {
+            match self.poll.poll(&mut events, Some(whole_ms(self.sleep(Instant::now())))) {
                 Err(error) if error.kind() != std::io::ErrorKind::Interrupted => return Err(error.into()),
                 _ => {}
             }
             let tokens: Vec<Token> = events.iter().map(|event| event.token()).collect();
+            let has_answers = tokens.contains(&NODE_OUTPUT);
             for token in tokens {
                 self.wake(token);
             }
-            if !self.hear() {
+            if has_answers && !self.hear() {
                 let status = self.node.end(PATIENCE_AT_END)?;
                 return Ok(self.ended(status));
             }
@@ -211,6 +212,11 @@ impl Daemon {
         }
         status.code().and_then(|code| u8::try_from(code).ok()).unwrap_or(1)
     }
+}
+
+/// A poll counts whole milliseconds and leaves the rest out: so it would be made again and again until the rest is over.
+fn whole_ms(sleep: Duration) -> Duration {
+    Duration::from_millis((sleep + Duration::from_micros(999)).as_millis() as u64)
 }
 
 fn seal_of(config: &Config) -> anyhow::Result<Seal> {
