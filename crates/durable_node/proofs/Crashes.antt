@@ -13,7 +13,7 @@ use Rattle.node_store.specs.Store.{slots_for, StoreState}
 use Rattle.histories.specs.After.{after}
 use Rattle.histories.specs.NodeState.{NodeState, settled}
 use Rattle.histories.specs.declared.what.What.TheVariants.{Crashed}
-use Rattle.durable_node.specs.Arming.{armed_disk, armed_in}
+use Rattle.durable_node.specs.Arming.{with_left, with_left_in}
 use Rattle.durable_node.specs.Forgetting.{forgotten_disk, forgotten_in}
 use Rattle.durable_node.specs.declared.node_disk.NodeDisk.{NodeDisk}
 use Rattle.durable_node.specs.declared.node_disk.NodeDisk.TheVariants.{Bare, Mounted}
@@ -57,10 +57,10 @@ shown_still true (Some count) st d = (refl, refl, refl)
 shown_still false None st d = (refl, refl, refl)
 shown_still false (Some count) st d = (refl, refl, refl)
 
-pub node_is_armed : (id nodes calls : ℕ) (core : Core) (disk : NodeDisk Memory) (doubt : Option (Wanted × ℕ)) (mounted : Option ℕ)
-    → node_with id nodes core (armed_in calls disk) doubt None ≡ record (node_with id nodes core disk doubt mounted) { disk = armed_disk calls (disk_in disk); mounted = None }
-node_is_armed id nodes calls core (Mounted st) doubt mounted = (let same = shown_still (is_down core.state.phase) None st (record st.disk { left = Some calls }) in rw (same.0, same.1))
-node_is_armed id nodes calls core disk doubt mounted = refl
+pub node_is_armed : (id nodes : ℕ) (left : Option ℕ) (core : Core) (disk : NodeDisk Memory) (doubt : Option (Wanted × ℕ)) (mounted : Option ℕ)
+    → node_with id nodes core (with_left_in left disk) doubt None ≡ record (node_with id nodes core disk doubt mounted) { disk = with_left left (disk_in disk); mounted = None }
+node_is_armed id nodes left core (Mounted st) doubt mounted = (let same = shown_still (is_down core.state.phase) None st (record st.disk { left = left }) in rw (same.0, same.1))
+node_is_armed id nodes left core disk doubt mounted = refl
 
 pub node_forgot : (id nodes : ℕ) (core : Core) (disk : NodeDisk Memory) (doubt : Option (Wanted × ℕ)) (mounted : Option ℕ)
     → node_with id nodes core (forgotten_in disk) doubt mounted ≡ record (node_with id nodes core disk doubt mounted) { disk = forgotten_disk (disk_in disk) }
@@ -69,10 +69,10 @@ node_forgot id nodes core (Bare d) doubt None = refl
 node_forgot id nodes core (Bare d) doubt (Some count) = refl
 node_forgot id nodes core disk doubt mounted = refl
 
-left_armed : (calls : ℕ) (disk : Option Memory) (s : NodeState) → ((d : Memory) → disk ≡ Some d → IsLeft (state_of d) s) → (d : Memory) → armed_disk calls disk ≡ Some d → IsLeft (state_of d) s
+left_armed : (calls : Option ℕ) (disk : Option Memory) (s : NodeState) → ((d : Memory) → disk ≡ Some d → IsLeft (state_of d) s) → (d : Memory) → with_left calls disk ≡ Some d → IsLeft (state_of d) s
 left_armed calls None s left d e = absurd cc
-left_armed calls (Some was) s left d e = at_some (λ (m : Memory). IsLeft (state_of m) s) (record was { left = Some calls }) d e (left was refl)
+left_armed calls (Some was) s left d e = at_some (λ (m : Memory). IsLeft (state_of m) s) (record was { left = calls }) d e (left was refl)
 
 -- an armed node stands for what it stood for
-pub arms : (calls : ℕ) (old new : Node Memory) (s : NodeState) → new ≡ record old { disk = armed_disk calls old.disk; mounted = None } → Stands state_of old s → Stands state_of new s
+pub arms : (calls : Option ℕ) (old new : Node Memory) (s : NodeState) → new ≡ record old { disk = with_left calls old.disk; mounted = None } → Stands state_of old s → Stands state_of new s
 arms calls old new s is stands = rw is (assumption (left_armed calls old.disk s stands.disk, stands))

@@ -1,13 +1,21 @@
 -- What a node that is down does with an event that doesn't make it mount its disk.
-use Rattle.std.proofs.Common.{◌≡◌, ◌≢◌, ◌≤◌, ℕ, arith, length, [], Option, None, Result, Ok, Err, sym, ◌∙◌, ap, subst, refl, IfOk, IfErr, IsErrOf}
+use Rattle.std.proofs.Common.{◌≡◌, ◌≢◌, ◌≤◌, ℕ, arith, length, [], Bool, true, false, ◌&&◌, Option, Some, None, IfSome, Result, Ok, Err, sym, ◌∙◌, ap, subst, refl, IfOk, IsErrOf}
 use Rattle.sector_disk.specs.Disk.{DiskState}
 use Rattle.job_model.specs.declared.node_command.NodeCommand.{NodeCommand as Command}
 use Rattle.job_model.specs.Fold.{after_wanted}
 use Rattle.node_core.specs.declared.wanted.Wanted.{Wanted}
 use Rattle.node_core.specs.declared.event.Event.{Event}
 use Rattle.node_core.specs.declared.event.Event.TheVariants.{Recover}
+use Rattle.node_core.specs.declared.event.Event.TheVariants as on
+use Rattle.node_core.specs.declared.timer.Timer.TheVariants as timer
+use Rattle.wire_msg.specs.declared.body.Body.{Body}
+use Rattle.wire_msg.specs.declared.body.Body.TheVariants as says
 use Rattle.node_core.specs.declared.fault.CoreFault.{CoreFault}
 use Rattle.node_core.specs.declared.fault.CoreFault.TheVariants.{NoMemory}
+use Rattle.node_core.specs.declared.fault.CoreFault.TheVariants as core
+use Rattle.node_core.specs.Memory.{delivered_takes, takes_memory}
+use Rattle.node_core.specs.Messages.{is_told}
+use Rattle.node_core.specs.State.{State}
 use Rattle.node_core.specs.Core.{Core}
 use Rattle.node_core.specs.Refusals.{refusal_of}
 use Rattle.node_core.specs.Start.{down}
@@ -24,8 +32,8 @@ use Rattle.durable_node.specs.declared.fault.NodeFault.{NodeFault}
 use Rattle.durable_node.specs.declared.came.Came.{Came}
 use Rattle.durable_node.specs.declared.node_disk.NodeDisk.{NodeDisk}
 use Rattle.durable_node.specs.Node.{node_with, Stands}
-use Rattle.durable_node.specs.Stepping.{Does, IsIgnored, Steps, Stuck}
-use Rattle.durable_node.specs.Faults.{fault_of, answered, answered_as}
+use Rattle.durable_node.specs.Stepping.{Does, IsIgnored, Steps}
+use Rattle.durable_node.specs.Faults.{fault_of, answered_as}
 use Rattle.durable_node.specs.declared.fault.NodeFault.TheVariants as node
 use Rattle.durable_node.proofs.Parts.{does, not_up}
 
@@ -58,12 +66,6 @@ module _ {Disk : Type 0} (disks : Disk → DiskState) (id nodes : ℕ) (core cor
   ignores is same other (Ok came) done tried = λ at s on stands mounting. by_fate (slots_for (disks at).sectors) s is same other stands came came.fate done tried
   ignores is same other (Err fault) done tried = tt
 
-  -- where there is no memory the node is as it was
-  pub ignored_stuck : core'.state ≡ core.state → (result : Result Came NodeFault) → IfErr result (λ fault. fault ≡ node.Core NoMemory)
-      → IfErr result (Stuck disks (node_with id nodes core disk doubt was) (node_with id nodes core' disk doubt None) event)
-  ignored_stuck same (Ok came) is = tt
-  ignored_stuck same (Err fault) is = rw is (refl, rw same)
-
 -- ---- what a caller is answered
 
 quiet_as : (why : Option CoreFault) (came : Came) (end : Fate) → IsIgnored why came end → (IsErrOf (answered_as came (fault_of end)) node.Device → ⊥) × (came.sent.items ≡ [])
@@ -72,11 +74,53 @@ quiet_as why came (fate.Refused (refusal.Core f)) is = (λ device. cc, is.1.0)
 quiet_as why came end is = absurd is
 
 -- no device was called
-pub no_device : (why : Option CoreFault) (result : Result Came NodeFault) → IfOk result (λ came. IsIgnored why came came.fate) → IfErr result (λ fault. fault ≡ node.Core NoMemory)
-    → IsErrOf (answered result) node.Device → ⊥
-no_device why (Ok came) is stuck device = (quiet_as why came came.fate is).0 device
-no_device why (Err fault) is stuck device = cc
+pub no_device : (why : Option CoreFault) (came : Came) → IsIgnored why came came.fate → IsErrOf (answered_as came (fault_of came.fate)) node.Device → ⊥
+no_device why came is device = (quiet_as why came came.fate is).0 device
 
-pub few_ignored : (n : ℕ) (why : Option CoreFault) (result : Result Came NodeFault) → IfOk result (λ came. IsIgnored why came came.fate) → IfOk result (λ came. length came.sent.items ≤ n)
-few_ignored n why (Ok came) is = (let none : length came.sent.items ≡ 0 = ap length (quiet_as why came came.fate is).1 in omega (arith, none))
-few_ignored n why (Err fault) is = tt
+pub few_ignored : (n : ℕ) (why : Option CoreFault) (came : Came) → IsIgnored why came came.fate → length came.sent.items ≤ n
+few_ignored n why came is = (let none : length came.sent.items ≡ 0 = ap length (quiet_as why came came.fate is).1 in omega (arith, none))
+
+-- ---- no memory is taken
+
+-- a node that is down takes memory for no event but Recover that it doesn't refuse first
+spared : (nodes id : ℕ) (event : Event) → event ≢ Recover → takes_memory id event (down id) ≡ true → refusal_of nodes id event (down id) ≡ None → ⊥
+spared nodes id (on.Timer timer.Check) other takes none = cc
+spared nodes id (on.Timer timer.Merge) other takes none = cc
+spared nodes id (on.Timer timer.Accept) other takes none = cc
+spared nodes id (on.Timer timer.Ready) other takes none = cc
+spared nodes id (on.Timer timer.Coord) other takes none = cc
+spared nodes id (on.Timer timer.Dispatch) other takes none = cc
+spared nodes id (on.Deliver m) other takes none = by_body m.body takes
+  where
+    never : (b : Bool) → (b && false) ≡ true → ⊥
+    never true takes = cc
+    never false takes = cc
+
+    by_body : (body : Body) → delivered_takes id m.sender body (down id) ≡ true → ⊥
+    by_body (says.Coordinator agreed) takes = cc
+    by_body (says.Here group agreed) takes = cc
+    by_body (says.Invitation group) takes = cc
+    by_body (says.Accept group) takes = cc
+    by_body (says.Ready task) takes = never (is_told id m.sender task (down id)) takes
+    by_body (says.ReadyAck group) takes = cc
+    by_body (says.Work group job work) takes = cc
+    by_body (says.Done job) takes = cc
+    by_body says.AreYouCoordinator takes = cc
+    by_body (says.AreYouThere group) takes = cc
+spared nodes id (on.Submit work) other takes none = cc
+spared nodes id (on.Finish origin job) other takes none = cc
+spared nodes id on.Recover other takes none = absurd (other refl)
+
+-- what a plan that was refused says at a node that is down
+pub refused_so : (nodes id : ℕ) (event : Event) (s : State) (fault : CoreFault) → s ≡ down id → event ≢ Recover
+    → (fault ≢ NoMemory → refusal_of nodes id event s ≡ Some fault) → (fault ≡ NoMemory → takes_memory id event s ≡ true)
+    → IfSome (refusal_of nodes id event s) (λ why. fault ≡ why) → refusal_of nodes id event s ≡ Some fault
+refused_so nodes id event s fault is other memory spares refused = by_refusal (refusal_of nodes id event s) refl refused
+  where
+    by_refusal : (r : Option CoreFault) → refusal_of nodes id event s ≡ r → IfSome r (λ why. fault ≡ why) → r ≡ Some fault
+    by_refusal None e refused = by_fault fault refl
+      where
+        by_fault : (f : CoreFault) → fault ≡ f → None ≡ Some fault
+        by_fault core.NoMemory same = absurd (spared nodes id event other (rw is at (spares same)) (rw is at e))
+        by_fault f same = sym e ∙ memory (λ is. cc)
+    by_refusal (Some why) e refused = ap (λ (f : CoreFault). Some f) (sym refused)

@@ -1,11 +1,12 @@
 -- What is true of every node stays true.
-use Rattle.std.proofs.Common.{◌≡◌, ◌⊎◌, arith, inl, inr, ⊎_elim, ℕ, false, Bool, Option, Some, None, Result, Ok, Err, ◌∙◌, ap, refl, IsFalse, IfOk, IfErr, IsErrOf, IsSome}
+use Rattle.std.proofs.Common.{◌≡◌, ◌⊎◌, arith, inl, inr, ⊎_elim, ℕ, true, false, Bool, Option, Some, None, Result, Ok, Err, ◌∙◌, ap, refl, IsFalse, IfOk, IfErr, IsErrOf, IsSome}
 use Rattle.sector_disk.specs.Disk.{DiskState, Counts}
 use Rattle.job_journal.specs.Journal.{IsSound}
 use Rattle.node_core.specs.declared.wanted.Wanted.{Wanted}
 use Rattle.node_core.specs.declared.event.Event.{Event}
 use Rattle.node_core.specs.declared.fault.CoreFault.TheVariants.{NoMemory}
 use Rattle.node_core.specs.Core.{Core}
+use Rattle.node_core.specs.Memory.{takes_memory}
 use Rattle.node_core.specs.Start.{down}
 use Rattle.node_core.specs.State.{State, is_down}
 use Rattle.node_store.specs.Store.{StoreState, durable_of, slots_for}
@@ -94,9 +95,10 @@ module _ {Disk : Type 0} (id nodes : ℕ) (core core' : Core) (store store' : St
 
   -- where there is no memory the node is as it was
   pub served_stuck : (disks : Disk → DiskState) (before : Option ℕ) (event : Event) (result : Result Came NodeFault) → IfErr result (λ fault. (fault ≡ node.Core NoMemory) × IsAsBefore core core' store store' doubt doubt')
+      → is_down core.state.phase ≡ false → IfErr result (λ _. takes_memory id event core.state ≡ true)
       → IfErr result (Stuck disks (node_with id nodes core (Mounted store) doubt before) (node_with id nodes core' (Mounted store') doubt' None) event)
-  served_stuck disks before event (Ok came) is = tt
-  served_stuck disks before event (Err fault) is = rw is.0 (refl, rw (is.1.same_state, is.1.same_store, is.1.same_doubt))
+  served_stuck disks before event (Ok came) is up takes = tt
+  served_stuck disks before event (Err fault) is up takes = rw is.0 (refl, rw (is.1.same_state, is.1.same_store, is.1.same_doubt), rw up takes)
 
 -- what is counted of a disk that is there
 pub counts_of : {Disk A : Type 0} (disks : Disk → DiskState) (was now : Disk) (result : Result A NodeFault)

@@ -1,5 +1,5 @@
 -- A node that comes up on a disk that was just formatted.
-use Rattle.std.proofs.Common.{◌≡◌, ℕ, true, false, Some, None, Bool, refl}
+use Rattle.std.proofs.Common.{◌≡◌, ℕ, true, false, Option, Some, None, Bool, refl}
 use Rattle.sector_disk.specs.Memory.{Memory, all_synced, state_of}
 use Rattle.sector_disk.specs.Disk.{IsImage}
 use Rattle.sector_disk.proofs.PublicLaws.{only_image}
@@ -17,7 +17,8 @@ use Rattle.durable_node.specs.declared.came.Came.{Came}
 use Rattle.durable_node.specs.Node.{Node, Stands}
 use Rattle.durable_node.specs.Stepping.{Does, Steps}
 use Rattle.durable_node.proofs.Mounts.{left_by}
-use Rattle.durable_node.proofs.Parts.{stands_at}
+use Rattle.durable_node.specs.Arming.{with_left}
+use Rattle.durable_node.proofs.Parts.{at_some, stands_at}
 
 -- a node that is down on a disk that was just formatted
 abbrev fresh : ℕ → NodeState
@@ -28,13 +29,13 @@ new_node id nodes disk = record { id = id; nodes = nodes; state = down id; disk 
 
 -- no command was in doubt
 none_kept : (slots id nodes : ℕ) (new : Node Memory) (came : Came) (end : Fate) (kept : Bool) → end ≡ fate.Recovered kept → Does slots id nodes (fresh id) Recover came new.mounted (what_of Recover end)
-    → Stands state_of new (after id nodes (fresh id) (what_of Recover end)) → Stands state_of (record new { mounted = None }) (opening id)
+    → Stands state_of new (after id nodes (fresh id) (what_of Recover end)) → Stands state_of new (opening id)
 none_kept slots id nodes new came (fate.Recovered true) kept is does stands = (let none : false ≡ true = does.possible.1 refl in absurd cc)
 none_kept slots id nodes new came (fate.Recovered false) kept is does stands = assumption stands
 none_kept slots id nodes new came end kept is does stands = absurd cc
 
 pub opens : (id nodes : ℕ) (disk : Memory) (new : Node Memory) (came : Came) (kept : Bool) → came.fate ≡ fate.Recovered kept → IsFresh disk → Steps state_of (new_node id nodes disk) new Recover came
-    → Stands state_of (record new { mounted = None }) (opening id)
+    → Stands state_of new (opening id)
 opens id nodes disk new came kept is new_disk steps =
     let left = left_by (state_of disk) (fresh id) new_disk.enough (λ honest. new_disk.formatted) new_disk.sound in
     let did = steps disk (fresh id) refl (stands_at state_of (new_node id nodes disk) (fresh id) disk refl left refl refl (λ up. absurd cc)) (λ _. refl) in
@@ -49,3 +50,13 @@ copy_fresh disk fresh =
       formatted = λ image is. rw (only_image disk.contents disk.failures image is) (fresh.formatted disk.contents held);
       sound = λ honest image is. rw (only_image disk.contents disk.failures image is) (fresh.sound honest disk.contents held);
     }
+
+-- what holds of a disk, armed or not, holds of it where it isn't armed
+pub under_left : (E : Memory → Type 0) → ((m : Memory) → E m → E (record m { left = None })) → (disk : Option Memory) → ((m : Memory) → disk ≡ Some m → E m)
+    → (d : Memory) → with_left None disk ≡ Some d → E d
+under_left E still None each d e = absurd cc
+under_left E still (Some was) each d e = at_some E (record was { left = None }) d e (still was (each was refl))
+
+pub unarmed : (disk : Option Memory) (d : Memory) → with_left None disk ≡ Some d → d.left ≡ None
+unarmed None d e = absurd cc
+unarmed (Some was) d e = at_some (λ (m : Memory). m.left ≡ None) (record was { left = None }) d e refl

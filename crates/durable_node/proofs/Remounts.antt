@@ -77,7 +77,7 @@ module _ {Disk : Type 0} (disks : Disk → DiskState) (id nodes : ℕ) (core : C
 
   by_fault : (fault : StoreFault) → IsMountFault fault → Mounts fault → (fault ≡ by_store.NoMemory → back ≡ was) → fault_for fault ≢ node.Device → Stuck disks old_node new_node Recover (fault_for fault)
   by_fault fault (inl small) mounts untouched other = rw small (unmountable fault mounts (λ e. cc) (λ e. cc))
-  by_fault fault (inr (inl memory)) mounts untouched other = rw memory (refl, rw (fallen, there, untouched memory))
+  by_fault fault (inr (inl memory)) mounts untouched other = rw memory (refl, rw (fallen, there, untouched memory), rw fallen refl)
   by_fault fault (inr (inr is)) mounts untouched other = by_read fault is mounts other
 
   -- the disk isn't mounted

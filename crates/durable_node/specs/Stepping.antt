@@ -1,5 +1,5 @@
 -- What a call of a node does, and how it is answered.
-use Rattle.std.specs.Prelude.{ℕ, ◌≡◌, ◌+◌, Bool, true, false, IsTrue, IsFalse, IsSome, IsErrOf, [], Option, Some, None, option_map, Result}
+use Rattle.std.specs.Prelude.{ℕ, ◌≡◌, ◌+◌, Bool, true, false, if◌then◌else◌, IsTrue, IsFalse, IsSome, IsErrOf, [], Option, Some, None, option_map, Result}
 use Rattle.sector_disk.specs.Disk.{DiskState, Counts}
 use Rattle.job_model.specs.Answer.{answer_of}
 use Rattle.job_model.specs.Durable.{Durable}
@@ -10,6 +10,7 @@ use Rattle.node_core.specs.Core.{Core}
 use Rattle.node_core.specs.Start.{down}
 use Rattle.node_core.specs.State.{State, is_down}
 use Rattle.node_core.specs.NodeStep.{IsFull, IsTaken, IsHandled, IsRefused}
+use Rattle.node_core.specs.Memory.{takes_memory}
 use Rattle.node_core.specs.Wants.{wants_of}
 use Rattle.node_core.specs.Most.{most_of}
 use Rattle.node_store.specs.Store.{StoreState, durable_of, slots_for}
@@ -134,9 +135,13 @@ pub record IsUnmountable {Disk : Type 0} (disks : Disk → DiskState) (old new :
   pub strange : (disk : Disk) (s : NodeState) → old.disk ≡ Some disk → Stands disks old s → IsTrue (disks disk).honest → ⊥
   pub same : new ≡ record old { disk = new.disk; mounted = None }
 
+-- whether an event may come to nothing for want of memory: a node that is down takes some to mount its disk alone
+abbrev pub may_take_memory : {Disk : Type 0} → Node Disk → Event → Bool
+may_take_memory node event = if is_down node.state.phase then is_recover event else takes_memory node.id event node.state
+
 -- the event came to nothing, for want of memory or of a disk that can be mounted, and left the node as it was
 abbrev pub Stuck : {Disk : Type 0} → (Disk → DiskState) → Node Disk → Node Disk → Event → NodeFault → Type 0
-Stuck disks old new event (node.Core fault) = (fault ≡ NoMemory) × (new ≡ record old { mounted = None })
+Stuck disks old new event (node.Core fault) = (fault ≡ NoMemory) × (new ≡ record old { mounted = None }) × (may_take_memory old event ≡ true)
 Stuck disks old new event node.Full = ⊥
 Stuck disks old new event node.Exhausted = ⊥
 Stuck disks old new event node.Device = ⊥

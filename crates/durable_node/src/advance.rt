@@ -79,7 +79,7 @@ fn while_down<D: SectorDisk + Drop>(
         Event::Recover => remount(alloc, id, nodes, core, disk, doubt, mounted),
         _ => {
             *mounted = None;
-            ignore(alloc, core, disk, event)
+            Ok(ignore(alloc, core, disk, event))
         }
     }
 }

@@ -1,6 +1,7 @@
-ghost use Rattle.std.specs.Prelude.{◌≡◌, ◌≢◌, ◌≤◌, ◌↔◌, ℕ, IsTrue, IsOk, IfOk, IfErr, IfSome, IsErrOf, OnErr, Some, None, Err, length, option_map};
+ghost use Rattle.std.specs.Prelude.{◌≡◌, ◌≢◌, ◌≤◌, ◌↔◌, ℕ, IsTrue, IsOk, IfOk, IfErr, IfSome, IsErrOf, OnErr, Some, None, Err, length, option_map, true};
 ghost use Rattle.node_core.specs.declared.fault.CoreFault.TheVariants.{NoMemory};
 ghost use Rattle.node_core.specs.Core.{IsPlanFor};
+ghost use Rattle.node_core.specs.Memory.{takes_memory};
 ghost use Rattle.node_core.specs.Most.{most_of};
 ghost use Rattle.node_core.specs.NodeStep.{IsSpent};
 ghost use Rattle.node_core.specs.Planned.{lent_by};
@@ -44,6 +45,7 @@ pub(crate) fn handle<D: SectorDisk>(
     ensures tried { IfOk result (λ came. came.tried ≡ option_map attempt_of (command_by (wants_of id (durable_of store.old).pending event.now core.old.state) came.fate)) }
     ensures few { IfOk result (λ came. length came.sent.items ≤ most_of nodes (durable_of store.old).pending) }
     ensures stuck { IfErr result (λ fault. (fault ≡ NodeFault.Core NoMemory) × IsAsBefore core.old core.new store.old store.new doubt.old doubt.new) }
+    ensures spares { IfErr result (λ _. takes_memory id event.now core.old.state ≡ true) }
     ensures answers { AnswersEvent (refusal_of nodes id event.now core.old.state)
         (disk_refusal (durable_of store.old) (area_of store.old) (wants_of id (durable_of store.old).pending event.now core.old.state)) (answered result) }
     ensures store { KeepsSound D.state store.old store.new (IsErrOf (answered result) NodeFault.Device) }
@@ -94,6 +96,7 @@ fn planned(
     ensures refused { IfSome (refusal_of core.old.nodes core.old.id event.now core.old.state) (λ fault. result ≡ Err fault) }
     ensures memory { IfErr result (λ fault. fault ≢ CoreFault.NoMemory
         → refusal_of core.old.nodes core.old.id event.now core.old.state ≡ Some fault) }
+    ensures spares { result ≡ Err CoreFault.NoMemory → takes_memory core.old.id event.now core.old.state ≡ true }
     ensures unchanged { OnErr result (core.new ≡ core.old) }
 {
     match event {

@@ -1,11 +1,13 @@
 // A node over a disk in memory: how it opens, and how it crashes.
 ghost use Rattle.std.specs.Prelude.{◌≡◌, ◌≤◌, ◌<◌, ◌+◌, ◌*◌, IfOk, IsSome, Some, None};
+ghost use Rattle.disk_sector.specs.Layout.{sectors_for};
+ghost use Rattle.disk_sector.specs.declared.layout.TheConstants.{LEAST_SLOTS, MOST_SLOTS};
 ghost use Rattle.group_task.specs.declared.node.TheConstants.{NODES};
 ghost use Rattle.sector_disk.specs.Memory.{Memory, state_of, all_synced};
 ghost use Rattle.sector_disk.specs.Crash.{IsCrashed};
 ghost use Rattle.node_core.specs.Start.{down};
 ghost use Rattle.histories.specs.After.{after};
-ghost use Rattle.durable_node.specs.Arming.{armed_disk};
+ghost use Rattle.durable_node.specs.Arming.{armed_disk, with_left};
 ghost use Rattle.durable_node.specs.Forgetting.{forgotten_disk};
 ghost use Rattle.durable_node.specs.Fresh.{IsFresh};
 ghost use Rattle.durable_node.specs.Node.{Stands};
@@ -14,6 +16,7 @@ ghost use Rattle.histories.specs.declared.what.What.TheVariants.{Crashed};
 
 use crate::node::DurableNode;
 use crate::node_disk::NodeDisk;
+use disk_sector::sectors_for;
 use group_task::NodeId;
 use histories::Fate;
 use node_core::NodeCore;
@@ -32,13 +35,15 @@ impl DurableNode<MemDisk> {
     ) -> Result<DurableNode<MemDisk>, AllocError>
         requires within { id < nodes }
         requires most { nodes ≤ NODES }
-        requires least { 4 ≤ slots }
-        requires greatest { slots ≤ 4096 }
+        requires least { LEAST_SLOTS ≤ slots }
+        requires greatest { slots ≤ MOST_SLOTS }
         ensures id { IfOk result (λ node. node.id ≡ id) }
         ensures nodes { IfOk result (λ node. node.nodes ≡ nodes) }
         ensures opens { IfOk result (λ node. Stands state_of node (opening id)) }
-        ensures sectors { IfOk result (λ node. (disk : Memory) → node.disk ≡ Some disk → (state_of disk).sectors ≡ 8 + 4 * slots) }
+        ensures sectors { IfOk result (λ node. (disk : Memory) → node.disk ≡ Some disk → (state_of disk).sectors ≡ sectors_for slots) }
+        // No call of its disk failed, and it isn't armed.
         ensures failures { IfOk result (λ node. (disk : Memory) → node.disk ≡ Some disk → disk.failures ≡ 0) }
+        ensures disarmed { IfOk result (λ node. (disk : Memory) → node.disk ≡ Some disk → disk.left ≡ None) }
         ensures mounted { IfOk result (λ node. node.mounted ≡ None) }
     {
         let disk = formatted_disk(alloc, slots)?;
@@ -60,7 +65,9 @@ impl DurableNode<MemDisk> {
         ensures nodes { IfOk result (λ node. node.nodes ≡ nodes) }
         ensures opens { IfOk result (λ node. Stands state_of node (opening id)) }
         ensures sectors { IfOk result (λ node. (held : Memory) → node.disk ≡ Some held → (state_of held).sectors ≡ (state_of disk.now).sectors) }
+        // No call of its disk failed, and it isn't armed.
         ensures failures { IfOk result (λ node. (held : Memory) → node.disk ≡ Some held → held.failures ≡ 0) }
+        ensures disarmed { IfOk result (λ node. (held : Memory) → node.disk ≡ Some held → held.left ≡ None) }
         ensures mounted { IfOk result (λ node. node.mounted ≡ None) }
     {
         let copy = disk.copy(alloc)?;
@@ -81,7 +88,9 @@ impl DurableNode<MemDisk> {
         ensures nodes { IfOk result (λ node. node.nodes ≡ nodes) }
         ensures opens { IfOk result (λ node. Stands state_of node (opening id)) }
         ensures sectors { IfOk result (λ node. (held : Memory) → node.disk ≡ Some held → (state_of held).sectors ≡ (state_of disk).sectors) }
+        // No call of its disk failed, and it isn't armed.
         ensures failures { IfOk result (λ node. (held : Memory) → node.disk ≡ Some held → held.failures ≡ 0) }
+        ensures disarmed { IfOk result (λ node. (held : Memory) → node.disk ≡ Some held → held.left ≡ None) }
         ensures mounted { IfOk result (λ node. node.mounted ≡ None) }
     {
         let mut node = DurableNode::down(alloc, id, nodes, disk);
@@ -91,7 +100,7 @@ impl DurableNode<MemDisk> {
         let Fate::Recovered(_) = came.fate else {
             return Err(AllocError);
         };
-        node.mounted = None;
+        node.disarm();
         Ok(node)
     }
 
@@ -104,7 +113,16 @@ impl DurableNode<MemDisk> {
         self.mounted = None;
     }
 
-    /// Lets the disk forget the moments before this one, as [`MemDisk::forget`] does.
+    // Lets all later calls of the disk pass.
+    fn disarm(&mut self)
+        ensures disarmed { self.new ≡ record self.old { disk = with_left None self.old.disk; mounted = None } }
+        ensures stands { (s : NodeState) → Stands state_of self.old s → Stands state_of self.new s }
+    {
+        self.disk.disarm();
+        self.mounted = None;
+    }
+
+    /// Lets the disk forget the moments before this one, as [`MemDisk::forget`] does. What the last call mounted is shown still.
     pub fn forget(&mut self)
         ensures forgot { self.new ≡ record self.old { disk = forgotten_disk self.old.disk } }
         ensures stands { (s : NodeState) → Stands state_of self.old s → Stands state_of self.new s }
@@ -131,12 +149,12 @@ impl DurableNode<MemDisk> {
 
 /// A new disk of two areas of so many slots, formatted. Refused where there is no memory.
 pub fn formatted_disk(alloc: Global, slots: u64) -> Result<MemDisk, AllocError>
-    requires least { 4 ≤ slots }
-    requires greatest { slots ≤ 4096 }
-    ensures sectors { IfOk result (λ disk. (state_of disk).sectors ≡ 8 + 4 * slots) }
+    requires least { LEAST_SLOTS ≤ slots }
+    requires greatest { slots ≤ MOST_SLOTS }
+    ensures sectors { IfOk result (λ disk. (state_of disk).sectors ≡ sectors_for slots) }
     ensures fresh { IfOk result IsFresh }
 {
-    let mut disk = MemDisk::new(alloc, 8 + 4 * slots)?;
+    let mut disk = MemDisk::new(alloc, sectors_for(slots))?;
     if format(&mut disk).is_err() {
         return Err(AllocError);
     }

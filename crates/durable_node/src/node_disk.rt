@@ -1,6 +1,6 @@
 // The disk of a node, wherever it stands.
-ghost use Rattle.std.specs.Prelude.{◌≡◌, IsSome, Some};
-ghost use Rattle.durable_node.specs.Arming.{armed_in};
+ghost use Rattle.std.specs.Prelude.{◌≡◌, IsSome, Some, None};
+ghost use Rattle.durable_node.specs.Arming.{with_left_in};
 ghost use Rattle.durable_node.specs.Forgetting.{forgotten_in};
 ghost use Rattle.durable_node.specs.Node.{disk_in};
 
@@ -45,11 +45,22 @@ impl<D: SectorDisk> NodeDisk<D> {
 impl NodeDisk<MemDisk> {
     /// Arms the disk where it stands.
     pub(crate) fn arm(&mut self, calls: u64)
-        ensures { self.new ≡ armed_in calls self.old }
+        ensures { self.new ≡ with_left_in (Some calls) self.old }
     {
         match self {
             NodeDisk::Bare(disk) => disk.arm(calls),
             NodeDisk::Mounted(store) => store.arm(calls),
+            NodeDisk::Taken => {}
+        }
+    }
+
+    /// Disarms the disk where it stands.
+    pub(crate) fn disarm(&mut self)
+        ensures { self.new ≡ with_left_in None self.old }
+    {
+        match self {
+            NodeDisk::Bare(disk) => disk.disarm(),
+            NodeDisk::Mounted(store) => store.disarm(),
             NodeDisk::Taken => {}
         }
     }

@@ -55,6 +55,19 @@ impl JobTable {
         })
     }
 
+    /// An empty table without room, which takes no memory.
+    pub fn empty(alloc: Global) -> JobTable
+        ensures { result ≡ record { next = 0; pending = []; room = 0 } }
+    {
+        let first = 0;
+        JobTable {
+            next: first,
+            room: 0,
+            places: Vec::new(alloc),
+            start: 0,
+        }
+    }
+
     /// The id that the next job gets; 18446744073709551615 where no id is left.
     #[inline]
     pub fn next(&self) -> u64

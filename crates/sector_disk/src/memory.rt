@@ -86,11 +86,18 @@ impl MemDisk {
     }
 
     /// Lets so many more calls of `read`, `write` and `sync` pass, and fails all later ones, until
-    /// it is armed anew or crashes. A call that is out of range isn't counted.
+    /// it is armed anew, disarmed or crashes. A call that is out of range isn't counted.
     pub fn arm(&mut self, calls: u64)
         ensures { self.new ≡ record self.old { left = Some calls } }
     {
         self.left = Some(calls);
+    }
+
+    /// Lets all later calls pass, until it is armed anew.
+    pub fn disarm(&mut self)
+        ensures { self.new ≡ record self.old { left = None } }
+    {
+        let _ = self.left.take();
     }
 
     /// How many calls of `read`, `write` and `sync` still pass. None where it isn't armed.

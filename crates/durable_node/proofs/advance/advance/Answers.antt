@@ -1,6 +1,6 @@
 use Rattle.std.proofs.Common.{◌≡◌, sym, ◌∙◌, refl, rules}
 use Rattle.durable_node.specs.declared.node_disk.NodeDisk.TheVariants.{Mounted}
-use Rattle.durable_node.proofs.Nodes.{node_over, over, served}
+use Rattle.durable_node.proofs.Nodes.{node_over, over, served, served_stuck}
 use Rattle.durable_node.proofs.Serves.{serves}
 use Rattle.durable_node.proofs.advance.advance.Goals as goal
 
@@ -30,3 +30,9 @@ returns-in-Mounted-clause-step g c =
     let node = rw c.in-Mounted.is at c.requires.node in
     rw c.in-Mounted.is (serves g.D.SectorDisk.state c.args.id c.args.nodes c.args.core.now c.handle.new.core store c.handle.new.store c.args.doubt.now c.handle.new.doubt c.args.event.now
     up (node.slots store refl) _ e.store c.args.mounted.now c.handle.result e.what e.tried e.disk)
+
+pub returns-in-Mounted-clause-stuck : goal.returns-in-Mounted-clause-stuck
+returns-in-Mounted-clause-stuck g c =
+    let e = c.handle.ensures in
+    rw c.in-Mounted.is (served_stuck c.args.id c.args.nodes c.args.core.now c.handle.new.core c.in-Mounted.store c.handle.new.store c.args.doubt.now c.handle.new.doubt g.D.SectorDisk.state c.args.mounted.now
+    c.args.event.now c.handle.result e.stuck (sym c.is_down.ensures ∙ c.if-not-is_down.true) e.spares)
