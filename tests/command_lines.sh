@@ -119,7 +119,15 @@ refused trace 1
 refused record 1
 refused threads 1
 refused draw 1
-refused --version
+for word in --version -V; do
+    problem=''
+    start 'unread\n' "$room/out" "$word"
+    [ "$status" -eq 0 ] || problem="status $status in place of 0"
+    [ "$(cat "$room/out")" = 'invite 0.1.0' ] || problem="it prints '$(cat "$room/out")'"
+    [ ! -s "$room/err" ] || problem='it writes to standard error'
+    cmp -s "$room/in" "$room/left" || problem='it read its input'
+    mark "$problem" invite "$word"
+done
 for command in answer show sim store format node trace record threads draw; do
     problem=''
     start '' "$room/out" --help

@@ -25,7 +25,7 @@ use std::sync::Wait;
 use std::thread::Threads;
 use task::{Batch, Making, Place, Task};
 
-/// The exit status of a command line that can't be read.
+/// The exit status of a command line that can't be read, or asks for help.
 const UNREADABLE: u8 = 2;
 
 /// Runs the command that the words of the command line name, and answers the exit status. `threads` starts the threads of the
@@ -54,13 +54,11 @@ fn obey<T: Threads + Wait + Sync>(rt: &HostRuntime, threads: &T) -> io::Result<u
     let Some(words) = words(rt)? else {
         return Ok(UNREADABLE);
     };
-    let Some(task) = task_of(rt, words.as_slice())? else {
-        return Ok(UNREADABLE);
-    };
-    match task {
-        Task::Batch(batch) => Ok(carry_out(rt, threads, &batch)),
-        Task::Format(path, making) => format(rt, path.as_str(), &making),
-        Task::Node(path, place) => node(rt, path.as_str(), place),
+    match task_of(rt, words.as_slice())? {
+        Ok(Task::Batch(batch)) => Ok(carry_out(rt, threads, &batch)),
+        Ok(Task::Format(path, making)) => format(rt, path.as_str(), &making),
+        Ok(Task::Node(path, place)) => node(rt, path.as_str(), place),
+        Err(status) => Ok(status),
     }
 }
 
@@ -140,8 +138,8 @@ fn explain_status(rt: &HostRuntime, status: Status) -> io::Result<u8> {
     Ok(status.code())
 }
 
-/// Reads the command line. Where it can't be read or asks for help, prints what is wrong with it, or the help.
-fn task_of<'a>(rt: &HostRuntime, words: &'a [String]) -> io::Result<Option<Task>> {
+/// Reads the command line. Where it asks for no work, prints what is wrong with it, the help or the version, and answers the exit status.
+fn task_of(rt: &HostRuntime, words: &[String]) -> io::Result<Result<Task, u8>> {
     let alloc = rt.alloc();
     match command(alloc)?.try_get_matches_from(words) {
         Ok(matches) => {
@@ -154,20 +152,24 @@ fn task_of<'a>(rt: &HostRuntime, words: &'a [String]) -> io::Result<Option<Task>
                     "error: SELF and NODES are decimal numbers, NODES from 1 to {NODES}, and SELF is below NODES; SLOTS is from {LEAST_SLOTS} to {MOST_SLOTS}, and FIRST below 2^64\n\nFor more information, try '--help'."
                 )?;
             }
-            Ok(task)
+            Ok(task.ok_or(UNREADABLE))
         }
-        Err(error) => {
-            if error.kind() == clap::error::ErrorKind::OutOfMemory {
-                return Err(io::Error::from(ErrorKind::OutOfMemory));
-            }
-            let is_mistake = error.use_stderr();
-            rt.print(error)?;
-            if is_mistake {
-                hint(rt, words)?;
-            }
-            Ok(None)
-        }
+        Err(error) => unread(rt, words, error),
     }
+}
+
+/// Prints what `clap` found in place of a command, and answers the exit status.
+fn unread(rt: &HostRuntime, words: &[String], error: clap::Error) -> io::Result<Result<Task, u8>> {
+    if error.kind() == clap::error::ErrorKind::OutOfMemory {
+        return Err(io::Error::from(ErrorKind::OutOfMemory));
+    }
+    let is_version = error.kind() == clap::error::ErrorKind::DisplayVersion;
+    let is_mistake = error.use_stderr();
+    rt.print(error)?;
+    if is_mistake {
+        hint(rt, words)?;
+    }
+    Ok(Err(if is_version { 0 } else { UNREADABLE }))
 }
 
 /// Where a file was named for a command that reads standard input, says so.
