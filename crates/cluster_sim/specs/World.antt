@@ -20,8 +20,8 @@ use Rattle.runs.specs.declared.outcome.Outcome.TheVariants as outcome
 use Rattle.runs.specs.World.{World}
 use Rattle.runs.specs.Step.{Step, Takes, world_after}
 use Rattle.runs.specs.Run.{IsAllowed}
-use Rattle.runs.specs.Acts.{StepOfSlots, what_outcome, act_outcome}
-use Rattle.runs.specs.Growth.{IsNext}
+use Rattle.runs.specs.Acts.{what_outcome, act_outcome}
+use Rattle.runs.specs.Growth.{IsNext, StepOfSlots}
 
 -- the slots of a disk's area, the nodes by their ids, and the network
 pub record WorldView : Type 0 where

@@ -12,7 +12,7 @@ use Rattle.sim_net.specs.Network.{delivery, Network, after_all_sent}
 use Rattle.runs.specs.World.{World, node_in, start}
 use Rattle.runs.specs.Step.{Step, Takes, world_after}
 use Rattle.runs.specs.Run.{entry_at, history_in, histories_from, world_at, IsAllowed, histories_of}
-use Rattle.runs.specs.Acts.{At, Brings, IsStepOf, what_outcome, IsRunOf, StepOfSlots, act_outcome}
+use Rattle.runs.specs.Acts.{At, Brings, IsStepOf, what_outcome, IsRunOf, act_outcome}
 use Rattle.run_trace.specs.declared.bringing.Brought.{Brought}
 use Rattle.run_trace.specs.declared.bringing.Brought.TheVariants.{Event, Recovery, Arming, Crash, Compaction}
 use Rattle.run_trace.specs.Bringing.{delivered, brought_by, CameOf}
@@ -36,10 +36,10 @@ use Rattle.run_trace.specs.declared.deeds.Rise.{Rise}
 use Rattle.run_trace.specs.declared.deeds.Rise.TheVariants.{Mounted}
 use Rattle.run_trace.specs.Deeds.{IsRise, ended, deed_by, ActedAs, IsNoted}
 use Rattle.run_trace.specs.Traced.{deed_of, claim_of, trace_in, IsSoFar, HasWorld}
-use Rattle.runs.specs.Growth.{IsNext}
+use Rattle.runs.specs.Growth.{IsNext, StepOfSlots}
 use Rattle.trace_check.specs.Claims.{Claim}
 use Rattle.sector_disk.specs.Memory.{Memory, state_of}
-use Rattle.runs.proofs.PublicLaws.{step_length, length_openings, at_place, how_many, node_there}
+use Rattle.runs.proofs.PublicLaws.{acts_go_on, step_length, length_openings, at_place, how_many, node_there}
 use Rattle.cluster_sim.specs.World.{WorldView, StandsFor, Shows}
 use Rattle.trace_check.specs.Traces.{claim}
 use Rattle.node_core.specs.declared.event.Event.TheVariants as on
@@ -167,13 +167,6 @@ module _ (slots n nodes first : ℕ) (s : NodeState) (rise : Rise) (doubt : Opti
   same_deed b Crashed plain came possible of_slots at = as_it_is b Crashed plain came possible of_slots at (inl refl)
   same_deed b MountFailed plain came possible of_slots at = as_it_is b MountFailed plain came possible of_slots at (inl refl)
   same_deed b (RaiseRefused kept) plain came possible of_slots at = as_it_is b (RaiseRefused kept) plain came possible of_slots at (inr refl)
-
-pub acts_go_on : (nodes slots : ℕ) (acts : List Act) (steps : List Step) (w : World) (a : Act) (step : Step) → IsRunOf nodes slots w acts steps → IsNext nodes slots (world_at nodes w steps) a step
-    → IsRunOf nodes slots w (acts ++ a ∷ []) (steps ++ step ∷ [])
-acts_go_on nodes slots [] [] w a step run next = (next.of_act, next.allowed, next.of_slots, tt)
-acts_go_on nodes slots [] (x ∷ steps) w a step run next = absurd run
-acts_go_on nodes slots (b ∷ acts) [] w a step run next = absurd run
-acts_go_on nodes slots (b ∷ acts) (x ∷ steps) w a step run next = (run.0, run.1, run.2, acts_go_on nodes slots acts steps (world_after nodes w x) a step run.3 next)
 
 world_goes_on : (nodes : ℕ) (steps : List Step) (step : Step) (w : World) → world_at nodes w (steps ++ step ∷ []) ≡ world_after nodes (world_at nodes w steps) step
 world_goes_on nodes [] step w = refl

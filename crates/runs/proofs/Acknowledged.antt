@@ -93,7 +93,7 @@ job_kept id work d (false ∷ cs) (t ∷ ts) (suc k) (suc n) a counts at lt is f
     job_kept id work d cs ts k n a counts at (omega (arith, lt)) is (λ j u more less at'. free (suc j) u (omega (arith, more)) (omega (arith, less)) at')
 
 -- a command that was acknowledged counts
-acknowledged_counts : (commands : List Tried) (mountings : List Mounting) (kept : Kept commands mountings) (k a : ℕ) (t : Tried) → slice_get commands k ≡ Some t → t.acked ≡ Some a
+pub acknowledged_counts : (commands : List Tried) (mountings : List Mounting) (kept : Kept commands mountings) (k a : ℕ) (t : Tried) → slice_get commands k ≡ Some t → t.acked ≡ Some a
     → slice_get kept.counts k ≡ Some true
 acknowledged_counts commands mountings kept k a t at acked =
     let flag : (b : Bool) × (slice_get kept.counts k ≡ Some b) = at_place kept.counts k (rw kept.as_many (slice_get_within commands k t at)) in

@@ -22,6 +22,7 @@ use Rattle.histories.specs.History.{FollowsSlots}
 use Rattle.histories.specs.What.{IsOf}
 use Rattle.histories.proofs.PublicLaws.{eq_nat}
 use Rattle.runs.proofs.Runs.{node_there, state_here, state_elsewhere}
+use Rattle.runs.proofs.Lawful.{allowed_of, slots_of}
 
 not_denied : (known : Bool) (n k : ℕ) (P : What → Type 0) (named : ℕ) (why : ActRefusal) → known ≡ true → At known n k P (Denies named why) → ⊥
 not_denied true n k P named why is h = absurd cc (h.1)
@@ -47,7 +48,7 @@ acts_run : (nodes slots : ℕ) (acts : List Act) (steps : List Step) (w : World)
 acts_run nodes slots [] [] w h = tt
 acts_run nodes slots [] (step ∷ steps) w h = absurd h
 acts_run nodes slots (a ∷ acts) [] w h = absurd h
-acts_run nodes slots (a ∷ acts) (step ∷ steps) w h = (h.1, acts_run nodes slots acts steps (world_after nodes w step) h.3)
+acts_run nodes slots (a ∷ acts) (step ∷ steps) w h = (allowed_of slots nodes w a step h.0 h.1, acts_run nodes slots acts steps (world_after nodes w step) h.2)
 
 pub all_acts_run : ActsRun
 all_acts_run nodes slots w acts steps h = acts_run nodes slots acts steps w h
@@ -57,7 +58,7 @@ slots_follow slots n nodes [] [] w s at run = tt
 slots_follow slots n nodes [] (step ∷ steps) w s at run = absurd run
 slots_follow slots n nodes (a ∷ acts) [] w s at run = absurd run
 slots_follow slots n nodes (a ∷ acts) (TakesStep m number what ∷ steps) w s at run =
-    pick (m == n) refl (λ t u. slots_follow slots n nodes acts steps (world_after nodes w (TakesStep m number what)) t u run.3)
+    pick (m == n) refl (λ t u. slots_follow slots n nodes acts steps (world_after nodes w (TakesStep m number what)) t u run.2)
   where
     pick : (b : Bool) → (m == n) ≡ b
         → ((t : NodeState) → slice_get (world_after nodes w (TakesStep m number what)).states n ≡ Some t → FollowsSlots slots n nodes t (history_in n nodes (world_after nodes w (TakesStep m number what)) steps))
@@ -65,13 +66,13 @@ slots_follow slots n nodes (a ∷ acts) (TakesStep m number what ∷ steps) w s 
     pick true is rest =
         let same : m ≡ n = eq_nat m n is in
         let here : slice_get w.states m ≡ Some s = subst (λ (j : ℕ). slice_get w.states j ≡ Some s) (sym same) at in
-        let of_slots : IsOfSlots slots m nodes s what = subst (λ (x : NodeState). IsOfSlots slots m nodes x what) (node_there w.states m s here) run.2 in
+        let of_slots : IsOfSlots slots m nodes s what = subst (λ (x : NodeState). IsOfSlots slots m nodes x what) (node_there w.states m s here) (slots_of slots nodes w (TakesStep m number what) run.1) in
         (subst (λ (j : ℕ). IsOfSlots slots j nodes s what) same of_slots, rest (after n nodes s what) (state_here m n nodes what w.states s same at))
     pick false is rest =
         let ne : n ≢ m = grind (arith, nat_tests) in
         rest s (state_elsewhere m n nodes what w.states ne ∙ at)
-slots_follow slots n nodes (a ∷ acts) (Changes net ∷ steps) w s at run = slots_follow slots n nodes acts steps (world_after nodes w (Changes net)) s at run.3
-slots_follow slots n nodes (a ∷ acts) (Denies named why ∷ steps) w s at run = slots_follow slots n nodes acts steps w s at run.3
+slots_follow slots n nodes (a ∷ acts) (Changes net ∷ steps) w s at run = slots_follow slots n nodes acts steps (world_after nodes w (Changes net)) s at run.2
+slots_follow slots n nodes (a ∷ acts) (Denies named why ∷ steps) w s at run = slots_follow slots n nodes acts steps w s at run.2
 
 pub runs_of_slots : RunsOfSlots
 runs_of_slots nodes slots w acts steps run n s at = slots_follow slots n nodes acts steps w s at run

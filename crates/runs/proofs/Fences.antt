@@ -9,7 +9,7 @@ use Rattle.node_core.specs.Words.{members_of}
 use Rattle.histories.specs.Book.{IsTaskOf, IsInGroup, members_in}
 use Rattle.runs.specs.Reporting.{Report}
 use Rattle.runs.specs.Headline.{IsShown, HasBook}
-use Rattle.runs.specs.Uses.{Shows, ShowsWorking, OneLeader, OneOwnerEach, MembersAgree, OneWorkerEach}
+use Rattle.runs.specs.Uses.{Shows, ShowsWorking, LeaderIsCreator, OneLeader, OneOwnerEach, MembersAgree, OneWorkerEach}
 use Rattle.runs.proofs.Acknowledged.{among_at}
 
 -- what the report shows is shown to the headline
@@ -21,6 +21,9 @@ is_shown r n s shows = elim shows [
 
 in_group : (s : State) → ((s.phase ≡ Normal) ⊎ (s.phase ≡ Reorganization)) → IsInGroup s.phase
 in_group s either = elim either [ inl e ↦ inr e | inr e ↦ inl e ]
+
+pub leader_is_creator : LeaderIsCreator
+leader_is_creator nodes slots acts r h n s by = sym ((h.has_book.agrees n s (is_shown r n s by.0)).0 (in_group s by.1)) ∙ by.2
 
 pub one_leader : OneLeader
 one_leader nodes slots acts r h n m s t by_s by_t same =

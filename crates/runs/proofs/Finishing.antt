@@ -116,7 +116,7 @@ reported_by_act nodes slots worker origin id [] [] w run i = absurd i
 reported_by_act nodes slots worker origin id [] (step ∷ steps) w run i = absurd run
 reported_by_act nodes slots worker origin id (a ∷ acts) [] w run i = absurd run
 reported_by_act nodes slots worker origin id (a ∷ acts) (Takes m number what ∷ steps) w run i =
-    by_node (m == worker) refl i (λ j. reported_by_act nodes slots worker origin id acts steps (world_after nodes w (Takes m number what)) run.3 j)
+    by_node (m == worker) refl i (λ j. reported_by_act nodes slots worker origin id acts steps (world_after nodes w (Takes m number what)) run.2 j)
   where
     by_node : (b : Bool) → (m == worker) ≡ b
         → IsAmong (on.Finish origin id) (acted_in ((if b then record { what = what; sent = sent_at m nodes (node_in w.states m) what } ∷ [] else []) ++ history_in worker nodes (world_after nodes w (Takes m number what)) steps))
@@ -132,5 +132,5 @@ reported_by_act nodes slots worker origin id (a ∷ acts) (Takes m number what �
       | inr later ↦ reported_later _ _ worker origin id (rest later)
     ]
     by_node false is i rest = reported_later _ _ worker origin id (rest i)
-reported_by_act nodes slots worker origin id (a ∷ acts) (Changes net ∷ steps) w run i = reported_later _ _ worker origin id (reported_by_act nodes slots worker origin id acts steps (world_after nodes w (Changes net)) run.3 i)
-reported_by_act nodes slots worker origin id (a ∷ acts) (Denies named why ∷ steps) w run i = reported_later _ _ worker origin id (reported_by_act nodes slots worker origin id acts steps w run.3 i)
+reported_by_act nodes slots worker origin id (a ∷ acts) (Changes net ∷ steps) w run i = reported_later _ _ worker origin id (reported_by_act nodes slots worker origin id acts steps (world_after nodes w (Changes net)) run.2 i)
+reported_by_act nodes slots worker origin id (a ∷ acts) (Denies named why ∷ steps) w run i = reported_later _ _ worker origin id (reported_by_act nodes slots worker origin id acts steps w run.2 i)

@@ -11,15 +11,16 @@ use Rattle.runs.specs.Reporting.{Moment, Report, moment_of, report_of, first_rep
 use Rattle.runs.specs.Headline.{Headline}
 use Rattle.runs.specs.Growth.{acts_in, IsNext, RunsOpen, RunsGrow, LeftKeeps}
 use Rattle.runs.proofs.Headlines.{every_schedule}
+use Rattle.runs.proofs.Lawful.{lawful_of}
 
 -- ---- the run
 
-acts_go_on : (nodes slots : ℕ) (acts : List Act) (steps : List Step) (w : World) (a : Act) (step : Step) → IsRunOf nodes slots w acts steps → IsNext nodes slots (world_at nodes w steps) a step
+pub acts_go_on : (nodes slots : ℕ) (acts : List Act) (steps : List Step) (w : World) (a : Act) (step : Step) → IsRunOf nodes slots w acts steps → IsNext nodes slots (world_at nodes w steps) a step
     → IsRunOf nodes slots w (acts ++ a ∷ []) (steps ++ step ∷ [])
-acts_go_on nodes slots [] [] w a step run next = (next.of_act, next.allowed, next.of_slots, tt)
+acts_go_on nodes slots [] [] w a step run next = (next.of_act, lawful_of slots nodes w step next.allowed next.of_slots, tt)
 acts_go_on nodes slots [] (x ∷ steps) w a step run next = absurd run
 acts_go_on nodes slots (b ∷ acts) [] w a step run next = absurd run
-acts_go_on nodes slots (b ∷ acts) (x ∷ steps) w a step run next = (run.0, run.1, run.2, acts_go_on nodes slots acts steps (world_after nodes w x) a step run.3 next)
+acts_go_on nodes slots (b ∷ acts) (x ∷ steps) w a step run next = (run.0, run.1, acts_go_on nodes slots acts steps (world_after nodes w x) a step run.2 next)
 
 -- there are as many nodes as there were
 pub step_length : (nodes : ℕ) (w : World) (step : Step) → length (world_after nodes w step).states ≡ length w.states
@@ -40,7 +41,7 @@ report_goes_on : (nodes slots : ℕ) (acts : List Act) (steps : List Step) (w : 
 report_goes_on nodes slots [] [] w r a step run = refl
 report_goes_on nodes slots [] (x ∷ steps) w r a step run = absurd run
 report_goes_on nodes slots (b ∷ acts) [] w r a step run = absurd run
-report_goes_on nodes slots (b ∷ acts) (x ∷ steps) w r a step run = report_goes_on nodes slots acts steps (world_after nodes w x) (grown nodes w b x r) a step run.3
+report_goes_on nodes slots (b ∷ acts) (x ∷ steps) w r a step run = report_goes_on nodes slots acts steps (world_after nodes w x) (grown nodes w b x r) a step run.2
 
 pub runs_open : RunsOpen
 runs_open nodes slots = record { steps = []; is_run = tt; world = refl; reported = refl }

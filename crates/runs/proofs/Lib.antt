@@ -1,4 +1,5 @@
 mod Runs
+mod Lawful
 mod RunBooks
 mod Tagged
 mod Reports
@@ -26,4 +27,7 @@ mod Finishing
 mod Reported
 mod Shown
 mod Finished
+mod Fronts
+mod Answered
+mod NewIds
 pub mod PublicLaws

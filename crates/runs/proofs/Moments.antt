@@ -27,14 +27,14 @@ acts_front zero nodes slots acts steps w run = tt
 acts_front (suc k) nodes slots [] [] w run = tt
 acts_front (suc k) nodes slots [] (step ∷ steps) w run = absurd run
 acts_front (suc k) nodes slots (a ∷ acts) [] w run = absurd run
-acts_front (suc k) nodes slots (a ∷ acts) (step ∷ steps) w run = (run.0, run.1, run.2, acts_front k nodes slots acts steps (world_after nodes w step) run.3)
+acts_front (suc k) nodes slots (a ∷ acts) (step ∷ steps) w run = (run.0, run.1, acts_front k nodes slots acts steps (world_after nodes w step) run.2)
 
 -- there is a step for each act
 pub as_many : (nodes slots : ℕ) (acts : List Act) (steps : List Step) (w : World) → IsRunOf nodes slots w acts steps → length acts ≡ length steps
 as_many nodes slots [] [] w run = refl
 as_many nodes slots [] (step ∷ steps) w run = absurd run
 as_many nodes slots (a ∷ acts) [] w run = absurd run
-as_many nodes slots (a ∷ acts) (step ∷ steps) w run = ap suc (as_many nodes slots acts steps (world_after nodes w step) run.3)
+as_many nodes slots (a ∷ acts) (step ∷ steps) w run = ap suc (as_many nodes slots acts steps (world_after nodes w step) run.2)
 
 -- a moment shows its node after the acts so far
 pub moment_state : (k nodes : ℕ) (acts : List Act) (steps : List Step) (w : World) (m : Moment) → slice_get (moments_from nodes w acts steps) k ≡ Some m

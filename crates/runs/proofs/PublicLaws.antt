@@ -7,7 +7,7 @@ pub use Rattle.runs.proofs.Exact.{all_acts_run}
 -- Only an act `finish` tells a node that a job is finished.
 pub use Rattle.runs.proofs.Finishing.{link_none, loses_none, taken_there}
 -- A run and its report grow by one act.
-pub use Rattle.runs.proofs.Grown.{left_keeps, runs_grow, runs_open, step_length}
+pub use Rattle.runs.proofs.Grown.{acts_go_on, left_keeps, runs_grow, runs_open, step_length}
 -- A step makes a node's hand longer by no more than the pending jobs and one.
 pub use Rattle.runs.proofs.Hands.{hands_grow}
 -- The messages of a moment are those under its numbers, also when more were sent after it.

@@ -16,7 +16,7 @@ use Rattle.runs.proofs.Runs.{starts_opened}
 pub acts_reported : (nodes slots : ℕ) (acts : List Act) (steps : List Step) (w : World) → IsRunOf nodes slots w acts steps → map (λ (m : Moment). m.act) (moments_from nodes w acts steps) ≡ acts
 acts_reported nodes slots [] steps w run = refl
 acts_reported nodes slots (a ∷ acts) [] w run = absurd run
-acts_reported nodes slots (a ∷ acts) (step ∷ steps) w run = ap (λ (xs : List Act). a ∷ xs) (acts_reported nodes slots acts steps (world_after nodes w step) run.3)
+acts_reported nodes slots (a ∷ acts) (step ∷ steps) w run = ap (λ (xs : List Act). a ∷ xs) (acts_reported nodes slots acts steps (world_after nodes w step) run.2)
 
 pub state_there : (states : List NodeState) (n : ℕ) (x : NodeState) → slice_get states n ≡ Some x → slice_get (map (λ (s : NodeState). s.state) states) n ≡ Some x.state
 state_there [] n x at = absurd cc

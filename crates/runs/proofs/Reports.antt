@@ -87,7 +87,7 @@ groups_added nodes slots [] [] w r run = sym (append-nil r.groups)
 groups_added nodes slots [] (step ∷ steps) w r run = absurd run
 groups_added nodes slots (a ∷ acts) [] w r run = absurd run
 groups_added nodes slots (a ∷ acts) (step ∷ steps) w r run =
-    groups_added nodes slots acts steps (world_after nodes w step) (grown nodes w a step r) run.3
+    groups_added nodes slots acts steps (world_after nodes w step) (grown nodes w a step r) run.2
     ∙ (ap (λ (gs : List Group). (r.groups ++ gs) ++ groups_from nodes (world_after nodes w step) steps) (step_gives nodes w step)
     ∙ append_assoc r.groups (groups_at nodes w step) (groups_from nodes (world_after nodes w step) steps))
 
@@ -216,7 +216,7 @@ report_goes_on n nodes slots [] [] w r s at run = record { commands = sym (appen
 report_goes_on n nodes slots [] (step ∷ steps) w r s at run = absurd run
 report_goes_on n nodes slots (a ∷ acts) [] w r s at run = absurd run
 report_goes_on n nodes slots (a ∷ acts) (Takes m number what ∷ steps) w r s at run =
-    pick (m == n) refl (λ t u. report_goes_on n nodes slots acts steps (world_after nodes w (Takes m number what)) (grown nodes w a (Takes m number what) r) t u run.3)
+    pick (m == n) refl (λ t u. report_goes_on n nodes slots acts steps (world_after nodes w (Takes m number what)) (grown nodes w a (Takes m number what) r) t u run.2)
   where
     pick : (b : Bool) → (m == n) ≡ b
         → ((t : NodeState) → slice_get (world_after nodes w (Takes m number what)).states n ≡ Some t
@@ -238,10 +238,10 @@ report_goes_on n nodes slots (a ∷ acts) (Takes m number what ∷ steps) w r s 
         (history_in n nodes (world_after nodes w (Takes m number what)) steps) (step_elsewhere m n nodes number w a what r is) (rest s (state_elsewhere m n nodes what w.states ne ∙ at))
 report_goes_on n nodes slots (a ∷ acts) (Changes net ∷ steps) w r s at run =
     let q = grown nodes w a (Changes net) r in
-    quiet_on n nodes r q _ s (history_in n nodes (world_after nodes w (Changes net)) steps) (quiet_step n r q refl refl) (report_goes_on n nodes slots acts steps (world_after nodes w (Changes net)) q s at run.3)
+    quiet_on n nodes r q _ s (history_in n nodes (world_after nodes w (Changes net)) steps) (quiet_step n r q refl refl) (report_goes_on n nodes slots acts steps (world_after nodes w (Changes net)) q s at run.2)
 report_goes_on n nodes slots (a ∷ acts) (Denies named why ∷ steps) w r s at run =
     let q = grown nodes w a (Denies named why) r in
-    quiet_on n nodes r q _ s (history_in n nodes w steps) (quiet_step n r q refl refl) (report_goes_on n nodes slots acts steps w q s at run.3)
+    quiet_on n nodes r q _ s (history_in n nodes w steps) (quiet_step n r q refl refl) (report_goes_on n nodes slots acts steps w q s at run.2)
 
 -- ---- the openings
 

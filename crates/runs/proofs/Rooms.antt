@@ -22,7 +22,9 @@ use Rattle.schedule.specs.declared.act.Act.{Act}
 use Rattle.runs.specs.World.{World, start}
 use Rattle.runs.specs.Step.{Step, Takes, Changes, Denies, world_after}
 use Rattle.runs.specs.Run.{IsAllowed, world_at}
-use Rattle.runs.specs.Acts.{StepOfSlots, IsRunOf}
+use Rattle.runs.specs.Acts.{IsRunOf}
+use Rattle.runs.specs.Growth.{StepOfSlots}
+use Rattle.runs.proofs.Lawful.{allowed_of, slots_of}
 use Rattle.runs.specs.Reporting.{Report}
 use Rattle.runs.specs.Growth.{IsLeft, acts_in}
 use Rattle.runs.proofs.Runs.{node_there, opened}
@@ -102,7 +104,7 @@ run_rooms : (nodes slots : ℕ) (acts : List Act) (steps : List Step) (w : World
 run_rooms nodes slots [] [] w run all = all
 run_rooms nodes slots [] (step ∷ steps) w run all = absurd run
 run_rooms nodes slots (a ∷ acts) [] w run all = absurd run
-run_rooms nodes slots (a ∷ acts) (step ∷ steps) w run all = run_rooms nodes slots acts steps (world_after nodes w step) run.3 (step_rooms nodes slots w step run.1 run.2 all)
+run_rooms nodes slots (a ∷ acts) (step ∷ steps) w run all = run_rooms nodes slots acts steps (world_after nodes w step) run.2 (step_rooms nodes slots w step (allowed_of slots nodes w a step run.0 run.1) (slots_of slots nodes w step run.1) all)
 
 start_rooms : (nodes slots : ℕ) → AllStates (HasRoom slots) (start nodes)
 start_rooms nodes slots n s at =

@@ -40,7 +40,7 @@ vector_shown nodes slots n [] [] w s v at run i = elim i [ inl e ↦ inl e | inr
 vector_shown nodes slots n [] (step ∷ steps) w s v at run i = absurd run
 vector_shown nodes slots n (a ∷ acts) [] w s v at run i = absurd run
 vector_shown nodes slots n (a ∷ acts) (Takes m number what ∷ steps) w s v at run i =
-    by_node (m == n) refl i (λ u here j. vector_shown nodes slots n acts steps (world_after nodes w (Takes m number what)) u v here run.3 j)
+    by_node (m == n) refl i (λ u here j. vector_shown nodes slots n acts steps (world_after nodes w (Takes m number what)) u v here run.2 j)
   where
     by_node : (b : Bool) → (m == n) ≡ b
         → IsAmong v (vectors n nodes s ((if b then record { what = what; sent = sent_at m nodes (node_in w.states m) what } ∷ [] else []) ++ history_in n nodes (world_after nodes w (Takes m number what)) steps))
@@ -61,8 +61,8 @@ vector_shown nodes slots n (a ∷ acts) (Takes m number what ∷ steps) w s v at
     by_node false is i rest =
         let ne : n ≢ m = grind (arith, nat_tests) in
         shown_later n _ _ v s.state (rest s (state_elsewhere m n nodes what w.states ne ∙ at) i)
-vector_shown nodes slots n (a ∷ acts) (Changes net ∷ steps) w s v at run i = shown_later n _ _ v s.state (vector_shown nodes slots n acts steps (world_after nodes w (Changes net)) s v at run.3 i)
-vector_shown nodes slots n (a ∷ acts) (Denies named why ∷ steps) w s v at run i = shown_later n _ _ v s.state (vector_shown nodes slots n acts steps w s v at run.3 i)
+vector_shown nodes slots n (a ∷ acts) (Changes net ∷ steps) w s v at run i = shown_later n _ _ v s.state (vector_shown nodes slots n acts steps (world_after nodes w (Changes net)) s v at run.2 i)
+vector_shown nodes slots n (a ∷ acts) (Denies named why ∷ steps) w s v at run i = shown_later n _ _ v s.state (vector_shown nodes slots n acts steps w s v at run.2 i)
 
 -- the moments of the first acts are the first moments
 pub moments_front : (k nodes : ℕ) (acts : List Act) (steps : List Step) (w : World) → moments_from nodes w (take k acts) (take k steps) ≡ take k (moments_from nodes w acts steps)

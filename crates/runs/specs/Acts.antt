@@ -11,7 +11,7 @@ use Rattle.histories.specs.declared.what.What.{What}
 use Rattle.histories.specs.declared.what.What.TheVariants.{Did, Refused, Rests, Crashed, Recovered, RaiseRefused}
 use Rattle.histories.specs.declared.what.Rest.TheVariants.{Nothing, CompactDown, CompactWorn}
 use Rattle.histories.specs.After.{sent_at}
-use Rattle.histories.specs.Possible.{IsOfSlots}
+use Rattle.histories.specs.Possible.{IsPossible, IsOfSlots}
 use Rattle.schedule.specs.declared.act.Act.{Act}
 use Rattle.schedule.specs.declared.act.Act.TheVariants as act
 use Rattle.sim_net.specs.declared.fault.NetFault.{NetFault}
@@ -21,7 +21,6 @@ use Rattle.runs.specs.declared.outcome.Outcome.{Outcome}
 use Rattle.runs.specs.declared.outcome.Outcome.TheVariants as outcome
 use Rattle.runs.specs.declared.outcome.Refusal.TheVariants.{Node, Net as OfNet, Stranger}
 use Rattle.runs.specs.Step.{Step, Takes, Changes, Denies, world_after}
-use Rattle.runs.specs.Run.{IsAllowed}
 
 -- it came of a compaction, which is done, is refused, or meets a device that fails: then the node falls as in a crash
 abbrev pub IsCompaction : What → Type 0
@@ -58,16 +57,16 @@ IsStepOf nodes w (act.Crash n fill) step = At (nat_lt n nodes) n 0 (λ (what : W
 IsStepOf nodes w (act.Recover n) step = At (nat_lt n nodes) n 0 (IsOf on.Recover) step
 IsStepOf nodes w (act.Compact n) step = At (nat_lt n nodes) n 0 IsCompaction step
 
--- the step's outcome is that of disks of so many slots
-abbrev pub StepOfSlots : ℕ → ℕ → World → Step → Type 0
-StepOfSlots slots nodes w (Takes n number what) = IsOfSlots slots n nodes (node_in w.states n) what
-StepOfSlots slots nodes w step = Unit {0}
+-- what comes at a node may come there, where disks have so many slots
+abbrev pub IsLawful : ℕ → ℕ → World → Step → Type 0
+IsLawful slots nodes w (Takes n number what) = (s : NodeState) × (slice_get w.states n ≡ Some s) × IsPossible n nodes s what × IsOfSlots slots n nodes s what
+IsLawful slots nodes w step = Unit {0}
 
 -- the steps are a run of the acts, in a cluster whose disks have so many slots
 abbrev pub IsRunOf : ℕ → ℕ → World → List Act → List Step → Type 0
 IsRunOf nodes slots w [] [] = Unit {0}
 IsRunOf nodes slots w (a ∷ acts) (step ∷ steps) =
-    IsStepOf nodes w a step × IsAllowed nodes w step × StepOfSlots slots nodes w step × IsRunOf nodes slots (world_after nodes w step) acts steps
+    IsStepOf nodes w a step × IsLawful slots nodes w step × IsRunOf nodes slots (world_after nodes w step) acts steps
 IsRunOf nodes slots w acts steps = ⊥
 
 -- ---- the outcome of an act

@@ -1,10 +1,11 @@
 -- A cluster that a run leaves, with its report, and how they grow by one act.
 use Rattle.std.specs.Prelude.{ℕ, ◌≡◌, List, [], map}
 use Rattle.schedule.specs.declared.act.Act.{Act}
-use Rattle.runs.specs.World.{World, start}
-use Rattle.runs.specs.Step.{Step, world_after}
+use Rattle.runs.specs.World.{World, node_in, start}
+use Rattle.runs.specs.Step.{Step, Takes, world_after}
 use Rattle.runs.specs.Run.{IsAllowed, world_at}
-use Rattle.runs.specs.Acts.{IsStepOf, StepOfSlots, IsRunOf}
+use Rattle.runs.specs.Acts.{IsStepOf, IsRunOf}
+use Rattle.histories.specs.Possible.{IsOfSlots}
 use Rattle.runs.specs.Reporting.{Moment, Report, grown, report_of}
 use Rattle.runs.specs.Headline.{Headline}
 use Rattle.histories.specs.Counts.{IsShort}
@@ -19,6 +20,11 @@ pub record IsLeft (nodes slots : ℕ) (w : World) (r : Report) : Type 0 where
   pub is_run : IsRunOf nodes slots (start nodes) (acts_in r) steps
   pub world : w ≡ world_at nodes (start nodes) steps
   pub reported : r ≡ report_of nodes (acts_in r) steps
+
+-- the step's outcome is that of disks of so many slots
+abbrev pub StepOfSlots : ℕ → ℕ → World → Step → Type 0
+StepOfSlots slots nodes w (Takes n number what) = IsOfSlots slots n nodes (node_in w.states n) what
+StepOfSlots slots nodes w step = Unit {0}
 
 -- an act has this step
 pub record IsNext (nodes slots : ℕ) (w : World) (a : Act) (step : Step) : Type 0 where

@@ -1,6 +1,7 @@
 -- What a user of a cluster takes from the headline, each in words of its own.
 use Rattle.job_model.specs.declared.work.Work.{Work}
-use Rattle.std.specs.Prelude.{ℕ, suc, ◌≡◌, ◌⊎◌, ◌<◌, ◌≤◌, true, List, length, map, take, slice_get, Some, None}
+use Rattle.std.specs.Prelude.{ℕ, suc, ◌≡◌, ◌⊎◌, ◌<◌, ◌≤◌, true, List, [], ◌∷◌, ◌++◌, length, map, take, slice_get, Option, Some, None}
+use Rattle.job_model.specs.declared.node_command.NodeCommand.{NodeCommand as Command}
 use Rattle.job_model.specs.declared.node_command.NodeCommand.TheVariants.{Raise, Put, Done}
 use Rattle.group_task.specs.Group.{Group}
 use Rattle.group_task.specs.Ids.{has}
@@ -17,6 +18,7 @@ use Rattle.schedule.specs.declared.act.Act.{Act}
 use Rattle.schedule.specs.declared.act.Act.TheVariants as act
 use Rattle.runs.specs.Reporting.{Moment, MountedAt, Report, own_commands}
 use Rattle.runs.specs.declared.tried.TriedAt.{TriedAt}
+use Rattle.runs.specs.declared.outcome.Outcome.TheVariants as outcome
 use Rattle.runs.specs.Headline.{Headline, report_within}
 
 -- ---- what is reported
@@ -25,6 +27,22 @@ use Rattle.runs.specs.Headline.{Headline, report_within}
 abbrev pub ActsAreReported : Type 0
 ActsAreReported = (nodes slots : ℕ) (acts : List Act) (r : Report) → Headline nodes slots acts r →
     (map (λ (m : Moment). m.act) r.moments ≡ acts) × (length r.opening ≡ nodes) × ((n : ℕ) → n < nodes → slice_get r.opening n ≡ Some (alone n 1))
+
+-- ---- what an act is answered
+
+-- the command that an act asks its node for: a job is put, a recovery raises the counter
+abbrev pub asks : Act → Option Command
+asks (act.Submit n work) = Some (Put work)
+asks (act.Recover n) = Some Raise
+asks a = None
+
+-- what an act was answered is acknowledged: in it its node tried one command, the one that the act asks for if it asks for one, and
+-- the disk took it with that answer
+abbrev pub AnsweredIsAcknowledged : Type 0
+AnsweredIsAcknowledged = (nodes slots : ℕ) (acts : List Act) (r : Report) (h : Headline nodes slots acts r) (k : ℕ) (m : Moment) (a first many : ℕ) →
+    slice_get r.moments k ≡ Some m → m.outcome ≡ outcome.Done (Some a) first many →
+    (t : Tried) × ((report_within nodes (suc k) acts h.steps).commands ≡ (report_within nodes k acts h.steps).commands ++ record { node = m.node; tried = t } ∷ [])
+    × (t.acked ≡ Some a) × ((c : Command) → asks m.act ≡ Some c → t.command ≡ c)
 
 -- ---- what a disk keeps
 
@@ -47,6 +65,12 @@ abbrev pub DoubtsApart : Type 0
 DoubtsApart = (nodes slots : ℕ) (acts : List Act) (r : Report) → Headline nodes slots acts r → (n : ℕ) → n < nodes →
     (j k : ℕ) (t u : Tried) → j < k → slice_get (own_commands n r.commands) j ≡ Some t → t.acked ≡ None → slice_get (own_commands n r.commands) k ≡ Some u →
     (w : MountedAt) × IsAmong w r.mounted × (w.node ≡ n) × (j < w.mounting.before) × (w.mounting.before ≤ k)
+
+-- ids of jobs are new: of two jobs that a node took, the later one has the greater id
+abbrev pub IdsAreNew : Type 0
+IdsAreNew = (nodes slots : ℕ) (acts : List Act) (r : Report) → Headline nodes slots acts r → (n : ℕ) → n < nodes → (j k : ℕ) (work more : Work) (id later : ℕ) → j < k →
+    slice_get (own_commands n r.commands) j ≡ Some (record { command = Put work; acked = Some id }) →
+    slice_get (own_commands n r.commands) k ≡ Some (record { command = Put more; acked = Some later }) → id < later
 
 -- ---- group numbers
 
@@ -80,6 +104,10 @@ ShowsWorking r n s = Shows r n s × (s.phase ≡ Normal)
 -- the report shows this state of the node, which leads the group that it works in or brings together
 abbrev pub ShowsLeading : Report → ℕ → State → Type 0
 ShowsLeading r n s = Shows r n s × ((s.phase ≡ Normal) ⊎ (s.phase ≡ Reorganization)) × (s.coordinator ≡ n)
+
+-- who leads a group is the node that its number names
+abbrev pub LeaderIsCreator : Type 0
+LeaderIsCreator = (nodes slots : ℕ) (acts : List Act) (r : Report) → Headline nodes slots acts r → (n : ℕ) (s : State) → ShowsLeading r n s → s.group.creator ≡ n
 
 -- a group number is a fence: two moments, of any nodes, that lead one group are of one node
 abbrev pub OneLeader : Type 0

@@ -10,6 +10,7 @@ ghost use Rattle.runs.specs.Run.{RunsAreBundles, RunBook};
 ghost use Rattle.runs.specs.Strangers.{NoStrangers};
 ghost use Rattle.runs.specs.Uses.{ActsAreReported, RaisesAreKept, JobsAreKept, DoubtsApart};
 ghost use Rattle.runs.specs.Uses.{GivenAtOnePlace, LaterIsGreater, NamedWasGiven};
+ghost use Rattle.runs.specs.Uses.{AnsweredIsAcknowledged, IdsAreNew, LeaderIsCreator};
 ghost use Rattle.runs.specs.Uses.{OneLeader, OneOwnerEach, MembersAgree, OneWorkerEach, DoneWasFinished};
 
 /// Groups and jobs are kept on every schedule: whatever run its acts have, each mounting of a node gives what a front of its
@@ -66,12 +67,27 @@ pub fn acts_are_reported()
     ensures { ActsAreReported }
 {}
 
+/// What an act was answered is acknowledged: its node tried one command in it, and the disk took that command with that answer.
+pub fn answered_is_acknowledged()
+    ensures { AnsweredIsAcknowledged }
+{}
+
 /// What a node's disk acknowledged is there: no later mounting of the node gives a smaller count than a raise gave, and each
 /// gives a job that was taken, unless its completion was tried between. One command of a life at most is in doubt.
 pub fn acknowledged_is_kept()
     ensures raises { RaisesAreKept }
     ensures jobs { JobsAreKept }
     ensures doubts { DoubtsApart }
+{}
+
+/// The id of a job is new when it is given: it is greater than those of the jobs that its node took before.
+pub fn ids_are_new()
+    ensures { IdsAreNew }
+{}
+
+/// Who leads a group is the node that the group's number names.
+pub fn number_names_the_leader()
+    ensures { LeaderIsCreator }
 {}
 
 /// A group's number is a fence: whoever compares numbers for equality takes two leaders of one number for one node, is told
