@@ -78,11 +78,11 @@ comes_there nodes w (act.Recover n) m number what h =
     comes_by w m number (Some on.Recover) what (taken_at (nat_lt n nodes) n 0 (IsOf on.Recover) m number what h).2 (tt, tt)
 comes_there nodes w (act.Compact n) m number what h = rests_there w m number what (taken_at (nat_lt n nodes) n 0 IsCompaction m number what h).2
 
-no_change : (known : Bool) (n k : ℕ) (P : What → Type 0) (net : Network) → At known n k P (Changes net) → ⊥
+pub no_change : (known : Bool) (n k : ℕ) (P : What → Type 0) (net : Network) → At known n k P (Changes net) → ⊥
 no_change true n k P net h = absurd cc (h.1)
 no_change false n k P net h = absurd cc
 
-no_delivery : (nodes : ℕ) (old : Network) (k : ℕ) (d : Result Envelope NetFault) (net : Network) → Brings nodes old k d (Changes net) → ⊥
+pub no_delivery : (nodes : ℕ) (old : Network) (k : ℕ) (d : Result Envelope NetFault) (net : Network) → Brings nodes old k d (Changes net) → ⊥
 no_delivery nodes old k (Ok x) net h = no_change (nat_lt x.receiver nodes) x.receiver k (IsOf (on.Deliver x)) net h
 no_delivery nodes old k (Err why) net h = absurd cc
 
@@ -95,7 +95,7 @@ link_sent : (known : Bool) (net new : Network) → Changes net ≡ (if known the
 link_sent true net new h = cc h
 link_sent false net new h = absurd cc
 
-sent_there : (nodes : ℕ) (w : World) (a : Act) (net : Network) → IsStepOf nodes w a (Changes net) → net.sent ≡ w.net.sent
+pub sent_there : (nodes : ℕ) (w : World) (a : Act) (net : Network) → IsStepOf nodes w a (Changes net) → net.sent ≡ w.net.sent
 sent_there nodes w (act.Timer n timer) net h = absurd (no_change (nat_lt n nodes) n 0 (IsOf (on.Timer timer)) net h)
 sent_there nodes w (act.Deliver k) net h = absurd (no_delivery nodes w.net k (delivery w.net k) net h)
 sent_there nodes w (act.Lose k) net h = lost_sent w.net net k (message_at w.net k) h

@@ -29,5 +29,6 @@ mod Shown
 mod Finished
 mod Fronts
 mod Answered
+mod Effects
 mod NewIds
 pub mod PublicLaws

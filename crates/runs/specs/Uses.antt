@@ -1,6 +1,6 @@
 -- What a user of a cluster takes from the headline, each in words of its own.
 use Rattle.job_model.specs.declared.work.Work.{Work}
-use Rattle.std.specs.Prelude.{ℕ, suc, ◌≡◌, ◌⊎◌, ◌<◌, ◌≤◌, true, List, [], ◌∷◌, ◌++◌, length, map, take, slice_get, Option, Some, None}
+use Rattle.std.specs.Prelude.{ℕ, suc, ◌≡◌, ◌⊎◌, ◌<◌, ◌≤◌, ◌==◌, if◌then◌else◌, true, false, option_map, unwrap_or, flat_map, List, [], ◌∷◌, ◌++◌, length, map, take, slice_get, Option, Some, None}
 use Rattle.job_model.specs.declared.node_command.NodeCommand.{NodeCommand as Command}
 use Rattle.job_model.specs.declared.node_command.NodeCommand.TheVariants.{Raise, Put, Done}
 use Rattle.group_task.specs.Group.{Group}
@@ -9,7 +9,10 @@ use Rattle.wire_msg.specs.Envelope.{Envelope}
 use Rattle.wire_msg.specs.Kinds.{group_in}
 use Rattle.node_core.specs.declared.phase.Phase.TheVariants.{Down, Reorganization, Normal}
 use Rattle.node_core.specs.declared.in_hand.InHand.{InHand}
-use Rattle.node_core.specs.State.{State}
+use Rattle.node_core.specs.declared.event.Event.{Event}
+use Rattle.node_core.specs.declared.event.Event.TheVariants as on
+use Rattle.node_core.specs.State.{State, is_down}
+use Rattle.node_core.specs.Effects.{effect_of}
 use Rattle.node_core.specs.Start.{alone}
 use Rattle.node_core.specs.Words.{members_of, owner}
 use Rattle.histories.specs.Lists.{IsAmong}
@@ -19,6 +22,10 @@ use Rattle.schedule.specs.declared.act.Act.TheVariants as act
 use Rattle.runs.specs.Reporting.{Moment, MountedAt, Report, own_commands}
 use Rattle.runs.specs.declared.tried.TriedAt.{TriedAt}
 use Rattle.runs.specs.declared.outcome.Outcome.TheVariants as outcome
+use Rattle.runs.specs.declared.outcome.Refusal.{Refusal}
+use Rattle.runs.specs.World.{node_in, start}
+use Rattle.runs.specs.Run.{world_at}
+use Rattle.runs.specs.Events.{event_at}
 use Rattle.runs.specs.Headline.{Headline, report_within}
 
 -- ---- what is reported
@@ -27,6 +34,43 @@ use Rattle.runs.specs.Headline.{Headline, report_within}
 abbrev pub ActsAreReported : Type 0
 ActsAreReported = (nodes slots : ℕ) (acts : List Act) (r : Report) → Headline nodes slots acts r →
     (map (λ (m : Moment). m.act) r.moments ≡ acts) × (length r.opening ≡ nodes) × ((n : ℕ) → n < nodes → slice_get r.opening n ≡ Some (alone n 1))
+
+-- ---- what an act does
+
+-- of these moments the last state of a node, and s where there is none
+abbrev pub last_of : ℕ → Option State → List Moment → Option State
+last_of n s [] = s
+last_of n s (m ∷ ms) = last_of n (if m.node == n then Some m.state else s) ms
+
+-- the state of a node that the report shows last
+abbrev pub last_state : Report → ℕ → Option State
+last_state r n = last_of n (slice_get r.opening n) r.moments
+
+-- all messages that the report shows as sent, by their numbers
+abbrev pub all_sent : Report → List Envelope
+all_sent r = flat_map (λ (m : Moment). m.sent) r.moments
+
+-- the event that an act is, with its node: a delivery is that of the message of its number
+abbrev pub event_in : Report → Act → Option (ℕ × Event)
+event_in r (act.Deliver k) = option_map (λ (m : Envelope). (m.receiver, on.Deliver m)) (slice_get (all_sent r) k)
+event_in r a = event_at a
+
+-- an act that is refused changes nothing: nothing is sent, no command is tried and no group given, and each node is as it was shown last
+abbrev pub RefusedChangesNothing : Type 0
+RefusedChangesNothing = (nodes slots : ℕ) (acts : List Act) (r : Report) (h : Headline nodes slots acts r) (k : ℕ) (m : Moment) (why : Refusal) →
+    slice_get r.moments k ≡ Some m → m.outcome ≡ outcome.Refused why →
+    (m.sent ≡ []) × ((report_within nodes (suc k) acts h.steps).commands ≡ (report_within nodes k acts h.steps).commands) × ((report_within nodes (suc k) acts h.steps).groups ≡ (report_within nodes k acts h.steps).groups)
+    × ((n : ℕ) → n < nodes → last_state (report_within nodes (suc k) acts h.steps) n ≡ last_state (report_within nodes k acts h.steps) n)
+
+-- an act that is done has its row's effect: where it is an event at a node that was shown up last, the node's state and the messages that
+-- are sent are the effect of the event's row on that state, over the jobs that its disk keeps in the run
+abbrev pub DoneHasItsEffect : Type 0
+DoneHasItsEffect = (nodes slots : ℕ) (acts : List Act) (r : Report) (h : Headline nodes slots acts r) (k : ℕ) (m : Moment) (answer : Option ℕ) (first many : ℕ) (n : ℕ) (event : Event) (s : State) →
+    n < nodes → slice_get r.moments k ≡ Some m → m.outcome ≡ outcome.Done answer first many → event_in (report_within nodes k acts h.steps) m.act ≡ Some (n, event) →
+    last_state (report_within nodes k acts h.steps) n ≡ Some s → is_down s.phase ≡ false →
+    (m.node ≡ n)
+    × (m.state ≡ (effect_of nodes n (node_in (world_at nodes (start nodes) (take k h.steps)).states n).durable.pending event (unwrap_or answer 0) s).state)
+    × (m.sent ≡ (effect_of nodes n (node_in (world_at nodes (start nodes) (take k h.steps)).states n).durable.pending event (unwrap_or answer 0) s).sent)
 
 -- ---- what an act is answered
 

@@ -10,7 +10,7 @@ ghost use Rattle.runs.specs.Run.{RunsAreBundles, RunBook};
 ghost use Rattle.runs.specs.Strangers.{NoStrangers};
 ghost use Rattle.runs.specs.Uses.{ActsAreReported, RaisesAreKept, JobsAreKept, DoubtsApart};
 ghost use Rattle.runs.specs.Uses.{GivenAtOnePlace, LaterIsGreater, NamedWasGiven};
-ghost use Rattle.runs.specs.Uses.{AnsweredIsAcknowledged, IdsAreNew, LeaderIsCreator};
+ghost use Rattle.runs.specs.Uses.{RefusedChangesNothing, DoneHasItsEffect, AnsweredIsAcknowledged, IdsAreNew, LeaderIsCreator};
 ghost use Rattle.runs.specs.Uses.{OneLeader, OneOwnerEach, MembersAgree, OneWorkerEach, DoneWasFinished};
 
 /// Groups and jobs are kept on every schedule: whatever run its acts have, each mounting of a node gives what a front of its
@@ -65,6 +65,12 @@ pub fn no_strangers()
 /// A report has each act of the schedule in order, and the opening of each node.
 pub fn acts_are_reported()
     ensures { ActsAreReported }
+{}
+
+/// An act that is refused changes nothing, and one that is done has the effect of its event's row of the table.
+pub fn acts_do_as_answered()
+    ensures refused { RefusedChangesNothing }
+    ensures done { DoneHasItsEffect }
 {}
 
 /// What an act was answered is acknowledged: its node tried one command in it, and the disk took that command with that answer.

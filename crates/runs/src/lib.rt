@@ -9,9 +9,10 @@ mod outcome;
 mod tried;
 
 pub use laws::{
-    acknowledged_is_kept, acts_are_exact, acts_are_reported, answered_is_acknowledged,
-    every_schedule, goes_on, groups_given, ids_are_new, jobs_have_one_worker, kept, left_by_a_run,
-    no_strangers, number_is_a_fence, number_names_the_leader, numbers_are_new,
+    acknowledged_is_kept, acts_are_exact, acts_are_reported, acts_do_as_answered,
+    answered_is_acknowledged, every_schedule, goes_on, groups_given, ids_are_new,
+    jobs_have_one_worker, kept, left_by_a_run, no_strangers, number_is_a_fence,
+    number_names_the_leader, numbers_are_new,
 };
 pub use outcome::{Outcome, Refusal};
 pub use tried::TriedAt;

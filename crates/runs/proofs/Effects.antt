@@ -1,0 +1,313 @@
+-- An act that is refused changes nothing, and one that is done has the effect of its event's row.
+use Rattle.std.proofs.Common.{◌≡◌, ◌≢◌, ℕ, ◌<◌, Bool, true, false, List, [], ◌∷◌, ◌++◌, length, take, slice_get, refl, sym, ◌∙◌, ap, subst, arith, Option, Some, None}
+use Rattle.std.specs.Prelude.{if◌then◌else◌, ◌==◌, nat_lt, option_map, unwrap_or, flat_map, Result, Ok, Err}
+use Rattle.std.proofs.lemmas.Bool.Decides.{nat_tests}
+use Rattle.std.proofs.lemmas.Grind.{flat_map-append}
+use Rattle.std.proofs.lemmas.List.{append-nil}
+use Rattle.job_model.specs.declared.node_command.NodeCommand.{NodeCommand as Command}
+use Rattle.job_model.specs.Answer.{answer_of, answer_to}
+use Rattle.job_model.specs.Durable.{Durable}
+use Rattle.wire_msg.specs.Envelope.{Envelope}
+use Rattle.node_core.specs.State.{State, is_down}
+use Rattle.node_core.specs.Effects.{effect_of}
+use Rattle.node_core.specs.Effect.{Effect}
+use Rattle.node_core.specs.declared.event.Event.{Event}
+use Rattle.node_core.specs.declared.event.Event.TheVariants as on
+use Rattle.histories.specs.NodeState.{NodeState, opening, wants_at, effect_at}
+use Rattle.histories.specs.declared.what.What.{What}
+use Rattle.histories.specs.declared.what.What.TheVariants.{Did, Refused, Faulted, Rests, Crashed, Recovered, MountFailed, RaiseFailed, RaiseRefused}
+use Rattle.histories.specs.What.{IsOf}
+use Rattle.histories.specs.After.{after, sent_at}
+use Rattle.histories.specs.Possible.{IsPossible}
+use Rattle.histories.proofs.PublicLaws.{eq_nat}
+use Rattle.schedule.specs.declared.act.Act.{Act}
+use Rattle.schedule.specs.declared.act.Act.TheVariants as act
+use Rattle.sim_net.specs.declared.fault.NetFault.{NetFault}
+use Rattle.sim_net.specs.Network.{Network, delivery}
+use Rattle.runs.specs.declared.outcome.Outcome.TheVariants as outcome
+use Rattle.runs.specs.declared.outcome.Refusal.{Refusal}
+use Rattle.runs.specs.declared.tried.TriedAt.{TriedAt}
+use Rattle.runs.specs.World.{World, node_in, start}
+use Rattle.runs.specs.Step.{Step, Takes, Changes, Denies, step_sent, world_after}
+use Rattle.runs.specs.Run.{world_at}
+use Rattle.runs.specs.Acts.{Brings, IsStepOf, IsLawful, IsRunOf, act_outcome, what_outcome}
+use Rattle.runs.specs.Reporting.{Moment, Report, moment_of, tries, commands_at, group_of, grown, first_report, report_from}
+use Rattle.runs.specs.Headline.{report_within}
+use Rattle.runs.specs.Uses.{last_of, last_state, all_sent, event_in, RefusedChangesNothing, DoneHasItsEffect}
+use Rattle.runs.proofs.Finishing.{taken_there}
+use Rattle.runs.proofs.Fronts.{front_of}
+use Rattle.runs.proofs.Lawful.{no_change, no_delivery, sent_there}
+use Rattle.runs.proofs.Moments.{acts_front}
+use Rattle.runs.proofs.Reported.{state_there}
+use Rattle.runs.proofs.Runs.{comes_sent, node_there, starts_opened, state_elsewhere, state_here}
+
+-- ---- the state that is shown last
+
+last_append : (n : ℕ) (m : Moment) (ms : List Moment) (s : Option State) → last_of n s (ms ++ m ∷ []) ≡ (if m.node == n then Some m.state else last_of n s ms)
+last_append n m [] s = refl
+last_append n m (x ∷ ms) s = last_append n m ms (if x.node == n then Some x.state else s)
+
+-- the node is shown last as it is in the world
+record IsLast (w : World) (r : Report) (n : ℕ) : Type 0 where
+  now : NodeState
+  at : slice_get w.states n ≡ Some now
+  shown : last_state r n ≡ Some now.state
+
+kept_last : (n named : ℕ) (w : World) (r : Report) (h : IsLast w r n) → (if named == n then Some (node_in w.states named).state else last_state r n) ≡ Some h.now.state
+kept_last n named w r h = by_node (named == n) refl
+  where
+    by_node : (b : Bool) → (named == n) ≡ b → (if b then Some (node_in w.states named).state else last_state r n) ≡ Some h.now.state
+    by_node true is = ap (λ (j : ℕ). Some (node_in w.states j).state) (eq_nat named n is) ∙ ap (λ (x : NodeState). Some x.state) (node_there w.states n h.now h.at)
+    by_node false is = h.shown
+
+step_last : (slots nodes n : ℕ) (w : World) (r : Report) (a : Act) (step : Step) → IsLawful slots nodes w step → IsLast w r n → IsLast (world_after nodes w step) (grown nodes w a step r) n
+step_last slots nodes n w r a (Takes m number what) may h = by_node (m == n) refl
+  where
+    new : List NodeState
+    new = (world_after nodes w (Takes m number what)).states
+
+    by_node : (b : Bool) → (m == n) ≡ b → IsLast (world_after nodes w (Takes m number what)) (grown nodes w a (Takes m number what) r) n
+    by_node true is =
+        let same : m ≡ n = eq_nat m n is in
+        let here : slice_get new n ≡ Some (after n nodes h.now what) = state_here m n nodes what w.states h.now same h.at in record {
+          now = after n nodes h.now what;
+          at = here;
+          shown = last_append n (moment_of nodes w a (Takes m number what)) r.moments (slice_get r.opening n) ∙ rw is
+              (ap (λ (j : ℕ). Some (node_in new j).state) same ∙ ap (λ (x : NodeState). Some x.state) (node_there new n (after n nodes h.now what) here));
+        }
+    by_node false is =
+        let ne : n ≢ m = grind (arith, nat_tests) in record {
+          now = h.now;
+          at = state_elsewhere m n nodes what w.states ne ∙ h.at;
+          shown = last_append n (moment_of nodes w a (Takes m number what)) r.moments (slice_get r.opening n) ∙ rw is h.shown;
+        }
+step_last slots nodes n w r a (Changes net) may h = record {
+  now = h.now;
+  at = h.at;
+  shown = last_append n (moment_of nodes w a (Changes net)) r.moments (slice_get r.opening n) ∙ kept_last n 0 w r h;
+}
+step_last slots nodes n w r a (Denies named why) may h = record {
+  now = h.now;
+  at = h.at;
+  shown = last_append n (moment_of nodes w a (Denies named why)) r.moments (slice_get r.opening n) ∙ kept_last n named w r h;
+}
+
+run_last : (slots nodes n : ℕ) (acts : List Act) (steps : List Step) (w : World) (r : Report) → IsRunOf nodes slots w acts steps → IsLast w r n → IsLast (world_at nodes w steps) (report_from nodes w r acts steps) n
+run_last slots nodes n [] [] w r run h = h
+run_last slots nodes n [] (step ∷ steps) w r run h = absurd run
+run_last slots nodes n (a ∷ acts) [] w r run h = absurd run
+run_last slots nodes n (a ∷ acts) (step ∷ steps) w r run h = run_last slots nodes n acts steps (world_after nodes w step) (grown nodes w a step r) run.2 (step_last slots nodes n w r a step run.1 h)
+
+-- after the first acts
+within_last : (slots nodes n k : ℕ) (acts : List Act) (steps : List Step) → IsRunOf nodes slots (start nodes) acts steps → n < nodes
+    → IsLast (world_at nodes (start nodes) (take k steps)) (report_within nodes k acts steps) n
+within_last slots nodes n k acts steps run within = run_last slots nodes n (take k acts) (take k steps) (start nodes) (first_report nodes) (acts_front k nodes slots acts steps (start nodes) run)
+    (record { now = opening n; at = starts_opened nodes n within; shown = state_there (start nodes).states n (opening n) (starts_opened nodes n within) })
+
+-- ---- what is refused
+
+record IsQuiet (self nodes : ℕ) (s : NodeState) (what : What) : Type 0 where
+  stays : after self nodes s what ≡ s
+  silent : sent_at self nodes s what ≡ []
+  untried : tries self nodes s what ≡ []
+
+refused_what : (n nodes first : ℕ) (s : NodeState) (what : What) (a : Act) (why : Refusal) → what_outcome n nodes first s what a ≡ outcome.Refused why → IsQuiet n nodes s what
+refused_what n nodes first s (Did event) a why is = absurd cc
+refused_what n nodes first s (Refused event fault) a why is = record { stays = refl; silent = refl; untried = refl }
+refused_what n nodes first s (Faulted event) a why is = absurd cc
+refused_what n nodes first s (Rests rest) a why is = record { stays = refl; silent = refl; untried = refl }
+refused_what n nodes first s Crashed (act.Compact m) why is = absurd cc
+refused_what n nodes first s Crashed _ why is = absurd cc
+refused_what n nodes first s (Recovered kept) a why is = absurd cc
+refused_what n nodes first s MountFailed a why is = absurd cc
+refused_what n nodes first s (RaiseFailed kept) a why is = absurd cc
+refused_what n nodes first s (RaiseRefused kept) a why is = record { stays = refl; silent = refl; untried = refl }
+
+-- a step that is refused
+record IsIdle (nodes : ℕ) (w : World) (a : Act) (step : Step) : Type 0 where
+  silent : step_sent nodes w step ≡ []
+  untried : commands_at nodes w step ≡ []
+  last : (r : Report) (n : ℕ) → IsLast w r n → last_state (grown nodes w a step r) n ≡ last_state r n
+
+refused_step : (nodes : ℕ) (w : World) (a : Act) (step : Step) (why : Refusal) → act_outcome nodes w a step ≡ outcome.Refused why → IsIdle nodes w a step
+refused_step nodes w a (Takes m number what) why is =
+    let quiet = refused_what m nodes _ (node_in w.states m) what a why is in record {
+      silent = quiet.silent;
+      untried = rw quiet.untried refl;
+      last = λ r n h. last_append n (moment_of nodes w a (Takes m number what)) r.moments (slice_get r.opening n) ∙ by_node r n h (m == n) refl;
+    }
+  where
+    new : List NodeState
+    new = (world_after nodes w (Takes m number what)).states
+
+    by_node : (r : Report) (n : ℕ) (h : IsLast w r n) (b : Bool) → (m == n) ≡ b → (if b then Some (node_in new m).state else last_state r n) ≡ last_state r n
+    by_node r n h true eq =
+        let same : m ≡ n = eq_nat m n eq in
+        let stays : after m nodes (node_in w.states m) what ≡ node_in w.states m = (refused_what m nodes _ (node_in w.states m) what a why is).stays in
+        let here : slice_get w.states m ≡ Some h.now = subst (λ (j : ℕ). slice_get w.states j ≡ Some h.now) (sym same) h.at in
+        let was : node_in w.states m ≡ h.now = node_there w.states m h.now here in
+        let now : node_in new m ≡ after m nodes h.now what = node_there new m (after m nodes h.now what) (state_here m m nodes what w.states h.now refl here) in
+        let is_same : after m nodes h.now what ≡ h.now = subst (λ (x : NodeState). after m nodes x what ≡ x) was stays in
+        ap (λ (x : NodeState). Some x.state) (now ∙ is_same) ∙ sym h.shown
+    by_node r n h false eq = refl
+refused_step nodes w a (Changes net) why is = absurd cc
+refused_step nodes w a (Denies named reason) why is = record {
+  silent = refl;
+  untried = refl;
+  last = λ r n h. last_append n (moment_of nodes w a (Denies named reason)) r.moments (slice_get r.opening n) ∙ kept_last n named w r h ∙ sym h.shown;
+}
+
+pub refused_changes_nothing : RefusedChangesNothing
+refused_changes_nothing nodes slots acts r h k m why at is =
+    let f = front_of nodes slots acts r h k m at in
+    let before : Report = report_within nodes k acts h.steps in
+    let idle = refused_step nodes f.before f.act f.step why (ap (λ (x : Moment). x.outcome) (sym f.is) ∙ is) in
+    let commands : commands_at nodes f.before f.step ≡ [] = idle.untried in (
+      ap (λ (x : Moment). x.sent) f.is ∙ idle.silent,
+      ap (λ (x : Report). x.commands) f.grows ∙ (ap (λ (ts : List TriedAt). before.commands ++ ts) commands ∙ append-nil before.commands),
+      ap (λ (x : Report). x.groups) f.grows
+          ∙ (ap (λ (ts : List TriedAt). before.groups ++ flat_map (λ (t : TriedAt). group_of t.node t.tried.command t.tried.acked) ts) commands ∙ append-nil before.groups),
+      λ n within. ap (λ (x : Report). last_state x n) f.grows
+          ∙ idle.last before n (subst (λ (w : World). IsLast w before n) (sym f.is_world) (within_last slots nodes n k acts h.steps h.is_run within)),
+    )
+
+-- ---- what is done
+
+step_all_sent : (slots nodes : ℕ) (w : World) (r : Report) (a : Act) (step : Step) → IsStepOf nodes w a step → all_sent r ≡ w.net.sent → all_sent (grown nodes w a step r) ≡ (world_after nodes w step).net.sent
+step_all_sent slots nodes w r a step of h =
+    flat_map-append (λ (m : Moment). m.sent) r.moments (moment_of nodes w a step ∷ []) ∙ (ap (λ (ms : List Envelope). ms ++ (step_sent nodes w step ++ [])) h ∙ (ap (λ (ms : List Envelope). w.net.sent ++ ms) (append-nil (step_sent nodes w step)) ∙ by_step step of))
+  where
+    by_step : (x : Step) → IsStepOf nodes w a x → w.net.sent ++ step_sent nodes w x ≡ (world_after nodes w x).net.sent
+    by_step (Takes m number what) of = refl
+    by_step (Changes net) of = append-nil w.net.sent ∙ sym (sent_there nodes w a net of)
+    by_step (Denies named why) of = append-nil w.net.sent
+
+run_all_sent : (slots nodes : ℕ) (acts : List Act) (steps : List Step) (w : World) (r : Report) → IsRunOf nodes slots w acts steps → all_sent r ≡ w.net.sent
+    → all_sent (report_from nodes w r acts steps) ≡ (world_at nodes w steps).net.sent
+run_all_sent slots nodes [] [] w r run h = h
+run_all_sent slots nodes [] (step ∷ steps) w r run h = absurd run
+run_all_sent slots nodes (a ∷ acts) [] w r run h = absurd run
+run_all_sent slots nodes (a ∷ acts) (step ∷ steps) w r run h =
+    run_all_sent slots nodes acts steps (world_after nodes w step) (grown nodes w a step r) run.2 (step_all_sent slots nodes w r a step run.0 h)
+
+-- this event came to this node
+abbrev Came : ℕ → What → ℕ → Event → Type 0
+Came m what n event = (m ≡ n) × IsOf event what
+
+pair_came : (m j n : ℕ) (what : What) (x event : Event) → (m ≡ j) × IsOf x what → ◌≡◌ {A = Option (ℕ × Event)} (Some (j, x)) (Some (n, event)) → Came m what n event
+pair_came m j n what x event there is =
+    let both : ◌≡◌ {A = ℕ × Event} (j, x) (n, event) = cc is in
+    (there.0 ∙ ap (λ (p : ℕ × Event). p.0) both, subst (λ (e : Event). IsOf e what) (ap (λ (p : ℕ × Event). p.1) both) there.1)
+
+delivery_came : (nodes : ℕ) (net : Network) (k m number n : ℕ) (what : What) (event : Event) (d : Result Envelope NetFault) → delivery net k ≡ d → Brings nodes net k d (Takes m number what)
+    → option_map {U = ℕ × Event} (λ (x : Envelope). (x.receiver, on.Deliver x)) (slice_get net.sent k) ≡ Some (n, event) → Came m what n event
+delivery_came nodes net k m number n what event (Ok x) is h named =
+    pair_came m x.receiver n what (on.Deliver x) event (taken_there (nat_lt x.receiver nodes) x.receiver k (IsOf (on.Deliver x)) m number what h)
+    (ap (option_map {U = ℕ × Event} (λ (y : Envelope). (y.receiver, on.Deliver y))) (sym (comes_sent net k x is)) ∙ named)
+delivery_came nodes net k m number n what event (Err why) is h named = absurd cc
+
+event_came : (nodes : ℕ) (w : World) (r : Report) (a : Act) (m number n : ℕ) (what : What) (event : Event) → all_sent r ≡ w.net.sent → IsStepOf nodes w a (Takes m number what)
+    → event_in r a ≡ Some (n, event) → Came m what n event
+event_came nodes w r (act.Timer j timer) m number n what event all h is = pair_came m j n what (on.Timer timer) event (taken_there (nat_lt j nodes) j 0 (IsOf (on.Timer timer)) m number what h) is
+event_came nodes w r (act.Deliver k) m number n what event all h is =
+    delivery_came nodes w.net k m number n what event (delivery w.net k) refl h (ap (λ (ms : List Envelope). option_map {U = ℕ × Event} (λ (x : Envelope). (x.receiver, on.Deliver x)) (slice_get ms k)) (sym all) ∙ is)
+event_came nodes w r (act.Submit j work) m number n what event all h is = pair_came m j n what (on.Submit work) event (taken_there (nat_lt j nodes) j 0 (IsOf (on.Submit work)) m number what h) is
+event_came nodes w r (act.Finish j origin id) m number n what event all h is =
+    pair_came m j n what (on.Finish origin id) event (taken_there (nat_lt j nodes) j 0 (IsOf (on.Finish origin id)) m number what h) is
+event_came nodes w r (act.Recover j) m number n what event all h is = pair_came m j n what on.Recover event (taken_there (nat_lt j nodes) j 0 (IsOf on.Recover) m number what h) is
+event_came nodes w r (act.Lose k) m number n what event all h is = absurd cc
+event_came nodes w r (act.Cut x y) m number n what event all h is = absurd cc
+event_came nodes w r (act.Mend x y) m number n what event all h is = absurd cc
+event_came nodes w r (act.Arm j calls) m number n what event all h is = absurd cc
+event_came nodes w r (act.Crash j fill) m number n what event all h is = absurd cc
+event_came nodes w r (act.Compact j) m number n what event all h is = absurd cc
+
+-- the network alone changes in no such act
+no_event : (nodes : ℕ) (w : World) (r : Report) (a : Act) (net : Network) (n : ℕ) (event : Event) → IsStepOf nodes w a (Changes net) → event_in r a ≡ Some (n, event) → ⊥
+no_event nodes w r (act.Timer j timer) net n event h is = no_change (nat_lt j nodes) j 0 (IsOf (on.Timer timer)) net h
+no_event nodes w r (act.Deliver k) net n event h is = no_delivery nodes w.net k (delivery w.net k) net h
+no_event nodes w r (act.Submit j work) net n event h is = no_change (nat_lt j nodes) j 0 (IsOf (on.Submit work)) net h
+no_event nodes w r (act.Finish j origin id) net n event h is = no_change (nat_lt j nodes) j 0 (IsOf (on.Finish origin id)) net h
+no_event nodes w r (act.Recover j) net n event h is = no_change (nat_lt j nodes) j 0 (IsOf on.Recover) net h
+no_event nodes w r (act.Lose k) net n event h is = absurd cc
+no_event nodes w r (act.Cut x y) net n event h is = absurd cc
+no_event nodes w r (act.Mend x y) net n event h is = absurd cc
+no_event nodes w r (act.Arm j calls) net n event h is = absurd cc
+no_event nodes w r (act.Crash j fill) net n event h is = absurd cc
+no_event nodes w r (act.Compact j) net n event h is = absurd cc
+
+-- it was handled
+record IsHandled (n nodes : ℕ) (s : NodeState) (what : What) (event : Event) (answer : Option ℕ) : Type 0 where
+  did : what ≡ Did event
+  answers : answer ≡ option_map (answer_of s.durable) (wants_at n nodes s event)
+
+done_what : (n nodes first p q : ℕ) (s : NodeState) (what : What) (a : Act) (event : Event) (answer : Option ℕ) → IsPossible n nodes s what → is_down s.state.phase ≡ false → IsOf event what
+    → what_outcome n nodes first s what a ≡ outcome.Done answer p q → IsHandled n nodes s what event answer
+done_what n nodes first p q s (Did e) a event answer may up of is =
+    let same : e ≡ event = cc of in
+    let answers : option_map (answer_of s.durable) (wants_at n nodes s e) ≡ answer = cc is in
+    record { did = ap Did same; answers = sym answers ∙ ap (λ (x : Event). option_map (answer_of s.durable) (wants_at n nodes s x)) same }
+done_what n nodes first p q s (Refused e fault) a event answer may up of is = absurd cc
+done_what n nodes first p q s (Faulted e) a event answer may up of is = absurd cc
+done_what n nodes first p q s (Rests rest) a event answer may up of is = absurd cc
+done_what n nodes first p q s Crashed a event answer may up of is = absurd cc
+done_what n nodes first p q s (Recovered kept) a event answer may up of is = (let both : true ≡ false = sym may.0 ∙ up in absurd cc)
+done_what n nodes first p q s MountFailed a event answer may up of is = absurd cc
+done_what n nodes first p q s (RaiseFailed kept) a event answer may up of is = absurd cc
+done_what n nodes first p q s (RaiseRefused kept) a event answer may up of is = absurd cc
+
+answer_given : (d : Durable) (wants : Option Command) → unwrap_or (option_map (answer_of d) wants) 0 ≡ answer_to d wants
+answer_given d None = refl
+answer_given d (Some c) = refl
+
+-- the row's effect on a node, whose disk keeps these jobs
+abbrev Effected : ℕ → ℕ → NodeState → Event → Option ℕ → Moment → Type 0
+Effected nodes n s event answer m =
+    (m.node ≡ n) × (m.state ≡ (effect_of nodes n s.durable.pending event (unwrap_or answer 0) s.state).state) × (m.sent ≡ (effect_of nodes n s.durable.pending event (unwrap_or answer 0) s.state).sent)
+
+effect_given : (nodes n : ℕ) (s : NodeState) (event : Event) (answer : Option ℕ) → answer ≡ option_map (answer_of s.durable) (wants_at n nodes s event)
+    → effect_at n nodes s event ≡ effect_of nodes n s.durable.pending event (unwrap_or answer 0) s.state
+effect_given nodes n s event answer is =
+    ap (λ (x : ℕ). effect_of nodes n s.durable.pending event x s.state) (sym (answer_given s.durable (wants_at n nodes s event)) ∙ ap (λ (x : Option ℕ). unwrap_or x 0) (sym is))
+
+done_step : (slots nodes n p q : ℕ) (w : World) (r : Report) (a : Act) (step : Step) (event : Event) (answer : Option ℕ) (s : NodeState) → IsStepOf nodes w a step → IsLawful slots nodes w step → all_sent r ≡ w.net.sent
+    → event_in r a ≡ Some (n, event) → slice_get w.states n ≡ Some s → is_down s.state.phase ≡ false → act_outcome nodes w a step ≡ outcome.Done answer p q → Effected nodes n s event answer (moment_of nodes w a step)
+done_step slots nodes n p q w r a (Takes m number what) event answer s of may all named at up is =
+    let came = event_came nodes w r a m number n what event all of named in
+    let there : slice_get w.states m ≡ Some s = subst (λ (j : ℕ). slice_get w.states j ≡ Some s) (sym came.0) at in
+    let was : node_in w.states m ≡ s = node_there w.states m s there in
+    let same : may.0 ≡ s = cc (may.1, there) in
+    let possible : IsPossible m nodes s what = subst (λ (x : NodeState). IsPossible m nodes x what) same may.2 in
+    let handled = done_what m nodes (length w.net.sent) p q s what a event answer possible up came.1 (subst (λ (x : NodeState). what_outcome m nodes (length w.net.sent) x what a ≡ outcome.Done answer p q) was is) in
+    let new : List NodeState = (world_after nodes w (Takes m number what)).states in
+    let now : node_in new m ≡ after m nodes s what = node_there new m (after m nodes s what) (state_here m m nodes what w.states s refl there) in
+    let at_n : effect_at m nodes s event ≡ effect_of nodes n s.durable.pending event (unwrap_or answer 0) s.state =
+    effect_given nodes m s event answer handled.answers ∙ ap (λ (j : ℕ). effect_of nodes j s.durable.pending event (unwrap_or answer 0) s.state) came.0 in (
+      came.0,
+      ap (λ (x : NodeState). x.state) now ∙ (ap (λ (x : What). (after m nodes s x).state) handled.did ∙ ap (λ (e : Effect). e.state) at_n),
+      ap (λ (x : NodeState). sent_at m nodes x what) was ∙ (ap (λ (x : What). sent_at m nodes s x) handled.did ∙ ap (λ (e : Effect). e.sent) at_n),
+    )
+done_step slots nodes n p q w r a (Changes net) event answer s of may all named at up is = absurd (no_event nodes w r a net n event of named)
+done_step slots nodes n p q w r a (Denies m why) event answer s of may all named at up is = absurd cc
+
+pub done_has_its_effect : DoneHasItsEffect
+done_has_its_effect nodes slots acts r h k m answer first many n event s within at is named shown up =
+    let f = front_of nodes slots acts r h k m at in
+    let before : Report = report_within nodes k acts h.steps in
+    let all : all_sent before ≡ f.before.net.sent = run_all_sent slots nodes (take k acts) (take k h.steps) (start nodes) (first_report nodes) (acts_front k nodes slots acts h.steps (start nodes) h.is_run) refl
+    ∙ ap (λ (w : World). w.net.sent) (sym f.is_world) in
+    let last = within_last slots nodes n k acts h.steps h.is_run within in
+    let here : slice_get f.before.states n ≡ Some last.now = ap (λ (w : World). slice_get w.states n) f.is_world ∙ last.at in
+    let same : last.now.state ≡ s = cc (last.shown, shown) in
+    let was : node_in (world_at nodes (start nodes) (take k h.steps)).states n ≡ last.now = node_there _ n last.now last.at in
+    let is_act : m.act ≡ f.act = ap (λ (x : Moment). x.act) f.is in
+    let done = done_step slots nodes n first many f.before before f.act f.step event answer last.now f.of_act f.lawful all (ap (event_in before) (sym is_act) ∙ named) here
+    (subst (λ (x : State). is_down x.phase ≡ false) (sym same) up) (ap (λ (x : Moment). x.outcome) (sym f.is) ∙ is) in
+    let effect : effect_of nodes n last.now.durable.pending event (unwrap_or answer 0) last.now.state
+    ≡ effect_of nodes n (node_in (world_at nodes (start nodes) (take k h.steps)).states n).durable.pending event (unwrap_or answer 0) s =
+    ap (λ (x : NodeState). effect_of nodes n x.durable.pending event (unwrap_or answer 0) last.now.state) (sym was)
+    ∙ ap (λ (x : State). effect_of nodes n (node_in (world_at nodes (start nodes) (take k h.steps)).states n).durable.pending event (unwrap_or answer 0) x) same in (
+      ap (λ (x : Moment). x.node) f.is ∙ done.0,
+      ap (λ (x : Moment). x.state) f.is ∙ (done.1 ∙ ap (λ (e : Effect). e.state) effect),
+      ap (λ (x : Moment). x.sent) f.is ∙ (done.2 ∙ ap (λ (e : Effect). e.sent) effect),
+    )
