@@ -3,7 +3,8 @@
 
     node_rows.py PROGRAM
 
-The input comes through a pipe whose reads give one written piece each. What is expected was worked out from docs/NODE.md, TIMERS.md and DISK.md. The
+The input comes through a pipe whose reads give one written piece each, and the program's own clock stands, so that what it does takes it no time; in the last rows it
+goes, and a sync takes long. What is expected was worked out from docs/NODE.md, TIMERS.md and DISK.md. The
 last line counts the checks."""
 import errno, os, re, shutil, subprocess, sys, tempfile
 
@@ -22,8 +23,8 @@ ROWS = [
     ("recover\ndeliver 010101000000\ndeliver 010101020000\nlost 0\nlost 1\n", UP + "send 1 01020001000101\nok 2\nrefused 3 Stranger\nok 4\nok 5\n"),
     # the first tick sets the timers, a check is due after 400 ms and at most 200 more, and its questions are sent again from the second round trip on
     ("tick 0\nrecover\ntick 2000\ntick 2620\ntick 2620\ntick 2640\ntick 2660\n",
-     "ok 1\ngroup Normal 0 0:1 0\nkeeps 1 0 0\nok 2\nfired dispatch\nok 3\nfired check\nsend 1 010100010000\nsend 2 010100020000\nfired dispatch\nok 4\nok 5\nok 6\n"
-     "send 1 010100010000\nsend 2 010100020000\nok 7\n"),
+     "ok 1\ngroup Normal 0 0:1 0\nkeeps 1 0 0\nok 2\nnext ?\nok 3\nfired check\nsend 1 010100010000\nsend 2 010100020000\n"
+     "next 2640\nok 4\nnext 2640\nok 5\nnext 2660\nok 6\nsend 1 010100010000\nsend 2 010100020000\nnext 2680\nok 7\n"),
     # lines that can't be read, empty ones, and a last one that isn't whole
     ("x\n\n\nrecover \ndeliver 00\ntick x\nlost 128\nsubmit 16 -\nstate\r\nrecover", "bad 1\nbad 2\nbad 3\nbad 4\nbad 5\nbad 6\nbad 7\n"),
     # refusals
@@ -56,14 +57,28 @@ TIMERS = [
     (1, 2, JOINED, "coord", [(7, False), (406, False), (607, True), (607, False), (806, False), (807, True), (807, False)]),
     # what is heard of the coordinator puts its question off no further
     (1, 2, JOINED, "coord", [(7, False), ("deliver 010100010000", None), (406, False), ("deliver 010100010000", None), (607, True)]),
-    # at once, and then after 20, 40, 80 and so on up to 300
-    (0, 1, "recover", "dispatch", [(0, True), (379, False), (400, True), (1199, False), (1200, True), (2799, False), (2800, True), (5999, False), (6000, True),
-                                   (11_999, False), (12_000, True), (17_999, False), (18_000, True), ("submit 0 -", None), (18_001, True), (18_400, False), (18_401, True)]),
+    # at once in a group that is new, then once the oldest job was the same for 5 and a millisecond for each job, and after a quarter more each time, up to 300;
+    # never where there is no job
+    (0, 1, "recover", "dispatch", [(0, False), (1000, False), (10_000, False), ("submit 0 -", None), (10_001, False), (10_101, False), (10_102, True)]),
+    (0, 1, "recover;submit 0 -", "dispatch", [(0, True), (100, False), (101, True), (226, False), (227, True), (383, False), (384, True), ("submit 0 -", None), (385, False),
+                                              (579, False), (580, True), ("finish 0 0", None), (600, False), (700, False), (701, True), ("recover", None), (702, True)]),
+    (0, 1, "recover;submit 0 -", "dispatch", [(0, True), (100_000, True), (200_000, True), (300_000, True), (400_000, True), (500_000, True), (600_000, True), (700_000, True),
+                                              (800_000, True), (900_000, True), (1_000_000, True), (1_100_000, True), (1_200_000, True), (1_300_000, True), (1_400_000, True),
+                                              (1_500_000, True), (1_600_000, True), (1_700_000, True), (1_800_000, True), (1_900_000, True), (2_000_000, True),
+                                              (2_005_999, False), (2_006_000, True), (2_011_999, False), (2_012_000, True)]),
     # each check is counted, and a member that was silent in three of them is given up in place of the next
     (0, 2, IN_STEP, "check", [(0, False), (600, True), (800, False), (1400, True), (1600, False), (2200, True), (2400, False), (3000, False)]),
     (0, 2, IN_STEP, "recover", [(0, False), (600, False), (800, False), (1400, False), (1600, False), (2200, False), (2400, False), (3000, True), (3000, False)]),
     (0, 2, IN_STEP, "recover", [(0, False), (600, False), (800, False), (1400, False), (1600, False), (2200, False), ("deliver 01020100000100", None),
                                 (2400, False), (3000, False), (3200, False), (3800, False), (4000, False), (4600, False), (4800, False), (5400, True)]),
+    # a jump of an hour, and of 2^63 ms: what waits is due once
+    (0, 1, "recover", "check", [(0, False), (3_600_000, True), (3_600_000, False), (3_600_399, False), (3_600_798, False), (3_601_000, True)]),
+    (0, 1, "recover", "check", [(0, False), (2**63, True), (2**63, False), (2**63 + 399, False), (2**63 + 798, False), (2**63 + 1000, True)]),
+    (0, 2, INVITING, "accept", [(7, False), (2**63, True), (2**63, False)]),
+    # the clock falls back by an hour, by some milliseconds, and to 0: waits go on from there
+    (0, 2, INVITING, "accept", [(4_000_000, False), (4_000_060, False), (400_000, False), (400_039, False), (400_040, True), (400_040, False)]),
+    (0, 2, INVITING, "accept", [(1000, False), (1050, False), (1049, False), (1098, False), (1099, True)]),
+    (0, 2, INVITING, "accept", [(2**64 - 1, False), (0, False), (99, False), (100, True), (100, False)]),
     # the clock's end
     (0, 1, "recover", "check", [(2**64 - 1, False), (2**64 - 1, False)]),
     (0, 2, "recover;check;deliver 01020100000101", "merge", [(2**64 - 1, False), (2**64 - 1, False)]),
@@ -86,6 +101,12 @@ class Tried:
     def __init__(self, program, folder):
         self.program, self.folder, self.passed, self.failed = program, folder, 0, 0
         self.path, self.made = os.path.join(folder, "node"), {}
+        self.still, self.slow = self.library("still_clock"), self.library("slow_sync")
+
+    def library(self, name):
+        path = os.path.join(self.folder, name + ".so")
+        subprocess.run(["cc", "-shared", "-fPIC", "-O1", "-o", path, os.path.join(HERE, "shim", name + ".c"), "-ldl"], check=True)
+        return path
 
     def mark(self, wrong, name):
         if wrong:
@@ -95,6 +116,10 @@ class Tried:
             self.passed += 1
 
     def same(self, found, wanted, name):
+        """In a text that is wanted, `next ?` stands for any time: it hangs on the jitter."""
+        if isinstance(wanted, tuple) and isinstance(wanted[0], str) and "next ?" in wanted[0]:
+            found = (re.sub("^next .*$", "next ?", found[0], flags=re.MULTILINE), *found[1:])
+            wanted = (re.sub("^next .*$", "next ?", wanted[0], flags=re.MULTILINE), *wanted[1:])
         self.mark("" if found == wanted else f"there is {found!r:.500} in place of {wanted!r:.500}", name)
 
     def fresh(self, own=0, nodes=3):
@@ -110,8 +135,9 @@ class Tried:
     def serve(self, pieces, own=0, nodes=3, **more):
         """What a node answers to these pieces, each the whole of what one read gives, and its status."""
         reading, writing = os.pipe2(os.O_DIRECT)
+        environment = {**os.environ, "LD_PRELOAD": self.still, **more}
         with open(os.path.join(self.folder, "out"), "w+b") as out:
-            child = subprocess.Popen([self.program, "node", self.path, str(own), str(nodes)], stdin=reading, stdout=out, stderr=subprocess.DEVNULL, **more)
+            child = subprocess.Popen([self.program, "node", self.path, str(own), str(nodes)], stdin=reading, stdout=out, stderr=subprocess.DEVNULL, env=environment)
             os.close(reading)
             try:
                 for piece in pieces:
@@ -164,6 +190,35 @@ def try_jitter(tried):
     tried.mark("" if len(seen) == 4 else f"the times are {seen}", "jitter of four nodes")
 
 
+def try_next(tried):
+    """Before the time that a tick tells as the next, nothing is fired and nothing sent again; at it something comes about, or what is sent again is looked
+    through. A node that is Down tells none."""
+    for own, nodes, before in ((0, 1, "recover"), (0, 1, "recover;submit 0 -"), (0, 3, "recover"), (0, 3, "recover;check"), (0, 2, INVITING), (0, 2, LEADING), (0, 2, IN_STEP), (1, 2, JOINING), (1, 2, JOINED), (0, 3, "state")):
+        lines, told = before.split(";") + ["tick 5"], 0
+        while len(lines) < 40:
+            tried.fresh(own, nodes)
+            text, _ = tried.serve(["".join(line + "\n" for line in lines).encode()], own, nodes)
+            answers = re.split(r"^ok .*\n", text, flags=re.MULTILINE)[:-1]
+            found = re.findall(r"^next (\d+)$", answers[-1], re.MULTILINE)
+            tried.mark("" if len(found) == (before != "state") else f"it answers {text!r}", lines)
+            if told:
+                tried.mark("" if re.fullmatch(rf"next {told}\n", answers[-2]) else f"one before {told} there is {answers[-2]!r}", lines)
+            if not found:
+                break
+            last, told = int(lines[-1].split()[1]), int(found[0])
+            tried.mark("" if last < told or last == 5 else f"behind {last} the next is {told}", lines)
+            lines += [f"tick {max(told - 1, last)}", f"tick {told}"]
+
+
+def try_falling_back(tried):
+    """Questions are sent again once a round trip where the clock falls back, too."""
+    tried.fresh()
+    times = [4_000_000, 4_000_020, 4_000_040, 400_000, 400_020, 400_040]
+    text, _ = tried.serve([("recover\ntick 3999980\ncheck\n" + "".join(f"tick {time}\n" for time in times)).encode()])
+    answers = re.split(r"^ok .*\n", text, flags=re.MULTILINE)[3:-1]
+    tried.same([answer.count("send 1 010100010000") for answer in answers], [0, 1, 1, 1, 1, 1], "questions of a clock that falls back")
+
+
 def try_greatest(tried):
     """No count is left: the node stays Down, and its file as it was."""
     tried.fresh()
@@ -181,15 +236,14 @@ def try_greatest(tried):
 
 def try_failing(tried):
     """Each call on the file fails in turn. Then the process ends; another one finds what was answered, and of the last line all or nothing."""
-    library, noted = os.path.join(tried.folder, "faults.so"), os.path.join(tried.folder, "noted")
-    subprocess.run(["cc", "-shared", "-fPIC", "-O1", "-o", library, os.path.join(HERE, "shim", "faults.c"), "-ldl"], check=True)
+    library, noted = tried.library("faults"), os.path.join(tried.folder, "noted")
     fed, at, came = FAILING.encode(), 0, []
     while not came or came[-1] != (UNFAILED, 0):
         at += 1
-        env = {**os.environ, "LD_PRELOAD": library, "FAULT_FILE": tried.path, "FAULT_AT": str(at), "FAULT": str(errno.EIO), "FAULT_COUNT": noted}
+        env = {"LD_PRELOAD": library, "FAULT_FILE": tried.path, "FAULT_AT": str(at), "FAULT": str(errno.EIO), "FAULT_COUNT": noted}
         tried.fresh()
         cut = at % (len(fed) - 1) + 1
-        came.append(tried.serve([fed[:cut], fed[cut:]], env=env))
+        came.append(tried.serve([fed[:cut], fed[cut:]], **env))
         found, status = tried.serve([b"recover\n"])
         counts, jobs = {"": ((1,), (0,)), **dict(zip((text for text, _ in FAILED), (((1, 2), (0,)), ((2,), (0, 1)), ((2, 3), (1,)))))}.get(came[-1][0], ((3,), (1,)))
         allowed = [f"group Normal 0 0:{count} 0\nkeeps {count} {job} {job}\nok 1\n" for count in counts for job in jobs]
@@ -202,6 +256,21 @@ def try_failing(tried):
     tried.same(len(came), len(wanted), "the number of calls")
     for at, (found, want) in enumerate(zip(came, wanted)):
         tried.same(found, want, ("call that fails", at + 1))
+
+
+def try_own_syncs(tried):
+    """Each sync takes 50 ms, and a raise 150. What is sent in one is waited for from then on, though all ticks come at once; and a question to a coordinator,
+    which may be in a raise, 200 and at least 150 ms more."""
+    tried.fresh(0, 2)
+    lines = INVITING.split(";") + [f"tick {time}" for time in (7, 107, 256, 2000)]
+    text, _ = tried.serve(["".join(line + "\n" for line in lines).encode()], 0, 2, LD_PRELOAD=tried.slow, SYNC_MS="50")
+    answers = re.split(r"^ok .*\n", text, flags=re.MULTILINE)[len(lines) - 4:-1]
+    tried.same(["accept" in fired(answer) for answer in answers], [False, False, False, True], "an invitation behind two raises")
+    tried.fresh(1, 2)
+    lines = JOINED.split(";") + [f"tick {time}" for time in (0, 10_000, 10_349, 30_000)]
+    text, _ = tried.serve(["".join(line + "\n" for line in lines).encode()], 1, 2, LD_PRELOAD=tried.slow, SYNC_MS="50")
+    answers = re.split(r"^ok .*\n", text, flags=re.MULTILINE)[len(lines) - 4:-1]
+    tried.same(["coord" in fired(answer) for answer in answers], [False, True, False, True], "an answer of a node that may be in a raise")
 
 
 def try_disks_in_memory(tried):
@@ -219,17 +288,20 @@ def main():
     if not os.access(program, os.X_OK):
         print(f"node_rows.py: there is no program {program}\n0 passed, 1 failed")
         return 1
+    if shutil.which("cc") is None:
+        print("node_rows.py: there is no C compiler cc, so no session was tried\n0 passed, 0 failed")
+        return 0
     with tempfile.TemporaryDirectory() as folder:
         tried = Tried(program, folder)
         try_cuts(tried)
         try_timers(tried)
         try_jitter(tried)
+        try_next(tried)
+        try_falling_back(tried)
         try_greatest(tried)
         try_disks_in_memory(tried)
-        if shutil.which("cc") is None:
-            print("node_rows.py: there is no C compiler cc, so no call was failed")
-        else:
-            try_failing(tried)
+        try_failing(tried)
+        try_own_syncs(tried)
     print(f"{tried.passed} passed, {tried.failed} failed")
     return 0 if tried.failed == 0 and tried.passed > 0 else 1
 

@@ -82,8 +82,9 @@ impl Timed {
             }
         }
         let core = &self.node.core;
-        let sight = Sight::of(core.id(), core.vector(), core.merge_wait());
-        if let Some(event) = self.pace.tick(now, &sight) {
+        let sight = Sight::of(core.id(), core.vector(), core.merge_wait(), &[]);
+        self.pace.pass(now);
+        if let Some(event) = self.pace.tick(&sight) {
             self.step(&event)?;
             put_all(sent, self.node.sent())?;
         }

@@ -279,6 +279,9 @@ class Seen:
             elif words[0] == "keeps":
                 if words[1:] != [str(self.count), str(self.next), str(len(self.pending))]:
                     return f"{line} behind {self.count} groups and {self.next} jobs, of which {len(self.pending)} are pending"
+            elif words[0] == "next":
+                if at >= len(lines) or not lines[at].startswith(b"tick "):
+                    return f"{line} stands in the answer to {lines[at][:80] if at < len(lines) else ''!r}"
             elif words[0] not in ("send", "fired", "take", "drop", "state", "pending", "hand"):
                 return f"there is a line {line[:100]!r}"
         return "" if at == len(requests) else f"{at} requests are answered, of {len(requests)}"

@@ -94,6 +94,9 @@ fn carry_out<T: Threads + Wait + Sync>(rt: &HostRuntime, threads: &T, batch: &Ba
     status
 }
 
+/// A round trip between nodes, in the milliseconds of the clock that ticks name.
+const ROUND_TRIP: u16 = 20;
+
 /// Serves a node, and answers the exit status.
 fn node(rt: &HostRuntime, path: &str, place: Place) -> io::Result<u8> {
     let mut input = rt.stdin();
@@ -104,6 +107,7 @@ fn node(rt: &HostRuntime, path: &str, place: Place) -> io::Result<u8> {
         path,
         place.id,
         place.nodes,
+        ROUND_TRIP,
         &mut input,
         &mut output,
     );

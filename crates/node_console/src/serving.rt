@@ -6,6 +6,7 @@ use crate::label::is_own;
 use crate::status::{Status, status_of};
 use file_disk::FileDisk;
 use group_task::NodeId;
+use memchr::memchr;
 use node_session::Session;
 use pace::Setting;
 use sector_disk::SectorDisk;
@@ -14,20 +15,19 @@ use std::fs::{File, Files};
 use std::io;
 use std::io::{Read, Write};
 use std::path::AsPath;
+use std::time::{Clock, Instant};
 
 /// How many bytes one read may give.
 const PIECE: usize = 65_536;
 
-/// A round trip between nodes, in the milliseconds of the clock that ticks name.
-const ROUND_TRIP: u16 = 20;
-
-/// Serves a node over its file until the input ends.
+/// Serves a node over its file until the input ends. A round trip between nodes takes so many milliseconds of the clock that ticks tell.
 pub fn serve_file<P: AsPath, R: Read, W: Write>(
-    rt: &impl Files<File = File>,
+    rt: &(impl Files<File = File> + Clock),
     alloc: Global,
     path: P,
     id: NodeId,
     nodes: u8,
+    round_trip: u16,
     input: &mut R,
     output: &mut W,
 ) -> Status
@@ -46,17 +46,18 @@ pub fn serve_file<P: AsPath, R: Read, W: Write>(
     if disk.sectors() < 24 {
         return Status::Foreign;
     }
-    let setting = Setting::measured(ROUND_TRIP);
+    let setting = Setting::measured(round_trip);
     let mut session = Session::new(alloc, id, nodes, disk, setting, u64::from(id.number()));
-    match serve(&mut session, input, output) {
+    match serve(rt, &mut session, input, output) {
         Ok(status) => status,
         Err(_) => Status::Failed,
     }
 }
 
-/// Feeds what each read gives, and writes what is answered to it in one go. It ends where the input does, or where the device
-/// failed; a last line that isn't whole is not answered.
+/// Feeds what each read gives, and writes what is answered to it in one go, but at once behind a command. It ends where the
+/// input does, or where the device failed; a last line that isn't whole is not answered.
 pub fn serve<D: SectorDisk + Drop, R: Read, W: Write>(
+    clock: &impl Clock,
     session: &mut Session<D>,
     input: &mut R,
     output: &mut W,
@@ -67,13 +68,50 @@ pub fn serve<D: SectorDisk + Drop, R: Read, W: Write>(
         if count == 0 {
             break;
         }
-        session.feed(&piece[..count])?;
-        output.write_all(session.text())?;
-        output.flush()?;
-        session.clear();
+        answer(clock, session, &piece[..count], output)?;
+        write_out(session, output)?;
         if session.has_stopped() {
             return Ok(Status::Device);
         }
     }
     Ok(Status::Done)
+}
+
+/// Feeds a piece line by line, and says how long each command took: a line in which what the file keeps changed, or a compaction.
+fn answer<D: SectorDisk + Drop, W: Write>(
+    clock: &impl Clock,
+    session: &mut Session<D>,
+    piece: &[u8],
+    output: &mut W,
+) -> io::Result<()> {
+    let mut left = piece;
+    let mut begun = Instant::now(clock)?;
+    let mut kept = session.kept();
+    for _line in 0..piece.len() {
+        let Some(end) = memchr(b'\n', left) else {
+            break;
+        };
+        let behind = end.saturating_add(1);
+        let line = &left[..behind];
+        session.feed(line)?;
+        left = &left[behind..];
+        let now = Instant::now(clock)?;
+        let keeps = session.kept();
+        if keeps != kept || line.starts_with(b"compact") {
+            let ms = now.duration_since(begun).as_millis();
+            session.took(u64::try_from(ms).unwrap_or(u64::MAX));
+            write_out(session, output)?;
+        }
+        begun = now;
+        kept = keeps;
+    }
+    session.feed(left)?;
+    Ok(())
+}
+
+fn write_out<D: SectorDisk, W: Write>(session: &mut Session<D>, output: &mut W) -> io::Result<()> {
+    output.write_all(session.text())?;
+    output.flush()?;
+    session.clear();
+    Ok(())
 }

@@ -1,5 +1,5 @@
 -- The chains of histories that calls make.
-use Rattle.std.proofs.Common.{◌≡◌, ℕ, List, [], ◌∷◌, Bool, true, false, refl, sym, ◌∙◌, subst}
+use Rattle.std.proofs.Common.{◌≡◌, ℕ, List, [], ◌∷◌, Bool, true, false, refl, sym, ◌∙◌, subst, Option}
 use Rattle.job_model.specs.Durable.{Durable}
 use Rattle.histories.specs.declared.what.What.{What}
 use Rattle.histories.specs.What.{Entry}
@@ -12,7 +12,7 @@ use Rattle.node_session.specs.declared.asked.Asked.{Asked}
 use Rattle.node_session.specs.declared.asked.Asked.TheVariants as ask
 use Rattle.node_session.specs.Asked.{asked_of}
 use Rattle.node_session.specs.Turns.{Turn, Goes, Unmounted, Begins, begun, after_begun, MayComeOf, MayCompact}
-use Rattle.node_session.specs.Chains.{At, AreGoing, AllGoing, AreOf, AreTimely, Comes, IsNone, IsOne, MayCome, after_by, after_line, after_lines, after_turns, entries_of, entries_in}
+use Rattle.node_session.specs.Chains.{At, Outcome, AreGoing, AllGoing, AreOf, AreTimely, Comes, IsNone, IsOne, MayCome, after_by, after_line, after_lines, after_turns, entries_of, entries_in, one_turn}
 
 -- each turn by which a history went on was possible there
 abbrev ArePossible : ℕ → ℕ → ℕ → NodeState → List Turn → Type 0
@@ -69,22 +69,22 @@ in_front self nodes slots s (Unmounted fault ∷ turns) later t possible follows
 in_front self nodes slots s (Begins mounted what ∷ turns) later t possible follows = absurd possible
 
 -- a line that isn't answered leaves all as it is
-line_possible : (self nodes slots : ℕ) (b : Bool) (a : At) (q : Asked) (turns : List Turn) → Comes self nodes slots b a.state q turns → AreGoing turns
+line_possible : (self nodes slots : ℕ) (b : Bool) (a : At) (q : Asked) (turns : List Turn) (due : Option ℕ) → Comes self nodes slots b a.state q (record { turns = turns; due = due }) → AreGoing turns
     → ArePossible self nodes slots a.state turns × (after_turns self nodes a.state turns ≡ (after_by self nodes b a q turns).state)
-line_possible self nodes slots true a q [] comes going = (tt, refl)
-line_possible self nodes slots true a q (t ∷ turns) comes going = absurd comes
-line_possible self nodes slots false a q turns comes going = (asked_possible self nodes slots a.state q turns comes going, refl)
+line_possible self nodes slots true a q [] due comes going = (tt, refl)
+line_possible self nodes slots true a q (t ∷ turns) due comes going = absurd comes
+line_possible self nodes slots false a q turns due comes going = (asked_possible self nodes slots a.state q turns comes.0 going, refl)
 
-pub one : (self nodes slots : ℕ) (a : At) (ls : List (List ℕ)) (all : List (List Turn)) → AreOf self nodes slots a ls all → AllGoing all
+pub one : (self nodes slots : ℕ) (a : At) (ls : List (List ℕ)) (all : List Outcome) → AreOf self nodes slots a ls all → AllGoing all
     → IsHistory self nodes slots a.state (entries_in self nodes a.state all) (after_lines self nodes a ls all).state
 one self nodes slots a [] [] of going = (tt, tt, refl)
 one self nodes slots a [] (c ∷ all) of going = absurd of
 one self nodes slots a (l ∷ ls) [] of going = absurd of
-one self nodes slots a (l ∷ ls) (turns ∷ all) of going =
-    let next = after_line self nodes a (asked_of l) turns in
-    let here = line_possible self nodes slots a.stopped a (asked_of l) turns of.0 going.0 in
+one self nodes slots a (l ∷ ls) (came ∷ all) of going =
+    let next = after_line self nodes a (asked_of l) came.turns in
+    let here = line_possible self nodes slots a.stopped a (asked_of l) came.turns came.due of.0 going.0 in
     let later : IsHistory self nodes slots next.state (entries_in self nodes next.state all) (after_lines self nodes next ls all).state = one self nodes slots next ls all of.1 going.1 in
-    in_front self nodes slots a.state turns (entries_in self nodes (after_turns self nodes a.state turns) all) (after_lines self nodes next ls all).state here.0
+    in_front self nodes slots a.state came.turns (entries_in self nodes (after_turns self nodes a.state came.turns) all) (after_lines self nodes next ls all).state here.0
     (subst (λ (t : NodeState). IsHistory self nodes slots t (entries_in self nodes t all) (after_lines self nodes next ls all).state) (sym here.1) later)
 
 -- ---- a history begins
@@ -102,18 +102,18 @@ begun_possible self nodes slots s ask.State mounted what may = absurd may
 begun_possible self nodes slots s ask.Jobs mounted what may = absurd may
 begun_possible self nodes slots s ask.Bad mounted what may = absurd may
 
-line_begun : (self nodes slots : ℕ) (b : Bool) (a : At) (q : Asked) (mounted : Durable) (what : What) → Comes self nodes slots b a.state q (Begins mounted what ∷ [])
+line_begun : (self nodes slots : ℕ) (b : Bool) (a : At) (q : Asked) (mounted : Durable) (what : What) (due : Option ℕ) → Comes self nodes slots b a.state q (one_turn (Begins mounted what) due)
     → IsPossible self nodes (begun self mounted) what × ((after_by self nodes b a q (Begins mounted what ∷ [])).state ≡ after_begun self nodes a.state mounted what)
-line_begun self nodes slots true a q mounted what comes = absurd comes
-line_begun self nodes slots false a q mounted what comes = (begun_possible self nodes slots a.state q mounted what comes, refl)
+line_begun self nodes slots true a q mounted what due comes = absurd comes
+line_begun self nodes slots false a q mounted what due comes = (begun_possible self nodes slots a.state q mounted what comes.0, refl)
 
-pub begun_one : (self nodes slots : ℕ) (a : At) (l : List ℕ) (ls : List (List ℕ)) (mounted : Durable) (what : What) (all : List (List Turn)) → AreOf self nodes slots a (l ∷ ls) ((Begins mounted what ∷ []) ∷ all)
+pub begun_one : (self nodes slots : ℕ) (a : At) (l : List ℕ) (ls : List (List ℕ)) (mounted : Durable) (what : What) (due : Option ℕ) (all : List Outcome) → AreOf self nodes slots a (l ∷ ls) (one_turn (Begins mounted what) due ∷ all)
     → AllGoing all → after_begun self nodes a.state mounted what ≡ after self nodes (begun self mounted) what
-    → Follows self nodes (begun self mounted) (entries_in self nodes (begun self mounted) ((Goes what ∷ []) ∷ all))
-    × (replay self nodes (begun self mounted) (entries_in self nodes (begun self mounted) ((Goes what ∷ []) ∷ all)) ≡ (after_lines self nodes a (l ∷ ls) ((Begins mounted what ∷ []) ∷ all)).state)
-begun_one self nodes slots a l ls mounted what all of going same =
+    → Follows self nodes (begun self mounted) (entries_in self nodes (begun self mounted) (one_turn (Goes what) due ∷ all))
+    × (replay self nodes (begun self mounted) (entries_in self nodes (begun self mounted) (one_turn (Goes what) due ∷ all)) ≡ (after_lines self nodes a (l ∷ ls) (one_turn (Begins mounted what) due ∷ all)).state)
+begun_one self nodes slots a l ls mounted what due all of going same =
     let next = after_line self nodes a (asked_of l) (Begins mounted what ∷ []) in
-    let here = line_begun self nodes slots a.stopped a (asked_of l) mounted what of.0 in
+    let here = line_begun self nodes slots a.stopped a (asked_of l) mounted what due of.0 in
     let later : IsHistory self nodes slots next.state (entries_in self nodes next.state all) (after_lines self nodes next ls all).state = one self nodes slots next ls all of.1 going in
     let behind = subst (λ (t : NodeState). IsHistory self nodes slots t (entries_in self nodes t all) (after_lines self nodes next ls all).state) (here.1 ∙ same) later in
     ((here.0, refl, behind.0), behind.2)

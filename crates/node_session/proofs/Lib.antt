@@ -1,3 +1,4 @@
+mod Next
 mod Reading
 mod Lines
 mod Calls

@@ -1,5 +1,5 @@
 -- Lines that are answered, one after another.
-use Rattle.std.proofs.Common.{◌≡◌, ℕ, List, [], ◌∷◌, ◌++◌, Bool, true, false, refl, sym, ap, ◌∙◌, subst, append_assoc, append-nil, ◌+◌, Some, None, Result, Ok, Err}
+use Rattle.std.proofs.Common.{◌≡◌, ℕ, List, [], ◌∷◌, ◌++◌, Bool, true, false, refl, sym, ap, ◌∙◌, subst, append_assoc, append-nil, ◌+◌, Some, None, Option, Result, Ok, Err}
 use Rattle.std.specs.Prelude.{IsTrue, OnOk}
 use Rattle.sector_disk.specs.Disk.{DiskState}
 use Rattle.node_store.specs.Store.{slots_for}
@@ -11,10 +11,11 @@ use Rattle.node_session.specs.declared.ended.Ended.{Ended}
 use Rattle.node_session.specs.declared.ended.Ended.TheVariants as end
 use Rattle.node_session.specs.Asked.{asked_of}
 use Rattle.node_core.specs.declared.event.Event.{Event}
+use Rattle.node_core.specs.State.{State, is_down}
 use Rattle.node_session.specs.Turns.{Turn, MayComeOf, MayCompact}
 use Rattle.pace.specs.Waiting.{Waits, sent_again, waits_on}
-use Rattle.node_session.specs.Chains.{At, AreGoing, AreTimely, Comes, MayCome, AreOf, after_by, after_lines, after_turns, is_failed, line_end, next, waits_begun, waits_turns}
-use Rattle.node_session.specs.Text.{answer, answer_at, answers, bad_line, closing, event_closing, fired_news, jobs_lines, keeps_news, ok_line, send_lines, state_line, turns_text, no_news}
+use Rattle.node_session.specs.Chains.{At, Outcome, AreGoing, AreTimely, Comes, MayCome, IsTold, IsToldBy, AreOf, after_by, after_lines, after_turns, is_failed, line_end, next, waits_begun, waits_turns}
+use Rattle.node_session.specs.Text.{answer, answer_at, answers, bad_line, closing, event_closing, fired_news, jobs_lines, keeps_news, next_line, ok_line, send_lines, state_line, turns_text, no_news}
 use Rattle.node_session.specs.Serving.{Progress, Serves, Calls, Turns, IsNodeOf, at_of}
 use Rattle.node_session.proofs.Calls.{node_refl, node_then, one_call}
 use Rattle.node_session.proofs.Lines.{of_both, after_both, going_both, answers_both}
@@ -68,13 +69,13 @@ pub stopped_line : {Disk : Type 0} (disks : Disk → DiskState) (p : Progress Di
 stopped_line disks p line stopped = record {
   node = node_refl disks p.node;
   served = λ was s is stands. record {
-    all = [] ∷ [];
-    came = (subst (λ (b : Bool). Comes p.node.id p.node.nodes (slots_for (disks was).sectors) b s (asked_of line) []) (sym stopped) tt, tt);
+    all = record { turns = []; due = None } ∷ [];
+    came = (subst (λ (b : Bool). Comes p.node.id p.node.nodes (slots_for (disks was).sectors) b s (asked_of line) (record { turns = []; due = None })) (sym stopped) tt, tt);
     honest = λ honest. (tt, tt);
     state = s;
     stands = stands;
     left = subst (λ (b : Bool). at_of p s ≡ after_by p.node.id p.node.nodes b (at_of p s) (asked_of line) []) (sym stopped) refl;
-    text = subst (λ (b : Bool). p.text ≡ p.text ++ (answer_at p.node.id p.node.nodes b (at_of p s) (asked_of line) [] ++ [])) (sym stopped) (sym (append-nil p.text));
+    text = subst (λ (b : Bool). p.text ≡ p.text ++ (answer_at p.node.id p.node.nodes b (at_of p s) (asked_of line) (record { turns = []; due = None }) ++ [])) (sym stopped) (sym (append-nil p.text));
   };
 }
 
@@ -83,12 +84,14 @@ stopped_line disks p line stopped = record {
 -- where it left a session, and its answer
 pub record IsAnswered {Disk : Type 0} (disks : Disk → DiskState) (old new : Progress Disk) (a : Asked) (was : Disk) (s : NodeState) : Type 0 where
   pub turns : List Turn
+  pub due : Option ℕ
+  pub told : IsTold a (after_turns old.node.id old.node.nodes s turns) due
   pub may : MayCome old.node.id old.node.nodes (slots_for (disks was).sectors) s a turns
   pub honest : IsTrue (disks was).honest → AreGoing turns
   pub stands : Stands disks new.node (after_turns old.node.id old.node.nodes s turns)
   pub stopped : new.stopped ≡ is_failed (line_end old.node.id old.node.nodes s turns)
   pub count : new.count ≡ next old.count a
-  pub text : new.text ≡ old.text ++ answer old.node.id old.node.nodes (next old.count a) s old.waits a turns
+  pub text : new.text ≡ old.text ++ answer old.node.id old.node.nodes (next old.count a) s old.waits a (record { turns = turns; due = due })
   pub waits : new.waits ≡ waits_turns old.node.id old.node.nodes s turns (waits_begun a old.waits)
 
 pub answered_line : {Disk : Type 0} (disks : Disk → DiskState) (old new : Progress Disk) (line : List ℕ) (a : Asked) → old.stopped ≡ false → asked_of line ≡ a → IsNodeOf disks old.node new.node
@@ -101,22 +104,23 @@ answered_line {Disk} disks old new line a runs asks same answered = record {
       let slots = slots_for (disks was).sectors in
       let t = after_turns id nodes s x.turns in
       let waits = waits_turns id nodes s x.turns (waits_begun a old.waits) in
+      let outcome : Outcome = record { turns = x.turns; due = x.due } in
       let left : at_of new t ≡ record { stopped = is_failed (line_end id nodes s x.turns); count = next old.count a; state = t; waits = waits } =
       ap (λ (b : Bool). record { stopped = b; count = new.count; state = t; waits = new.waits }) x.stopped
       ∙ (ap (λ (n : ℕ). record { stopped = is_failed (line_end id nodes s x.turns); count = n; state = t; waits = new.waits }) x.count
       ∙ ap (λ (w : Waits). record { stopped = is_failed (line_end id nodes s x.turns); count = next old.count a; state = t; waits = w }) x.waits) in
-      let text : new.text ≡ old.text ++ (answer id nodes (next old.count a) s old.waits a x.turns ++ []) =
-      x.text ∙ ap (λ (u : List ℕ). old.text ++ u) (sym (append-nil (answer id nodes (next old.count a) s old.waits a x.turns))) in
+      let text : new.text ≡ old.text ++ (answer id nodes (next old.count a) s old.waits a outcome ++ []) =
+      x.text ∙ ap (λ (u : List ℕ). old.text ++ u) (sym (append-nil (answer id nodes (next old.count a) s old.waits a outcome))) in
       record {
-        all = x.turns ∷ [];
-        came = (subst (λ (b : Bool). Comes id nodes slots b s (asked_of line) x.turns) (sym runs) (subst (λ (q : Asked). MayCome id nodes slots s q x.turns) (sym asks) x.may), tt);
+        all = outcome ∷ [];
+        came = (subst (λ (b : Bool). Comes id nodes slots b s (asked_of line) outcome) (sym runs) (subst (λ (q : Asked). MayCome id nodes slots s q x.turns × IsTold q t x.due) (sym asks) (x.may, x.told)), tt);
         honest = λ honest. (x.honest honest, tt);
         state = t;
         stands = x.stands;
         left = subst (λ (b : Bool). at_of new t ≡ after_by id nodes b (at_of old s) (asked_of line) x.turns) (sym runs)
             (subst (λ (q : Asked). at_of new t ≡ after_by id nodes false (at_of old s) q x.turns) (sym asks) left);
-        text = subst (λ (b : Bool). new.text ≡ old.text ++ (answer_at id nodes b (at_of old s) (asked_of line) x.turns ++ [])) (sym runs)
-            (subst (λ (q : Asked). new.text ≡ old.text ++ (answer_at id nodes false (at_of old s) q x.turns ++ [])) (sym asks) text);
+        text = subst (λ (b : Bool). new.text ≡ old.text ++ (answer_at id nodes b (at_of old s) (asked_of line) outcome ++ [])) (sym runs)
+            (subst (λ (q : Asked). new.text ≡ old.text ++ (answer_at id nodes false (at_of old s) q outcome ++ [])) (sym asks) text);
       });
 }
 
@@ -124,19 +128,28 @@ answered_line {Disk} disks old new line a runs asks same answered = record {
 abbrev IsClosed : {Disk : Type 0} (disks : Disk → DiskState) (mid : Progress Disk) (close : NodeState → List ℕ) (text : List ℕ) → Type 0
 IsClosed {Disk} disks mid close text = (t : NodeState) → Stands disks mid.node t → text ≡ mid.text ++ close t
 
-abbrev Answers : (heading : Turn → List ℕ) (number : ℕ) (w : Waits) (a : Asked) (again : List ℕ) (ended : Ended) (close : NodeState → List ℕ) → Type 0
-Answers heading number w a again ended close =
+abbrev Answers : (heading : Turn → List ℕ) (number : ℕ) (w : Waits) (a : Asked) (again : List ℕ) (ended : Ended) (due : Option ℕ) (close : NodeState → List ℕ) → Type 0
+Answers heading number w a again ended due close =
     (self nodes : ℕ) (s : NodeState) (turns : List Turn) → ended ≡ line_end self nodes s turns
-    → answer self nodes number s w a turns ≡ again ++ (turns_text heading self nodes s turns ++ close (after_turns self nodes s turns))
+    → answer self nodes number s w a (record { turns = turns; due = due }) ≡ again ++ (turns_text heading self nodes s turns ++ close (after_turns self nodes s turns))
+
+-- what is told of a node that stands for this
+abbrev Tells : {Disk : Type 0} (disks : Disk → DiskState) (mid : Progress Disk) (a : Asked) (due : Option ℕ) → Type 0
+Tells {Disk} disks mid a due = (t : NodeState) → Stands disks mid.node t → IsTold a t due
+
+-- by what the code sees
+pub tells : {Disk : Type 0} (disks : Disk → DiskState) (mid seen : Progress Disk) (now : ℕ) (due : Option ℕ) → mid ≡ seen → IsToldBy (is_down seen.node.state.phase) due
+    → Tells disks mid (ask.Tick now) due
+tells disks mid seen now due is told = λ t stands. subst (λ (s : State). IsToldBy (is_down s.phase) due) (sym (ap (λ p. p.node.state) is) ∙ stands.state) told
 
 -- a line of which calls came, behind what was sent again
-called_line : {Disk : Type 0} (disks : Disk → DiskState) (old here mid : Progress Disk) (heading : Turn → List ℕ) (line : List ℕ) (a : Asked) (number : ℕ) (again : List ℕ) (ended : Ended) (close : NodeState → List ℕ) (begun text : List ℕ)
+called_line : {Disk : Type 0} (disks : Disk → DiskState) (old here mid : Progress Disk) (heading : Turn → List ℕ) (line : List ℕ) (a : Asked) (number : ℕ) (again : List ℕ) (ended : Ended) (due : Option ℕ) (close : NodeState → List ℕ) (begun text : List ℕ)
     → old.stopped ≡ false → asked_of line ≡ a → next old.count a ≡ old.count + 1 → number ≡ old.count + 1
     → begun ≡ old.text ++ again → here ≡ record old { count = number; text = begun; waits = waits_begun a old.waits }
     → Calls disks here mid heading (λ slots s turns. MayCome here.node.id here.node.nodes slots s a turns) (end.Done None) ended
-    → IsClosed disks mid close text → Answers heading number old.waits a again ended close
+    → IsClosed disks mid close text → Tells disks mid a due → Answers heading number old.waits a again ended due close
     → Serves disks old (record mid { stopped = is_failed ended; text = text }) (line ∷ [])
-called_line {Disk} disks old here mid heading line a number again ended close begun text runs asks one counts begins is calls said closes =
+called_line {Disk} disks old here mid heading line a number again ended due close begun text runs asks one counts begins is calls said told closes =
     let same : here.node ≡ old.node = ap (λ p. p.node) is in
     let counted : mid.count ≡ old.count + 1 = ap (λ (p : Progress Disk). p.count) calls.same ∙ (ap (λ p. p.count) is ∙ counts) in
     answered_line disks old (record mid { stopped = is_failed ended; text = text }) line a runs asks
@@ -156,6 +169,8 @@ called_line {Disk} disks old here mid heading line a number again ended close be
     (subst (λ (n : ℕ). Stands disks mid.node (after_turns n here.node.nodes s x.turns)) id x.stands) in
     record {
       turns = x.turns;
+      due = due;
+      told = told t left;
       may = subst (λ (n : ℕ). MayCome old.node.id n (slots_for (disks was).sectors) s a x.turns) nodes
           (subst (λ (n : ℕ). MayCome n here.node.nodes (slots_for (disks was).sectors) s a x.turns) id x.may);
       honest = x.honest;
@@ -163,69 +178,72 @@ called_line {Disk} disks old here mid heading line a number again ended close be
       stopped = ap is_failed ended_so;
       count = counted ∙ sym one;
       text = both_texts old.text begun text again (turns_said ++ close t) begins (both_texts begun mid.text text turns_said (close t) mid_text (said t left))
-          ∙ ap (λ (u : List ℕ). old.text ++ u) (sym (ap (λ (n : ℕ). answer old.node.id old.node.nodes n s old.waits a x.turns) (one ∙ sym counts) ∙ closes old.node.id old.node.nodes s x.turns ended_so));
+          ∙ ap (λ (u : List ℕ). old.text ++ u) (sym (ap (λ (n : ℕ). answer old.node.id old.node.nodes n s old.waits a (record { turns = x.turns; due = due })) (one ∙ sym counts) ∙ closes old.node.id old.node.nodes s x.turns ended_so));
       waits = x.waits ∙ (ap (λ p. waits_turns here.node.id here.node.nodes s x.turns p.waits) is
           ∙ (ap (λ (n : ℕ). waits_turns n here.node.nodes s x.turns (waits_begun a old.waits)) id ∙ ap (λ (n : ℕ). waits_turns old.node.id n s x.turns (waits_begun a old.waits)) nodes));
     }))
 
 -- as the code does it: the call, the mark of a device that failed, and the closing line
-called_so : {Disk : Type 0} (disks : Disk → DiskState) (old here mid stop : Progress Disk) (heading : Turn → List ℕ) (line : List ℕ) (a : Asked) (number : ℕ) (again : List ℕ) (ended : Ended) (close : NodeState → List ℕ) (begun text : List ℕ)
+called_so : {Disk : Type 0} (disks : Disk → DiskState) (old here mid stop : Progress Disk) (heading : Turn → List ℕ) (line : List ℕ) (a : Asked) (number : ℕ) (again : List ℕ) (ended : Ended) (due : Option ℕ) (close : NodeState → List ℕ) (begun text : List ℕ)
     → old.stopped ≡ false → asked_of line ≡ a → next old.count a ≡ old.count + 1 → number ≡ old.count + 1
     → begun ≡ old.text ++ again → here ≡ record old { count = number; text = begun; waits = waits_begun a old.waits }
     → Calls disks here mid heading (λ slots s turns. MayCome here.node.id here.node.nodes slots s a turns) (end.Done None) ended
-    → stop ≡ record mid { stopped = is_failed ended } → IsClosed disks stop close text → Answers heading number old.waits a again ended close
+    → stop ≡ record mid { stopped = is_failed ended } → IsClosed disks stop close text → Tells disks stop a due → Answers heading number old.waits a again ended due close
     → Serves disks old (record stop { text = text }) (line ∷ [])
-called_so {Disk} disks old here mid stop heading line a number again ended close begun text runs asks one counts begins is calls marked said closes =
+called_so {Disk} disks old here mid stop heading line a number again ended due close begun text runs asks one counts begins is calls marked said told closes =
     subst (λ (p : Progress Disk). Serves disks old (record p { text = text }) (line ∷ [])) (sym marked)
-    (called_line disks old here mid heading line a number again ended close begun text runs asks one counts begins is calls
-    (subst (λ (p : Progress Disk). IsClosed disks p close text) marked said) closes)
+    (called_line disks old here mid heading line a number again ended due close begun text runs asks one counts begins is calls
+    (subst (λ (p : Progress Disk). IsClosed disks p close text) marked said) (subst (λ (p : Progress Disk). Tells disks p a due) marked told) closes)
 
 pub event_line : {Disk : Type 0} (disks : Disk → DiskState) (old here mid stop : Progress Disk) (line : List ℕ) (event : Event) (number : ℕ) (ended : Ended) (kept text : List ℕ)
     → old.stopped ≡ false → asked_of line ≡ ask.Event event → number ≡ old.count + 1 → here ≡ record old { count = number } → Turns disks here mid (MayComeOf here.node.id here.node.nodes event) ended
     → stop ≡ record mid { stopped = is_failed ended } → ((t : NodeState) → Stands disks stop.node t → kept ≡ stop.text ++ keeps_news event ended t)
     → text ≡ kept ++ event_closing number event ended → Serves disks old (record stop { text = text }) (line ∷ [])
 event_line disks old here mid stop line event number ended kept text runs asks counts is turns marked keeps said =
-    called_so disks old here mid stop no_news line (ask.Event event) number [] ended (λ t. keeps_news event ended t ++ event_closing number event ended) old.text text runs asks refl counts (sym (append-nil old.text)) is
+    called_so disks old here mid stop no_news line (ask.Event event) number [] ended None (λ t. keeps_news event ended t ++ event_closing number event ended) old.text text runs asks refl counts (sym (append-nil old.text)) is
     (one_call disks here mid (MayComeOf here.node.id here.node.nodes event) (end.Done None) ended turns) marked
-    (λ t stands. both_texts stop.text kept text (keeps_news event ended t) (event_closing number event ended) (keeps t stands) said)
+    (λ t stands. both_texts stop.text kept text (keeps_news event ended t) (event_closing number event ended) (keeps t stands) said) (λ t stands. refl)
     (λ self nodes s turns so. ap (λ (e : Ended). turns_text no_news self nodes s turns ++ (keeps_news event e (after_turns self nodes s turns) ++ event_closing number event e)) (sym so))
 
 pub compact_line : {Disk : Type 0} (disks : Disk → DiskState) (old here mid stop : Progress Disk) (line : List ℕ) (number : ℕ) (ended : Ended) (text : List ℕ)
     → old.stopped ≡ false → asked_of line ≡ ask.Compact → number ≡ old.count + 1 → here ≡ record old { count = number } → Turns disks here mid (MayCompact here.node.id here.node.nodes) ended
     → stop ≡ record mid { stopped = is_failed ended } → text ≡ stop.text ++ closing number ended → Serves disks old (record stop { text = text }) (line ∷ [])
 compact_line disks old here mid stop line number ended text runs asks counts is turns marked said =
-    called_so disks old here mid stop no_news line ask.Compact number [] ended (λ t. closing number ended) old.text text runs asks refl counts (sym (append-nil old.text)) is
-    (one_call disks here mid (MayCompact here.node.id here.node.nodes) (end.Done None) ended turns) marked (λ t stands. said)
+    called_so disks old here mid stop no_news line ask.Compact number [] ended None (λ t. closing number ended) old.text text runs asks refl counts (sym (append-nil old.text)) is
+    (one_call disks here mid (MayCompact here.node.id here.node.nodes) (end.Done None) ended turns) marked (λ t stands. said) (λ t stands. refl)
     (λ self nodes s turns so. ap (λ (e : Ended). turns_text no_news self nodes s turns ++ closing number e) (sym so))
 
-pub tick_line : {Disk : Type 0} (disks : Disk → DiskState) (old first here mid stop : Progress Disk) (line : List ℕ) (now number : ℕ) (ended : Ended) (text : List ℕ)
+pub tick_line : {Disk : Type 0} (disks : Disk → DiskState) (old first here mid stop : Progress Disk) (line : List ℕ) (now number : ℕ) (ended : Ended) (due : Option ℕ) (told text : List ℕ)
     → old.stopped ≡ false → asked_of line ≡ ask.Tick now → number ≡ old.count + 1 → first ≡ record old { count = number }
     → here ≡ record first { text = first.text ++ send_lines (sent_again now first.waits); waits = waits_on now first.waits }
     → Calls disks here mid fired_news (AreTimely here.node.id here.node.nodes) (end.Done None) ended
-    → stop ≡ record mid { stopped = is_failed ended } → text ≡ stop.text ++ closing number ended → Serves disks old (record stop { text = text }) (line ∷ [])
-tick_line {Disk} disks old first here mid stop line now number ended text runs asks counts is sends calls marked said =
-    called_so disks old here mid stop fired_news line (ask.Tick now) number (send_lines (sent_again now old.waits)) ended (λ t. closing number ended) (old.text ++ send_lines (sent_again now old.waits)) text runs asks refl counts refl
-    (sends ∙ ap (λ (p : Progress Disk). record p { text = p.text ++ send_lines (sent_again now p.waits); waits = waits_on now p.waits }) is) calls marked (λ t stands. said)
-    (λ self nodes s turns so. ap (λ (e : Ended). send_lines (sent_again now old.waits) ++ (turns_text fired_news self nodes s turns ++ closing number e)) (sym so))
+    → stop ≡ record mid { stopped = is_failed ended } → Tells disks stop (ask.Tick now) due → told ≡ stop.text ++ next_line due → text ≡ told ++ closing number ended
+    → Serves disks old (record stop { text = text }) (line ∷ [])
+tick_line {Disk} disks old first here mid stop line now number ended due told text runs asks counts is sends calls marked tells names said =
+    called_so disks old here mid stop fired_news line (ask.Tick now) number (send_lines (sent_again now old.waits)) ended due (λ t. next_line due ++ closing number ended) (old.text ++ send_lines (sent_again now old.waits)) text runs asks refl counts refl
+    (sends ∙ ap (λ (p : Progress Disk). record p { text = p.text ++ send_lines (sent_again now p.waits); waits = waits_on now p.waits }) is) calls marked (λ t stands. both_texts stop.text told text (next_line due) (closing number ended) names said) tells
+    (λ self nodes s turns so. ap (λ (e : Ended). send_lines (sent_again now old.waits) ++ (turns_text fired_news self nodes s turns ++ (next_line due ++ closing number e))) (sym so))
 
 pub loss_line : {Disk : Type 0} (disks : Disk → DiskState) (old here mid stop : Progress Disk) (line : List ℕ) (node number : ℕ) (ended : Ended) (text : List ℕ)
     → old.stopped ≡ false → asked_of line ≡ ask.Lost node → number ≡ old.count + 1 → here ≡ record old { count = number } → Calls disks here mid fired_news (AreTimely here.node.id here.node.nodes) (end.Done None) ended
     → stop ≡ record mid { stopped = is_failed ended } → text ≡ stop.text ++ closing number ended → Serves disks old (record stop { text = text }) (line ∷ [])
 loss_line disks old here mid stop line node number ended text runs asks counts is calls marked said =
-    called_so disks old here mid stop fired_news line (ask.Lost node) number [] ended (λ t. closing number ended) old.text text runs asks refl counts (sym (append-nil old.text)) is calls marked (λ t stands. said)
+    called_so disks old here mid stop fired_news line (ask.Lost node) number [] ended None (λ t. closing number ended) old.text text runs asks refl counts (sym (append-nil old.text)) is calls marked (λ t stands. said) (λ t stands. refl)
     (λ self nodes s turns so. ap (λ (e : Ended). turns_text fired_news self nodes s turns ++ closing number e) (sym so))
 
 -- a line that asks nothing of the node but what it knows
 pub quiet_line : {Disk : Type 0} (disks : Disk → DiskState) (old new : Progress Disk) (line : List ℕ) (a : Asked) → old.stopped ≡ false → asked_of line ≡ a
-    → ((self nodes slots : ℕ) (s : NodeState) → MayCome self nodes slots s a [])
+    → ((self nodes slots : ℕ) (s : NodeState) → MayCome self nodes slots s a [] × IsTold a s None)
     → new.node ≡ old.node → new.stopped ≡ false → new.count ≡ next old.count a → new.waits ≡ waits_begun a old.waits
-    → ((s : NodeState) → Stands disks old.node s → new.text ≡ old.text ++ answer old.node.id old.node.nodes (next old.count a) s old.waits a [])
+    → ((s : NodeState) → Stands disks old.node s → new.text ≡ old.text ++ answer old.node.id old.node.nodes (next old.count a) s old.waits a (record { turns = []; due = None }))
     → Serves disks old new (line ∷ [])
 quiet_line {Disk} disks old new line a runs asks may same goes count waits text =
     answered_line disks old new line a runs asks (subst (λ n. IsNodeOf disks old.node n) (sym same) (node_refl disks old.node))
     (λ was s at stands. record {
       turns = [];
-      may = may old.node.id old.node.nodes (slots_for (disks was).sectors) s;
+      due = None;
+      told = (may old.node.id old.node.nodes (slots_for (disks was).sectors) s).1;
+      may = (may old.node.id old.node.nodes (slots_for (disks was).sectors) s).0;
       honest = λ honest. tt;
       stands = subst (λ n. Stands disks n s) (sym same) stands;
       stopped = goes;
@@ -244,7 +262,7 @@ on_ok (Err e) f h = tt
 pub line_is_bad : {Disk : Type 0} (disks : Disk → DiskState) (old here : Progress Disk) (line : List ℕ) (number : ℕ) (text : List ℕ) → old.stopped ≡ false → asked_of line ≡ ask.Bad → number ≡ old.count + 1
     → here ≡ record old { count = number } → text ≡ here.text ++ bad_line number → Serves disks old (record here { text = text }) (line ∷ [])
 line_is_bad disks old here line number text runs asks counts is said =
-    quiet_line disks old (record here { text = text }) line ask.Bad runs asks (λ self nodes slots s. tt) (ap (λ p. p.node) is) (ap (λ p. p.stopped) is ∙ runs) (ap (λ p. p.count) is ∙ counts) (ap (λ p. p.waits) is)
+    quiet_line disks old (record here { text = text }) line ask.Bad runs asks (λ self nodes slots s. (tt, refl)) (ap (λ p. p.node) is) (ap (λ p. p.stopped) is ∙ runs) (ap (λ p. p.count) is ∙ counts) (ap (λ p. p.waits) is)
     (λ s stands. said ∙ (ap (λ p. p.text ++ bad_line number) is ∙ ap (λ (n : ℕ). old.text ++ bad_line n) counts))
 
 -- the state
@@ -252,7 +270,7 @@ pub state_answered : {Disk : Type 0} (disks : Disk → DiskState) (old here : Pr
     → here ≡ record old { count = number } → ((s : NodeState) → Stands disks here.node s → mid ≡ here.text ++ state_line s) → text ≡ mid ++ ok_line number []
     → Serves disks old (record here { text = text }) (line ∷ [])
 state_answered disks old here line number mid text runs asks counts is said ended =
-    quiet_line disks old (record here { text = text }) line ask.State runs asks (λ self nodes slots s. tt) (ap (λ p. p.node) is) (ap (λ p. p.stopped) is ∙ runs) (ap (λ p. p.count) is ∙ counts) (ap (λ p. p.waits) is)
+    quiet_line disks old (record here { text = text }) line ask.State runs asks (λ self nodes slots s. (tt, refl)) (ap (λ p. p.node) is) (ap (λ p. p.stopped) is ∙ runs) (ap (λ p. p.count) is ∙ counts) (ap (λ p. p.waits) is)
     (λ s stands. both_texts old.text mid text (state_line s) (ok_line (old.count + 1) [])
     (said s (subst (λ n. Stands disks n s) (sym (ap (λ p. p.node) is)) stands) ∙ ap (λ p. p.text ++ state_line s) is)
     (ended ∙ ap (λ (n : ℕ). mid ++ ok_line n []) counts))
@@ -262,11 +280,11 @@ pub jobs_answered : {Disk : Type 0} (disks : Disk → DiskState) (old here : Pro
     → here ≡ record old { count = number } → ((s : NodeState) → Stands disks here.node s → mid ≡ here.text ++ jobs_lines s) → text ≡ mid ++ ok_line number []
     → Serves disks old (record here { text = text }) (line ∷ [])
 jobs_answered disks old here line number mid text runs asks counts is said ended =
-    quiet_line disks old (record here { text = text }) line ask.Jobs runs asks (λ self nodes slots s. tt) (ap (λ p. p.node) is) (ap (λ p. p.stopped) is ∙ runs) (ap (λ p. p.count) is ∙ counts) (ap (λ p. p.waits) is)
+    quiet_line disks old (record here { text = text }) line ask.Jobs runs asks (λ self nodes slots s. (tt, refl)) (ap (λ p. p.node) is) (ap (λ p. p.stopped) is ∙ runs) (ap (λ p. p.count) is ∙ counts) (ap (λ p. p.waits) is)
     (λ s stands. both_texts old.text mid text (jobs_lines s) (ok_line (old.count + 1) [])
     (said s (subst (λ n. Stands disks n s) (sym (ap (λ p. p.node) is)) stands) ∙ ap (λ p. p.text ++ jobs_lines s) is)
     (ended ∙ ap (λ (n : ℕ). mid ++ ok_line n []) counts))
 
 -- an empty line
 pub nothing_line : {Disk : Type 0} (disks : Disk → DiskState) (old : Progress Disk) (line : List ℕ) → old.stopped ≡ false → asked_of line ≡ ask.Nothing → Serves disks old old (line ∷ [])
-nothing_line disks old line runs asks = quiet_line disks old old line ask.Nothing runs asks (λ self nodes slots s. tt) refl runs refl refl (λ s stands. sym (append-nil old.text))
+nothing_line disks old line runs asks = quiet_line disks old old line ask.Nothing runs asks (λ self nodes slots s. (tt, refl)) refl runs refl refl (λ s stands. sym (append-nil old.text))

@@ -1,9 +1,10 @@
 -- What comes of each line, and the chains of histories that this makes.
-use Rattle.std.specs.Prelude.{ℕ, ◌+◌, List, [], ◌∷◌, Bool, true, false, None}
+use Rattle.std.specs.Prelude.{ℕ, ◌≡◌, ◌+◌, List, [], ◌∷◌, Bool, true, false, Option, None, is_some}
 use Rattle.pace.specs.Waiting.{Waits, waits_behind, waits_on}
 use Rattle.histories.specs.NodeState.{NodeState}
 use Rattle.histories.specs.What.{Entry}
 use Rattle.histories.specs.After.{sent_at}
+use Rattle.node_core.specs.State.{is_down}
 use Rattle.durable_node.specs.declared.fault.NodeFault.{NodeFault}
 use Rattle.durable_node.specs.declared.fault.NodeFault.TheVariants as node
 use Rattle.node_session.specs.declared.asked.Asked.{Asked}
@@ -12,6 +13,14 @@ use Rattle.node_session.specs.declared.ended.Ended.{Ended}
 use Rattle.node_session.specs.declared.ended.Ended.TheVariants as end
 use Rattle.node_session.specs.Asked.{asked_of}
 use Rattle.node_session.specs.Turns.{Turn, Goes, Unmounted, Begins, after_turn, cause, end_of, sent_in, MayComeOf, MayCompact, IsTimely, IsGoing}
+
+-- what came of a line: the calls of the node, and what a tick tells, when something is due next
+pub record Outcome : Type 0 where
+  pub turns : List Turn
+  pub due : Option ℕ
+
+abbrev pub one_turn : Turn → Option ℕ → Outcome
+one_turn turn due = record { turns = turn ∷ []; due = due }
 
 -- ---- the turns of one line
 
@@ -67,6 +76,22 @@ MayCome self nodes slots s ask.State turns = IsNone turns
 MayCome self nodes slots s ask.Jobs turns = IsNone turns
 MayCome self nodes slots s ask.Bad turns = IsNone turns
 
+-- a node that is down waits for nothing
+abbrev pub IsToldBy : Bool → Option ℕ → Type 0
+IsToldBy true due = due ≡ None
+IsToldBy false due = is_some due ≡ true
+
+-- a tick that led to this state tells when something is due next, and nothing else does
+abbrev pub IsTold : Asked → NodeState → Option ℕ → Type 0
+IsTold ask.Nothing s due = due ≡ None
+IsTold (ask.Event event) s due = due ≡ None
+IsTold ask.Compact s due = due ≡ None
+IsTold (ask.Tick now) s due = IsToldBy (is_down s.state.phase) due
+IsTold (ask.Lost id) s due = due ≡ None
+IsTold ask.State s due = due ≡ None
+IsTold ask.Jobs s due = due ≡ None
+IsTold ask.Bad s due = due ≡ None
+
 -- ---- the lines
 
 -- where a session is
@@ -112,23 +137,23 @@ abbrev pub after_line : ℕ → ℕ → At → Asked → List Turn → At
 after_line self nodes a asked turns = after_by self nodes a.stopped a asked turns
 
 -- behind several lines
-abbrev pub after_lines : ℕ → ℕ → At → List (List ℕ) → List (List Turn) → At
+abbrev pub after_lines : ℕ → ℕ → At → List (List ℕ) → List Outcome → At
 after_lines self nodes a [] all = a
 after_lines self nodes a (line ∷ lines) [] = a
-after_lines self nodes a (line ∷ lines) (turns ∷ all) = after_lines self nodes (after_line self nodes a (asked_of line) turns) lines all
+after_lines self nodes a (line ∷ lines) (came ∷ all) = after_lines self nodes (after_line self nodes a (asked_of line) came.turns) lines all
 
 -- nothing comes of a line once the device failed
-abbrev pub Comes : ℕ → ℕ → ℕ → Bool → NodeState → Asked → List Turn → Type 0
-Comes self nodes slots true s asked turns = IsNone turns
-Comes self nodes slots false s asked turns = MayCome self nodes slots s asked turns
+abbrev pub Comes : ℕ → ℕ → ℕ → Bool → NodeState → Asked → Outcome → Type 0
+Comes self nodes slots true s asked came = IsNone came.turns
+Comes self nodes slots false s asked came = MayCome self nodes slots s asked came.turns × IsTold asked (after_turns self nodes s came.turns) came.due
 
--- these came of these lines, a list for each
-abbrev pub AreOf : ℕ → ℕ → ℕ → At → List (List ℕ) → List (List Turn) → Type 0
+-- these came of these lines, one for each
+abbrev pub AreOf : ℕ → ℕ → ℕ → At → List (List ℕ) → List Outcome → Type 0
 AreOf self nodes slots a [] [] = Unit {0}
-AreOf self nodes slots a [] (turns ∷ all) = ⊥
+AreOf self nodes slots a [] (came ∷ all) = ⊥
 AreOf self nodes slots a (line ∷ lines) [] = ⊥
-AreOf self nodes slots a (line ∷ lines) (turns ∷ all) =
-    Comes self nodes slots a.stopped a.state (asked_of line) turns × AreOf self nodes slots (after_line self nodes a (asked_of line) turns) lines all
+AreOf self nodes slots a (line ∷ lines) (came ∷ all) =
+    Comes self nodes slots a.stopped a.state (asked_of line) came × AreOf self nodes slots (after_line self nodes a (asked_of line) came.turns) lines all
 
 -- ---- one history
 
@@ -136,9 +161,9 @@ abbrev pub AreGoing : List Turn → Type 0
 AreGoing [] = Unit {0}
 AreGoing (turn ∷ turns) = IsGoing turn × AreGoing turns
 
-abbrev pub AllGoing : List (List Turn) → Type 0
+abbrev pub AllGoing : List Outcome → Type 0
 AllGoing [] = Unit {0}
-AllGoing (turns ∷ all) = AreGoing turns × AllGoing all
+AllGoing (came ∷ all) = AreGoing came.turns × AllGoing all
 
 abbrev pub entry_in_front : ℕ → ℕ → NodeState → Turn → List Entry → List Entry
 entry_in_front self nodes s (Goes what) later = record { what = what; sent = sent_at self nodes s what } ∷ later
@@ -151,6 +176,6 @@ entries_of self nodes s [] later = later
 entries_of self nodes s (turn ∷ turns) later = entry_in_front self nodes s turn (entries_of self nodes (after_turn self nodes s turn) turns later)
 
 -- and in several
-abbrev pub entries_in : ℕ → ℕ → NodeState → List (List Turn) → List Entry
+abbrev pub entries_in : ℕ → ℕ → NodeState → List Outcome → List Entry
 entries_in self nodes s [] = []
-entries_in self nodes s (turns ∷ all) = entries_of self nodes s turns (entries_in self nodes (after_turns self nodes s turns) all)
+entries_in self nodes s (came ∷ all) = entries_of self nodes s came.turns (entries_in self nodes (after_turns self nodes s came.turns) all)

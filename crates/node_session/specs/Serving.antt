@@ -12,7 +12,7 @@ use Rattle.histories.specs.After.{after}
 use Rattle.histories.specs.History.{Follows, FollowsSlots, replay}
 use Rattle.line_words.specs.Lines.{lines_of}
 use Rattle.node_session.specs.Turns.{Turn, Goes, Begins, begun, after_begun, after_turn, end_of, IsGoing}
-use Rattle.node_session.specs.Chains.{At, AreOf, AllGoing, AreGoing, after_lines, after_turns, entries_in, last_end, waits_turn, waits_turns}
+use Rattle.node_session.specs.Chains.{At, Outcome, AreOf, AllGoing, AreGoing, after_lines, after_turns, entries_in, last_end, one_turn, waits_turn, waits_turns}
 use Rattle.node_session.specs.Text.{answers, turn_text, turns_text}
 use Rattle.node_session.specs.declared.ended.Ended.{Ended}
 
@@ -34,8 +34,8 @@ at_of p s = record { stopped = p.stopped; count = p.count; state = s; waits = p.
 
 -- These lines were answered, at a node that stood for this state over this disk.
 pub record Served {Disk : Type 0} (disks : Disk → DiskState) (old new : Progress Disk) (lines : List (List ℕ)) (was : Disk) (s : NodeState) : Type 0 where
-  -- of each line came some of the things that may come of it
-  pub all : List (List Turn)
+  -- of each line came something that may come of it
+  pub all : List Outcome
   pub came : AreOf old.node.id old.node.nodes (slots_for (disks was).sectors) (at_of old s) lines all
   -- over an honest disk it is one history
   pub honest : IsTrue (disks was).honest → AllGoing all
@@ -122,7 +122,7 @@ AnyClearing {Disk} disks =
 -- where no history begins, the entries follow each other, and the state is the one that they replay to
 abbrev pub OneHistory : Type 0
 OneHistory =
-    (self nodes slots : ℕ) (a : At) (lines : List (List ℕ)) (all : List (List Turn)) → AreOf self nodes slots a lines all → AllGoing all →
+    (self nodes slots : ℕ) (a : At) (lines : List (List ℕ)) (all : List Outcome) → AreOf self nodes slots a lines all → AllGoing all →
     Follows self nodes a.state (entries_in self nodes a.state all) × FollowsSlots slots self nodes a.state (entries_in self nodes a.state all) ×
     (replay self nodes a.state (entries_in self nodes a.state all) ≡ (after_lines self nodes a lines all).state)
 
@@ -130,10 +130,10 @@ OneHistory =
 -- mounting, and then the others. The one mounting that begins none is that of a counter that can't be raised
 abbrev pub BegunHistory : Type 0
 BegunHistory =
-    (self nodes slots : ℕ) (a : At) (line : List ℕ) (lines : List (List ℕ)) (mounted : Durable) (what : What) (all : List (List Turn)) →
-    AreOf self nodes slots a (line ∷ lines) ((Begins mounted what ∷ []) ∷ all) → AllGoing all → after_begun self nodes a.state mounted what ≡ after self nodes (begun self mounted) what →
-    Follows self nodes (begun self mounted) (entries_in self nodes (begun self mounted) ((Goes what ∷ []) ∷ all)) ×
-    (replay self nodes (begun self mounted) (entries_in self nodes (begun self mounted) ((Goes what ∷ []) ∷ all)) ≡ (after_lines self nodes a (line ∷ lines) ((Begins mounted what ∷ []) ∷ all)).state)
+    (self nodes slots : ℕ) (a : At) (line : List ℕ) (lines : List (List ℕ)) (mounted : Durable) (what : What) (due : Option ℕ) (all : List Outcome) →
+    AreOf self nodes slots a (line ∷ lines) (one_turn (Begins mounted what) due ∷ all) → AllGoing all → after_begun self nodes a.state mounted what ≡ after self nodes (begun self mounted) what →
+    Follows self nodes (begun self mounted) (entries_in self nodes (begun self mounted) (one_turn (Goes what) due ∷ all)) ×
+    (replay self nodes (begun self mounted) (entries_in self nodes (begun self mounted) (one_turn (Goes what) due ∷ all)) ≡ (after_lines self nodes a (line ∷ lines) (one_turn (Begins mounted what) due ∷ all)).state)
 
 -- messages are sent again each so many milliseconds
 abbrev pub opened : {Disk : Type 0} → ℕ → ℕ → ℕ → Disk → Progress Disk

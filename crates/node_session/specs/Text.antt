@@ -25,7 +25,7 @@ use Rattle.node_session.specs.declared.ended.Ended.TheVariants as end
 use Rattle.node_session.specs.Asked.{asked_of}
 use Rattle.node_session.specs.Words.{event_word, group_text, ids_text, phase_text, truth_text}
 use Rattle.node_session.specs.Turns.{Turn, after_turn, cause, end_of, sent_in}
-use Rattle.node_session.specs.Chains.{At, after_line, after_turns, line_end, next}
+use Rattle.node_session.specs.Chains.{At, Outcome, after_line, after_turns, line_end, next}
 use Rattle.node_session.specs.Changes.{changes, gone_news, held_text, is_finish}
 
 -- ---- words
@@ -108,6 +108,13 @@ abbrev pub keeps_news : Event → Ended → NodeState → List ℕ
 keeps_news on.Recover (end.Done answer) s = keeps_by (is_down s.state.phase) s.durable
 keeps_news event ended s = []
 
+-- ---- what a tick tells
+
+-- nothing is due before this time, unless something comes
+abbrev pub next_line : Option ℕ → List ℕ
+next_line None = []
+next_line (Some due) = codes "next " ++ decimal due ++ codes "\n"
+
 -- ---- the closing line
 
 -- request n was made
@@ -183,24 +190,28 @@ abbrev pub event_end : ℕ → ℕ → ℕ → NodeState → Event → List Turn
 event_end self nodes n s event turns =
     keeps_news event (line_end self nodes s turns) (after_turns self nodes s turns) ++ event_closing n event (line_end self nodes s turns)
 
--- the answer to the n-th request, which asks this of a node in this state that waits for these messages; these turns came of it
-abbrev pub answer : ℕ → ℕ → ℕ → NodeState → Waits → Asked → List Turn → List ℕ
-answer self nodes n s w ask.Nothing turns = []
-answer self nodes n s w (ask.Event event) turns = turns_text no_news self nodes s turns ++ event_end self nodes n s event turns
-answer self nodes n s w ask.Compact turns = turns_text no_news self nodes s turns ++ closing n (line_end self nodes s turns)
-answer self nodes n s w (ask.Tick now) turns = send_lines (sent_again now w) ++ (turns_text fired_news self nodes s turns ++ closing n (line_end self nodes s turns))
-answer self nodes n s w (ask.Lost id) turns = turns_text fired_news self nodes s turns ++ closing n (line_end self nodes s turns)
-answer self nodes n s w ask.State turns = state_line s ++ ok_line n []
-answer self nodes n s w ask.Jobs turns = jobs_lines s ++ ok_line n []
-answer self nodes n s w ask.Bad turns = bad_line n
+-- how the answer to a tick ends
+abbrev pub tick_end : ℕ → ℕ → ℕ → NodeState → Outcome → List ℕ
+tick_end self nodes n s came = next_line came.due ++ closing n (line_end self nodes s came.turns)
+
+-- the answer to the n-th request, which asks this of a node in this state that waits for these messages; this came of it
+abbrev pub answer : ℕ → ℕ → ℕ → NodeState → Waits → Asked → Outcome → List ℕ
+answer self nodes n s w ask.Nothing came = []
+answer self nodes n s w (ask.Event event) came = turns_text no_news self nodes s came.turns ++ event_end self nodes n s event came.turns
+answer self nodes n s w ask.Compact came = turns_text no_news self nodes s came.turns ++ closing n (line_end self nodes s came.turns)
+answer self nodes n s w (ask.Tick now) came = send_lines (sent_again now w) ++ (turns_text fired_news self nodes s came.turns ++ tick_end self nodes n s came)
+answer self nodes n s w (ask.Lost id) came = turns_text fired_news self nodes s came.turns ++ closing n (line_end self nodes s came.turns)
+answer self nodes n s w ask.State came = state_line s ++ ok_line n []
+answer self nodes n s w ask.Jobs came = jobs_lines s ++ ok_line n []
+answer self nodes n s w ask.Bad came = bad_line n
 
 -- no line is answered once the device failed
-abbrev pub answer_at : ℕ → ℕ → Bool → At → Asked → List Turn → List ℕ
-answer_at self nodes true a asked turns = []
-answer_at self nodes false a asked turns = answer self nodes (next a.count asked) a.state a.waits asked turns
+abbrev pub answer_at : ℕ → ℕ → Bool → At → Asked → Outcome → List ℕ
+answer_at self nodes true a asked came = []
+answer_at self nodes false a asked came = answer self nodes (next a.count asked) a.state a.waits asked came
 
-abbrev pub answers : ℕ → ℕ → At → List (List ℕ) → List (List Turn) → List ℕ
+abbrev pub answers : ℕ → ℕ → At → List (List ℕ) → List Outcome → List ℕ
 answers self nodes a [] all = []
 answers self nodes a (line ∷ lines) [] = []
-answers self nodes a (line ∷ lines) (turns ∷ all) =
-    answer_at self nodes a.stopped a (asked_of line) turns ++ answers self nodes (after_line self nodes a (asked_of line) turns) lines all
+answers self nodes a (line ∷ lines) (came ∷ all) =
+    answer_at self nodes a.stopped a (asked_of line) came ++ answers self nodes (after_line self nodes a (asked_of line) came.turns) lines all

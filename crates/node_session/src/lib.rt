@@ -4,6 +4,7 @@
 
 mod asked;
 mod closing;
+mod due;
 mod ended;
 mod fired;
 mod laws;

@@ -1,23 +1,25 @@
 // A node that is fed with lines, and what it answers.
-ghost use Rattle.std.specs.Prelude.{◌≡◌, ◌<◌, ◌≤◌, ◌+◌, ◌++◌, ◌∷◌, ◌↔◌, List, ℕ, [], IfOk, IfSome, OnOk, IsTrue, Err, None, Some, false};
+ghost use Rattle.std.specs.Prelude.{◌≡◌, ◌<◌, ◌≤◌, ◌+◌, ◌++◌, ◌∷◌, ◌↔◌, List, ℕ, [], IfOk, IfSome, IsNone, OnOk, IsTrue, Err, None, Some, false, length};
 ghost use Rattle.group_task.specs.declared.node.TheConstants.{NODES};
 ghost use Rattle.job_journal.specs.Journal.{IsSound};
+ghost use Rattle.job_model.specs.Durable.{Durable};
 ghost use Rattle.node_store.specs.Store.{slots_for};
 ghost use Rattle.node_core.specs.declared.fault.CoreFault.TheVariants.{NoMemory};
 ghost use Rattle.line_words.specs.Lines.{lines_of};
 ghost use Rattle.node_session.specs.declared.asked.Asked.TheVariants as ask;
 ghost use Rattle.node_session.specs.declared.ended.Ended.TheVariants as end;
 ghost use Rattle.node_session.specs.Asked.{asked_of};
-ghost use Rattle.node_session.specs.Chains.{AreTimely, MayCome, is_failed};
+ghost use Rattle.node_session.specs.Chains.{AreTimely, IsToldBy, MayCome, is_failed};
 ghost use Rattle.node_session.specs.Serving.{opened, Calls, Fed, Serves, Turns};
 ghost use Rattle.durable_node.specs.Faults.{answered};
-ghost use Rattle.node_core.specs.State.{state_of};
+ghost use Rattle.node_core.specs.State.{is_down, state_of};
 ghost use Rattle.pace.specs.Waiting.{sent_again, waits_behind, waits_on};
 ghost use Rattle.node_session.specs.Text.{fired_line, fired_news, send_lines};
 ghost use Rattle.node_session.specs.Turns.{compaction_end, ended_by, sent_by, IsFired, IsTimely, MayComeOf, MayCompact};
 
 use crate::asked::{Asked, read_line};
 use crate::closing::{push_bad, push_closing, push_event_closing, push_ok};
+use crate::due::{next_due, push_next};
 use crate::ended::Ended;
 use crate::fired::push_fired;
 use crate::seen::{Seen, is_finish, push_gone};
@@ -43,8 +45,9 @@ pub struct Session<D: SectorDisk> {
     id: NodeId,
     node: DurableNode<D>,
     pace: Pace,
-    // the group in which a timer was last looked for
+    // the group in which a timer was last looked for, and the one in which time was last spent
     group: Option<GroupNo>,
+    spent_in: Option<GroupNo>,
     waiting: Waiting,
     stopped: bool,
     count: u64,
@@ -84,6 +87,7 @@ impl<D: SectorDisk> Session<D> {
             node: DurableNode::down(alloc, id, nodes, disk),
             pace: Pace::new(setting, id, seed),
             group: None,
+            spent_in: None,
             waiting: Waiting::new(alloc, setting.unit),
             stopped: false,
             count: 0,
@@ -106,6 +110,31 @@ impl<D: SectorDisk> Session<D> {
         ensures { self.new ≡ record self.old { text = [] } }
     {
         self.text.clear();
+    }
+
+    /// What the file keeps of an up node: the counter, the id of the next job, and the number of jobs. Each command but a compaction changes one of them.
+    pub fn kept(&self) -> Option<(u64, u64, u64)>
+        ensures some { IfSome result (λ kept. (d : Durable) × (self.now.node.kept ≡ Some d) × (kept ≡ (d.counter, d.next, length d.pending))) }
+        ensures none { IsNone result → self.now.node.kept ≡ None }
+    {
+        let (count, table) = self.node.durable()?;
+        Some((count, table.next(), table.pending().len() as u64))
+    }
+
+    /// A command took so many milliseconds: the node's timers don't wait for them. Where the node raised its counter in it, other nodes are reckoned to
+    /// take as long for that.
+    pub fn took(&mut self, ms: u64)
+        ensures { self.new ≡ self.old }
+    {
+        self.pace.spend(ms);
+        let standing = &self.node.vector().standing;
+        if matches!(standing.phase, Phase::Down) || self.spent_in == Some(standing.group) {
+            return;
+        }
+        if standing.group.creator().is(self.id) {
+            self.pace.raised(ms);
+        }
+        self.spent_in = Some(standing.group);
     }
 
     /// Whether the device failed. The answer that says it is the last one.
@@ -195,9 +224,12 @@ impl<D: SectorDisk + Drop> Session<D> {
         ensures line { (line : List ℕ) → asked_of line ≡ ask.Tick now → OnOk result (Serves D.state self.old self.new (line ∷ [])) }
     {
         let number = self.next_number()?;
+        self.tell(now);
         self.send_again(now)?;
-        let ended = self.fire_due(now)?;
+        let ended = self.fire_due()?;
         self.stop_where_failed(&ended);
+        let due = self.next_due(now);
+        push_next(&mut self.text, due)?;
         push_closing(&mut self.text, number, &ended)
     }
 
@@ -260,6 +292,13 @@ impl<D: SectorDisk + Drop> Session<D> {
         self.stopped = matches!(ended, Ended::Denied(NodeFault::Device));
     }
 
+    /// The policy of timers learns how late it is.
+    fn tell(&mut self, now: u64)
+        ensures { self.new ≡ self.old }
+    {
+        self.pace.pass(now);
+    }
+
     /// Sends again what is waited for and due at this time.
     fn send_again(&mut self, now: u64) -> Result<(), AllocError>
         ensures again { OnOk result (self.new ≡ record self.old { text = self.old.text ++ send_lines (sent_again now self.old.waits); waits = waits_on now self.old.waits }) }
@@ -269,14 +308,14 @@ impl<D: SectorDisk + Drop> Session<D> {
         self.waiting.go_on(now)
     }
 
-    /// Makes the events that are due at this time.
-    fn fire_due(&mut self, now: u64) -> Result<Ended, AllocError>
+    /// Makes the events that are due at the time that was told.
+    fn fire_due(&mut self) -> Result<Ended, AllocError>
         ensures rest { self.new.rest ≡ self.old.rest }
         ensures calls { IfOk result (λ ended. Calls D.state self.old self.new fired_news (AreTimely self.old.node.id self.old.node.nodes) (end.Done None) ended) }
     {
         let mut ended = Ended::Done(None);
         for _fired in 0..MOST_FIRED {
-            let Some(event) = self.due(now) else {
+            let Some(event) = self.due() else {
                 return Ok(ended);
             };
             self.add_fired(&event)?;
@@ -288,27 +327,46 @@ impl<D: SectorDisk + Drop> Session<D> {
         Ok(ended)
     }
 
-    /// The event that is due at this time.
-    fn due(&mut self, now: u64) -> Option<Event>
+    /// The event that is due.
+    fn due(&mut self) -> Option<Event>
         ensures same { self.new ≡ self.old }
         ensures fired { IfSome result IsFired }
     {
-        let sight = Sight::of(
-            self.id,
-            self.node.vector(),
-            merge_wait(self.id, self.node.vector()),
-        );
+        let sight = self.sight();
         self.look_at(sight.group);
-        self.pace.tick(now, &sight)
+        self.pace.tick(&sight)
     }
 
-    /// A new group's members have no work in hand: in it work is due at once.
+    /// When something is due next, where nothing comes. A node that is Down waits for nothing.
+    fn next_due(&self, now: u64) -> Option<u64>
+        ensures { IsToldBy (is_down self.now.node.state.phase) result }
+    {
+        let sight = self.sight();
+        match sight.phase {
+            Phase::Down => None,
+            _ => Some(next_due(&self.pace, &self.waiting, &sight, now)),
+        }
+    }
+
+    /// What the policy of timers sees of the node.
+    fn sight(&self) -> Sight
+        ensures { result.phase ≡ self.now.node.state.phase }
+    {
+        let vector = self.node.vector();
+        let pending = match self.node.durable() {
+            Some((_count, table)) => table.pending(),
+            None => &[],
+        };
+        Sight::of(self.id, vector, merge_wait(self.id, vector), pending)
+    }
+
+    /// A new group's members have no work in hand: in it the jobs that the node keeps are due at once.
     fn look_at(&mut self, group: GroupNo)
         ensures { self.new ≡ self.old }
     {
         if self.group != Some(group) {
             self.group = Some(group);
-            self.pace.worked();
+            self.pace.regrouped();
         }
     }
 
@@ -338,10 +396,8 @@ impl<D: SectorDisk + Drop> Session<D> {
     fn hear(&mut self, event: &Event)
         ensures { self.new ≡ self.old }
     {
-        match event {
-            Event::Deliver(message) => self.pace.heard(message.sender()),
-            Event::Submit(_) | Event::Finish(_, _) => self.pace.worked(),
-            _ => {}
+        if let Event::Deliver(message) = event {
+            self.pace.heard(message.sender());
         }
     }
 }

@@ -1,10 +1,9 @@
 -- What a policy keeps, and what it fires.
-use Rattle.std.specs.Prelude.{ℕ, ◌≡◌, ◌≢◌, ◌⊎◌, ◌+◌, ◌-◌, ◌≤◌, ◌^◌, min, Bool, not, ◌&&◌, ◌==◌, nat_le, if◌then◌else◌, List, slice_index, slice_set, replicate, Option, Some, None}
+use Rattle.std.specs.Prelude.{ℕ, ◌≡◌, ◌≢◌, ◌⊎◌, ◌+◌, ◌-◌, ◌≤◌, ◌<◌, ◌^◌, min, Bool, false, not, ◌&&◌, ◌||◌, ◌==◌, nat_le, if◌then◌else◌, List, slice_index, slice_set, replicate, Option, Some, None, is_some}
 use Rattle.std.specs.List.{list_any}
 use Rattle.group_task.specs.declared.node.TheConstants.{NODES}
 use Rattle.node_core.specs.declared.event.Event.{Event}
 use Rattle.node_core.specs.declared.event.Event.TheVariants as on
-use Rattle.node_core.specs.declared.phase.Phase.{Phase}
 use Rattle.node_core.specs.declared.phase.Phase.TheVariants.{Normal}
 use Rattle.node_core.specs.declared.timer.Timer.TheVariants as timer
 use Rattle.pace.specs.declared.setting.Setting.{Setting}
@@ -12,32 +11,71 @@ use Rattle.pace.specs.declared.wait.Wait.{Wait}
 use Rattle.pace.specs.declared.wait.Wait.TheVariants.{Check}
 use Rattle.pace.specs.declared.deadline.Deadline.{Deadline}
 use Rattle.pace.specs.declared.sight.Sight.{Sight}
-use Rattle.pace.specs.Timers.{wait_of, timer_of, due, longer_pause}
+use Rattle.pace.specs.Timers.{wait_of, timer_of, first_pause, lasts, later, longer_pause}
 
--- the policy of a node: the deadline that is set, how many checks were fired and how many of them before each node was last
--- heard, when work was last dispatched and how long after it the next is due
+-- the policy of a node: the time that was told last, how much of what comes isn't waited for, the deadline that is set, how many checks were
+-- fired and how many of them before each node was last heard, the oldest job that was seen, how long work rests and for how long it has to before it is
+-- dispatched (at once where that is 0), and how long the node's last raise took
 pub record Policy : Type 0 where
   pub id : ℕ
   pub setting : Setting
+  pub told : Option ℕ
+  pub skip : ℕ
   pub deadline : Option Deadline
   pub checks : ℕ
   pub heard : List ℕ
-  pub dispatched : ℕ
+  pub oldest : Option ℕ
+  pub rested : ℕ
   pub pause : ℕ
+  pub raise : ℕ
 
 abbrev pub fresh : Setting → ℕ → Policy
 fresh setting id = record {
   id = id;
   setting = setting;
+  told = None;
+  skip = 0;
   deadline = None;
   checks = 0;
   heard = replicate NODES 0;
-  dispatched = 0;
+  oldest = None;
+  rested = 0;
   pause = 0;
+  raise = 0;
 }
+
+-- how long ago a time was told, where it is so late now: a clock that fell back begins anew
+abbrev pub since : ℕ → Option ℕ → ℕ
+since now None = 0
+since now (Some told) = now - told
+
+abbrev pub later_deadline : ℕ → Option Deadline → Option Deadline
+later_deadline waited None = None
+later_deadline waited (Some d) = Some (later waited d)
+
+-- waits and work that rests are so many milliseconds older
+abbrev pub aged : ℕ → Policy → Policy
+aged waited p = record p { deadline = later_deadline waited p.deadline; rested = min (p.rested + waited) (2 ^ 64 - 1) }
+
+-- this time is told: what the node spent itself isn't waited for
+abbrev pub passed : ℕ → Policy → Policy
+passed now p = record (aged (since now p.told - p.skip) p) { told = Some now; skip = p.skip - since now p.told }
+
+-- the node spent so many milliseconds in a command
+abbrev pub spent : ℕ → Policy → Policy
+spent ms p = record p { skip = min (p.skip + ms) (2 ^ 64 - 1) }
 
 abbrev pub heard_from : ℕ → Policy → Policy
 heard_from id p = record p { heard = slice_set p.heard id p.checks }
+
+-- its times are numbers of 64 bits
+abbrev pub IsWithinDeadline : Option Deadline → Type 0
+IsWithinDeadline None = Unit {0}
+IsWithinDeadline (Some d) = d.waited < 2 ^ 64
+
+pub record IsWithin (p : Policy) : Type 0 where
+  pub rested : p.rested < 2 ^ 64
+  pub deadline : IsWithinDeadline p.deadline
 
 -- another node that answered none of the last checks
 abbrev pub is_silent : Policy → ℕ → Bool
@@ -58,27 +96,59 @@ pub record Runs (p : Policy) (s : Sight) (d : Deadline) : Type 0 where
   pub group : d.group ≡ s.group
 
 -- the deadline of what is waited for has come
-pub record HasCome (p : Policy) (now : ℕ) (s : Sight) (d : Deadline) : Type 0 where
+pub record HasCome (p : Policy) (s : Sight) (d : Deadline) : Type 0 where
   pub runs : Runs p s d
-  pub come : due p.setting s.merge_wait d ≤ now
+  pub come : lasts p.setting p.raise s.merge_wait d ≤ d.waited
 
--- the node is Normal, and the time of the next dispatch has come
-abbrev pub IsWorkDueIn : Policy → ℕ → Phase → Type 0
-IsWorkDueIn p now phase = (phase ≡ Normal) × (p.dispatched + p.pause ≤ now)
+-- whether nothing came or went since work was last looked at: the oldest job is the one that was seen
+abbrev pub rests : Option ℕ → Option ℕ → Bool
+rests None seen = false
+rests (Some oldest) None = false
+rests (Some oldest) (Some seen) = oldest == seen
 
-abbrev pub IsWorkDue : Policy → ℕ → Sight → Type 0
-IsWorkDue p now s = IsWorkDueIn p now s.phase
+-- what a look at the work of a Normal node leaves where none of it is dispatched: where it doesn't rest, it has to from now on; a node that keeps no job
+-- has none to dispatch in a new group
+abbrev pub looked_at : Sight → Policy → Policy
+looked_at s p = if rests s.oldest p.oldest then p else record p { oldest = s.oldest; rested = 0; pause = first_pause p.setting s.pending }
+
+-- the node keeps jobs that rest, or it is in a new group
+abbrev pub may_dispatch : Policy → Sight → Bool
+may_dispatch p s = is_some s.oldest && (p.pause == 0 || rests s.oldest p.oldest)
+
+-- how long it is until they rested for long enough
+abbrev pub work_left : Policy → Sight → ℕ
+work_left p s = if may_dispatch p s then p.pause - p.rested else 2 ^ 64 - 1
+
+-- the node is Normal, and its jobs rested for long enough
+abbrev pub IsWorkDue : Policy → Sight → Type 0
+IsWorkDue p s = (s.phase ≡ Normal) × (work_left p s ≡ 0)
 
 -- what may be fired: what a wait that is over asks for, or the dispatch of work that is due
-abbrev pub MayFire : Policy → ℕ → Sight → Event → Type 0
-MayFire p now s event = ((d : Deadline) × HasCome p now s d × (event ≡ event_at p s.members d.wait)) ⊎ ((event ≡ on.Timer timer.Dispatch) × IsWorkDue p now s)
+abbrev pub MayFire : Policy → Sight → Event → Type 0
+MayFire p s event = ((d : Deadline) × HasCome p s d × (event ≡ event_at p s.members d.wait)) ⊎ ((event ≡ on.Timer timer.Dispatch) × IsWorkDue p s)
+
+-- something is fired, if it is asked for now
+abbrev pub IsDue : Policy → Sight → Type 0
+IsDue p s = ((d : Deadline) × HasCome p s d) ⊎ IsWorkDue p s
 
 -- each check is counted, and nothing else
 pub record Counts (fired : Option Event) (old new : ℕ) : Type 0 where
   pub check : fired ≡ Some (on.Timer timer.Check) → new ≡ min (old + 1) (2 ^ 64 - 1)
   pub other : fired ≢ Some (on.Timer timer.Check) → new ≡ old
 
--- the next dispatch is due a longer pause after one
-pub record Dispatches (fired : Option Event) (now : ℕ) (old new : Policy) : Type 0 where
-  pub dispatch : fired ≡ Some (on.Timer timer.Dispatch) → (new.dispatched ≡ now) × (new.pause ≡ longer_pause old.setting old.pause)
-  pub other : fired ≢ Some (on.Timer timer.Dispatch) → (new.dispatched ≡ old.dispatched) × (new.pause ≡ old.pause)
+-- the same of work
+pub record SameWork (p q : Policy) : Type 0 where
+  pub oldest : p.oldest ≡ q.oldest
+  pub rested : p.rested ≡ q.rested
+  pub pause : p.pause ≡ q.pause
+
+-- behind a dispatch work rests anew, longer than before
+abbrev pub dispatched : Sight → Policy → Policy
+dispatched s p = record p { oldest = s.oldest; rested = 0; pause = if p.pause == 0 then first_pause p.setting s.pending else longer_pause p.setting p.pause }
+
+-- what a dispatch does to work, and a look of a Normal node at which nothing is due; nothing else changes it
+pub record Dispatches (fired : Option Event) (s : Sight) (old new : Policy) : Type 0 where
+  pub dispatch : fired ≡ Some (on.Timer timer.Dispatch) → SameWork new (dispatched s old)
+  pub look : fired ≡ None → s.phase ≡ Normal → SameWork new (looked_at s old)
+  pub away : fired ≡ None → s.phase ≢ Normal → SameWork new old
+  pub other : fired ≢ None → fired ≢ Some (on.Timer timer.Dispatch) → SameWork new old

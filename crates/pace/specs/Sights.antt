@@ -1,11 +1,17 @@
 -- What is seen of a node.
-use Rattle.std.specs.Prelude.{ℕ, ◌==◌, Option}
+use Rattle.std.specs.Prelude.{ℕ, ◌==◌, List, [], ◌∷◌, length, Option, Some, None}
+use Rattle.job_model.specs.declared.job.Job.{Job}
 use Rattle.node_core.specs.State.{State}
 use Rattle.node_core.specs.Words.{members_of}
 use Rattle.pace.specs.declared.sight.Sight.{Sight}
 
-abbrev pub sight_of : ℕ → State → Option ℕ → Sight
-sight_of id s merge_wait = record {
+-- the first of jobs by rising id
+abbrev pub oldest_of : List Job → Option ℕ
+oldest_of [] = None
+oldest_of (job ∷ jobs) = Some job.id
+
+abbrev pub sight_of : ℕ → State → Option ℕ → List Job → Sight
+sight_of id s merge_wait pending = record {
   phase = s.phase;
   is_coordinator = s.coordinator == id;
   group = s.group;
@@ -13,4 +19,6 @@ sight_of id s merge_wait = record {
   checking = s.checking;
   probing = s.probing;
   merge_wait = merge_wait;
+  oldest = oldest_of pending;
+  pending = length pending;
 }

@@ -1,5 +1,5 @@
 -- What a node waits for, for how long, and the timer that fires then.
-use Rattle.std.specs.Prelude.{ℕ, ◌≡◌, ◌+◌, ◌*◌, ◌≤◌, max, min, Bool, if◌then◌else◌, ◌==◌, Option, Some, None}
+use Rattle.std.specs.Prelude.{ℕ, ◌≡◌, ◌+◌, ◌-◌, ◌*◌, ◌/◌, ◌^◌, ◌≤◌, max, min, Bool, if◌then◌else◌, Option, Some, None}
 use Rattle.group_task.specs.Group.{Group}
 use Rattle.node_core.specs.declared.phase.Phase.{Phase}
 use Rattle.node_core.specs.declared.phase.Phase.TheVariants.{Down, Election, Reorganization, Normal}
@@ -56,21 +56,44 @@ abbrev pub steps : Wait → Option ℕ → ℕ
 steps Merge (Some n) = n
 steps wait found = 0
 
--- the time at which a wait is over
-abbrev pub due : Setting → Option ℕ → Deadline → ℕ
-due s merge_wait d = d.since + d.length + steps d.wait merge_wait * (s.turn * s.unit)
+-- how long a wait lasts, where the node's last raise took so long: a turn has room for the raise of who merges first
+abbrev pub lasts : Setting → ℕ → Option ℕ → Deadline → ℕ
+lasts s raise merge_wait d = min (d.length + steps d.wait merge_wait * (s.turn * s.unit + raise)) (2 ^ 64 - 1)
 
--- the deadline of this wait in a group, set now
-pub record IsSetNow (s : Setting) (now : ℕ) (wait : Wait) (group : Group) (d : Deadline) : Type 0 where
+-- so many milliseconds later
+abbrev pub later : ℕ → Deadline → Deadline
+later waited d = record d { waited = min (d.waited + waited) (2 ^ 64 - 1) }
+
+-- who is asked may be in a raise, and answers behind it
+abbrev pub patience : Wait → ℕ → ℕ
+patience Ready raise = raise
+patience Task raise = raise
+patience Answer raise = raise
+patience wait raise = 0
+
+-- the deadline of this wait in a group, none of which is over
+pub record IsSet (s : Setting) (raise : ℕ) (wait : Wait) (group : Group) (d : Deadline) : Type 0 where
   pub its_wait : d.wait ≡ wait
   pub its_group : d.group ≡ group
-  pub from_now : d.since ≡ now
-  pub least : least_of s wait ≤ d.length
-  pub most : d.length ≤ least_of s wait + jitter_of s wait
+  pub from_now : d.waited ≡ 0
+  pub least : least_of s wait + patience wait raise ≤ d.length
+  pub most : d.length ≤ least_of s wait + jitter_of s wait + patience wait raise
 
--- work waits twice as long after each dispatch, up to a limit
+-- a raise is reckoned with up to so many round trips
+abbrev pub raise_of : Setting → ℕ → ℕ
+raise_of s ms = min ms (s.raise_most * s.unit)
+
+-- how long work rests at most before it is dispatched
+abbrev pub most_pause : Setting → ℕ
+most_pause s = max (s.dispatch_most * s.unit) 1
+
+-- at first so long: the longer the more of it there is
+abbrev pub first_pause : Setting → ℕ → ℕ
+first_pause s pending = min (max (s.dispatch * s.unit + pending) 1) (most_pause s)
+
+-- and after each dispatch a quarter longer than before it
 abbrev pub longer_pause : Setting → ℕ → ℕ
-longer_pause s pause = max (if pause == 0 then s.dispatch * s.unit else min (2 * pause) (s.dispatch_most * s.unit)) 1
+longer_pause s pause = min (max (pause + pause / 4) 1) (most_pause s)
 
 -- what was measured, for a round trip of so many milliseconds
 abbrev pub measured : ℕ → Setting
@@ -87,7 +110,8 @@ measured unit = record {
   coordinator = 20;
   coordinator_jitter = 10;
   answer = 10;
-  dispatch = 20;
+  dispatch = 5;
   dispatch_most = 300;
+  raise_most = 100;
   silent_checks = 3;
 }

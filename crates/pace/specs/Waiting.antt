@@ -62,11 +62,15 @@ waits_since answered sent s w = record w {
 abbrev pub waits_behind : Option Event → List Envelope → State → Waits → Waits
 waits_behind event sent s w = waits_since (answerer event) sent s w
 
+-- the next time has come; it is a unit away at most, or the clock fell back
+abbrev pub has_come : ℕ → Waits → Bool
+has_come now w = nat_le w.next now || not (nat_le w.next (now + w.unit))
+
 -- what is sent again at this time
 abbrev pub sent_again : ℕ → Waits → List Envelope
-sent_again now w = if nat_le w.next now then w.again else []
+sent_again now w = if has_come now w then w.again else []
 
 -- once it was, the next time is a unit later, and then those that were sent before now are sent again
 abbrev pub waits_on : ℕ → Waits → Waits
 waits_on now w =
-    if nat_le w.next now then record { unit = w.unit; next = min (now + w.unit) (2 ^ 64 - 1); again = w.again ++ w.fresh; fresh = [] } else w
+    if has_come now w then record { unit = w.unit; next = min (now + w.unit) (2 ^ 64 - 1); again = w.again ++ w.fresh; fresh = [] } else w

@@ -1,19 +1,19 @@
-ghost use Rattle.std.specs.Prelude.{◌≡◌, ◌↔◌, ◌≤◌, ◌<◌, ◌*◌, ◌^◌, IsTrue};
-ghost use Rattle.pace.specs.Timers.{due};
+ghost use Rattle.std.specs.Prelude.{◌≡◌, ◌↔◌, ◌≤◌, ◌<◌, ◌-◌, ◌+◌, ◌*◌, ◌^◌, min, IsTrue};
+ghost use Rattle.pace.specs.Timers.{lasts, later};
 
 use crate::setting::Setting;
 use crate::wait::Wait;
 use group_task::GroupNo;
 
-/// When a wait is over. It belongs to one group of the node: in another group a node waits anew.
+/// How long a wait lasts. It belongs to one group of the node: in another group a node waits anew.
 #[derive(Clone, Copy, Debug, PartialEq, Eq)]
 pub struct Deadline {
     pub wait: Wait,
     pub group: GroupNo,
-    /// When it began, in milliseconds.
-    pub since: u64,
     /// How long it lasts, in milliseconds.
     pub length: u64,
+    /// How much of it is over, in milliseconds.
+    pub waited: u64,
 }
 
 impl Deadline {
@@ -24,23 +24,59 @@ impl Deadline {
         self.wait == wait && self.group == group
     }
 
-    /// Whether it has come. A merge is put off by a turn for each step of the node's wait. A deadline past the clock's end
-    /// never comes.
-    pub fn has_come(self, now: u64, setting: &Setting, merge_wait: Option<u64>) -> bool
-        ensures { IsTrue result ↔ (due setting.now merge_wait self ≤ now) }
+    /// So many milliseconds later.
+    pub fn later(self, waited: u64) -> Deadline
+        ensures { result ≡ later waited self }
+    {
+        Deadline {
+            waited: self.waited.saturating_add(waited),
+            ..self
+        }
+    }
+
+    /// Whether it has come.
+    pub fn has_come(&self, setting: &Setting, raise: u32, merge_wait: Option<u64>) -> bool
+        ensures { IsTrue result ↔ (lasts setting.now raise merge_wait self.now ≤ self.now.waited) }
+    {
+        self.left(setting, raise, merge_wait) == 0
+    }
+
+    /// How much of it is left, in milliseconds.
+    pub fn left(&self, setting: &Setting, raise: u32, merge_wait: Option<u64>) -> u64
+        ensures { result ≡ lasts setting.now raise merge_wait self.now - self.now.waited }
+    {
+        let lasts = self.lasts(setting, raise, merge_wait);
+        let waited = self.waited;
+        lasts.saturating_sub(waited)
+    }
+
+    /// How long it lasts, in milliseconds. A merge is put off by a turn for each step of the node's wait, and a turn has room for the
+    /// raise of who merges first: `raise` milliseconds.
+    pub fn lasts(&self, setting: &Setting, raise: u32, merge_wait: Option<u64>) -> u64
+        ensures { result ≡ lasts setting.now raise merge_wait self.now }
     {
         let turns = match self.wait {
             Wait::Merge => merge_wait.unwrap_or(0),
             _ => 0,
         };
-        let turn = u32::from(setting.turn) * u32::from(setting.unit);
-        u128::from(self.since) + u128::from(self.length) + product(turns, turn) <= u128::from(now)
+        let turn = u64::from(u32::from(setting.turn) * u32::from(setting.unit)) + u64::from(raise);
+        longer(self.length, turns, turn)
     }
 }
 
-fn product(times: u64, length: u32) -> u128
+/// A length and so many turns, or the greatest number.
+fn longer(length: u64, turns: u64, turn: u64) -> u64
+    requires { turn < 2 ^ 40 }
+    ensures { result ≡ min (length + turns * turn) (2 ^ 64 - 1) }
+{
+    let more = product(turns, turn);
+    u64::try_from(u128::from(length) + more).unwrap_or(u64::MAX)
+}
+
+fn product(times: u64, length: u64) -> u128
+    requires { length < 2 ^ 40 }
     ensures value { result ≡ times * length }
-    ensures fits { result < 2 ^ 96 }
+    ensures fits { result < 2 ^ 104 }
 {
     u128::from(times) * u128::from(length)
 }

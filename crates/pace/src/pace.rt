@@ -1,10 +1,11 @@
-ghost use Rattle.std.specs.Prelude.{◌≡◌, ◌≢◌, ◌↔◌, ◌<◌, IfSome, IsNone, IsTrue, is_some, true, Some, None};
+ghost use Rattle.std.specs.Prelude.{◌≡◌, ◌≢◌, ◌↔◌, ◌<◌, ◌≤◌, ◌^◌, ◌-◌, ℕ, if◌then◌else◌, IfSome, IsNone, IsTrue, is_some, true, Some, None};
 ghost use Rattle.node_core.specs.declared.event.Event.TheVariants as on;
 ghost use Rattle.node_core.specs.declared.timer.Timer.TheVariants as timer;
+ghost use Rattle.node_core.specs.declared.event.Event.{Event};
 ghost use Rattle.pace.specs.declared.deadline.Deadline.{Deadline};
 ghost use Rattle.pace.specs.declared.wait.Wait.{Wait};
-ghost use Rattle.pace.specs.Timers.{wait_of, due, IsSetNow};
-ghost use Rattle.pace.specs.Policy.{fresh, heard_from, is_silent, has_silent, event_at, Runs, HasCome, IsWorkDue, IsWorkDueIn, MayFire, Counts, Dispatches};
+ghost use Rattle.pace.specs.Timers.{wait_of, lasts, raise_of, IsSet};
+ghost use Rattle.pace.specs.Policy.{aged, fresh, heard_from, is_silent, has_silent, event_at, looked_at, may_dispatch, passed, rests, since, spent, work_left, Runs, HasCome, IsDue, IsWorkDue, MayFire, Counts, Dispatches};
 
 use crate::deadline::Deadline;
 use crate::setting::Setting;
@@ -16,20 +17,26 @@ use rand_core::utils::NextWord;
 use rand_pcg::Pcg32;
 use std::marker::Model;
 
-/// When the timers of one node fire. It is given the node's sight and the time, in milliseconds of any clock that doesn't
-/// fall back.
+/// When the timers of one node fire. It is given the node's sight and the time, in milliseconds of any clock: what it waits for is counted from
+/// one time that is told to the next.
 #[derive(Drop)]
 pub struct Pace {
     id: NodeId,
     setting: Setting,
     random: Pcg32,
+    // the time that was told last, and how many milliseconds from there on aren't waited for
+    told: Option<u64>,
+    skip: u64,
     deadline: Option<Deadline>,
     // how many checks were fired, and how many of them before each node was last heard
     checks: u64,
     heard: [u64; NODES as usize],
-    // when work was last dispatched, and how long after it the next is due
-    dispatched: u64,
-    pause: u32,
+    // the oldest job that was seen, how long work rests, and for how long it has to before it is dispatched; at once where that is 0
+    oldest: Option<u64>,
+    rested: u64,
+    pause: u64,
+    // how long the node's last raise took
+    raise: u32,
 }
 
 impl Model for Pace {
@@ -40,11 +47,15 @@ impl Model for Pace {
     ghost view = { λ a. record {
       id = a.id;
       setting = a.setting;
+      told = a.told;
+      skip = a.skip;
       deadline = a.deadline;
       checks = a.checks;
       heard = a.heard;
-      dispatched = a.dispatched;
+      oldest = a.oldest;
+      rested = a.rested;
       pause = a.pause;
+      raise = a.raise;
     } };
 }
 
@@ -57,11 +68,15 @@ impl Pace {
             id,
             setting,
             random: Pcg32::new(seed, u64::from(id.number())),
+            told: None,
+            skip: 0,
             deadline: None,
             checks: 0,
             heard: [0; NODES as usize],
-            dispatched: 0,
+            oldest: None,
+            rested: 0,
             pause: 0,
+            raise: 0,
         }
     }
 
@@ -72,46 +87,155 @@ impl Pace {
         self.heard[usize::from(from.number())] = self.checks;
     }
 
-    /// A job came or went, or the node is in another group than before: work is due at once, and is dispatched often again.
-    pub fn worked(&mut self)
-        ensures { self.new ≡ record self.old { dispatched = 0; pause = 0 } }
+    /// The node is in another group than before: the jobs that it keeps are due at once.
+    pub fn regrouped(&mut self)
+        ensures { self.new ≡ record self.old { rested = 0; pause = 0 } }
     {
-        self.dispatched = 0;
+        self.rested = 0;
         self.pause = 0;
+    }
+
+    /// It is so late now. What is waited for is nearer by the time that went by since it was told last, less what the node spent itself; where
+    /// the clock fell back, by nothing.
+    pub fn pass(&mut self, now: u64)
+        ensures { self.new ≡ passed now self.old }
+    {
+        let since = self.since(now);
+        self.age(since.saturating_sub(self.skip));
+        self.skip = self.skip.saturating_sub(since);
+        self.told = Some(now);
+    }
+
+    /// The node spent so many milliseconds in a command: they aren't waited for.
+    pub fn spend(&mut self, ms: u64)
+        ensures { self.new ≡ spent ms self.old }
+    {
+        self.skip = self.skip.saturating_add(ms);
+    }
+
+    /// A raise of the node took so many milliseconds. Who is asked may be in one, so an answer is waited for so much longer.
+    pub fn raised(&mut self, ms: u64)
+        ensures { self.new ≡ record self.old { raise = raise_of self.old.setting ms } }
+    {
+        self.raise = self.setting.raise_of(ms);
     }
 
     /// What is due now. It is one event at most: the caller makes it, looks at the node again, and asks again until nothing
     /// is due.
-    pub fn tick(&mut self, now: u64, sight: &Sight) -> Option<Event>
-        ensures timer { (d : Deadline) → HasCome self.old now sight.now d → result ≡ Some (event_at self.old sight.now.members d.wait) }
-        ensures work { IsWorkDue self.old now sight.now → is_some result ≡ true }
-        ensures not_early { IfSome result (MayFire self.old now sight.now) }
+    pub fn tick(&mut self, sight: &Sight) -> Option<Event>
+        ensures timer { (d : Deadline) → HasCome self.old sight.now d → result ≡ Some (event_at self.old sight.now.members d.wait) }
+        ensures work { IsWorkDue self.old sight.now → is_some result ≡ true }
+        ensures not_early { IfSome result (MayFire self.old sight.now) }
         ensures down { wait_of sight.now ≡ None → (result ≡ None) × (self.new ≡ self.old) }
-        ensures spent { (d : Deadline) → HasCome self.old now sight.now d → self.new.deadline ≡ None }
-        ensures runs_on { (d : Deadline) → Runs self.old sight.now d → now < due self.old.setting sight.now.merge_wait d
+        ensures spent { (d : Deadline) → HasCome self.old sight.now d → self.new.deadline ≡ None }
+        ensures runs_on { (d : Deadline) → Runs self.old sight.now d → d.waited < lasts self.old.setting self.old.raise sight.now.merge_wait d
             → self.new.deadline ≡ Some d }
         ensures set { ((d : Deadline) → Runs self.old sight.now d → ⊥) → (wait : Wait) → wait_of sight.now ≡ Some wait
-            → (d : Deadline) × (self.new.deadline ≡ Some d) × IsSetNow self.old.setting now wait sight.now.group d }
+            → (d : Deadline) × (self.new.deadline ≡ Some d) × IsSet self.old.setting self.old.raise wait sight.now.group d }
         ensures checks { Counts result self.old.checks self.new.checks }
-        ensures dispatches { Dispatches result now self.old self.new }
+        ensures dispatches { Dispatches result sight.now self.old self.new }
         ensures kept { self.new ≡ record self.old {
           deadline = self.new.deadline;
           checks = self.new.checks;
-          dispatched = self.new.dispatched;
+          oldest = self.new.oldest;
+          rested = self.new.rested;
           pause = self.new.pause;
         } }
     {
         let wait = Wait::of(sight)?;
         let Some(deadline) = self.running(wait, sight.group) else {
-            self.set(now, wait, sight.group);
-            return self.dispatch(now, sight.phase);
+            self.set(wait, sight.group);
+            return self.dispatch(sight);
         };
-        if deadline.has_come(now, &self.setting, sight.merge_wait) {
+        if deadline.has_come(&self.setting, self.raise, sight.merge_wait) {
             let event = self.fire(wait, sight.members);
             self.deadline = None;
             return Some(event);
         }
-        self.dispatch(now, sight.phase)
+        self.dispatch(sight)
+    }
+
+    /// When something is due next, where the node stays as it is seen and spends no time itself. None where nothing will be: at a node
+    /// that is Down, or past the clock's end.
+    pub fn due_at(&self, sight: &Sight) -> Option<u64>
+        ensures quiet { IfSome result (λ next. (now : ℕ) → now < next → (event : Event) → MayFire (passed now self.now) sight.now event → ⊥) }
+        ensures fires { IfSome result (λ next. (d : Deadline) → Runs self.now sight.now d → is_some self.now.told ≡ true → IsDue (passed next self.now) sight.now) }
+        ensures at_once { ((d : Deadline) → Runs self.now sight.now d → ⊥) → result ≡ (if is_some (wait_of sight.now) then Some 0 else None) }
+        ensures never { IsNone result → (now : ℕ) → now < 2 ^ 64 → (event : Event) → MayFire (passed now self.now) sight.now event → ⊥ }
+    {
+        let wait = Wait::of(sight)?;
+        let Some(deadline) = self.running(wait, sight.group) else {
+            return Some(0);
+        };
+        let timer = deadline.left(&self.setting, self.raise, sight.merge_wait);
+        let left = match sight.phase {
+            Phase::Normal => timer.min(self.work_left(sight)),
+            _ => timer,
+        };
+        self.time_in(left)
+    }
+
+    /// The time at which so many milliseconds more will have been waited for; 0 where none are left.
+    fn time_in(&self, left: u64) -> Option<u64>
+        ensures early { IfSome result (λ next. (now : ℕ) → now < next → since now self.now.told - self.now.skip < left) }
+        ensures come { IfSome result (λ next. is_some self.now.told ≡ true → left ≤ since next self.now.told - self.now.skip) }
+        ensures none { IsNone result → (now : ℕ) → now < 2 ^ 64 → since now self.now.told - self.now.skip < left }
+    {
+        if left == 0 {
+            return Some(0);
+        }
+        let told = u128::from(self.told.unwrap_or(0));
+        u64::try_from(told + u128::from(self.skip) + u128::from(left)).ok()
+    }
+
+    /// How long it is until the work of a Normal node is dispatched; the greatest number where it isn't.
+    fn work_left(&self, sight: &Sight) -> u64
+        ensures value { result ≡ work_left self.now sight.now }
+        ensures fits { self.now.pause < 2 ^ 64 }
+    {
+        let pause = self.pause;
+        if self.may_dispatch(sight) {
+            pause.saturating_sub(self.rested)
+        } else {
+            u64::MAX
+        }
+    }
+
+    /// Whether jobs are dispatched once they rested for long enough, or at once.
+    fn may_dispatch(&self, sight: &Sight) -> bool
+        ensures { result ≡ may_dispatch self.now sight.now }
+    {
+        sight.oldest.is_some() && (self.pause == 0 || self.rests(sight))
+    }
+
+    /// Whether the oldest job is the one that was seen: nothing came or went.
+    fn rests(&self, sight: &Sight) -> bool
+        ensures { result ≡ rests sight.now.oldest self.now.oldest }
+    {
+        match (sight.oldest, self.oldest) {
+            (Some(oldest), Some(seen)) => oldest == seen,
+            _ => false,
+        }
+    }
+
+    /// How long ago a time was told, where it is so late now.
+    fn since(&self, now: u64) -> u64
+        ensures { result ≡ since now self.now.told }
+    {
+        match self.told {
+            Some(told) => now.saturating_sub(told),
+            None => 0,
+        }
+    }
+
+    /// So much more was waited for.
+    fn age(&mut self, waited: u64)
+        ensures { self.new ≡ aged waited self.old }
+    {
+        self.rested = self.rested.saturating_add(waited);
+        if let Some(deadline) = self.deadline {
+            self.deadline = Some(deadline.later(waited));
+        }
     }
 
     /// The deadline that is set, where it is the one of this wait, in this group.
@@ -164,8 +288,8 @@ impl Pace {
     }
 
     /// Sets the deadline of this wait, with its jitter.
-    fn set(&mut self, now: u64, wait: Wait, group: GroupNo)
-        ensures deadline { (d : Deadline) × (self.new.deadline ≡ Some d) × IsSetNow self.old.setting now wait group d }
+    fn set(&mut self, wait: Wait, group: GroupNo)
+        ensures deadline { (d : Deadline) × (self.new.deadline ≡ Some d) × IsSet self.old.setting self.old.raise wait group d }
         ensures kept { self.new ≡ record self.old { deadline = self.new.deadline } }
     {
         let range = u64::from(wait.jitter(&self.setting)) + 1;
@@ -173,24 +297,46 @@ impl Pace {
         self.deadline = Some(Deadline {
             wait,
             group,
-            since: now,
-            length: u64::from(wait.least(&self.setting)) + jitter,
+            length: u64::from(wait.least(&self.setting))
+                + jitter
+                + u64::from(wait.patience(self.raise)),
+            waited: 0,
         });
     }
 
-    /// Work is dispatched at a Normal node, the rarer the longer nothing changes.
-    fn dispatch(&mut self, now: u64, phase: Phase) -> Option<Event>
-        ensures value { IsTrue (is_some result) ↔ IsWorkDueIn self.old now phase }
+    /// The work of a Normal node is dispatched, the rarer the longer it rests. Where it doesn't rest, it begins to.
+    fn dispatch(&mut self, sight: &Sight) -> Option<Event>
+        ensures value { IsTrue (is_some result) ↔ IsWorkDue self.old sight.now }
         ensures event { IfSome result (λ e. e ≡ on.Timer timer.Dispatch) }
-        ensures dispatches { Dispatches result now self.old self.new }
-        ensures kept { self.new ≡ record self.old { dispatched = self.new.dispatched; pause = self.new.pause } }
+        ensures dispatches { Dispatches result sight.now self.old self.new }
+        ensures kept { self.new ≡ record self.old { oldest = self.new.oldest; rested = self.new.rested; pause = self.new.pause } }
     {
-        let due = u128::from(self.dispatched) + u128::from(self.pause);
-        if !matches!(phase, Phase::Normal) || u128::from(now) < due {
+        if !matches!(sight.phase, Phase::Normal) {
             return None;
         }
-        self.dispatched = now;
-        self.pause = self.setting.longer_pause(self.pause);
+        if self.work_left(sight) > 0 {
+            self.look(sight);
+            return None;
+        }
+        self.pause = if self.pause == 0 {
+            self.setting.first_pause(sight.pending)
+        } else {
+            self.setting.longer_pause(self.pause)
+        };
+        self.oldest = sight.oldest;
+        self.rested = 0;
         Some(Event::Timer(Timer::Dispatch))
+    }
+
+    /// Where work doesn't rest, it has to from now on.
+    fn look(&mut self, sight: &Sight)
+        ensures { self.new ≡ looked_at sight.now self.old }
+    {
+        if self.rests(sight) {
+            return;
+        }
+        self.oldest = sight.oldest;
+        self.rested = 0;
+        self.pause = self.setting.first_pause(sight.pending);
     }
 }

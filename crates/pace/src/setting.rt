@@ -1,5 +1,5 @@
-ghost use Rattle.std.specs.Prelude.{◌≡◌};
-ghost use Rattle.pace.specs.Timers.{measured, longer_pause};
+ghost use Rattle.std.specs.Prelude.{◌≡◌, ◌<◌, ◌^◌};
+ghost use Rattle.pace.specs.Timers.{first_pause, measured, most_pause, longer_pause, raise_of};
 
 /// How long a node waits for what, counted in round trips of the link.
 ///
@@ -30,10 +30,12 @@ pub struct Setting {
     pub coordinator_jitter: u16,
     /// For the coordinator's answer.
     pub answer: u16,
-    /// From one dispatch of work to the next, at first; it doubles while nothing changes.
+    /// So long work rests before it is dispatched, and a millisecond more for each job; a quarter longer after each dispatch.
     pub dispatch: u16,
-    /// The most that it doubles to.
+    /// The most that it rests.
     pub dispatch_most: u16,
+    /// A raise that took longer is reckoned with as one of so many.
+    pub raise_most: u16,
     /// A member that answered none of so many checks is given up; at least 1.
     pub silent_checks: u8,
 }
@@ -57,23 +59,45 @@ impl Setting {
             coordinator: 20,
             coordinator_jitter: 10,
             answer: 10,
-            dispatch: 20,
+            dispatch: 5,
             dispatch_most: 300,
+            raise_most: 100,
             silent_checks: 3,
         }
     }
 
-    /// How long, in milliseconds, work waits for the next dispatch after one that waited so long itself.
-    pub fn longer_pause(&self, pause: u32) -> u32
+    /// How long, in milliseconds, a raise of so many is reckoned to take.
+    pub fn raise_of(&self, ms: u64) -> u32
+        ensures { result ≡ raise_of self.now ms }
+    {
+        let most = u32::from(self.raise_most) * u32::from(self.unit);
+        match u32::try_from(ms) {
+            Ok(ms) => ms.min(most),
+            Err(_) => most,
+        }
+    }
+
+    /// How long, in milliseconds, so many jobs rest before they are dispatched first.
+    pub fn first_pause(&self, pending: u64) -> u64
+        ensures { result ≡ first_pause self.now pending }
+    {
+        let first = u32::from(self.dispatch) * u32::from(self.unit);
+        let longer = u64::from(first).saturating_add(pending);
+        longer.max(1).min(self.most_pause())
+    }
+
+    /// How long, in milliseconds, work rests until the next dispatch after one before which it rested so long.
+    pub fn longer_pause(&self, pause: u64) -> u64
         ensures { result ≡ longer_pause self.now pause }
     {
-        let unit = u32::from(self.unit);
-        let longer = if pause == 0 {
-            u32::from(self.dispatch) * unit
-        } else {
-            let most = u32::from(self.dispatch_most) * unit;
-            pause.saturating_mul(2).min(most)
-        };
-        longer.max(1)
+        let longer = pause.saturating_add(pause / 4);
+        longer.max(1).min(self.most_pause())
+    }
+
+    fn most_pause(&self) -> u64
+        ensures value { result ≡ most_pause self.now }
+        ensures fits { result < 2 ^ 32 }
+    {
+        u64::from(u32::from(self.dispatch_most) * u32::from(self.unit)).max(1)
     }
 }

@@ -1,8 +1,9 @@
 ghost use Rattle.std.specs.Prelude.{◌≡◌};
 ghost use Rattle.node_core.specs.State.{state_of};
-ghost use Rattle.pace.specs.Sights.{sight_of};
+ghost use Rattle.pace.specs.Sights.{oldest_of, sight_of};
 
 use group_task::{GroupNo, Members, NodeId};
+use job_model::Job;
 use node_core::{Phase, Vector};
 
 /// What a policy sees of a node.
@@ -18,12 +19,15 @@ pub struct Sight {
     pub probing: bool,
     /// Where other coordinators were found: by how much the greatest of them is above the node.
     pub merge_wait: Option<u64>,
+    /// The oldest job that the node keeps, by its id, and how many there are.
+    pub oldest: Option<u64>,
+    pub pending: u64,
 }
 
 impl Sight {
-    /// What is seen of a node by its state vector and its [`merge_wait`](node_core::NodeCore::merge_wait).
-    pub fn of(id: NodeId, vector: &Vector, merge_wait: Option<u64>) -> Sight
-        ensures { result ≡ sight_of id (state_of vector.now) merge_wait }
+    /// What is seen of a node by its state vector, its [`merge_wait`](node_core::NodeCore::merge_wait) and the jobs that it keeps, by rising id.
+    pub fn of(id: NodeId, vector: &Vector, merge_wait: Option<u64>, pending: &[Job]) -> Sight
+        ensures { result ≡ sight_of id (state_of vector.now) merge_wait pending.now }
     {
         let standing = &vector.standing;
         let members = match &standing.task {
@@ -38,6 +42,17 @@ impl Sight {
             checking: standing.checking,
             probing: standing.probing,
             merge_wait,
+            oldest: oldest(pending),
+            pending: pending.len() as u64,
         }
+    }
+}
+
+fn oldest(pending: &[Job]) -> Option<u64>
+    ensures { result ≡ oldest_of pending.now }
+{
+    match pending {
+        [] => None,
+        [first, ..] => Some(first.id),
     }
 }

@@ -1,5 +1,5 @@
 ghost use Rattle.std.specs.Prelude.{◌≡◌};
-ghost use Rattle.pace.specs.Timers.{wait_of, timer_of, units_of, jitter_of, least_of};
+ghost use Rattle.pace.specs.Timers.{wait_of, timer_of, units_of, jitter_of, least_of, patience};
 
 use crate::setting::Setting;
 use crate::sight::Sight;
@@ -73,6 +73,16 @@ impl Wait {
             _ => 0,
         };
         u32::from(units) * u32::from(setting.unit)
+    }
+
+    /// How much longer it lasts where a raise takes so many milliseconds: who is asked may be in one.
+    pub fn patience(self, raise: u32) -> u32
+        ensures { result ≡ patience self raise }
+    {
+        match self {
+            Wait::Ready | Wait::Task | Wait::Answer => raise,
+            _ => 0,
+        }
     }
 
     fn units(self, setting: &Setting) -> u16

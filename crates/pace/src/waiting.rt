@@ -1,7 +1,7 @@
-ghost use Rattle.std.specs.Prelude.{◌≡◌, ◌++◌, [], OnOk, None, Some};
+ghost use Rattle.std.specs.Prelude.{◌≡◌, ◌++◌, ◌<◌, ◌≤◌, ℕ, [], IfSome, IsNone, OnOk, true, None, Some};
 ghost use Rattle.std.specs.List.{filter};
 ghost use Rattle.node_core.specs.State.{state_of};
-ghost use Rattle.pace.specs.Waiting.{answerer, invites, is_of, is_waited, none_waited, sent_again, waits_behind, waits_on, waits_since};
+ghost use Rattle.pace.specs.Waiting.{answerer, has_come, invites, is_of, is_waited, none_waited, sent_again, waits_behind, waits_on, waits_since};
 
 use group_task::{GroupNo, NodeId};
 use node_core::{Event, Phase, Vector};
@@ -77,14 +77,38 @@ impl Waiting {
     pub fn due(&self, now: u64) -> &[Message]
         ensures { result.now ≡ sent_again now self.now }
     {
-        if self.next <= now { &self.again } else { &[] }
+        if self.has_come(now) { &self.again } else { &[] }
+    }
+
+    /// When something is sent again next, or what was sent since the last time is taken along, where it is so late now and the clock doesn't
+    /// fall back. None where nothing is waited for.
+    pub fn due_at(&self, now: u64) -> Option<u64>
+        ensures quiet { IfSome result (λ next. (later : ℕ) → now ≤ later → later < next → (sent_again later self.now ≡ []) × (waits_on later self.now ≡ self.now)) }
+        ensures comes { IfSome result (λ next. has_come next self.now ≡ true) }
+        ensures never { IsNone result → (later : ℕ) → sent_again later self.now ≡ [] }
+    {
+        if self.again.is_empty() && self.fresh.is_empty() {
+            return None;
+        }
+        if self.has_come(now) {
+            Some(now)
+        } else {
+            Some(self.next)
+        }
+    }
+
+    /// Whether the next time has come. It is a unit away at most, or the clock fell back.
+    fn has_come(&self, now: u64) -> bool
+        ensures { result ≡ has_come now self.now }
+    {
+        self.next <= now || u128::from(now) + u128::from(self.unit) < u128::from(self.next)
     }
 
     /// What was due is sent; what was sent since the last time is sent again at the next.
     pub fn go_on(&mut self, now: u64) -> Result<(), AllocError>
         ensures { OnOk result (self.new ≡ waits_on now self.old) }
     {
-        if now < self.next {
+        if !self.has_come(now) {
             return Ok(());
         }
         self.next = now.saturating_add(self.unit);
