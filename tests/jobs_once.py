@@ -1,0 +1,119 @@
+#!/usr/bin/env python3
+"""How often each job is worked on: three nodes in one group, with no fault but messages that are lost.
+
+    jobs_once.py PROGRAM [JOBS [LOSS SEED]]
+
+Each node is a process; this script carries their messages at once, loses LOSS of 100, ticks where a node says that something is due, submits the jobs at the
+coordinator, at most WINDOW of them on their way, and finishes what a node takes at once. It counts the executions (lines `take`) and the messages (lines
+`send`) of each job, and how long a job waits from its submission until it is gone. With JOBS left out it runs 2,000 jobs without loss and with 5 of 100, and
+checks both; the last line counts the checks."""
+import os, random, selectors, subprocess, sys, tempfile, time
+
+NODES, ROUND_TRIP, WINDOW = 3, 0.020, 8
+
+
+class Bed:
+    def __init__(self, program, folder, loss, seed):
+        self.chance, self.loss, self.look = random.Random(seed), loss, selectors.DefaultSelector()
+        self.nodes, self.unread, self.groups, self.due = [], [b""] * NODES, [None] * NODES, [0.0] * NODES
+        self.taken = self.sent = self.groups_seen = 0
+        self.submitted, self.waits, self.asked = {}, [], []
+        for own in range(NODES):
+            subprocess.run([program, "format", f"{folder}/{own}", "1024", str(own), str(NODES)], check=True, timeout=60)
+            self.nodes.append(subprocess.Popen([program, "node", f"{folder}/{own}", str(own), str(NODES)], stdin=subprocess.PIPE, stdout=subprocess.PIPE, bufsize=0))
+            self.look.register(self.nodes[own].stdout, selectors.EVENT_READ, own)
+        self.feed([b"recover\n" for _ in range(NODES)])
+
+    def feed(self, texts):
+        """A text to each node, and behind it the time."""
+        for own, text in enumerate(texts):
+            if text:
+                self.nodes[own].stdin.write(text + b"tick %d\n" % (time.monotonic() * 1000))
+
+    def step(self):
+        """What the nodes say is heard, and what comes of it fed."""
+        texts = [b""] * NODES
+        now = time.monotonic()
+        for key, _ in self.look.select(max(0.0, min(min(self.due) - now, 0.1))):
+            own = key.data
+            *lines, self.unread[own] = (self.unread[own] + os.read(key.fileobj.fileno(), 65536)).split(b"\n")
+            for words in (line.split() for line in lines):
+                self.heard(own, words, texts)
+        now = time.monotonic()
+        for own in range(NODES):
+            if self.due[own] <= now and not texts[own]:
+                self.due[own] = now + 1
+                self.nodes[own].stdin.write(b"tick %d\n" % (now * 1000))
+        self.feed(texts)
+
+    def heard(self, own, words, texts):
+        if words[0] == b"send":
+            self.sent += 1
+            if self.chance.random() * 100 >= self.loss:
+                texts[int(words[1])] += b"deliver " + words[2] + b"\n"
+        elif words[0] == b"take":
+            self.taken += 1
+            texts[own] += b"finish " + words[1] + b" " + words[2] + b"\n"
+        elif words[0] == b"gone":
+            job = int(words[1])
+            if job in self.submitted:
+                self.waits.append(time.monotonic() - self.submitted.pop(job))
+        elif words[0] == b"next":
+            self.due[own] = int(words[1]) / 1000
+        elif words[0] == b"group":
+            self.groups[own], self.groups_seen = words[1:], self.groups_seen + 1
+        elif words[0] == b"ok" and len(words) == 4:
+            self.submitted[int(words[3])] = self.asked.pop(0)
+
+    def leader(self):
+        """The coordinator, where all nodes are one group."""
+        first = self.groups[0]
+        one = first and first[0] == b"Normal" and first[3] == b"0,1,2" and all(group == first for group in self.groups)
+        return int(first[1]) if one else None
+
+    def run(self, jobs):
+        """Works the jobs; what a job cost."""
+        until = time.monotonic() + 60
+        while self.leader() is None and time.monotonic() < until:
+            self.step()
+        leader, begun, fed = self.leader(), time.monotonic(), 0
+        self.taken = self.sent = self.groups_seen = 0
+        until = begun + 60 + jobs / 50
+        while len(self.waits) < jobs and time.monotonic() < until:
+            text = b""
+            while fed < jobs and fed - len(self.waits) < WINDOW:
+                text += b"submit %d %08x\n" % (fed % 16, fed)
+                self.asked.append(time.monotonic())
+                fed += 1
+            self.feed([text if own == leader else b"" for own in range(NODES)])
+            self.step()
+        for node in self.nodes:
+            node.kill()
+            node.wait()
+        return dict(jobs=len(self.waits), seconds=time.monotonic() - begun, executions=self.taken / jobs, messages=self.sent / jobs,
+                    longest=max(self.waits, default=0) / ROUND_TRIP, groups=self.groups_seen)
+
+
+def worked(program, jobs, loss, seed):
+    with tempfile.TemporaryDirectory() as folder:
+        seen = Bed(program, folder, loss, seed).run(jobs)
+    print(f"{seen['jobs']} of {jobs} jobs, {loss} of 100 messages lost: {seen['executions']:.4f} executions and {seen['messages']:.2f} messages a job, "
+          f"the longest wait {seen['longest']:.1f} round trips, {seen['seconds']:.1f} s, {seen['groups']} changes of groups")
+    return seen
+
+
+def main():
+    program = os.path.abspath(sys.argv[1])
+    jobs = int(sys.argv[2]) if sys.argv[2:] else 2000
+    if sys.argv[3:]:
+        worked(program, jobs, float(sys.argv[3]), int(sys.argv[4]))
+        return 0
+    sure, lossy = worked(program, jobs, 0, 1), worked(program, jobs, 5, 1)
+    checks = [sure["jobs"] == jobs, sure["executions"] <= 1.01, sure["messages"] <= 2.5, lossy["jobs"] == jobs, lossy["executions"] <= 1.1,
+              lossy["longest"] <= sure["longest"] + 40]
+    print(f"{sum(checks)} passed, {len(checks) - sum(checks)} failed")
+    return 0 if all(checks) else 1
+
+
+if __name__ == "__main__":
+    sys.exit(main())

@@ -1,0 +1,142 @@
+#!/usr/bin/env python3
+"""Three nodes over files whose syncs take long: they become one group, replace a coordinator that died, and take it back.
+
+    slow_disks.py PROGRAM [STARTS [SYNC_MS..]]
+
+STARTS clusters (2 where it is left out) are started, five at once, for each of the lengths of a sync (0 20 50 100 200). Each is three processes; this script carries
+their messages at once, and tells each the time every 10 ms, whether it has answered or not: what a node spends in its own syncs is the node's own matter. What
+comes about has to come within the longest time that it takes over a disk that syncs at once (docs/TIMERS.md, three nodes with no loss), and 15 syncs more.
+The last line counts the checks; with STARTS given, the times stand before it."""
+import os, selectors, shutil, statistics, subprocess, sys, tempfile, time
+
+HERE = os.path.dirname(os.path.abspath(__file__))
+NODES, ROUND_TRIP, TICK, MORE = 3, 0.020, 0.010, 15
+AT_ONCE = 5                              # clusters, so 15 processes
+# the longest times over a disk that syncs at once, in round trips
+STEPS = {"one group": 142, "a dead coordinator is replaced": 146, "it is taken back": 142}
+
+
+class Cluster:
+    def __init__(self, program, folder, sync, library, look):
+        self.program, self.folder, self.sync, self.look = program, folder, sync, look
+        self.environment = {**os.environ, "LD_PRELOAD": library, "SYNC_MS": str(sync)}
+        self.nodes, self.unread, self.groups, self.stopped = [None] * NODES, [b""] * NODES, [None] * NODES, False
+        self.times, self.step, self.dead = {}, 0, None
+        os.mkdir(folder)
+        for own in range(NODES):
+            subprocess.run([program, "format", f"{folder}/{own}", "64", str(own), str(NODES)], check=True, timeout=60)
+
+    def begin(self):
+        for own in range(NODES):
+            self.start(own)
+        self.begun = time.monotonic()
+
+    def start(self, own):
+        self.nodes[own] = subprocess.Popen([self.program, "node", f"{self.folder}/{own}", str(own), str(NODES)], stdin=subprocess.PIPE,
+                                           stdout=subprocess.PIPE, bufsize=0, env=self.environment)
+        self.look.register(self.nodes[own].stdout, selectors.EVENT_READ, (self, own))
+        self.unread[own], self.groups[own] = b"", None
+        self.feed(own, b"recover")
+
+    def kill(self, own):
+        self.look.unregister(self.nodes[own].stdout)
+        self.nodes[own].kill()
+        self.nodes[own].wait()
+        self.nodes[own].stdin.close()
+        self.nodes[own].stdout.close()
+        self.nodes[own], self.groups[own] = None, None
+
+    def feed(self, own, line):
+        if self.nodes[own] is not None:
+            self.nodes[own].stdin.write(line + b"\n")
+
+    def heard(self, own):
+        *lines, self.unread[own] = (self.unread[own] + os.read(self.nodes[own].stdout.fileno(), 65536)).split(b"\n")
+        for words in (line.split() for line in lines):
+            if words[0] == b"send":
+                self.feed(int(words[1]), b"deliver " + words[2])
+            elif words[0] == b"group":
+                self.groups[own] = words[1:]
+        if not self.stopped:
+            self.go_on()
+
+    def is_group(self, members):
+        """Whether these nodes are Normal in one group of just them."""
+        first = self.groups[members[0]]
+        return first is not None and first[0] == b"Normal" and first[3] == ",".join(map(str, members)).encode() and all(self.groups[own] == first for own in members)
+
+    def go_on(self):
+        alive = [own for own in range(NODES) if own != self.dead]
+        if not self.is_group(alive):
+            return
+        name = list(STEPS)[self.step]
+        self.times[name], self.step = time.monotonic() - self.begun, self.step + 1
+        if self.step == len(STEPS):
+            self.stop()
+        elif self.step == 1:
+            self.dead = int(self.groups[0][1])
+            self.kill(self.dead)
+        else:
+            self.start(self.dead)
+            self.dead = None
+        self.begun = time.monotonic()
+
+    def stop(self):
+        self.stopped = True
+        for own in range(NODES):
+            if self.nodes[own] is not None:
+                self.kill(own)
+
+
+def run(clusters, look, until):
+    ticked = 0.0
+    for cluster in clusters:
+        cluster.begin()
+    while not all(cluster.stopped for cluster in clusters) and time.monotonic() < until:
+        now = time.monotonic()
+        if now - ticked >= TICK:
+            ticked = now
+            for cluster in clusters:
+                for own in range(NODES):
+                    cluster.feed(own, b"tick %d" % (now * 1000))
+        for key, _ in look.select(max(0.0, ticked + TICK - time.monotonic())):
+            cluster, own = key.data
+            if cluster.nodes[own] is not None and cluster.nodes[own].stdout is key.fileobj:
+                cluster.heard(own)
+    for cluster in clusters:
+        if not cluster.stopped:
+            cluster.stop()
+
+
+def main():
+    program = os.path.abspath(sys.argv[1])
+    starts = int(sys.argv[2]) if sys.argv[2:] else 2
+    syncs = [int(word) for word in sys.argv[3:]] or [0, 20, 50, 100, 200]
+    if shutil.which("cc") is None:
+        print("slow_disks.py: there is no C compiler cc, so no disk was slow")
+        print("0 passed, 0 failed")
+        return 0
+    passed = failed = 0
+    with tempfile.TemporaryDirectory() as folder:
+        library = os.path.join(folder, "slow_sync.so")
+        subprocess.run(["cc", "-shared", "-fPIC", "-O1", "-o", library, os.path.join(HERE, "shim", "slow_sync.c"), "-ldl"], check=True)
+        look = selectors.DefaultSelector()
+        clusters = [Cluster(program, os.path.join(folder, f"{sync}-{at}"), sync, library, look) for sync in syncs for at in range(starts)]
+        for at in range(0, len(clusters), AT_ONCE):
+            run(clusters[at:at + AT_ONCE], look, time.monotonic() + sum(STEPS.values()) * ROUND_TRIP + len(STEPS) * MORE * max(syncs) / 1000 + 5)
+        for sync in syncs:
+            for name, least in STEPS.items():
+                limit = least * ROUND_TRIP + MORE * sync / 1000
+                times = [cluster.times.get(name, float("inf")) for cluster in clusters if cluster.sync == sync]
+                late = sum(limit < seconds for seconds in times)
+                passed, failed = passed + len(times) - late, failed + late
+                if late:
+                    print(f"slow_disks.py: {name}, {sync} ms a sync: {late} of {len(times)} took more than {limit:.1f} s: {sorted(times)}")
+                if sys.argv[2:]:
+                    print(f"{sync:4} ms a sync, {name}: {min(times):.2f} to {max(times):.2f} s, median {statistics.median(times):.2f}; at most {limit:.2f}")
+    print(f"{passed} passed, {failed} failed")
+    return 0 if failed == 0 else 1
+
+
+if __name__ == "__main__":
+    sys.exit(main())
