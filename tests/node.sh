@@ -106,7 +106,7 @@ problem=''
 [ "$(grep -c '^send 1 010100010000$' "$room/out")" -eq 1 ] || problem="it answers $(tr '\n' '/' <"$room/out")"
 mark "$problem" 'a tick fires once'
 
-# Work that was dispatched is dispatched again after 20 round trips; in a new group at once, since its predecessor's jobs were dropped.
+# Work that was dispatched rests; in a new group it is dispatched at once, since its predecessor's jobs were dropped.
 fresh
 printf 'recover\nsubmit 0 -\ntick 1\ntick 2\nrecover\ntick 3\n' | "$program" node "$file" 0 3 >"$room/out"
 problem=''
@@ -211,11 +211,43 @@ if command -v python3 >/dev/null; then
         done
         sleep 3
     } |
-        python3 "$top/examples/worker/worker.py" "$program" "$file" 0 1 >"$room/out" 2>"$room/err"
+        python3 "$top/examples/worker/worker.py" "$program" node "$file" 0 1 >"$room/out" 2>"$room/err"
     problem=''
-    printf 'group Normal 0 0:1 0\nkeeps 1 0 0\nok 1\ntake 0 0 0 6563686f2068656c6c6f\nok 2 id 0\ngone 0\nok 3\n' | cmp -s - "$room/out" || problem=$(cat "$room/out")
+    printf 'group Normal 0 0:1 0\nkeeps 1 0 0\nok 1\ntake 0 0 0 6563686f2068656c6c6f\nok 2 id 0\ngone 0\n' | cmp -s - "$room/out" || problem=$(cat "$room/out")
     [ "$(cat "$room/err")" = hello ] || problem='the command did not run'
     mark "$problem" 'a worker'
+
+    # what is piped into a machine arrives whole, and a worker runs behind a machine
+    machine=$top/examples/three_machines/machine.py
+    base=$((20000 + RANDOM % 20000))
+    "$program" format "$room/piped" 1024 0 1
+    seq -f 'submit 0 %040.0f' 1000 >"$room/lines"
+    timeout 60 python3 "$machine" "$program" "$room/piped" 0 "127.0.0.1:$base" <"$room/lines" >"$room/out" 2>&1 &
+    child=$!
+    for _ in {1..200}; do
+        [ "$(grep -c '^ok id' "$room/out")" -lt 1000 ] || break
+        sleep 0.3
+    done
+    kill "$child"
+    wait "$child" 2>/dev/null
+    problem=''
+    sed -n 's/^take 0 [0-9]* 0 /submit 0 /p' "$room/out" | cmp -s - "$room/lines" || problem="$(grep -c '^take' "$room/out") jobs are taken, and $(grep -c '^bad' "$room/out") lines can't be read"
+    mark "$problem" 'what is piped into a machine'
+
+    rm -f "$file"
+    "$program" format "$file" 64 0 1
+    { printf 'submit 0 %s\n' "$(printf 'echo hello' | od -An -tx1 | tr -d ' \n')" "$(printf 'echo hello' | od -An -tx1 | tr -d ' \n')"; sleep 60; } |
+        timeout 60 python3 "$machine" "python3 '$top/examples/worker/worker.py' '$program'" "$file" 0 "127.0.0.1:$((base + 1))" >"$room/out" 2>"$room/err" &
+    for _ in {1..200}; do
+        [ "$(grep -c '^gone' "$room/out")" -lt 2 ] || break
+        sleep 0.3
+    done
+    kill $!
+    wait $! 2>/dev/null
+    problem=''
+    [ "$(grep -c '^take' "$room/out") $(grep '^ok' "$room/out" | sort | tr '\n' ' ')$(grep -c '^gone' "$room/out")" = '2 ok id 0 ok id 1 2' ] || problem=$(cat "$room/out" "$room/err")
+    [ "$(sort -u "$room/err")" = hello ] || problem='the command did not run'
+    mark "$problem" 'a worker behind a machine'
 
     if python3 -c 'import sqlite3' 2>/dev/null; then
         example 'a lock' 'takeovers [2-9].* refused [1-9].* both [1-9]' python3 "$top/examples/lock/lock.py" "$program" 9
