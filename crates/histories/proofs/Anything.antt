@@ -1,5 +1,6 @@
 -- Claims that hold of anything.
 use Rattle.std.proofs.Common.{ℕ, List, [], ◌∷◌, Option, Some, None, IfSome}
+use Rattle.job_model.specs.declared.work.Work.{Work}
 use Rattle.group_task.specs.Group.{Group}
 use Rattle.group_task.specs.Assignment.{Assignment}
 use Rattle.job_model.specs.declared.job.Job.{Job}
@@ -17,8 +18,8 @@ use Rattle.histories.proofs.Moves.{WorkIn, AllWork, JobsHold, GivenHold, Knows, 
 abbrev pub AnyGroup : Group → Type 0
 AnyGroup group = Unit {0}
 
-abbrev pub AnyWork : ℕ → ℕ → ℕ → Type 0
-AnyWork origin id queue = Unit {0}
+abbrev pub AnyWork : ℕ → ℕ → Work → Type 0
+AnyWork origin id work = Unit {0}
 
 any_task : (t : Option Assignment) → IfSome t (λ (x : Assignment). AnyGroup x.group)
 any_task None = tt

@@ -1,5 +1,6 @@
 -- What each entry of a history does.
 use Rattle.std.proofs.Common.{◌≡◌, ◌+◌, ℕ, Bool, true, false, [], refl, Some, None}
+use Rattle.job_model.specs.declared.work.Work.{Work}
 use Rattle.group_task.specs.Group.{Group}
 use Rattle.wire_msg.specs.Envelope.{Envelope}
 use Rattle.node_core.specs.declared.event.Event.TheVariants.{Deliver, Finish}
@@ -16,7 +17,7 @@ use Rattle.histories.proofs.Tests.{and_left, eq_nat}
 use Rattle.histories.proofs.Moves.{stays, falls, starts_alone, Enters}
 use Rattle.histories.proofs.Rows.{event_does}
 
-pub entry_does : (P : Group → Type 0) (J Q : ℕ → ℕ → ℕ → Type 0) (self nodes : ℕ) (s : NodeState) (what : What) → IsPossible self nodes s what → Enters P J Q self nodes s what
+pub entry_does : (P : Group → Type 0) (J Q : ℕ → ℕ → Work → Type 0) (self nodes : ℕ) (s : NodeState) (what : What) → IsPossible self nodes s what → Enters P J Q self nodes s what
 entry_does P J Q self nodes s (Did event) may =
     let row = event_does P J Q self s.state s.durable nodes event may.1.by_core in record {
       made = row.made;

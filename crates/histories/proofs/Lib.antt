@@ -13,6 +13,7 @@ mod Kepts
 mod Owners
 mod Jobs
 mod Pending
+mod Puts
 mod Reaches
 mod Ups
 mod Wanted

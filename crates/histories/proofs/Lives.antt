@@ -1,5 +1,6 @@
 -- What one node's moves keep, along its whole history.
 use Rattle.std.proofs.Common.{◌≡◌, ◌⊎◌, ℕ, ◌+◌, ◌<◌, ◌≤◌, true, List, [], ◌∷◌, ◌++◌, refl, sym, ◌∙◌, ap, subst, inl, inr, arith, Option, Some}
+use Rattle.job_model.specs.declared.work.Work.{Work}
 use Rattle.group_task.specs.Group.{Group}
 use Rattle.group_task.specs.Assignment.{Assignment}
 use Rattle.group_task.specs.Ids.{has}
@@ -76,7 +77,7 @@ Tells self tasks m = (t : Assignment) → m.body ≡ Ready t → (m.sender ≡ s
 abbrev pub AllTell : ℕ → List Assignment → List Envelope → Type 0
 AllTell self tasks ms = Each (Tells self tasks) ms
 
-pub says_tells : (P : Group → Type 0) (J : ℕ → ℕ → ℕ → Type 0) (self : ℕ) (made all : List Assignment) (event : Option Event) → ((t : Assignment) → IsAmong t made → IsAmong t all) → (m : Envelope) → Says P J self made event m → Tells self all m
+pub says_tells : (P : Group → Type 0) (J : ℕ → ℕ → Work → Type 0) (self : ℕ) (made all : List Assignment) (event : Option Event) → ((t : Assignment) → IsAmong t made → IsAmong t all) → (m : Envelope) → Says P J self made event m → Tells self all m
 says_tells P J self made all event sub m h t is = let it : SaysIn P J self made event m.sender m.receiver (Ready t) = subst (λ (b : Body). SaysIn P J self made event m.sender m.receiver b) is h in (it.0, sub t it.1)
 
 -- what a Ready from the group's creator says is told

@@ -1,5 +1,6 @@
 -- What an event may do to a node: to its place in a group, to its work in hand, and what it may say.
 use Rattle.std.proofs.Common.{◌≡◌, ◌≢◌, ◌⊎◌, ℕ, true, List, [], ◌∷◌, Option, Some, IfSome}
+use Rattle.job_model.specs.declared.work.Work.{Work}
 use Rattle.group_task.specs.Group.{Group}
 use Rattle.group_task.specs.Assignment.{Assignment, owner_of}
 use Rattle.group_task.specs.Ids.{has}
@@ -39,31 +40,31 @@ pub data GroupMove (self : ℕ) (old : State) (came : List Envelope) (given : Li
   completes : old.phase ≡ Reorganization → old.coordinator ≡ self → new.task ≡ old.task → new.coordinator ≡ old.coordinator → new.group ≡ old.group → new.phase ≡ Normal → given ≡ [] → made ≡ [] → GroupMove self old came given made new
 
 -- what is said: P holds of each group that is named and J of each job that is sent out; a Ready names its true sender and a task that was made; a Done is of a Finish
-abbrev pub SaysIn : (Group → Type 0) → (ℕ → ℕ → ℕ → Type 0) → ℕ → List Assignment → Option Event → ℕ → ℕ → Body → Type 0
+abbrev pub SaysIn : (Group → Type 0) → (ℕ → ℕ → Work → Type 0) → ℕ → List Assignment → Option Event → ℕ → ℕ → Body → Type 0
 SaysIn P J self made event sender receiver (Ready task) = (sender ≡ self) × IsAmong task made × P task.group
-SaysIn P J self made event sender receiver (WorkMessage group id work) = P group × J sender id work.queue
+SaysIn P J self made event sender receiver (WorkMessage group id work) = P group × J sender id work
 SaysIn P J self made event sender receiver (DoneMessage id) = event ≡ Some (Finish receiver id)
 SaysIn P J self made event sender receiver body = IfSome (group_in body) P
 
-abbrev pub Says : (Group → Type 0) → (ℕ → ℕ → ℕ → Type 0) → ℕ → List Assignment → Option Event → Envelope → Type 0
+abbrev pub Says : (Group → Type 0) → (ℕ → ℕ → Work → Type 0) → ℕ → List Assignment → Option Event → Envelope → Type 0
 Says P J self made event m = SaysIn P J self made event m.sender m.receiver m.body
 
 -- Q holds of each job that a message brings
-abbrev pub WorkIn : (ℕ → ℕ → ℕ → Type 0) → ℕ → Body → Type 0
-WorkIn Q sender (WorkMessage group id work) = Q sender id work.queue
+abbrev pub WorkIn : (ℕ → ℕ → Work → Type 0) → ℕ → Body → Type 0
+WorkIn Q sender (WorkMessage group id work) = Q sender id work
 WorkIn Q sender body = Unit {0}
 
-abbrev pub AllWork : (ℕ → ℕ → ℕ → Type 0) → List Envelope → Type 0
+abbrev pub AllWork : (ℕ → ℕ → Work → Type 0) → List Envelope → Type 0
 AllWork Q ms = Each (λ (m : Envelope). WorkIn Q m.sender m.body) ms
 
-abbrev pub JobsHold : (ℕ → ℕ → ℕ → Type 0) → ℕ → List Job → Type 0
-JobsHold J self jobs = Each (λ (job : Job). J self job.id job.work.queue) jobs
+abbrev pub JobsHold : (ℕ → ℕ → Work → Type 0) → ℕ → List Job → Type 0
+JobsHold J self jobs = Each (λ (job : Job). J self job.id job.work) jobs
 
 -- work is in hand in Normal alone, its queue is the node's own, and Q holds of it
-abbrev pub Held : (ℕ → ℕ → ℕ → Type 0) → ℕ → Phase → Option Assignment → InHand → Type 0
-Held Q self phase task job = (phase ≡ Normal) × (owner_of (members_of task) job.work.queue ≡ self) × Q job.origin job.id job.work.queue
+abbrev pub Held : (ℕ → ℕ → Work → Type 0) → ℕ → Phase → Option Assignment → InHand → Type 0
+Held Q self phase task job = (phase ≡ Normal) × (owner_of (members_of task) job.work.queue ≡ self) × Q job.origin job.id job.work
 
-abbrev pub HandHolds : (ℕ → ℕ → ℕ → Type 0) → ℕ → State → Type 0
+abbrev pub HandHolds : (ℕ → ℕ → Work → Type 0) → ℕ → State → Type 0
 HandHolds Q self s = Each (Held Q self s.phase s.task) s.hand
 
 abbrev pub GivenHold : (Group → Type 0) → ℕ → List ℕ → Type 0
@@ -76,12 +77,12 @@ pub record Knows (P : Group → Type 0) (self : ℕ) (s : State) (given : List �
   pub heard : AllHold P came
 
 -- J holds of each job that is pending before or after the event
-pub record KnowsJobs (J : ℕ → ℕ → ℕ → Type 0) (self : ℕ) (d : Durable) (wants : Option Command) : Type 0 where
+pub record KnowsJobs (J : ℕ → ℕ → Work → Type 0) (self : ℕ) (d : Durable) (wants : Option Command) : Type 0 where
   pub before : JobsHold J self d.pending
   pub after : JobsHold J self (after_wanted d wants).pending
 
 -- what an event with this command makes, as all laws need it
-pub record Does (P : Group → Type 0) (J Q : ℕ → ℕ → ℕ → Type 0) (self : ℕ) (s : State) (d : Durable) (event : Event) (wants : Option Command) (e : Effect) : Type 0 where
+pub record Does (P : Group → Type 0) (J Q : ℕ → ℕ → Work → Type 0) (self : ℕ) (s : State) (d : Durable) (event : Event) (wants : Option Command) (e : Effect) : Type 0 where
   pub made : List Assignment
   pub moves : GroupMove self s (brought (Some event)) (raised d wants) made e.state
   pub names : Knows P self s (raised d wants) (brought (Some event)) → StateHolds P e.state
@@ -89,7 +90,7 @@ pub record Does (P : Group → Type 0) (J Q : ℕ → ℕ → ℕ → Type 0) (s
   pub says : Knows P self s (raised d wants) (brought (Some event)) → KnowsJobs J self d wants → Each (Says P J self made (Some event)) e.sent
 
 -- what an entry makes, as all laws need it
-pub record Enters (P : Group → Type 0) (J Q : ℕ → ℕ → ℕ → Type 0) (self nodes : ℕ) (s : NodeState) (what : What) : Type 0 where
+pub record Enters (P : Group → Type 0) (J Q : ℕ → ℕ → Work → Type 0) (self nodes : ℕ) (s : NodeState) (what : What) : Type 0 where
   pub made : List Assignment
   pub moves : GroupMove self s.state (brought (event_of what)) (given_at self nodes s what) made (after self nodes s what).state
   pub names : Knows P self s.state (given_at self nodes s what) (brought (event_of what)) → StateHolds P (after self nodes s what).state

@@ -42,18 +42,18 @@ IsHeld self phase task job = Held AnyWork self phase task job
 abbrev pub OwnedAt : ℕ → NodeState → Type 0
 OwnedAt self s = HandHolds AnyWork self s.state
 
-owned_after : (self nodes : ℕ) (s : NodeState) (what : What) → IsPossible self nodes s what → OwnedAt self s → OwnedAt self (after self nodes s what)
+pub owned_after : (self nodes : ℕ) (s : NodeState) (what : What) → IsPossible self nodes s what → OwnedAt self s → OwnedAt self (after self nodes s what)
 owned_after self nodes s what may h =
     (entry_does AnyGroup AnyWork AnyWork self nodes s what may).holds (any_pending self s.durable.pending) (any_pending self (after self nodes s what).durable.pending) (all_any_work (brought (event_of what))) h
 
 -- a work in hand, Normal and owned
-record HasWork (self : ℕ) (v : State) (origin id : ℕ) : Type 0 where
-  is_normal : v.phase ≡ Normal
-  job : InHand
-  held : IsAmong job v.hand
-  of_origin : job.origin ≡ origin
-  of_id : job.id ≡ id
-  owned : owner v job.work.queue ≡ self
+pub record HasWork (self : ℕ) (v : State) (origin id : ℕ) : Type 0 where
+  pub is_normal : v.phase ≡ Normal
+  pub job : InHand
+  pub held : IsAmong job v.hand
+  pub of_origin : job.origin ≡ origin
+  pub of_id : job.id ≡ id
+  pub owned : owner v job.work.queue ≡ self
 
 -- in one history: the work in hand at a moment, and its Finish
 record FinishedIn (self nodes : ℕ) (s : NodeState) (es : List Entry) (origin id : ℕ) : Type 0 where
@@ -94,7 +94,7 @@ find_work self phase task (w ∷ ws) origin id owned is = by_head (w.origin == o
       owned = it.owned;
     })
 
-has_work : (self : ℕ) (s : NodeState) (origin id : ℕ) → OwnedAt self s → holds s.state.hand origin id ≡ true → HasWork self s.state origin id
+pub has_work : (self : ℕ) (s : NodeState) (origin id : ℕ) → OwnedAt self s → holds s.state.hand origin id ≡ true → HasWork self s.state origin id
 has_work self s origin id owned is =
     let it = find_work self s.state.phase s.state.task s.state.hand origin id owned is in
     record { is_normal = it.is_normal; job = it.job; held = it.held; of_origin = it.of_origin; of_id = it.of_id; owned = it.owned }
@@ -119,7 +119,7 @@ finished_later self nodes s e es origin id h = record {
 }
 
 -- a Done that an entry sends
-done_said : (self nodes : ℕ) (s : NodeState) (what : What) (m : Envelope) (id : ℕ) → IsPossible self nodes s what → IsAmong m (sent_at self nodes s what) → m.body ≡ DoneMessage id → event_of what ≡ Some (Finish m.receiver id)
+pub done_said : (self nodes : ℕ) (s : NodeState) (what : What) (m : Envelope) (id : ℕ) → IsPossible self nodes s what → IsAmong m (sent_at self nodes s what) → m.body ≡ DoneMessage id → event_of what ≡ Some (Finish m.receiver id)
 done_said self nodes s what m id may i body =
     let row = entry_does AnyGroup AnyWork AnyWork self nodes s what may in
     let said = row.says (knows_any self s.state (given_at self nodes s what) (brought (event_of what))) (any_pending self s.durable.pending) (any_pending self (after self nodes s what).durable.pending) in

@@ -32,7 +32,7 @@ kept_first : (b : Bool) (a job : Job) (jobs rest : List Job) → (IsAmong a rest
 kept_first true a job jobs rest more i = elim i [ inl e ↦ inl e | inr j ↦ inr (more j) ]
 kept_first false a job jobs rest more i = inr (more i)
 
-among_filtered : (test : Job → Bool) (jobs : List Job) (a : Job) → IsAmong a (filter test jobs) → IsAmong a jobs
+pub among_filtered : (test : Job → Bool) (jobs : List Job) (a : Job) → IsAmong a (filter test jobs) → IsAmong a jobs
 among_filtered test [] a i = absurd i
 among_filtered test (job ∷ jobs) a i = kept_first (test job) a job jobs (filter test jobs) (among_filtered test jobs a) i
 

@@ -11,7 +11,7 @@ pub use Rattle.histories.proofs.Counts.{counts_rise, each_bundle_rises}
 -- Nothing happens at a node that is down, until it mounts its disk.
 pub use Rattle.histories.proofs.Downs.{StaysDown, at_down}
 -- What each entry of a history does.
-pub use Rattle.histories.proofs.Entries.{entry_does}
+pub use Rattle.histories.proofs.Entries.{entry_does, held_finish}
 -- Histories grow at their end.
 pub use Rattle.histories.proofs.Growing.{history_goes_on}
 -- Messages are sent to nodes of the cluster alone: a vector names no other node.
@@ -24,12 +24,15 @@ pub use Rattle.histories.proofs.Moves.{GivenHold, Knows, Says, SaysIn}
 pub use Rattle.histories.proofs.OneBooks.{one_book, one_coordinator, one_task, same_task}
 -- Each message that a node sends has the node as its sender.
 pub use Rattle.histories.proofs.OwnMessages.{senders}
+-- The work in hand is a job of its origin, and that job was put.
+pub use Rattle.histories.proofs.Jobs.{work_is_job}
+pub use Rattle.histories.proofs.Puts.{pending_was_put}
 -- Each job that is done was finished by an owner of its queue.
-pub use Rattle.histories.proofs.Owners.{commands_append, one_worker, owner_finishes}
+pub use Rattle.histories.proofs.Owners.{HasWork, OwnedAt, commands_append, done_said, has_work, one_worker, owned_after, owner_finishes}
 -- Tests on numbers, groups and phases, taken apart.
 pub use Rattle.histories.proofs.Tests.{eq_nat}
 -- An event leaves a node that is up, up.
 pub use Rattle.histories.proofs.Ups.{stays_up}
 -- One pass over the commands that events want: a job is ended by a Finish of the node's own or by a Done that is delivered, and
 -- no job but a pending one.
-pub use Rattle.histories.proofs.Wanted.{wanted_pending}
+pub use Rattle.histories.proofs.Wanted.{Cause, causes, wanted_pending}

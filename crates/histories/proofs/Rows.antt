@@ -54,7 +54,7 @@ not_down : {p q : Phase} → p ≡ q → is_down q ≡ false → p ≢ Down
 not_down is up down = (let fallen : is_down Down ≡ false = subst (λ (x : Phase). is_down x ≡ false) (sym is ∙ down) up in absurd cc)
 
 -- outside Normal there is nothing in hand
-no_hand : (Q : ℕ → ℕ → ℕ → Type 0) (self : ℕ) (p q : Phase) (t u : Option Assignment) (hand : List InHand) → is_normal p ≡ false → Each (Held Q self p t) hand → Each (Held Q self q u) hand
+no_hand : (Q : ℕ → ℕ → Work → Type 0) (self : ℕ) (p q : Phase) (t u : Option Assignment) (hand : List InHand) → is_normal p ≡ false → Each (Held Q self p t) hand → Each (Held Q self q u) hand
 no_hand Q self p q t u [] not_normal h = tt
 no_hand Q self p q t u (w ∷ ws) not_normal h = (let off : is_normal Normal ≡ false = subst (λ (x : Phase). is_normal x ≡ false) h.0.0 not_normal in absurd cc)
 
@@ -71,7 +71,7 @@ no_count : (d : Durable) (b : Bool) (id : ℕ) → raised d (if b then Some (Don
 no_count d true id = refl
 no_count d false id = refl
 
-module _ (P : Group → Type 0) (J Q : ℕ → ℕ → ℕ → Type 0) (self : ℕ) (s : State) (d : Durable) where
+module _ (P : Group → Type 0) (J Q : ℕ → ℕ → Work → Type 0) (self : ℕ) (s : State) (d : Durable) where
   -- nothing happens
   quiet : (event : Event) → Does P J Q self s d event None (quietly s)
   quiet event = record { made = []; moves = stays refl refl refl refl refl refl; names = λ k. k.place; holds = λ k w h. h; says = λ k j. tt }
@@ -144,9 +144,9 @@ module _ (P : Group → Type 0) (J Q : ℕ → ℕ → ℕ → Type 0) (self : �
         moves = stays refl refl refl refl refl refl;
         names = λ k. k.place;
         holds = λ k w h. each_append (Held Q self s.phase s.task) s.hand _ h
-            (each_chosen (λ job. Q self job.id job.work.queue) (Held Q self s.phase s.task) (λ (job : Job). record { origin = self; id = job.id; work = job.work }) (λ job. is_own self s job && not (holds s.hand self job.id)) (by_priority d.pending)
+            (each_chosen (λ job. Q self job.id job.work) (Held Q self s.phase s.task) (λ (job : Job). record { origin = self; id = job.id; work = job.work }) (λ job. is_own self s job && not (holds s.hand self job.id)) (by_priority d.pending)
             (λ job own q. (phase, eq_nat _ _ (and_left _ _ own), q)) (each_by_priority _ d.pending k.before));
-        says = λ k j. each_chosen (λ job. J self job.id job.work.queue) (Says P J self [] (Some (TimerEvent timer.Dispatch))) (λ (job : Job). letter self (owner s job.work.queue) (WorkMessage s.group job.id job.work)) (λ job. not (is_own self s job)) (by_priority d.pending)
+        says = λ k j. each_chosen (λ job. J self job.id job.work) (Says P J self [] (Some (TimerEvent timer.Dispatch))) (λ (job : Job). letter self (owner s job.work.queue) (WorkMessage s.group job.id job.work)) (λ job. not (is_own self s job)) (by_priority d.pending)
             (λ job other it. ((k.place (not_down phase refl)).0, it)) (each_by_priority _ d.pending j.before);
       }))
       (λ f. quiet (TimerEvent timer.Dispatch))
@@ -250,7 +250,7 @@ module _ (P : Group → Type 0) (J Q : ℕ → ℕ → ℕ → Type 0) (self : �
         moves = stays refl refl refl refl refl refl;
         names = λ k. k.place;
         holds = λ k w h. each_append (Held Q self s.phase s.task) s.hand _ h
-            ((in_normal s.phase normal, eq_nat _ _ t, (each_split (λ job. Q self job.id job.work.queue) d.pending (record { id = d.next; work = work } ∷ []) k.after).1.0), tt);
+            ((in_normal s.phase normal, eq_nat _ _ t, (each_split (λ job. Q self job.id job.work) d.pending (record { id = d.next; work = work } ∷ []) k.after).1.0), tt);
         says = λ k j. tt;
       })
       (λ f. record {
@@ -261,7 +261,7 @@ module _ (P : Group → Type 0) (J Q : ℕ → ℕ → ℕ → Type 0) (self : �
         says = λ k j. (
           (
             (k.place (not_down (in_normal s.phase normal) refl)).0,
-            (each_split (λ job. J self job.id job.work.queue) d.pending (record { id = d.next; work = work } ∷ []) j.after).1.0,
+            (each_split (λ job. J self job.id job.work) d.pending (record { id = d.next; work = work } ∷ []) j.after).1.0,
           ),
           tt,
         );

@@ -5,7 +5,7 @@ ghost use Rattle.histories.specs.Book.{OneBook, OneCoordinator, OneTask};
 ghost use Rattle.histories.specs.Counts.{FewCounts};
 ghost use Rattle.histories.specs.Ends.{EachGoesOut, HistorySendsItsOwn};
 ghost use Rattle.histories.specs.History.{HistoryGoesOn, SlotsGoOn};
-ghost use Rattle.histories.specs.Jobs.{OneJob, WorkIsJob};
+ghost use Rattle.histories.specs.Jobs.{OneJob, PendingWasPut, WorkIsJob};
 ghost use Rattle.histories.specs.Kept.{CountsOnce};
 ghost use Rattle.histories.specs.Marks.{EachKept, StepByStep};
 ghost use Rattle.histories.specs.Owners.{OneWorker, OwnerFinishes};
@@ -41,13 +41,14 @@ pub fn kept()
     ensures once { CountsOnce }
 {}
 
-/// A job is taken out of its node's journal only after an owner of its queue finished it, and work in hand is a job that
-/// its origin had pending.
+/// A job is taken out of its node's journal only after an owner of its queue finished it, work in hand is a job that its origin
+/// had pending, and a pending job was put.
 pub fn owner_finishes()
     ensures finishes { OwnerFinishes }
     ensures worker { OneWorker }
     ensures job { WorkIsJob }
     ensures one_job { OneJob }
+    ensures put { PendingWasPut }
 {}
 
 /// A history grows by one entry that is possible, and so does one on a disk of so many slots.

@@ -1,27 +1,37 @@
 -- A job is done only after an owner of its queue finished it, which the report shows.
-use Rattle.std.proofs.Common.{◌≡◌, ℕ, List, [], ◌∷◌, map, take, slice_get, sym, ◌∙◌, ap, subst, inl, inr, arith, Some}
+use Rattle.std.proofs.Common.{◌≡◌, ◌≢◌, ℕ, zero, suc, ◌<◌, ◌≤◌, List, [], ◌∷◌, length, map, take, slice_get, refl, sym, ◌∙◌, ap, subst, inl, inr, arith, rules, Some}
+use Rattle.std.proofs.lemmas.List.{append-nil, length-take}
+use Rattle.job_model.specs.declared.work.Work.{Work}
+use Rattle.job_model.specs.declared.node_command.NodeCommand.TheVariants.{Raise, Done}
 use Rattle.node_core.specs.State.{State}
-use Rattle.node_core.specs.declared.event.Event.TheVariants as on
+use Rattle.node_core.specs.declared.in_hand.InHand.{InHand}
+use Rattle.histories.specs.Jobs.{WasPut}
 use Rattle.histories.specs.Lists.{IsAmong}
-use Rattle.histories.specs.NodeState.{opening}
+use Rattle.histories.specs.Marks.{commands_of, marks_of}
+use Rattle.histories.specs.NodeState.{NodeState, opening}
 use Rattle.histories.specs.What.{Entry}
 use Rattle.histories.specs.History.{vectors}
 use Rattle.histories.specs.Moments.{IsMoment}
-use Rattle.histories.specs.Owners.{FinishedBy, acted_in}
+use Rattle.histories.specs.declared.tried.Tried.{Tried}
+use Rattle.histories.proofs.PublicLaws.{OwnedAt, pending_was_put, work_is_job}
 use Rattle.schedule.specs.declared.act.Act.{Act}
-use Rattle.runs.specs.World.{start}
+use Rattle.runs.specs.World.{start, ids_from}
 use Rattle.runs.specs.Step.{Step}
-use Rattle.runs.specs.Run.{history_in, histories_of}
+use Rattle.runs.specs.Run.{world_at, history_in, histories_of}
 use Rattle.runs.specs.Acts.{IsRunOf}
-use Rattle.runs.specs.Reporting.{Moment, Report, report_of}
+use Rattle.runs.specs.declared.tried.TriedAt.{TriedAt}
+use Rattle.runs.specs.Reporting.{Moment, Report, own_commands, first_report, report_of}
 use Rattle.runs.specs.Headline.{IsFinished, IsShown, report_within}
 use Rattle.runs.specs.Uses.{Shows, first_moments, DoneWasFinished}
-use Rattle.runs.proofs.Runs.{node_of, how_many}
-use Rattle.runs.proofs.Reported.{acts_reported, state_there}
+use Rattle.runs.proofs.Exact.{all_acts_run}
+use Rattle.runs.proofs.Ended.{EndedIn, done_ended}
+use Rattle.runs.proofs.Keeping.{AllStates}
+use Rattle.runs.proofs.Runs.{node_of, how_many, opened, runs_are_bundles}
+use Rattle.runs.proofs.RunBooks.{state_moment}
+use Rattle.runs.proofs.Reported.{state_there}
 use Rattle.runs.proofs.Acknowledged.{among_at, among_of}
 use Rattle.runs.proofs.Moments.{acts_front}
-use Rattle.runs.proofs.Reports.{moments_are, moments_from, opening_is}
-use Rattle.runs.proofs.Finishing.{IsReported, reported_by_act}
+use Rattle.runs.proofs.Reports.{commands_reported, moments_are, moments_from, opening_is}
 use Rattle.runs.proofs.Shown.{vector_shown, moments_front}
 
 -- what the histories say of a node, the moments show
@@ -38,33 +48,97 @@ report_shows nodes slots n acts steps v run moment =
           inr (place.0, m.0, place.1, m.2, m.3))
     ]
 
--- who finished a job by the histories, finished it by the report
-pub finished_in_report : (nodes slots : ℕ) (acts : List Act) (steps : List Step) (origin id : ℕ) → IsRunOf nodes slots (start nodes) acts steps → FinishedBy (histories_of nodes steps) origin id
-    → IsFinished (report_of nodes acts steps) origin id
-finished_in_report nodes slots acts steps origin id run by =
-    let it = node_of nodes 0 by.worker nodes steps by.history by.worker (omega arith) by.at in
-    let acted : IsAmong (on.Finish origin id) (acted_in (history_in by.worker nodes (start nodes) steps)) =
-    subst (λ (xs : List Entry). IsAmong (on.Finish origin id) (acted_in xs)) it.is_history by.finished in
-    let t : IsReported (moments_from nodes (start nodes) acts steps) by.worker origin id = reported_by_act nodes slots by.worker origin id acts steps (start nodes) run acted in
+-- ---- fronts of fronts
+
+take_front : {A : Type 0} (j k : ℕ) (xs : List A) → j ≤ k → take j (take k xs) ≡ take j xs
+take_front zero k xs le = refl
+take_front (suc j) zero xs le = absurd (let bad : suc j ≤ 0 = le in omega (arith, bad))
+take_front (suc j) (suc k) [] le = refl
+take_front (suc j) (suc k) (x ∷ xs) le = ap (λ (ys : List _). x ∷ ys) (take_front j k xs (omega (arith, le)))
+
+get_front : {A : Type 0} (k j : ℕ) (xs : List A) (x : A) → slice_get (take k xs) j ≡ Some x → slice_get xs j ≡ Some x
+get_front zero j xs x at = absurd cc
+get_front (suc k) j [] x at = absurd cc
+get_front (suc k) zero (y ∷ xs) x at = at
+get_front (suc k) (suc j) (y ∷ xs) x at = get_front k j xs x at
+
+-- ---- a job in hand was put
+
+in_hand_put : (nodes slots n : ℕ) (acts : List Act) (steps : List Step) (v : State) (job : InHand) → IsRunOf nodes slots (start nodes) acts steps → IsMoment (histories_of nodes steps) n v → IsAmong job v.hand
+    → job.origin < nodes → WasPut (own_commands job.origin (report_of nodes acts steps).commands) job.id job.work
+in_hand_put nodes slots n acts steps v job run moment held within =
+    let hs : List (List Entry) = histories_of nodes steps in
+    let bundle = runs_are_bundles nodes steps (all_acts_run nodes slots (start nodes) acts steps run) in
+    let of = work_is_job hs bundle n v moment job held in
+    let it = node_of nodes 0 job.origin nodes steps of.history job.origin (omega arith) of.at in
+    let put = pending_was_put job.origin (length hs) of.history (bundle.follows job.origin of.history of.at) of.state of.is_state of.job of.pending in
+    let mine : own_commands job.origin (report_of nodes acts steps).commands ≡ commands_of (marks_of job.origin (length hs) of.history) =
+    commands_reported nodes slots job.origin acts steps run within
+    ∙ (ap (λ (h : List Entry). commands_of (marks_of job.origin nodes h)) (sym it.is_history) ∙ ap (λ (k : ℕ). commands_of (marks_of job.origin k of.history)) (sym (how_many nodes 0 nodes steps))) in
+    subst (λ (ts : List Tried). WasPut ts job.id job.work) (sym mine)
+    (subst (λ (work : Work). WasPut (commands_of (marks_of job.origin (length hs) of.history)) job.id work) of.of_work
+    (subst (λ (k : ℕ). WasPut (commands_of (marks_of job.origin (length hs) of.history)) k of.job.work) of.of_id put))
+
+-- ---- a job that is done
+
+only_raises : (ids : List ℕ) (t : TriedAt) → IsAmong t (map (λ (n : ℕ). record { node = n; tried = record { command = Raise; acked = Some 1 } }) ids) → t.tried.command ≡ Raise
+only_raises [] t i = absurd i
+only_raises (n ∷ ids) t i = elim i [ inl e ↦ ap (λ (x : TriedAt). x.tried.command) e | inr j ↦ only_raises ids t j ]
+
+opens_owned : (nodes : ℕ) → AllStates OwnedAt (start nodes)
+opens_owned nodes n s at = (let first : s ≡ opening n = opened nodes 0 n s n (omega arith) at in subst (λ (x : NodeState). OwnedAt n x) (sym first) tt)
+
+-- what is finished in the first acts, the whole report shows
+finished_within : (nodes slots k : ℕ) (acts : List Act) (steps : List Step) (origin id : ℕ) → IsRunOf nodes slots (start nodes) acts steps → origin < nodes
+    → EndedIn nodes (start nodes) (take k acts) (take k steps) origin id → IsFinished nodes acts steps k origin id
+finished_within nodes slots k acts steps origin id run within ended =
+    let worker : ℕ = ended.0 in
+    let place : ℕ = ended.1 in
+    let f = ended.2 in
+    let few : length (take k steps) ≤ k = rw (length-take k steps) (omega arith) in
+    let le : place ≤ k = omega (arith, ended.3, few) in
+    let front = acts_front place nodes slots acts steps (start nodes) run in
+    let there : slice_get (world_at nodes (start nodes) (take place steps)).states worker ≡ Some f.was =
+    subst (λ (xs : List Step). slice_get (world_at nodes (start nodes) xs).states worker ≡ Some f.was) (take_front place k steps le) f.is_state in
+    let moment = state_moment nodes (take place steps) (take place steps) [] (append-nil (take place steps)) worker f.was there in
+    let put = in_hand_put nodes slots worker (take place acts) (take place steps) f.was.state f.work.job front moment f.work.held (rw f.work.of_origin within) in
+    let at_origin : WasPut (own_commands origin (report_within nodes place acts steps).commands) f.work.job.id f.work.job.work =
+    subst (λ (o : ℕ). WasPut (own_commands o (report_within nodes place acts steps).commands) f.work.job.id f.work.job.work) f.work.of_origin put in
+    let was_put : WasPut (own_commands origin (report_within nodes place acts steps).commands) id f.work.job.work =
+    subst (λ (j : ℕ). WasPut (own_commands origin (report_within nodes place acts steps).commands) j f.work.job.work) f.work.of_id at_origin in
+    let soon : worker ≢ origin → suc place < k = λ ne. omega (arith, ended.4 ne, few) in
     record {
-      worker = by.worker;
-      moment = t.moment;
-      among = subst (λ (ms : List Moment). IsAmong t.moment ms) (sym (moments_are nodes acts steps)) t.among;
-      of_act = t.of_act;
-      not_refused = t.not_refused;
-      state = by.moment;
-      shown = report_shows nodes slots by.worker acts steps by.moment run by.is_moment;
-      works = by.is_normal;
-      job = by.job;
-      in_hand = by.in_hand;
-      of_job = (by.of_origin, by.of_id);
-      owned = by.owned;
+      worker = worker;
+      place = place;
+      within = omega (arith, ended.3, few);
+      earlier = search (rules, soon);
+      moment = f.moment;
+      at = subst (λ (ms : List Moment). slice_get ms place ≡ Some f.moment) (sym (moments_are nodes acts steps))
+          (get_front k place (moments_from nodes (start nodes) acts steps) f.moment (subst (λ (ms : List Moment). slice_get ms place ≡ Some f.moment) (moments_front k nodes acts steps (start nodes)) f.at));
+      of_act = f.of_act;
+      not_refused = search (rules, f.not_refused);
+      state = f.was.state;
+      shown = report_shows nodes slots worker (take place acts) (take place steps) f.was.state front moment;
+      works = f.work.is_normal;
+      job = f.work.job;
+      in_hand = f.work.held;
+      of_job = (f.work.of_origin, f.work.of_id);
+      owned = f.work.owned;
+      put = search (rules, was_put);
     }
 
--- the act of a moment is among those of the moments
-among_acts : (m : Moment) (ms : List Moment) → IsAmong m ms → IsAmong m.act (map (λ (x : Moment). x.act) ms)
-among_acts m [] i = absurd i
-among_acts m (x ∷ ms) i = elim i [ inl e ↦ inl (ap (λ (y : Moment). y.act) e) | inr j ↦ inr (among_acts m ms j) ]
+pub finished_at : (nodes slots : ℕ) (acts : List Act) (steps : List Step) → IsRunOf nodes slots (start nodes) acts steps → (k : ℕ) (t : TriedAt) (id : ℕ) → IsAmong t (report_within nodes k acts steps).commands → t.node < nodes
+    → t.tried.command ≡ Done id → IsFinished nodes acts steps k t.node id
+finished_at nodes slots acts steps run k t id among within done =
+    elim (done_ended (λ o j. ⊥) slots nodes (take k acts) (take k steps) (start nodes) (first_report nodes) (acts_front k nodes slots acts steps (start nodes) run) (opens_owned nodes) (λ m j i body. i) t id among done) [
+      | inl first ↦ absurd (let both : Raise ≡ Done id = sym (only_raises (ids_from 0 nodes) t first) ∙ done in cc)
+      | inr ended ↦ elim ended [
+        | inl none ↦ absurd none.0
+        | inr it ↦ finished_within nodes slots k acts steps t.node id run within it
+      ]
+    ]
+
+-- ---- what a user takes
 
 front_moments : (nodes k : ℕ) (acts : List Act) (steps : List Step) → (report_within nodes k acts steps).moments ≡ take k (report_of nodes acts steps).moments
 front_moments nodes k acts steps =
@@ -80,11 +154,16 @@ front_shows nodes k n acts steps v shown = elim shown [
 pub done_was_finished : DoneWasFinished
 done_was_finished nodes slots acts r h k t id among within is =
     let by = h.finished k t id among within is in
-    let front = acts_front k nodes slots acts h.steps (start nodes) h.is_run in
-    let moment : map (λ (m : Moment). m.act) (report_within nodes k acts h.steps).moments ≡ take k acts =
-    ap (map (λ (m : Moment). m.act)) (moments_are nodes (take k acts) (take k h.steps)) ∙ acts_reported nodes slots (take k acts) (take k h.steps) (start nodes) front in
-    let finish : IsAmong by.moment.act (take k acts) = subst (λ (xs : List Act). IsAmong by.moment.act xs) moment (among_acts by.moment (report_within nodes k acts h.steps).moments by.among) in (
+    let at : slice_get r.moments by.place ≡ Some by.moment = subst (λ (x : Report). slice_get x.moments by.place ≡ Some by.moment) (sym h.reported) by.at in
+    let shows : Shows (first_moments by.place r) by.worker by.state =
+    subst (λ (x : Report). Shows (first_moments by.place x) by.worker by.state) (sym h.reported) (front_shows nodes by.place by.worker acts h.steps by.state by.shown) in (
       by.worker,
-      subst (λ (a : Act). IsAmong a (take k acts)) by.of_act finish,
-      (by.state, by.job, (subst (λ (x : Report). Shows (first_moments k x) by.worker by.state) (sym h.reported) (front_shows nodes k by.worker acts h.steps by.state by.shown), by.works), by.in_hand, by.of_job.0, by.of_job.1, by.owned),
+      by.place,
+      by.moment,
+      by.within,
+      by.earlier,
+      at,
+      by.of_act,
+      by.not_refused,
+      (by.state, by.job, (shows, by.works), by.in_hand, by.of_job.0, by.of_job.1, by.owned, by.put),
     )

@@ -1,6 +1,6 @@
 -- Only an act `finish` tells a node that a job is finished.
-use Rattle.std.proofs.Common.{◌≡◌, ◌≢◌, length, ℕ, Bool, true, false, List, [], ◌∷◌, ◌++◌, refl, ◌∙◌, ap, subst, inl, inr}
-use Rattle.std.specs.Prelude.{if◌then◌else◌, ◌==◌, ◌&&◌, nat_lt, Result, Ok, Err, MatchResult}
+use Rattle.std.proofs.Common.{◌≡◌, ◌≢◌, ℕ, Bool, true, false, refl, subst, inl, inr}
+use Rattle.std.specs.Prelude.{if◌then◌else◌, ◌&&◌, nat_lt, Result, Ok, Err, MatchResult}
 use Rattle.wire_msg.specs.Envelope.{Envelope}
 use Rattle.node_core.specs.declared.event.Event.{Event}
 use Rattle.node_core.specs.declared.event.Event.TheVariants as on
@@ -8,26 +8,21 @@ use Rattle.histories.specs.Lists.{IsAmong}
 use Rattle.histories.specs.declared.what.What.{What}
 use Rattle.histories.specs.declared.what.What.TheVariants.{Did, Faulted, Rests, Crashed}
 use Rattle.histories.specs.declared.what.Rest.TheVariants.{Nothing}
-use Rattle.histories.specs.Owners.{acted, acted_in}
-use Rattle.histories.proofs.PublicLaws.{among_either, eq_nat}
+use Rattle.histories.specs.Owners.{acted}
 use Rattle.schedule.specs.declared.act.Act.{Act}
 use Rattle.schedule.specs.declared.act.Act.TheVariants as act
 use Rattle.sim_net.specs.declared.fault.NetFault.{NetFault}
 use Rattle.sim_net.specs.Network.{Network, message_at, delivery, after_lost, after_cut, after_mend}
-use Rattle.runs.specs.World.{World, node_in}
+use Rattle.runs.specs.World.{World}
 use Rattle.runs.specs.declared.outcome.Outcome.TheVariants as outcome
 use Rattle.runs.specs.declared.outcome.Refusal.{Refusal}
 use Rattle.runs.specs.declared.outcome.Refusal.TheVariants.{Net as OfNet, Stranger}
-use Rattle.runs.specs.Step.{Step, Takes, Changes, Denies, world_after}
-use Rattle.runs.specs.Run.{history_in}
-use Rattle.runs.specs.Reporting.{Moment, moment_of}
-use Rattle.runs.proofs.Reports.{moments_from}
+use Rattle.runs.specs.Step.{Takes, Changes, Denies}
 use Rattle.histories.specs.NodeState.{NodeState}
 use Rattle.histories.specs.What.{IsOf}
-use Rattle.runs.specs.Acts.{what_outcome, IsCompaction, At, Brings, IsStepOf, IsRunOf}
-use Rattle.histories.specs.After.{sent_at}
+use Rattle.runs.specs.Acts.{what_outcome, IsCompaction, At, Brings, IsStepOf}
 
-abbrev SaysFinished : What → ℕ → ℕ → Type 0
+abbrev pub SaysFinished : What → ℕ → ℕ → Type 0
 SaysFinished what origin id = IsAmong (on.Finish origin id) (acted what)
 
 pub taken_there : (known : Bool) (n k : ℕ) (P : What → Type 0) (m number : ℕ) (what : What) → At known n k P (Takes m number what) → (m ≡ n) × P what
@@ -77,7 +72,7 @@ link_none false net m number what h = absurd cc
 same_finish : (n origin id o i : ℕ) → on.Finish origin id ≡ on.Finish o i → act.Finish n origin id ≡ act.Finish n o i
 same_finish n origin id o i e = (let of_origin : origin ≡ o = cc e in let of_id : id ≡ i = cc e in rw (of_origin, of_id) refl)
 
-finish_act : (nodes : ℕ) (w : World) (a : Act) (m number : ℕ) (what : What) (origin id : ℕ) → IsStepOf nodes w a (Takes m number what) → SaysFinished what origin id → a ≡ act.Finish m origin id
+pub finish_act : (nodes : ℕ) (w : World) (a : Act) (m number : ℕ) (what : What) (origin id : ℕ) → IsStepOf nodes w a (Takes m number what) → SaysFinished what origin id → a ≡ act.Finish m origin id
 finish_act nodes w (act.Timer n timer) m number what o i h says = by_event (act.Timer n timer) (nat_lt n nodes) n 0 (on.Timer timer) m number what o i (λ e. absurd cc) h says
 finish_act nodes w (act.Deliver k) m number what o i h says = absurd (brings_none nodes w.net k (delivery w.net k) m number what o i h says)
 finish_act nodes w (act.Lose k) m number what o i h says = absurd (loses_none (after_lost w.net k) (message_at w.net k) m number what h)
@@ -93,44 +88,8 @@ finish_act nodes w (act.Recover n) m number what o i h says = by_event (act.Reco
 finish_act nodes w (act.Compact n) m number what o i h says = absurd (at_rest (nat_lt n nodes) n 0 IsCompaction m number what o i (compaction_said what o i) h says)
 
 -- what a node didn't refuse isn't reported as refused
-acted_outcome : (self nodes first : ℕ) (s : NodeState) (what : What) (a : Act) (event : Event) → IsAmong event (acted what)
+pub acted_outcome : (self nodes first : ℕ) (s : NodeState) (what : What) (a : Act) (event : Event) → IsAmong event (acted what)
     → (why : Refusal) → what_outcome self nodes first s what a ≢ outcome.Refused why
 acted_outcome self nodes first s (Did e) a event i why is = absurd (let bad = is in cc)
 acted_outcome self nodes first s (Faulted e) a event i why is = absurd (let bad = is in cc)
 acted_outcome self nodes first s _ a event i why is = absurd i
-
--- a moment has the act
-pub record IsReported (ms : List Moment) (worker origin id : ℕ) : Type 0 where
-  pub moment : Moment
-  pub among : IsAmong moment ms
-  pub of_act : moment.act ≡ act.Finish worker origin id
-  pub not_refused : (why : Refusal) → moment.outcome ≢ outcome.Refused why
-
-reported_later : (m : Moment) (ms : List Moment) (worker origin id : ℕ) → IsReported ms worker origin id → IsReported (m ∷ ms) worker origin id
-reported_later m ms worker origin id it = record { moment = it.moment; among = inr it.among; of_act = it.of_act; not_refused = it.not_refused }
-
--- and so in a whole run
-pub reported_by_act : (nodes slots worker origin id : ℕ) (acts : List Act) (steps : List Step) (w : World) → IsRunOf nodes slots w acts steps
-    → IsAmong (on.Finish origin id) (acted_in (history_in worker nodes w steps)) → IsReported (moments_from nodes w acts steps) worker origin id
-reported_by_act nodes slots worker origin id [] [] w run i = absurd i
-reported_by_act nodes slots worker origin id [] (step ∷ steps) w run i = absurd run
-reported_by_act nodes slots worker origin id (a ∷ acts) [] w run i = absurd run
-reported_by_act nodes slots worker origin id (a ∷ acts) (Takes m number what ∷ steps) w run i =
-    by_node (m == worker) refl i (λ j. reported_by_act nodes slots worker origin id acts steps (world_after nodes w (Takes m number what)) run.2 j)
-  where
-    by_node : (b : Bool) → (m == worker) ≡ b
-        → IsAmong (on.Finish origin id) (acted_in ((if b then record { what = what; sent = sent_at m nodes (node_in w.states m) what } ∷ [] else []) ++ history_in worker nodes (world_after nodes w (Takes m number what)) steps))
-        → (IsAmong (on.Finish origin id) (acted_in (history_in worker nodes (world_after nodes w (Takes m number what)) steps)) → IsReported (moments_from nodes (world_after nodes w (Takes m number what)) acts steps) worker origin id)
-        → IsReported (moment_of nodes w a (Takes m number what) ∷ moments_from nodes (world_after nodes w (Takes m number what)) acts steps) worker origin id
-    by_node true is i rest = elim (among_either (on.Finish origin id) (acted what) (acted_in (history_in worker nodes (world_after nodes w (Takes m number what)) steps)) i) [
-      | inl now ↦ (record {
-        moment = moment_of nodes w a (Takes m number what);
-        among = inl refl;
-        of_act = finish_act nodes w a m number what origin id run.0 now ∙ ap (λ (n : ℕ). act.Finish n origin id) (eq_nat m worker is);
-        not_refused = acted_outcome m nodes (length w.net.sent) (node_in w.states m) what a (on.Finish origin id) now;
-      })
-      | inr later ↦ reported_later _ _ worker origin id (rest later)
-    ]
-    by_node false is i rest = reported_later _ _ worker origin id (rest i)
-reported_by_act nodes slots worker origin id (a ∷ acts) (Changes net ∷ steps) w run i = reported_later _ _ worker origin id (reported_by_act nodes slots worker origin id acts steps (world_after nodes w (Changes net)) run.2 i)
-reported_by_act nodes slots worker origin id (a ∷ acts) (Denies named why ∷ steps) w run i = reported_later _ _ worker origin id (reported_by_act nodes slots worker origin id acts steps w run.2 i)

@@ -1,5 +1,6 @@
 -- The groups that a run names were given before, each of them once.
 use Rattle.std.proofs.Common.{◌≡◌, ◌≢◌, ℕ, zero, suc, ◌+◌, ◌<◌, ◌≤◌, Bool, true, false, List, [], ◌∷◌, ◌++◌, map, slice_get, refl, sym, ◌∙◌, ap, subst, inl, inr, arith, Option, Some, None, IfSome, append_assoc}
+use Rattle.job_model.specs.declared.work.Work.{Work}
 use Rattle.std.proofs.lemmas.List.{append-nil}
 use Rattle.std.proofs.lemmas.Option.{IfSome_then}
 use Rattle.std.specs.Prelude.{◌==◌}
@@ -32,7 +33,7 @@ use Rattle.runs.specs.Given.{groups_at, groups_from, AllGiven, GivenBefore, IsOn
 use Rattle.runs.proofs.Runs.{brought_sent, node_there, state_here, state_elsewhere, opened}
 
 -- what is said names groups
-says_names : (P : Group → Type 0) (J : ℕ → ℕ → ℕ → Type 0) (self sender receiver : ℕ) (made : List Assignment) (event : Option Event) (body : Body) → SaysIn P J self made event sender receiver body → IfSome (group_in body) P
+says_names : (P : Group → Type 0) (J : ℕ → ℕ → Work → Type 0) (self sender receiver : ℕ) (made : List Assignment) (event : Option Event) (body : Body) → SaysIn P J self made event sender receiver body → IfSome (group_in body) P
 says_names P J self sender receiver made event (Ready task) h = h.2
 says_names P J self sender receiver made event (WorkMessage group id work) h = h.0
 says_names P J self sender receiver made event (DoneMessage id) h = tt

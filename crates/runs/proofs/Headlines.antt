@@ -1,7 +1,6 @@
 -- Every run of a schedule keeps groups and jobs.
 use Rattle.std.proofs.Common.{◌≡◌, ℕ, suc, ◌<◌, List, [], take, drop, slice_get, refl, sym, ◌∙◌, ap, subst, inl, inr, arith, rules, Option, Some, None, IfSome}
 use Rattle.std.proofs.lemmas.List.{take-append-drop}
-use Rattle.job_model.specs.declared.node_command.NodeCommand.TheVariants.{Done}
 use Rattle.group_task.specs.Group.{Group}
 use Rattle.group_task.specs.Assignment.{Assignment}
 use Rattle.wire_msg.specs.Envelope.{Envelope}
@@ -14,15 +13,12 @@ use Rattle.job_model.specs.Durable.{formatted}
 use Rattle.std.specs.Prelude.{unwrap_or}
 use Rattle.histories.specs.Lists.{IsAmong}
 use Rattle.histories.specs.NodeState.{NodeState, opening}
-use Rattle.histories.specs.What.{Entry}
 use Rattle.histories.specs.Named.{StateHolds}
 use Rattle.histories.specs.Book.{IsTaskOf, AgreesAt, IsInGroup}
 use Rattle.histories.specs.Rising.{Rises}
 use Rattle.histories.specs.Kept.{Kept}
-use Rattle.histories.specs.declared.tried.Tried.{Tried}
 use Rattle.histories.specs.Marks.{commands_of, mountings_of, marks_of}
-use Rattle.histories.specs.Owners.{FinishedBy}
-use Rattle.histories.proofs.PublicLaws.{counts_rise, owner_finishes, one_worker, each_kept, same_task}
+use Rattle.histories.proofs.PublicLaws.{counts_rise, one_worker, each_kept, same_task}
 use Rattle.histories.specs.Moments.{IsMoment}
 use Rattle.schedule.specs.declared.act.Act.{Act}
 use Rattle.runs.specs.World.{start, node_in}
@@ -32,16 +28,14 @@ use Rattle.runs.specs.Given.{AllGiven, IsOnceEach, groups_of}
 use Rattle.runs.specs.Acts.{IsRunOf}
 use Rattle.histories.specs.Counts.{IsShort}
 use Rattle.runs.specs.Reporting.{Moment, own_commands, own_mountings, own_counts, report_of}
-use Rattle.runs.specs.declared.tried.TriedAt.{TriedAt}
-use Rattle.runs.proofs.Finished.{finished_in_report}
-use Rattle.runs.specs.Headline.{IsFinished, IsShown, report_within, NamesGiven, HasBook, EverySchedule}
-use Rattle.runs.proofs.Runs.{history_at, history_follows, how_many, runs_are_bundles, starts_opened}
+use Rattle.runs.proofs.Finished.{finished_at}
+use Rattle.runs.specs.Headline.{IsShown, report_within, NamesGiven, HasBook, EverySchedule}
+use Rattle.runs.proofs.Runs.{history_follows, runs_are_bundles, starts_opened}
 use Rattle.runs.proofs.RunBooks.{state_moment, run_book}
 use Rattle.runs.proofs.Given.{given_before, none_twice}
 use Rattle.runs.proofs.Tagged.{history_few}
 use Rattle.runs.proofs.Reports.{moments_from, opening_is, moments_are, groups_are, commands_reported, mounted_reported}
 use Rattle.runs.proofs.Exact.{all_acts_run}
-use Rattle.runs.proofs.Own.{among_mine}
 use Rattle.runs.proofs.Picked.{own_counts_of}
 use Rattle.runs.proofs.Moments.{run_front, acts_front, as_many, moment_state, moment_says, opening_shown}
 
@@ -136,23 +130,6 @@ shown_task : (nodes : ℕ) (acts : List Act) (steps : List Step) (h : HasBook (r
 shown_task nodes acts steps h n m s t a b in_s in_t same = task_of_two h.book n m s t (h.agrees n s a) (h.agrees m t b) in_s in_t same
 
 -- ---- jobs
-
-finished_by : (nodes slots : ℕ) (acts : List Act) (steps : List Step) → IsRunOf nodes slots (start nodes) acts steps → (t : TriedAt) (id : ℕ) → IsAmong t (report_of nodes acts steps).commands → t.node < nodes
-    → t.tried.command ≡ Done id → FinishedBy (histories_of nodes steps) t.node id
-finished_by nodes slots acts steps is_run t id among lt done =
-    let n : ℕ = t.node in
-    let h : List Entry = history_in n nodes (start nodes) steps in
-    let at : slice_get (histories_of nodes steps) n ≡ Some h = history_at nodes 0 n nodes steps (opening n) n (omega arith) (starts_opened nodes n lt) in
-    let tried : IsAmong t.tried (commands_of (marks_of n nodes h)) =
-    subst (λ (ts : List Tried). IsAmong t.tried ts) (commands_reported nodes slots n acts steps is_run lt) (among_mine (λ (x : TriedAt). x.node) (λ (x : TriedAt). x.tried) n t (report_of nodes acts steps).commands refl among) in
-    owner_finishes (histories_of nodes steps) (runs_are_bundles nodes steps (all_acts_run nodes slots (start nodes) acts steps is_run)) n h at t.tried id
-    (subst (λ (j : ℕ). IsAmong t.tried (commands_of (marks_of n j h))) (sym (how_many nodes 0 nodes steps)) tried) done
-
-finished_at : (nodes slots : ℕ) (acts : List Act) (steps : List Step) → IsRunOf nodes slots (start nodes) acts steps → (k : ℕ) (t : TriedAt) (id : ℕ) → IsAmong t (report_within nodes k acts steps).commands → t.node < nodes
-    → t.tried.command ≡ Done id → IsFinished (report_within nodes k acts steps) t.node id
-finished_at nodes slots acts steps is_run k t id among lt done =
-    let front = acts_front k nodes slots acts steps (start nodes) is_run in
-    finished_in_report nodes slots (take k acts) (take k steps) t.node id front (finished_by nodes slots (take k acts) (take k steps) front t id among lt done)
 
 -- a state that is shown in Normal is a moment of the node's history
 shown_moment : (nodes : ℕ) (acts : List Act) (steps : List Step) (n : ℕ) (s : State) → IsShown (report_of nodes acts steps) n s → s.phase ≡ Normal → IsMoment (histories_of nodes steps) n s

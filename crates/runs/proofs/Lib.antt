@@ -26,6 +26,7 @@ mod Numbers
 mod Finishing
 mod Reported
 mod Shown
+mod Ended
 mod Finished
 mod Fronts
 mod Answered

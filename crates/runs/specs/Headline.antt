@@ -11,6 +11,7 @@ use Rattle.histories.specs.Lists.{IsAmong}
 use Rattle.histories.specs.Named.{AllHold, StateHolds}
 use Rattle.histories.specs.Book.{AgreesAt, IsInGroup}
 use Rattle.histories.specs.Counts.{IsShort}
+use Rattle.histories.specs.Jobs.{WasPut}
 use Rattle.histories.specs.Kept.{Kept}
 use Rattle.histories.specs.Rising.{Rises}
 use Rattle.schedule.specs.declared.act.Act.{Act}
@@ -32,21 +33,26 @@ IsShown r n s = (slice_get r.opening n ≡ Some s) ⊎ ((k : ℕ) × (m : Moment
 abbrev pub report_within : ℕ → ℕ → List Act → List Step → Report
 report_within nodes count acts steps = report_of nodes (take count acts) (take count steps)
 
--- a worker finished the job of this origin and id: an act says so, which it didn't refuse, and it is shown at work in a group, as
--- the owner of the job's queue, with the job in hand
-pub record IsFinished (r : Report) (origin id : ℕ) : Type 0 where
+-- one of the first acts, so many of them, says that a worker finished the job of this origin and id, and isn't refused. Before it the
+-- worker is shown at work in a group, as the owner of the job's queue, with the job in hand; and by then the job was put at its origin,
+-- with the work that is in hand. A worker that isn't the origin says so before the last of these acts
+pub record IsFinished (nodes : ℕ) (acts : List Act) (steps : List Step) (count origin id : ℕ) : Type 0 where
   pub worker : ℕ
+  pub place : ℕ
+  pub within : place < count
+  pub earlier : worker ≢ origin → suc place < count
   pub moment : Moment
-  pub among : IsAmong moment r.moments
+  pub at : slice_get (report_of nodes acts steps).moments place ≡ Some moment
   pub of_act : moment.act ≡ act.Finish worker origin id
   pub not_refused : (why : Refusal) → moment.outcome ≢ Refused why
   pub state : State
-  pub shown : IsShown r worker state
+  pub shown : IsShown (report_within nodes place acts steps) worker state
   pub works : state.phase ≡ Normal
   pub job : InHand
   pub in_hand : IsAmong job state.hand
   pub of_job : (job.origin ≡ origin) × (job.id ≡ id)
   pub owned : owner state job.work.queue ≡ worker
+  pub put : WasPut (own_commands origin (report_within nodes place acts steps).commands) id job.work
 
 -- the groups that a moment names were given then or before
 pub record NamesGiven (given : List Group) (m : Moment) : Type 0 where
@@ -78,7 +84,7 @@ pub record Headline (nodes slots : ℕ) (acts : List Act) (r : Report) : Type 0 
   -- so jobs of one queue are in the hand of one node where two nodes work in one group
   pub one_worker : (n m : ℕ) (s t : State) → IsShown r n s → IsShown r m t → s.phase ≡ Normal → t.phase ≡ Normal → s.group ≡ t.group → (a b : InHand) → IsAmong a s.hand → IsAmong b t.hand → a.work.queue ≡ b.work.queue → n ≡ m
   -- and a job is done only once an owner of its queue finished it: in the first acts, where the command is tried in them
-  pub finished : (k : ℕ) (t : TriedAt) (id : ℕ) → IsAmong t (report_within nodes k acts steps).commands → t.node < nodes → t.tried.command ≡ Done id → IsFinished (report_within nodes k acts steps) t.node id
+  pub finished : (k : ℕ) (t : TriedAt) (id : ℕ) → IsAmong t (report_within nodes k acts steps).commands → t.node < nodes → t.tried.command ≡ Done id → IsFinished nodes acts steps k t.node id
 
 -- whatever run of its acts a schedule has, its report keeps groups and jobs
 abbrev pub EverySchedule : Type 0

@@ -1,6 +1,6 @@
 -- What a user of a cluster takes from the headline, each in words of its own.
 use Rattle.job_model.specs.declared.work.Work.{Work}
-use Rattle.std.specs.Prelude.{ℕ, suc, ◌≡◌, ◌⊎◌, ◌<◌, ◌≤◌, ◌==◌, if◌then◌else◌, true, false, option_map, unwrap_or, flat_map, List, [], ◌∷◌, ◌++◌, length, map, take, slice_get, Option, Some, None}
+use Rattle.std.specs.Prelude.{ℕ, suc, ◌≡◌, ◌≢◌, ◌⊎◌, ◌<◌, ◌≤◌, ◌==◌, if◌then◌else◌, true, false, option_map, unwrap_or, flat_map, List, [], ◌∷◌, ◌++◌, length, map, take, slice_get, Option, Some, None}
 use Rattle.job_model.specs.declared.node_command.NodeCommand.{NodeCommand as Command}
 use Rattle.job_model.specs.declared.node_command.NodeCommand.TheVariants.{Raise, Put, Done}
 use Rattle.group_task.specs.Group.{Group}
@@ -15,6 +15,7 @@ use Rattle.node_core.specs.State.{State, is_down}
 use Rattle.node_core.specs.Effects.{effect_of}
 use Rattle.node_core.specs.Start.{alone}
 use Rattle.node_core.specs.Words.{members_of, owner}
+use Rattle.histories.specs.Jobs.{WasPut}
 use Rattle.histories.specs.Lists.{IsAmong}
 use Rattle.histories.specs.declared.tried.Tried.{Tried}
 use Rattle.schedule.specs.declared.act.Act.{Act}
@@ -181,10 +182,12 @@ abbrev pub first_moments : ℕ → Report → Report
 first_moments k r = record r { moments = take k r.moments }
 
 -- no job is taken out of a journal before an owner of its queue finished it: where a Done was tried in the first acts, so many of
--- them, one of them is `finish` of its job at a worker, and by then a state of the worker is shown that works in a group, owns
--- the job's queue and has the job in hand
+-- them, one of them is `finish` of its job at a worker, which isn't refused. In the acts before that one a state of the worker is shown
+-- that works in a group, owns the job's queue and has the job in hand, and the job was put at its origin with the queue, the priority and
+-- the payload that are in hand. A worker that isn't the origin finished it in an earlier act than that of the Done
 abbrev pub DoneWasFinished : Type 0
 DoneWasFinished = (nodes slots : ℕ) (acts : List Act) (r : Report) (h : Headline nodes slots acts r) →
     (k : ℕ) (t : TriedAt) (id : ℕ) → IsAmong t (report_within nodes k acts h.steps).commands → t.node < nodes → t.tried.command ≡ Done id →
-    (worker : ℕ) × IsAmong (act.Finish worker t.node id) (take k acts)
-    × ((s : State) × (job : InHand) × ShowsWorking (first_moments k r) worker s × IsAmong job s.hand × (job.origin ≡ t.node) × (job.id ≡ id) × (owner s job.work.queue ≡ worker))
+    (worker : ℕ) × (place : ℕ) × (m : Moment) × (place < k) × (worker ≢ t.node → suc place < k) × (slice_get r.moments place ≡ Some m) × (m.act ≡ act.Finish worker t.node id) × ((why : Refusal) → m.outcome ≢ outcome.Refused why)
+    × ((s : State) × (job : InHand) × ShowsWorking (first_moments place r) worker s × IsAmong job s.hand × (job.origin ≡ t.node) × (job.id ≡ id) × (owner s job.work.queue ≡ worker)
+    × WasPut (own_commands t.node (report_within nodes place acts h.steps).commands) id job.work)
