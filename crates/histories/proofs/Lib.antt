@@ -14,6 +14,7 @@ mod Owners
 mod Jobs
 mod Pending
 mod Puts
+mod Gone
 mod Reaches
 mod Ups
 mod Wanted

@@ -18,15 +18,15 @@ use Rattle.histories.specs.Jobs.{OneJob}
 use Rattle.histories.proofs.Among.{among_either}
 
 -- the jobs that are pending have ids that were given, each to one job
-record AreGiven (d : Durable) : Type 0 where
-  below : (a : Job) → IsAmong a d.pending → a.id < d.next
-  once : (a b : Job) → IsAmong a d.pending → IsAmong b d.pending → a.id ≡ b.id → a ≡ b
+pub record AreGiven (d : Durable) : Type 0 where
+  pub below : (a : Job) → IsAmong a d.pending → a.id < d.next
+  pub once : (a b : Job) → IsAmong a d.pending → IsAmong b d.pending → a.id ≡ b.id → a ≡ b
 
 -- from the first to the second, ids were given in order, and no job came under an id that was given before
-record Goes (d e : Durable) : Type 0 where
-  next : d.next ≤ e.next
-  same : (a : Job) → IsAmong a e.pending → a.id < d.next → IsAmong a d.pending
-  given : AreGiven d → AreGiven e
+pub record Goes (d e : Durable) : Type 0 where
+  pub next : d.next ≤ e.next
+  pub same : (a : Job) → IsAmong a e.pending → a.id < d.next → IsAmong a d.pending
+  pub given : AreGiven d → AreGiven e
 
 kept_first : (b : Bool) (a job : Job) (jobs rest : List Job) → (IsAmong a rest → IsAmong a jobs) → IsAmong a (if b then job ∷ rest else rest) → IsAmong a (job ∷ jobs)
 kept_first true a job jobs rest more i = elim i [ inl e ↦ inl e | inr j ↦ inr (more j) ]
@@ -86,11 +86,11 @@ goes_wanted : (d : Durable) (wants : Option Command) → Goes d (after_wanted d 
 goes_wanted d None = goes_nowhere d
 goes_wanted d (Some c) = goes_by d c
 
-goes_settled : (kept : Bool) (s : NodeState) → Goes s.durable (settled kept s)
+pub goes_settled : (kept : Bool) (s : NodeState) → Goes s.durable (settled kept s)
 goes_settled true s = goes_wanted s.durable s.doubt
 goes_settled false s = goes_nowhere s.durable
 
-goes_after : (self nodes : ℕ) (s : NodeState) (what : What) → Goes s.durable (after self nodes s what).durable
+pub goes_after : (self nodes : ℕ) (s : NodeState) (what : What) → Goes s.durable (after self nodes s what).durable
 goes_after self nodes s (Did event) = goes_wanted s.durable (wants_at self nodes s event)
 goes_after self nodes s (Refused event fault) = goes_nowhere s.durable
 goes_after self nodes s (Faulted event) = goes_nowhere s.durable

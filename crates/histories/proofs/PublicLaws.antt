@@ -3,7 +3,7 @@
 -- Elements of lists.
 pub use Rattle.histories.proofs.Among.{among_either, among_left, among_right, each_append, each_at, each_more, each_of, each_split, sent_of_one}
 -- Claims that hold of anything.
-pub use Rattle.histories.proofs.Anything.{AnyWork, any_pending}
+pub use Rattle.histories.proofs.Anything.{AnyGroup, AnyWork, any_pending}
 -- Which command was tried is said without the work of a job, and with the event it is the whole command.
 pub use Rattle.histories.proofs.Attempts.{tried_none, tried_raise, tried_wanted, wanted_whole}
 -- The counts that a node gives rise, since its durable counter never falls.
@@ -19,7 +19,7 @@ pub use Rattle.histories.proofs.Inside.{IsInside, after_inside, alone_inside, se
 -- What is kept step by step is kept, and so are the commands and mountings of every history.
 pub use Rattle.histories.proofs.Kepts.{DoubtIsDown, doubt_after, each_kept}
 -- What an event may do to a node: to its place in a group, to its work in hand, and what it may say.
-pub use Rattle.histories.proofs.Moves.{GivenHold, Knows, Says, SaysIn}
+pub use Rattle.histories.proofs.Moves.{GivenHold, GroupMove, Knows, Says, SaysIn, assigns, calls, completes, falls, joins, starts_alone, stays, takes}
 -- The tasks that all nodes made are one book, which agrees with all moments.
 pub use Rattle.histories.proofs.OneBooks.{one_book, one_coordinator, one_task, same_task}
 -- Each message that a node sends has the node as its sender.
@@ -27,6 +27,8 @@ pub use Rattle.histories.proofs.OwnMessages.{senders}
 -- The work in hand is a job of its origin, and that job was put.
 pub use Rattle.histories.proofs.Jobs.{work_is_job}
 pub use Rattle.histories.proofs.Puts.{pending_was_put}
+-- A job whose Done was acknowledged stays done.
+pub use Rattle.histories.proofs.Gone.{done_is_gone}
 -- Each job that is done was finished by an owner of its queue.
 pub use Rattle.histories.proofs.Owners.{HasWork, OwnedAt, commands_append, done_said, has_work, one_worker, owned_after, owner_finishes}
 -- Tests on numbers, groups and phases, taken apart.

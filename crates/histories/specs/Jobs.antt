@@ -1,8 +1,8 @@
 -- Which job the work in hand is.
-use Rattle.std.specs.Prelude.{ℕ, ◌≡◌, List, length, slice_get, Some}
+use Rattle.std.specs.Prelude.{ℕ, ◌≡◌, ◌≢◌, ◌<◌, List, length, slice_get, Some}
 use Rattle.job_model.specs.declared.job.Job.{Job}
 use Rattle.job_model.specs.declared.work.Work.{Work}
-use Rattle.job_model.specs.declared.node_command.NodeCommand.TheVariants.{Put}
+use Rattle.job_model.specs.declared.node_command.NodeCommand.TheVariants.{Put, Done}
 use Rattle.node_core.specs.declared.in_hand.InHand.{InHand}
 use Rattle.node_core.specs.State.{State}
 use Rattle.histories.specs.Lists.{IsAmong}
@@ -10,7 +10,8 @@ use Rattle.histories.specs.NodeState.{NodeState, opening}
 use Rattle.histories.specs.What.{Entry}
 use Rattle.histories.specs.History.{Follows, states}
 use Rattle.histories.specs.declared.tried.Tried.{Tried}
-use Rattle.histories.specs.Marks.{commands_of, marks_of}
+use Rattle.histories.specs.Marks.{commands_of, mountings_of, marks_of}
+use Rattle.histories.specs.Kept.{Mounting}
 use Rattle.histories.specs.Bundle.{Bundle}
 use Rattle.histories.specs.Moments.{IsMoment}
 
@@ -42,3 +43,9 @@ WasPut ts id work = (t : Tried) × IsAmong t ts × (t.command ≡ Put work) × (
 abbrev pub PendingWasPut : Type 0
 PendingWasPut = (self nodes : ℕ) (h : List Entry) → Follows self nodes (opening self) h → (s : NodeState) → IsAmong s (states self nodes (opening self) h) →
     (job : Job) → IsAmong job s.durable.pending → WasPut (commands_of (marks_of self nodes h)) job.id job.work
+
+-- a job whose Done was acknowledged is in nothing that is mounted after that command
+abbrev pub DoneIsGone : Type 0
+DoneIsGone = (self nodes : ℕ) (h : List Entry) → Follows self nodes (opening self) h → (k id a : ℕ) →
+    slice_get (commands_of (marks_of self nodes h)) k ≡ Some (record { command = Done id; acked = Some a }) →
+    (w : Mounting) → IsAmong w (mountings_of (marks_of self nodes h)) → k < w.before → (job : Job) → IsAmong job w.state.pending → job.id ≢ id

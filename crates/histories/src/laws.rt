@@ -5,7 +5,7 @@ ghost use Rattle.histories.specs.Book.{OneBook, OneCoordinator, OneTask};
 ghost use Rattle.histories.specs.Counts.{FewCounts};
 ghost use Rattle.histories.specs.Ends.{EachGoesOut, HistorySendsItsOwn};
 ghost use Rattle.histories.specs.History.{HistoryGoesOn, SlotsGoOn};
-ghost use Rattle.histories.specs.Jobs.{OneJob, PendingWasPut, WorkIsJob};
+ghost use Rattle.histories.specs.Jobs.{DoneIsGone, OneJob, PendingWasPut, WorkIsJob};
 ghost use Rattle.histories.specs.Kept.{CountsOnce};
 ghost use Rattle.histories.specs.Marks.{EachKept, StepByStep};
 ghost use Rattle.histories.specs.Owners.{OneWorker, OwnerFinishes};
@@ -42,13 +42,14 @@ pub fn kept()
 {}
 
 /// A job is taken out of its node's journal only after an owner of its queue finished it, work in hand is a job that its origin
-/// had pending, and a pending job was put.
+/// had pending, a pending job was put, and one whose Done was acknowledged stays done.
 pub fn owner_finishes()
     ensures finishes { OwnerFinishes }
     ensures worker { OneWorker }
     ensures job { WorkIsJob }
     ensures one_job { OneJob }
     ensures put { PendingWasPut }
+    ensures gone { DoneIsGone }
 {}
 
 /// A history grows by one entry that is possible, and so does one on a disk of so many slots.

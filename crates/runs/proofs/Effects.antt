@@ -33,7 +33,8 @@ use Rattle.runs.specs.Run.{world_at}
 use Rattle.runs.specs.Acts.{Brings, IsStepOf, IsLawful, IsRunOf, act_outcome, what_outcome}
 use Rattle.runs.specs.Reporting.{Moment, Report, moment_of, tries, commands_at, group_of, grown, first_report, report_from}
 use Rattle.runs.specs.Headline.{report_within}
-use Rattle.runs.specs.Uses.{last_of, last_state, all_sent, event_in, RefusedChangesNothing, DoneHasItsEffect}
+use Rattle.runs.specs.Uses.{last_of, last_state, all_sent, event_in, RefusedChangesNothing, DoneHasItsEffect, NoneIsSpent}
+use Rattle.runs.proofs.Acknowledged.{among_of}
 use Rattle.runs.proofs.Finishing.{taken_there}
 use Rattle.runs.proofs.Fronts.{front_of}
 use Rattle.runs.proofs.Lawful.{no_change, no_delivery, sent_there}
@@ -311,3 +312,6 @@ done_has_its_effect nodes slots acts r h k m answer first many n event s within 
       ap (λ (x : Moment). x.state) f.is ∙ (done.1 ∙ ap (λ (e : Effect). e.state) effect),
       ap (λ (x : Moment). x.sent) f.is ∙ (done.2 ∙ ap (λ (e : Effect). e.sent) effect),
     )
+
+pub none_is_spent : NoneIsSpent
+none_is_spent nodes slots acts r h k m at = h.unspent m (among_of r.moments k m at)

@@ -23,11 +23,11 @@ in_group : (s : State) → ((s.phase ≡ Normal) ⊎ (s.phase ≡ Reorganization
 in_group s either = elim either [ inl e ↦ inr e | inr e ↦ inl e ]
 
 pub leader_is_creator : LeaderIsCreator
-leader_is_creator nodes slots acts r h n s by = sym ((h.has_book.agrees n s (is_shown r n s by.0)).0 (in_group s by.1)) ∙ by.2
+leader_is_creator nodes slots acts r h n s by = sym ((h.has_book.agrees n s (is_shown r n s by.0)).0 (in_group s by.1.0)) ∙ by.1.1
 
 pub one_leader : OneLeader
 one_leader nodes slots acts r h n m s t by_s by_t same =
-    sym by_s.2 ∙ (h.one_coordinator n m s t (is_shown r n s by_s.0) (is_shown r m t by_t.0) (in_group s by_s.1) (in_group t by_t.1) same ∙ by_t.2)
+    sym by_s.1.1 ∙ (h.one_coordinator n m s t (is_shown r n s by_s.0) (is_shown r m t by_t.0) (in_group s by_s.1.0) (in_group t by_t.1.0) same ∙ by_t.1.1)
 
 pub one_owner_each : OneOwnerEach
 one_owner_each nodes slots acts r h n m s t by_s by_t same queue =

@@ -29,6 +29,7 @@ use Rattle.runs.specs.Acts.{IsRunOf}
 use Rattle.histories.specs.Counts.{IsShort}
 use Rattle.runs.specs.Reporting.{Moment, own_commands, own_mountings, own_counts, report_of}
 use Rattle.runs.proofs.Finished.{finished_at}
+use Rattle.runs.proofs.Unspent.{none_spent}
 use Rattle.runs.specs.Headline.{IsShown, report_within, NamesGiven, HasBook, EverySchedule}
 use Rattle.runs.proofs.Runs.{history_follows, runs_are_bundles, starts_opened}
 use Rattle.runs.proofs.RunBooks.{state_moment, run_book}
@@ -168,6 +169,7 @@ every_schedule nodes slots acts steps short is_run =
       steps = steps;
       is_run = search (rules, is_run);
       reported = search rules;
+      unspent = search (rules, none_spent nodes slots acts steps short is_run);
       kept = search (rules, kept_by_report nodes slots acts steps is_run few);
       rising = search (rules, each_rises nodes slots acts steps is_run);
       once = search (rules, given_once nodes slots acts steps is_run);

@@ -21,15 +21,18 @@ mod Rooms
 mod Strangers
 mod Opened
 mod Acknowledged
+mod Dones
 mod Fences
 mod Numbers
 mod Finishing
 mod Reported
 mod Shown
+mod Unspent
 mod Ended
 mod Finished
 mod Fronts
 mod Answered
 mod Effects
 mod NewIds
+mod Leading
 pub mod PublicLaws

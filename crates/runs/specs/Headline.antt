@@ -5,6 +5,7 @@ use Rattle.group_task.specs.Group.{Group}
 use Rattle.group_task.specs.Assignment.{Assignment}
 use Rattle.node_core.specs.declared.phase.Phase.TheVariants.{Normal}
 use Rattle.node_core.specs.declared.in_hand.InHand.{InHand}
+use Rattle.node_core.specs.declared.fault.Refusal.TheVariants.{Exhausted}
 use Rattle.node_core.specs.State.{State}
 use Rattle.node_core.specs.Words.{owner}
 use Rattle.histories.specs.Lists.{IsAmong}
@@ -19,6 +20,7 @@ use Rattle.schedule.specs.declared.act.Act.TheVariants as act
 use Rattle.runs.specs.World.{start}
 use Rattle.runs.specs.declared.outcome.Outcome.TheVariants.{Refused}
 use Rattle.runs.specs.declared.outcome.Refusal.{Refusal}
+use Rattle.runs.specs.declared.outcome.Refusal.TheVariants.{Node as OfNode}
 use Rattle.runs.specs.Step.{Step}
 use Rattle.runs.specs.Acts.{IsRunOf}
 use Rattle.runs.specs.Given.{IsOnceEach}
@@ -70,6 +72,8 @@ pub record Headline (nodes slots : ℕ) (acts : List Act) (r : Report) : Type 0 
   pub steps : List Step
   pub is_run : IsRunOf nodes slots (start nodes) acts steps
   pub reported : r ≡ report_of nodes acts steps
+  -- no act is refused because a node's counter or its ids are used up
+  pub unspent : (m : Moment) → IsAmong m r.moments → m.outcome ≢ Refused (OfNode Exhausted)
   -- 2: each mounting gives the fold of the node's commands, every acknowledged one included
   pub kept : (n : ℕ) → n < nodes → Kept (own_commands n r.commands) (own_mountings n r.mounted)
   -- 3: the counts of each node rise, no group is given twice, and none is named before it is given

@@ -1,4 +1,5 @@
 -- What a user of a cluster takes from the headline, each in words of its own.
+use Rattle.job_model.specs.declared.job.Job.{Job}
 use Rattle.job_model.specs.declared.work.Work.{Work}
 use Rattle.std.specs.Prelude.{ℕ, suc, ◌≡◌, ◌≢◌, ◌⊎◌, ◌<◌, ◌≤◌, ◌==◌, if◌then◌else◌, true, false, option_map, unwrap_or, flat_map, List, [], ◌∷◌, ◌++◌, length, map, take, slice_get, Option, Some, None}
 use Rattle.job_model.specs.declared.node_command.NodeCommand.{NodeCommand as Command}
@@ -11,6 +12,7 @@ use Rattle.node_core.specs.declared.phase.Phase.TheVariants.{Down, Reorganizatio
 use Rattle.node_core.specs.declared.in_hand.InHand.{InHand}
 use Rattle.node_core.specs.declared.event.Event.{Event}
 use Rattle.node_core.specs.declared.event.Event.TheVariants as on
+use Rattle.node_core.specs.declared.fault.Refusal.TheVariants.{Exhausted}
 use Rattle.node_core.specs.State.{State, is_down}
 use Rattle.node_core.specs.Effects.{effect_of}
 use Rattle.node_core.specs.Start.{alone}
@@ -24,6 +26,7 @@ use Rattle.runs.specs.Reporting.{Moment, MountedAt, Report, own_commands}
 use Rattle.runs.specs.declared.tried.TriedAt.{TriedAt}
 use Rattle.runs.specs.declared.outcome.Outcome.TheVariants as outcome
 use Rattle.runs.specs.declared.outcome.Refusal.{Refusal}
+use Rattle.runs.specs.declared.outcome.Refusal.TheVariants.{Node as OfNode}
 use Rattle.runs.specs.World.{node_in, start}
 use Rattle.runs.specs.Run.{world_at}
 use Rattle.runs.specs.Events.{event_at}
@@ -73,6 +76,10 @@ DoneHasItsEffect = (nodes slots : ℕ) (acts : List Act) (r : Report) (h : Headl
     × (m.state ≡ (effect_of nodes n (node_in (world_at nodes (start nodes) (take k h.steps)).states n).durable.pending event (unwrap_or answer 0) s).state)
     × (m.sent ≡ (effect_of nodes n (node_in (world_at nodes (start nodes) (take k h.steps)).states n).durable.pending event (unwrap_or answer 0) s).sent)
 
+-- no act is refused because its node's counter or its ids are used up
+abbrev pub NoneIsSpent : Type 0
+NoneIsSpent = (nodes slots : ℕ) (acts : List Act) (r : Report) → Headline nodes slots acts r → (k : ℕ) (m : Moment) → slice_get r.moments k ≡ Some m → m.outcome ≢ outcome.Refused (OfNode Exhausted)
+
 -- ---- what an act is answered
 
 -- the command that an act asks its node for: a job is put, a recovery raises the counter
@@ -104,6 +111,12 @@ JobsAreKept = (nodes slots : ℕ) (acts : List Act) (r : Report) → Headline no
     (k id : ℕ) (work : Work) → slice_get (own_commands w.node r.commands) k ≡ Some (record { command = Put work; acked = Some id }) → k < w.mounting.before →
     ((j : ℕ) (t : Tried) → k < j → j < w.mounting.before → slice_get (own_commands w.node r.commands) j ≡ Some t → t.command ≡ Done id → ⊥) →
     IsAmong (record { id = id; work = work }) w.mounting.state.pending
+
+-- a job that was acknowledged as done stays done: no later mounting of the node has a job of its id pending
+abbrev pub DonesAreKept : Type 0
+DonesAreKept = (nodes slots : ℕ) (acts : List Act) (r : Report) → Headline nodes slots acts r → (w : MountedAt) → IsAmong w r.mounted → w.node < nodes →
+    (k id a : ℕ) → slice_get (own_commands w.node r.commands) k ≡ Some (record { command = Done id; acked = Some a }) → k < w.mounting.before →
+    (job : Job) → IsAmong job w.mounting.state.pending → job.id ≢ id
 
 -- a command that wasn't acknowledged is the last of its life: a mounting of the node comes before its next command
 abbrev pub DoubtsApart : Type 0
@@ -146,13 +159,22 @@ Shows r n s = (slice_get r.opening n ≡ Some s) ⊎ ((m : Moment) × IsAmong m 
 abbrev pub ShowsWorking : Report → ℕ → State → Type 0
 ShowsWorking r n s = Shows r n s × (s.phase ≡ Normal)
 
--- the report shows this state of the node, which leads the group that it works in or brings together
+-- the node of this state leads the group that it works in or brings together
+abbrev pub Leads : ℕ → State → Type 0
+Leads n s = ((s.phase ≡ Normal) ⊎ (s.phase ≡ Reorganization)) × (s.coordinator ≡ n)
+
+-- the report shows such a state of the node
 abbrev pub ShowsLeading : Report → ℕ → State → Type 0
-ShowsLeading r n s = Shows r n s × ((s.phase ≡ Normal) ⊎ (s.phase ≡ Reorganization)) × (s.coordinator ≡ n)
+ShowsLeading r n s = Shows r n s × Leads n s
 
 -- who leads a group is the node that its number names
 abbrev pub LeaderIsCreator : Type 0
 LeaderIsCreator = (nodes slots : ℕ) (acts : List Act) (r : Report) → Headline nodes slots acts r → (n : ℕ) (s : State) → ShowsLeading r n s → s.group.creator ≡ n
+
+-- a leader's counts rise: of two moments of a node that lead a group the later one has no smaller count
+abbrev pub LeaderCountsRise : Type 0
+LeaderCountsRise = (nodes slots : ℕ) (acts : List Act) (r : Report) → Headline nodes slots acts r → (n j k : ℕ) (m l : Moment) → n < nodes → j < k →
+    slice_get r.moments j ≡ Some m → slice_get r.moments k ≡ Some l → m.node ≡ n → l.node ≡ n → Leads n m.state → Leads n l.state → m.state.group.count ≤ l.state.group.count
 
 -- a group number is a fence: two moments, of any nodes, that lead one group are of one node
 abbrev pub OneLeader : Type 0

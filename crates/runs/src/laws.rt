@@ -8,9 +8,9 @@ ghost use Rattle.runs.specs.Headline.{EverySchedule};
 ghost use Rattle.runs.specs.Tagged.{RunsAreKept};
 ghost use Rattle.runs.specs.Run.{RunsAreBundles, RunBook};
 ghost use Rattle.runs.specs.Strangers.{NoStrangers};
-ghost use Rattle.runs.specs.Uses.{ActsAreReported, RaisesAreKept, JobsAreKept, DoubtsApart};
+ghost use Rattle.runs.specs.Uses.{ActsAreReported, RaisesAreKept, JobsAreKept, DonesAreKept, DoubtsApart};
 ghost use Rattle.runs.specs.Uses.{GivenAtOnePlace, LaterIsGreater, NamedWasGiven};
-ghost use Rattle.runs.specs.Uses.{RefusedChangesNothing, DoneHasItsEffect, AnsweredIsAcknowledged, IdsAreNew, LeaderIsCreator};
+ghost use Rattle.runs.specs.Uses.{RefusedChangesNothing, DoneHasItsEffect, NoneIsSpent, AnsweredIsAcknowledged, IdsAreNew, LeaderIsCreator, LeaderCountsRise};
 ghost use Rattle.runs.specs.Uses.{OneLeader, OneOwnerEach, MembersAgree, OneWorkerEach, DoneWasFinished};
 
 /// Groups and jobs are kept on every schedule: whatever run its acts have, each mounting of a node gives what a front of its
@@ -67,10 +67,12 @@ pub fn acts_are_reported()
     ensures { ActsAreReported }
 {}
 
-/// An act that is refused changes nothing, and one that is done has the effect of its event's row of the table.
+/// An act that is refused changes nothing, and one that is done has the effect of its event's row of the table. No run is long enough
+/// for a node to be out of counts or ids.
 pub fn acts_do_as_answered()
     ensures refused { RefusedChangesNothing }
     ensures done { DoneHasItsEffect }
+    ensures unspent { NoneIsSpent }
 {}
 
 /// What an act was answered is acknowledged: its node tried one command in it, and the disk took that command with that answer.
@@ -79,10 +81,11 @@ pub fn answered_is_acknowledged()
 {}
 
 /// What a node's disk acknowledged is there: no later mounting of the node gives a smaller count than a raise gave, and each
-/// gives a job that was taken, unless its completion was tried between. One command of a life at most is in doubt.
+/// gives a job that was taken, unless its completion was tried between, and none whose completion was acknowledged. One command of a life at most is in doubt.
 pub fn acknowledged_is_kept()
     ensures raises { RaisesAreKept }
     ensures jobs { JobsAreKept }
+    ensures dones { DonesAreKept }
     ensures doubts { DoubtsApart }
 {}
 
@@ -91,9 +94,10 @@ pub fn ids_are_new()
     ensures { IdsAreNew }
 {}
 
-/// Who leads a group is the node that the group's number names.
+/// Who leads a group is the node that the group's number names, and the counts of the groups that a node leads rise.
 pub fn number_names_the_leader()
-    ensures { LeaderIsCreator }
+    ensures leader { LeaderIsCreator }
+    ensures rises { LeaderCountsRise }
 {}
 
 /// A group's number is a fence: whoever compares numbers for equality takes two leaders of one number for one node, is told

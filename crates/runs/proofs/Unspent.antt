@@ -1,0 +1,213 @@
+-- No run of acts is long enough to use up a counter or the ids.
+use Rattle.std.proofs.Common.{◌≡◌, ◌≢◌, ℕ, ◌+◌, ◌^◌, ◌<◌, ◌≤◌, Bool, true, false, List, [], ◌∷◌, length, refl, sym, ◌∙◌, ap, subst, inl, inr, arith, Option, Some, None}
+use Rattle.std.specs.Prelude.{nat_lt, ◌&&◌, if◌then◌else◌, MatchResult, Result, Ok, Err}
+use Rattle.job_model.specs.declared.node_command.NodeCommand.{NodeCommand as Command}
+use Rattle.job_model.specs.declared.node_command.NodeCommand.TheVariants.{Raise, Put, Done}
+use Rattle.job_model.specs.Durable.{Durable}
+use Rattle.job_model.specs.Fold.{after_command, after_wanted}
+use Rattle.node_core.specs.NodeStep.{IsSpent}
+use Rattle.wire_msg.specs.Envelope.{Envelope}
+use Rattle.node_core.specs.declared.event.Event.TheVariants as on
+use Rattle.sim_net.specs.declared.fault.NetFault.{NetFault}
+use Rattle.sim_net.specs.Network.{Network, message_at, delivery, after_lost, after_cut, after_mend}
+use Rattle.node_core.specs.declared.fault.Refusal.TheVariants.{Core, Full, Exhausted, Worn}
+use Rattle.histories.specs.Lists.{IsAmong}
+use Rattle.histories.specs.NodeState.{NodeState, opening, wants_at, settled}
+use Rattle.histories.specs.declared.what.What.{What}
+use Rattle.histories.specs.declared.what.What.TheVariants.{Did, Refused, Faulted, Rests, Crashed, Recovered, MountFailed, RaiseFailed, RaiseRefused}
+use Rattle.histories.specs.declared.what.Rest.TheVariants.{Nothing, Compacted, CompactDown, CompactWorn}
+use Rattle.histories.specs.After.{after}
+use Rattle.histories.specs.Possible.{IsPossible}
+use Rattle.histories.specs.Counts.{IsShort}
+use Rattle.histories.specs.Marks.{IsNone}
+use Rattle.histories.specs.What.{IsOf}
+use Rattle.histories.proofs.PublicLaws.{DoubtIsDown, at_down, doubt_after}
+use Rattle.schedule.specs.declared.act.Act.{Act}
+use Rattle.schedule.specs.declared.act.Act.TheVariants as act
+use Rattle.runs.specs.declared.outcome.Outcome.TheVariants as outcome
+use Rattle.runs.specs.declared.outcome.Refusal.{Refusal as ActRefusal}
+use Rattle.runs.specs.declared.outcome.Refusal.TheVariants.{Node, Net as OfNet, Stranger}
+use Rattle.runs.specs.World.{World, start}
+use Rattle.runs.specs.Step.{Step, Takes, Changes, Denies, world_after}
+use Rattle.runs.specs.Acts.{At, Brings, IsCompaction, IsStepOf, IsLawful, IsRunOf, act_outcome, what_outcome}
+use Rattle.runs.specs.Reporting.{Moment, report_of}
+use Rattle.runs.proofs.Keeping.{AllStates, states_keep}
+use Rattle.runs.proofs.Reports.{moments_from, moments_are}
+use Rattle.runs.proofs.Runs.{node_there, opened}
+
+-- so many counts and ids were given at most
+record IsBelow (limit : ℕ) (d : Durable) : Type 0 where
+  counts : d.counter ≤ limit
+  ids : d.next ≤ limit
+
+-- by how much a doubt may make more of them
+abbrev doubts : Option Command → ℕ
+doubts None = 0
+doubts (Some c) = 1
+
+command_below : (limit : ℕ) (d : Durable) (c : Command) → IsBelow limit d → IsBelow (limit + 1) (after_command d c)
+command_below limit d Raise h = record { counts = omega (arith, h.counts); ids = omega (arith, h.ids) }
+command_below limit d (Put work) h = record { counts = omega (arith, h.counts); ids = omega (arith, h.ids) }
+command_below limit d (Done id) h = record { counts = omega (arith, h.counts); ids = omega (arith, h.ids) }
+
+below_more : (low high : ℕ) (d : Durable) → low ≤ high → IsBelow low d → IsBelow high d
+below_more low high d le h = record { counts = omega (arith, h.counts, le); ids = omega (arith, h.ids, le) }
+
+wanted_below : (limit : ℕ) (d : Durable) (wants : Option Command) → IsBelow limit d → IsBelow (limit + doubts wants) (after_wanted d wants)
+wanted_below limit d None h = below_more limit (limit + 0) d (omega arith) h
+wanted_below limit d (Some c) h = command_below limit d c h
+
+settled_below : (limit : ℕ) (kept : Bool) (s : NodeState) → IsBelow limit s.durable → IsBelow (limit + doubts s.doubt) (settled kept s)
+settled_below limit true s h = wanted_below limit s.durable s.doubt h
+settled_below limit false s h = below_more limit (limit + doubts s.doubt) s.durable (omega arith) h
+
+-- a doubt is one more step that was made
+record FewGiven (limit self : ℕ) (s : NodeState) : Type 0 where
+  low : ℕ
+  sum : low + doubts s.doubt ≤ limit
+  below : IsBelow low s.durable
+  doubt : DoubtIsDown self s
+
+no_doubts : (doubt : Option Command) → IsNone doubt → doubts doubt ≡ 0
+no_doubts None none = refl
+no_doubts (Some c) none = absurd none
+
+low_doubts : (wants : Option Command) → doubts wants ≤ 1
+low_doubts None = omega arith
+low_doubts (Some c) = omega arith
+
+no_doubt : (self nodes : ℕ) (s : NodeState) (what : What) → IsPossible self nodes s what → DoubtIsDown self s → DoubtIsDown self (after self nodes s what)
+no_doubt self nodes s what may h = doubt_after self nodes s what may h
+
+few_more : (limit self nodes : ℕ) (s : NodeState) (what : What) → IsPossible self nodes s what → FewGiven limit self s → FewGiven (limit + 1) self (after self nodes s what)
+few_more limit self nodes s (Did event) may h = record {
+  low = h.low + doubts (wants_at self nodes s event);
+  sum = elim h.doubt [
+    | inl none ↦ omega (arith, h.sum, low_doubts (wants_at self nodes s event), no_doubts s.doubt none)
+    | inr is ↦ omega (arith, h.sum, ap doubts (at_down self nodes s event is may.0 may.1.by_core).wants)
+  ];
+  below = wanted_below h.low s.durable (wants_at self nodes s event) h.below;
+  doubt = no_doubt self nodes s (Did event) may h.doubt;
+}
+few_more limit self nodes s (Faulted event) may h = record {
+  low = h.low;
+  sum = omega (arith, h.sum, low_doubts (wants_at self nodes s event));
+  below = h.below;
+  doubt = no_doubt self nodes s (Faulted event) may h.doubt;
+}
+few_more limit self nodes s (Recovered kept) may h = record {
+  low = h.low + doubts s.doubt + 1;
+  sum = omega (arith, h.sum);
+  below = command_below (h.low + doubts s.doubt) (settled kept s) Raise (settled_below h.low kept s h.below);
+  doubt = no_doubt self nodes s (Recovered kept) may h.doubt;
+}
+few_more limit self nodes s (RaiseFailed kept) may h = record {
+  low = h.low + doubts s.doubt;
+  sum = omega (arith, h.sum);
+  below = settled_below h.low kept s h.below;
+  doubt = no_doubt self nodes s (RaiseFailed kept) may h.doubt;
+}
+few_more limit self nodes s (Refused event fault) may h = record { low = h.low; sum = omega (arith, h.sum); below = h.below; doubt = h.doubt }
+few_more limit self nodes s (Rests rest) may h = record { low = h.low; sum = omega (arith, h.sum); below = h.below; doubt = h.doubt }
+few_more limit self nodes s Crashed may h = record { low = h.low; sum = omega (arith, h.sum); below = h.below; doubt = no_doubt self nodes s Crashed may h.doubt }
+few_more limit self nodes s MountFailed may h = record { low = h.low; sum = omega (arith, h.sum); below = h.below; doubt = h.doubt }
+few_more limit self nodes s (RaiseRefused kept) may h = record { low = h.low; sum = omega (arith, h.sum); below = h.below; doubt = h.doubt }
+
+-- ---- all nodes
+
+few_stay : (limit self : ℕ) (s : NodeState) → FewGiven limit self s → FewGiven (limit + 1) self s
+few_stay limit self s h = record { low = h.low; sum = omega (arith, h.sum); below = h.below; doubt = h.doubt }
+
+step_few : (slots nodes limit : ℕ) (w : World) (step : Step) → IsLawful slots nodes w step → AllStates (FewGiven limit) w → AllStates (FewGiven (limit + 1)) (world_after nodes w step)
+step_few slots nodes limit w (Takes n number what) may h =
+    states_keep (FewGiven (limit + 1)) nodes w n number what may.0 may.1 (few_more limit n nodes may.0 what may.2 (h n may.0 may.1)) (λ k s at. few_stay limit k s (h k s at))
+step_few slots nodes limit w (Changes net) may h = λ k s at. few_stay limit k s (h k s at)
+step_few slots nodes limit w (Denies named why) may h = λ k s at. few_stay limit k s (h k s at)
+
+-- ---- what is refused
+
+spent_high : (limit : ℕ) (d : Durable) (wants : Option Command) → IsBelow limit d → limit + 1 < 2 ^ 64 → IsSpent d wants → ⊥
+spent_high limit d None h short spent = spent
+spent_high limit d (Some Raise) h short spent = omega (arith, h.counts, short, spent)
+spent_high limit d (Some (Put work)) h short spent = omega (arith, h.ids, short, spent)
+spent_high limit d (Some (Done id)) h short spent = spent
+
+what_unspent : (limit self nodes first : ℕ) (s : NodeState) (what : What) (a : Act) → IsPossible self nodes s what → FewGiven limit self s → limit + 1 < 2 ^ 64 → what_outcome self nodes first s what a ≢ outcome.Refused (Node Exhausted)
+what_unspent limit self nodes first s (Did event) a may h short is = absurd cc
+what_unspent limit self nodes first s (Refused event (Core fault)) a may h short is = absurd cc
+what_unspent limit self nodes first s (Refused event Full) a may h short is = absurd cc
+what_unspent limit self nodes first s (Refused event Exhausted) a may h short is = spent_high h.low s.durable (wants_at self nodes s event) h.below (omega (arith, h.sum, short)) may.1.1
+what_unspent limit self nodes first s (Refused event Worn) a may h short is = absurd cc
+what_unspent limit self nodes first s (Faulted event) a may h short is = absurd cc
+what_unspent limit self nodes first s (Rests Nothing) a may h short is = absurd cc
+what_unspent limit self nodes first s (Rests Compacted) a may h short is = absurd cc
+what_unspent limit self nodes first s (Rests CompactDown) a may h short is = absurd cc
+what_unspent limit self nodes first s (Rests CompactWorn) a may h short is = absurd cc
+what_unspent limit self nodes first s Crashed (act.Compact m) may h short is = absurd cc
+what_unspent limit self nodes first s Crashed _ may h short is = absurd cc
+what_unspent limit self nodes first s (Recovered kept) a may h short is = absurd cc
+what_unspent limit self nodes first s MountFailed a may h short is = absurd cc
+what_unspent limit self nodes first s (RaiseFailed kept) a may h short is = absurd cc
+what_unspent limit self nodes first s (RaiseRefused kept) a may h short is = omega (arith, may.2, (settled_below h.low kept s h.below).counts, h.sum, short)
+
+-- what no node refuses, the network refuses, or it is at a node outside the cluster
+abbrev NotSpent : ActRefusal → Type 0
+NotSpent why = why ≡ Node Exhausted → ⊥
+
+at_denied : (known : Bool) (n k : ℕ) (P : What → Type 0) (named : ℕ) (why : ActRefusal) → At known n k P (Denies named why) → NotSpent why
+at_denied true n k P named why h is = absurd cc (h.1)
+at_denied false n k P named why h is = (let stranger : why ≡ Stranger = cc h in let both : Stranger ≡ Node Exhausted = sym stranger ∙ is in absurd cc)
+
+net_denied : (f : NetFault) (named : ℕ) (why : ActRefusal) → Denies named why ≡ Denies 0 (OfNet f) → NotSpent why
+net_denied f named why h is = (let net : why ≡ OfNet f = cc h in let both : OfNet f ≡ Node Exhausted = sym net ∙ is in absurd cc)
+
+brings_denied : (nodes : ℕ) (net : Network) (k : ℕ) (d : Result Envelope NetFault) (named : ℕ) (why : ActRefusal) → Brings nodes net k d (Denies named why) → NotSpent why
+brings_denied nodes net k (Ok x) named why h is = at_denied (nat_lt x.receiver nodes) x.receiver k (IsOf (on.Deliver x)) named why h is
+brings_denied nodes net k (Err f) named why h is = (let net_is : why ≡ OfNet f = cc h in let both : OfNet f ≡ Node Exhausted = sym net_is ∙ is in absurd cc)
+
+loses_denied : (net : Network) (k : ℕ) (d : Result Envelope NetFault) (named : ℕ) (why : ActRefusal)
+    → MatchResult d (λ (x : Envelope). Denies named why ≡ Changes (after_lost net k)) (λ (f : NetFault). Denies named why ≡ Denies 0 (OfNet f)) → NotSpent why
+loses_denied net k (Ok x) named why h is = absurd cc
+loses_denied net k (Err f) named why h is = net_denied f named why h is
+
+link_denied : (known : Bool) (net : Network) (named : ℕ) (why : ActRefusal) → Denies named why ≡ (if known then Changes net else Denies 0 Stranger) → NotSpent why
+link_denied true net named why h is = absurd cc
+link_denied false net named why h is = (let stranger : why ≡ Stranger = cc h in let both : Stranger ≡ Node Exhausted = sym stranger ∙ is in absurd cc)
+
+denied_unspent : (nodes : ℕ) (w : World) (a : Act) (named : ℕ) (why : ActRefusal) → IsStepOf nodes w a (Denies named why) → NotSpent why
+denied_unspent nodes w (act.Timer n timer) named why h = at_denied (nat_lt n nodes) n 0 (IsOf (on.Timer timer)) named why h
+denied_unspent nodes w (act.Deliver k) named why h = brings_denied nodes w.net k (delivery w.net k) named why h
+denied_unspent nodes w (act.Lose k) named why h = loses_denied w.net k (message_at w.net k) named why h
+denied_unspent nodes w (act.Cut x y) named why h = link_denied (nat_lt x nodes && nat_lt y nodes) (after_cut w.net x y) named why h
+denied_unspent nodes w (act.Mend x y) named why h = link_denied (nat_lt x nodes && nat_lt y nodes) (after_mend w.net x y) named why h
+denied_unspent nodes w (act.Submit n work) named why h = at_denied (nat_lt n nodes) n 0 (IsOf (on.Submit work)) named why h
+denied_unspent nodes w (act.Finish n origin id) named why h = at_denied (nat_lt n nodes) n 0 (IsOf (on.Finish origin id)) named why h
+denied_unspent nodes w (act.Arm n calls) named why h = at_denied (nat_lt n nodes) n 0 (λ (x : What). x ≡ Rests Nothing) named why h
+denied_unspent nodes w (act.Crash n fill) named why h = at_denied (nat_lt n nodes) n 0 (λ (x : What). x ≡ Crashed) named why h
+denied_unspent nodes w (act.Recover n) named why h = at_denied (nat_lt n nodes) n 0 (IsOf on.Recover) named why h
+denied_unspent nodes w (act.Compact n) named why h = at_denied (nat_lt n nodes) n 0 IsCompaction named why h
+
+step_unspent : (slots nodes limit : ℕ) (w : World) (a : Act) (step : Step) → IsStepOf nodes w a step → IsLawful slots nodes w step → AllStates (FewGiven limit) w → limit + 1 < 2 ^ 64 → act_outcome nodes w a step ≢ outcome.Refused (Node Exhausted)
+step_unspent slots nodes limit w a (Takes n number what) of may h short is =
+    what_unspent limit n nodes (length w.net.sent) may.0 what a may.2 (h n may.0 may.1) short (subst (λ (x : NodeState). what_outcome n nodes (length w.net.sent) x what a ≡ outcome.Refused (Node Exhausted)) (node_there w.states n may.0 may.1) is)
+step_unspent slots nodes limit w a (Changes net) of may h short is = absurd cc
+step_unspent slots nodes limit w a (Denies named why) of may h short is = denied_unspent nodes w a named why of (cc is)
+
+all_unspent : (slots nodes limit : ℕ) (acts : List Act) (steps : List Step) (w : World) → IsRunOf nodes slots w acts steps → AllStates (FewGiven limit) w → limit + length acts < 2 ^ 64
+    → (m : Moment) → IsAmong m (moments_from nodes w acts steps) → m.outcome ≢ outcome.Refused (Node Exhausted)
+all_unspent slots nodes limit [] steps w run h short m i is = absurd i
+all_unspent slots nodes limit (a ∷ acts) [] w run h short m i is = absurd i
+all_unspent slots nodes limit (a ∷ acts) (step ∷ steps) w run h short m i is = elim i [
+  | inl e ↦ step_unspent slots nodes limit w a step run.0 run.1 h (omega (arith, short)) (ap (λ (x : Moment). x.outcome) (sym e) ∙ is)
+  | inr later ↦ all_unspent slots nodes (limit + 1) acts steps (world_after nodes w step) run.2 (step_few slots nodes limit w step run.1 h) (omega (arith, short)) m later is
+]
+
+opens_few : (nodes : ℕ) → AllStates (FewGiven 1) (start nodes)
+opens_few nodes n s at =
+    let first : s ≡ opening n = opened nodes 0 n s n (omega arith) at in
+    subst (λ (x : NodeState). FewGiven 1 n x) (sym first) (record { low = 1; sum = omega arith; below = record { counts = omega arith; ids = omega arith }; doubt = inl tt })
+
+pub none_spent : (nodes slots : ℕ) (acts : List Act) (steps : List Step) → IsShort acts → IsRunOf nodes slots (start nodes) acts steps
+    → (m : Moment) → IsAmong m (report_of nodes acts steps).moments → m.outcome ≢ outcome.Refused (Node Exhausted)
+none_spent nodes slots acts steps short run m i is =
+    all_unspent slots nodes 1 acts steps (start nodes) run (opens_few nodes) (omega (arith, short)) m (subst (λ (ms : List Moment). IsAmong m ms) (moments_are nodes acts steps) i) is
