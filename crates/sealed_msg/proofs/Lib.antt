@@ -1,0 +1,3 @@
+pub mod Cuts
+pub mod Tags
+pub mod Openings

@@ -1,0 +1,4 @@
+pub mod Hmac
+pub mod Stamps
+pub mod Sealing
+pub mod Cluster
