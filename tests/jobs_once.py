@@ -6,10 +6,13 @@
 Each node is a process; this script carries their messages at once, loses LOSS of 100, ticks where a node says that something is due, submits the jobs at the
 coordinator, at most WINDOW of them on their way, and finishes what a node takes at once. It counts the executions (lines `take`) and the messages (lines
 `send`) of each job, and how long a job waits from its submission until it is gone. With JOBS left out it runs 2,000 jobs without loss and with 5 of 100, and
-checks both; the last line counts the checks."""
+checks both; the last line counts the checks. A run ends where the group changes, as it does on a machine that is too busy for its nodes: it says nothing then,
+and another one is made, TRIES at most."""
 import os, random, selectors, subprocess, sys, tempfile, time
 
-NODES, ROUND_TRIP, WINDOW = 3, 0.020, 8
+NODES, ROUND_TRIP, WINDOW, TRIES = 3, 0.020, 8, 5
+# The nodes' files, where that can be, in memory: how long a sync takes is another matter.
+MEMORY = "/dev/shm" if os.access("/dev/shm", os.W_OK) else None
 
 
 class Bed:
@@ -79,7 +82,7 @@ class Bed:
         leader, begun, fed = self.leader(), time.monotonic(), 0
         self.taken = self.sent = self.groups_seen = 0
         until = begun + 60 + jobs / 50
-        while len(self.waits) < jobs and time.monotonic() < until:
+        while len(self.waits) < jobs and self.groups_seen == 0 and time.monotonic() < until:
             text = b""
             while fed < jobs and fed - len(self.waits) < WINDOW:
                 text += b"submit %d %08x\n" % (fed % 16, fed)
@@ -95,10 +98,19 @@ class Bed:
 
 
 def worked(program, jobs, loss, seed):
-    with tempfile.TemporaryDirectory() as folder:
+    with tempfile.TemporaryDirectory(dir=MEMORY) as folder:
         seen = Bed(program, folder, loss, seed).run(jobs)
     print(f"{seen['jobs']} of {jobs} jobs, {loss} of 100 messages lost: {seen['executions']:.4f} executions and {seen['messages']:.2f} messages a job, "
           f"the longest wait {seen['longest']:.1f} round trips, {seen['seconds']:.1f} s, {seen['groups']} changes of groups")
+    return seen
+
+
+def in_one_group(program, jobs, loss):
+    """What the first run cost in which the group stayed, or the last run."""
+    for seed in range(1, TRIES + 1):
+        seen = worked(program, jobs, loss, seed)
+        if seen["groups"] == 0:
+            break
     return seen
 
 
@@ -108,8 +120,8 @@ def main():
     if sys.argv[3:]:
         worked(program, jobs, float(sys.argv[3]), int(sys.argv[4]))
         return 0
-    sure, lossy = worked(program, jobs, 0, 1), worked(program, jobs, 5, 1)
-    checks = [sure["jobs"] == jobs, sure["executions"] <= 1.01, sure["messages"] <= 2.5, lossy["jobs"] == jobs, lossy["executions"] <= 1.1,
+    sure, lossy = in_one_group(program, jobs, 0), in_one_group(program, jobs, 5)
+    checks = [sure["groups"] == lossy["groups"] == 0, sure["jobs"] == jobs, sure["executions"] <= 1.01, sure["messages"] <= 2.5, lossy["jobs"] == jobs, lossy["executions"] <= 1.1,
               lossy["longest"] <= sure["longest"] + 40]
     print(f"{sum(checks)} passed, {len(checks) - sum(checks)} failed")
     return 0 if all(checks) else 1

@@ -117,7 +117,8 @@ def main():
         print("0 passed, 0 failed")
         return 0
     passed = failed = 0
-    with tempfile.TemporaryDirectory() as folder:
+    # in memory, where that can be: a sync takes what it is told to take
+    with tempfile.TemporaryDirectory(dir="/dev/shm" if os.access("/dev/shm", os.W_OK) else None) as folder:
         library = os.path.join(folder, "slow_sync.so")
         subprocess.run(["cc", "-shared", "-fPIC", "-O1", "-o", library, os.path.join(HERE, "shim", "slow_sync.c"), "-ldl"], check=True)
         look = selectors.DefaultSelector()
