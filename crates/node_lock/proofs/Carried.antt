@@ -1,11 +1,12 @@
 -- What the links carry.
-use Rattle.std.proofs.Common.{◌≡◌, ◌≢◌, ℕ, ◌+◌, ◌<◌, ◌==◌, Bool, true, false, cond, List, [], ◌∷◌, ◌++◌, length, take, get_or, refl, ap, sym, ◌∙◌, subst, inl, inr, arith}
-use Rattle.std.proofs.lemmas.List.{take_more, append-nil}
+use Rattle.std.proofs.Common.{◌≡◌, ◌≢◌, ℕ, zero, suc, ◌+◌, ◌<◌, ◌==◌, Bool, true, false, cond, List, [], ◌∷◌, ◌++◌, length, take, drop, get_or, slice_index_or, refl, ap, sym, ◌∙◌, subst, inl, inr, arith}
+use Rattle.std.proofs.lemmas.List.{take_more, length-append}
 use Rattle.std.proofs.lemmas.List.Elements.{filter-append}
 use Rattle.std.proofs.lemmas.Bool.Decides.{nat_tests}
 use Rattle.wire_msg.specs.Envelope.{Envelope}
 use Rattle.link_ring.specs.Sides.{Side}
-use Rattle.node_lock.specs.Sending.{addressed_to, PutsSome, SameLink, SentTo}
+use Rattle.node_lock.specs.HeldView.{AreEnds, IsOther}
+use Rattle.node_lock.specs.Sending.{addressed_to, PutsSome, SameLink, SentTo, SentOn}
 
 pub puts_append : (cap : ℕ) (xs ms ys ns zs : List Envelope) → PutsSome cap xs ms ys → PutsSome cap ys ns zs → PutsSome cap xs (ms ++ ns) zs
 puts_append cap xs [] ys ns zs p q = subst (λ (l : List Envelope). PutsSome cap l ns zs) p q
@@ -28,22 +29,49 @@ addressed_no j m e = addressed_one_by j m false (grind (arith, nat_tests))
 next_sent : (j : ℕ) (sent : List Envelope) (i : ℕ) (m : Envelope) → i < length sent → m ≡ get_or sent i m → addressed_to j (take (i + 1) sent) ≡ addressed_to j (take i sent) ++ addressed_to j (m ∷ [])
 next_sent j sent i m lt is = ap (addressed_to j) (take_more sent i m lt ∙ ap (λ x. take i sent ++ x ∷ []) (sym is)) ∙ addressed-append j (take i sent) (m ∷ [])
 
--- the next message, which was for the end's receiver and was put or lost
-pub sent_more : (sent : List Envelope) (i : ℕ) (m : Envelope) (old mid new : Side) → i < length sent → m ≡ get_or sent i m → SentTo (take i sent) old mid → m.receiver ≡ mid.receiver → SameLink mid new → PutsSome mid.capacity mid.messages (m ∷ []) new.messages
-    → SentTo (take (i + 1) sent) old new
-sent_more sent i m old mid new lt is s to same put =
-    let put' : PutsSome old.capacity mid.messages (m ∷ []) new.messages = subst (λ (n : ℕ). PutsSome n mid.messages (m ∷ []) new.messages) s.same.capacity put in
-    let here : addressed_to old.receiver (m ∷ []) ≡ m ∷ [] = addressed_yes old.receiver m (to ∙ s.same.receiver) in
-    let all : addressed_to old.receiver (take (i + 1) sent) ≡ addressed_to old.receiver (take i sent) ++ m ∷ [] = next_sent old.receiver sent i m lt is ∙ ap (λ l. addressed_to old.receiver (take i sent) ++ l) here in
+-- the next message, which went onto this link or to another one
+sent_next : (sent : List Envelope) (i : ℕ) (m : Envelope) (old mid new : Side) → i < length sent → m ≡ get_or sent i m → SentTo (take i sent) old mid → SentTo (m ∷ []) mid new → SentTo (take (i + 1) sent) old new
+sent_next sent i m old mid new lt is s next =
+    let put : PutsSome old.capacity mid.messages (addressed_to old.receiver (m ∷ [])) new.messages =
+    subst (λ (j : ℕ). PutsSome old.capacity mid.messages (addressed_to j (m ∷ [])) new.messages) s.same.receiver
+    (subst (λ (n : ℕ). PutsSome n mid.messages (addressed_to mid.receiver (m ∷ [])) new.messages) s.same.capacity next.messages) in
     record {
-      same = record { sender = same.sender ∙ s.same.sender; receiver = same.receiver ∙ s.same.receiver; capacity = same.capacity ∙ s.same.capacity };
-      messages = subst (λ (l : List Envelope). PutsSome old.capacity old.messages l new.messages) (sym all) (puts_append old.capacity old.messages (addressed_to old.receiver (take i sent)) mid.messages (m ∷ []) new.messages s.messages put');
+      same = record { sender = next.same.sender ∙ s.same.sender; receiver = next.same.receiver ∙ s.same.receiver; capacity = next.same.capacity ∙ s.same.capacity };
+      messages = subst (λ (l : List Envelope). PutsSome old.capacity old.messages l new.messages) (sym (next_sent old.receiver sent i m lt is))
+          (puts_append old.capacity old.messages (addressed_to old.receiver (take i sent)) mid.messages (addressed_to old.receiver (m ∷ [])) new.messages s.messages put);
     }
 
--- the next message, which was for another node
-pub sent_past : (sent : List Envelope) (i : ℕ) (m : Envelope) (old mid : Side) → i < length sent → m ≡ get_or sent i m → SentTo (take i sent) old mid → m.receiver ≢ mid.receiver
-    → SentTo (take (i + 1) sent) old mid
-sent_past sent i m old mid lt is s to =
-    let none : addressed_to old.receiver (m ∷ []) ≡ [] = addressed_no old.receiver m (λ e. to (e ∙ sym s.same.receiver)) in
-    let all : addressed_to old.receiver (take (i + 1) sent) ≡ addressed_to old.receiver (take i sent) = next_sent old.receiver sent i m lt is ∙ (ap (λ l. addressed_to old.receiver (take i sent) ++ l) none ∙ append-nil (addressed_to old.receiver (take i sent))) in
-    record { same = s.same; messages = subst (λ (l : List Envelope). PutsSome old.capacity old.messages l mid.messages) (sym all) s.messages }
+pub sent_on_more : (sent : List Envelope) (i : ℕ) (m : Envelope) (old mid new : List Side) → i < length sent → m ≡ get_or sent i m → SentOn (take i sent) old mid → SentOn (m ∷ []) mid new → SentOn (take (i + 1) sent) old new
+sent_on_more sent i m old mid new lt is s next = record {
+  len = next.len ∙ s.len;
+  each = λ k d within.
+      let len = s.len in
+      sent_next sent i m (slice_index_or old k d) (slice_index_or mid k d) (slice_index_or new k d) lt is (s.each k d within) (next.each k d (omega (arith, within, len)));
+}
+
+-- a message to this end's receiver, which was put or lost
+pub sent_here : (m : Envelope) (old new : Side) → m.receiver ≡ old.receiver → SameLink old new → PutsSome old.capacity old.messages (m ∷ []) new.messages → SentTo (m ∷ []) old new
+sent_here m old new to same put = record { same = same; messages = subst (λ (l : List Envelope). PutsSome old.capacity old.messages l new.messages) (sym (addressed_yes old.receiver m to)) put }
+
+-- and one to another node
+pub sent_elsewhere : (m : Envelope) (side : Side) → m.receiver ≢ side.receiver → SentTo (m ∷ []) side side
+sent_elsewhere m side to = record { same = record { sender = refl; receiver = refl; capacity = refl }; messages = subst (λ (l : List Envelope). PutsSome side.capacity side.messages l side.messages) (sym (addressed_no side.receiver m to)) refl }
+
+-- ---- room
+
+-- the ends of links are those of the same nodes
+pub ends_since : (id : ℕ) (ms : List Envelope) (old new : List Side) → AreEnds id old → SentOn ms old new → AreEnds id new
+ends_since id ms old new ends s k d lt =
+    let len = s.len in
+    let lt' : k < length old = omega (arith, lt, len) in
+    subst (IsOther id k) (sym (s.each k d lt').same.receiver) (ends k d lt')
+
+pub rest_split : (j : ℕ) (sent : List Envelope) (i : ℕ) (m : Envelope) → i < length sent → m ≡ get_or sent i m → length (addressed_to j (drop i sent)) ≡ length (addressed_to j (m ∷ [])) + length (addressed_to j (drop (i + 1) sent))
+rest_split j sent i m lt is =
+    ap (λ (l : List Envelope). length (addressed_to j l)) (drop_next sent i m lt is ∙ ap (λ (n : ℕ). m ∷ drop n sent) (let next : suc i ≡ i + 1 = omega arith in next))
+    ∙ (ap length (addressed-append j (m ∷ []) (drop (i + 1) sent)) ∙ length-append (addressed_to j (m ∷ [])) (addressed_to j (drop (i + 1) sent)))
+  where
+    drop_next : (sent : List Envelope) (i : ℕ) (m : Envelope) → i < length sent → m ≡ get_or sent i m → drop i sent ≡ m ∷ drop (suc i) sent
+    drop_next [] i m lt is = absurd (let no : ⊥ = omega (arith, lt) in no)
+    drop_next (x ∷ xs) zero m lt is = ap (λ (y : Envelope). y ∷ xs) (sym is)
+    drop_next (x ∷ xs) (suc i) m lt is = drop_next xs i m (omega (arith, lt)) is

@@ -1,5 +1,6 @@
 -- What is written down of a turn is what came of it.
-use Rattle.std.proofs.Common.{◌≡◌, List, [], ◌∷◌, refl, sym, ◌∙◌, ap, subst, Option, Some, None, IsSome}
+use Rattle.std.proofs.Common.{◌≡◌, ℕ, ◌+◌, ◌*◌, ◌≤◌, arith, length, List, [], ◌∷◌, refl, sym, ◌∙◌, ap, subst, Option, Some, None, IsSome}
+use Rattle.std.proofs.lemmas.Option.{same_Some}
 use Rattle.wire_msg.specs.Envelope.{Envelope}
 use Rattle.sector_disk.specs.Memory.{Memory, state_of}
 use Rattle.node_core.specs.declared.event.Event.{Event}
@@ -11,7 +12,12 @@ use Rattle.histories.specs.declared.what.Rest.TheVariants.{Nothing}
 use Rattle.histories.specs.NodeState.{NodeState}
 use Rattle.histories.specs.What.{brought, event_of, IsOf}
 use Rattle.histories.specs.After.{after, sent_at}
-use Rattle.histories.specs.Possible.{IsPossible}
+use Rattle.histories.specs.Possible.{IsPossible, IsOfSlots}
+use Rattle.histories.specs.Fates.{what_of}
+use Rattle.node_store.specs.Store.{slots_for}
+use Rattle.durable_node.specs.Arming.{armed_disk}
+use Rattle.durable_node.specs.Forgetting.{forgotten_disk}
+use Rattle.durable_node.proofs.PublicLaws.{steps_and_forgets}
 use Rattle.durable_node.specs.declared.fault.NodeFault.{NodeFault}
 use Rattle.durable_node.specs.declared.fault.NodeFault.TheVariants as fault
 use Rattle.durable_node.specs.Node.{Node, Stands}
@@ -19,7 +25,7 @@ use Rattle.durable_node.specs.Stepping.{IsUnmountable, Stuck}
 use Rattle.node_lock.specs.declared.order.Order.{Order}
 use Rattle.node_lock.specs.declared.order.Order.TheVariants as order
 use Rattle.node_lock.specs.Asking.{Asked, Hand, Rest, Arm, Crash, asked_in, asked_by}
-use Rattle.node_lock.specs.Doing.{Did, Gives, StandsForSome, TurnDid}
+use Rattle.node_lock.specs.Doing.{Did, Gives, HasSectors, StandsForSome, TurnDid}
 use Rattle.node_lock.specs.History.{listed}
 
 some_of : {A : Type 0} (o : Option A) → IsSome o → (a : A) × (o ≡ Some a)
@@ -32,21 +38,27 @@ pub record Comes (old : Node Memory) (s : NodeState) (asked : Asked) (w : What) 
   pub possible : IsPossible old.id old.nodes s w
   pub is_sent : sent ≡ sent_at old.id old.nodes s w
   pub stands : Stands state_of new (after old.id old.nodes s w)
+  -- on a disk of the size for so many slots
+  pub of_slots : (slots : ℕ) → slots ≤ 4096 → HasSectors (8 + 4 * slots) old → IsOfSlots slots old.id old.nodes s w
 
 did_comes : (old new : Node Memory) (event : Event) (w : What) (sent : List Envelope) → Did old event w sent new → (s : NodeState) → Stands state_of old s → Comes old s (Hand event) w sent new
 did_comes old new event w sent did s stands =
-    let disk = some_of old.disk did.has in
-    let came = did.steps disk.0 s disk.1 stands (λ _. refl) in
+    let disk = some_of old.disk did.counts.was_there in
+    let came = steps_and_forgets old did.left new event did.came did.forgot did.steps disk.0 s disk.1 stands (λ _. refl) in
     record {
       gives = subst (λ (x : What). IsOf event x) (sym did.written) came.0.of;
       possible = subst (λ (x : What). IsPossible old.id old.nodes s x) (sym did.written) came.0.possible;
       is_sent = did.is_sent ∙ (came.0.sent ∙ ap (λ (x : What). sent_at old.id old.nodes s x) (sym did.written));
       stands = subst (λ (x : What). Stands state_of new (after old.id old.nodes s x)) (sym did.written) came.1;
+      of_slots = λ slots most size.
+          let sized : slots_for (8 + 4 * slots) ≡ slots = grind (arith) in
+          subst (λ (x : What). IsOfSlots slots old.id old.nodes s x) (sym did.written)
+          (subst (λ (n : ℕ). IsOfSlots n old.id old.nodes s (what_of event did.came.fate)) (ap slots_for (size disk.0 disk.1) ∙ sized) came.0.of_slots);
     }
 
 rests : (old new : Node Memory) (s : NodeState) (asked : Asked) (w : What) (sent : List Envelope) → Gives asked (what.Rests Nothing) → Stands state_of new s → w ≡ what.Rests Nothing → sent ≡ [] → Comes old s asked w sent new
 rests old new s asked w sent gives stands is none =
-    subst (λ (x : What). Comes old s asked x sent new) (sym is) (record { gives = gives; possible = tt; is_sent = none; stands = stands })
+    subst (λ (x : What). Comes old s asked x sent new) (sym is) (record { gives = gives; possible = tt; is_sent = none; stands = stands; of_slots = λ slots most size. tt })
 
 -- one turn
 pub turn_comes : (old new : Node Memory) (asked : Asked) (w : What) (sent : List Envelope) → TurnDid old asked w sent new → (s : NodeState) → Stands state_of old s → Comes old s asked w sent new
@@ -54,7 +66,28 @@ turn_comes old new (Hand event) w sent did s stands = did_comes old new event w 
 turn_comes old new Rest w sent did s stands = rests old new s Rest w sent refl (subst (λ (n : Node Memory). Stands state_of n s) (sym did.0) stands) did.1 did.2
 turn_comes old new (Arm calls) w sent did s stands = rests old new s (Arm calls) w sent refl (did.0.stands s stands) did.1 did.2
 turn_comes old new (Crash fill) w sent did s stands =
-    subst (λ (x : What). Comes old s (Crash fill) x sent new) (sym did.1) (record { gives = refl; possible = tt; is_sent = did.2; stands = did.0.stands s stands })
+    subst (λ (x : What). Comes old s (Crash fill) x sent new) (sym did.1) (record { gives = refl; possible = tt; is_sent = did.2; stands = did.0.stands s stands; of_slots = λ slots most size. tt })
+
+-- ---- the size of the disk
+
+forgotten_size : (n : ℕ) (disk : Option Memory) → ((d : Memory) → disk ≡ Some d → (state_of d).sectors ≡ n) → (d : Memory) → forgotten_disk disk ≡ Some d → (state_of d).sectors ≡ n
+forgotten_size n None size d at = absurd cc
+forgotten_size n (Some was) size d at = sym (ap (λ (m : Memory). length m.contents) (same_Some (record was { spans = [] }) d at)) ∙ size was refl
+
+armed_size : (n calls : ℕ) (disk : Option Memory) → ((d : Memory) → disk ≡ Some d → (state_of d).sectors ≡ n) → (d : Memory) → armed_disk calls disk ≡ Some d → (state_of d).sectors ≡ n
+armed_size n calls None size d at = absurd cc
+armed_size n calls (Some was) size d at = sym (ap (λ (m : Memory). length m.contents) (same_Some (record was { left = Some calls }) d at)) ∙ size was refl
+
+-- a turn leaves the disk as large as it was
+pub turn_sectors : (n : ℕ) (old new : Node Memory) (asked : Asked) (w : What) (sent : List Envelope) → TurnDid old asked w sent new → HasSectors n old → HasSectors n new
+turn_sectors n old new (Hand event) w sent did size d at =
+    let was = some_of old.disk did.counts.was_there in
+    forgotten_size n did.left.disk (λ now here. (did.counts.counts was.0 now was.1 here).sectors ∙ size was.0 was.1) d (sym (ap (λ (m : Node Memory). m.disk) did.forgot) ∙ at)
+turn_sectors n old new Rest w sent did size d at = size d (sym (ap (λ (m : Node Memory). m.disk) did.0) ∙ at)
+turn_sectors n old new (Arm calls) w sent did size d at = armed_size n calls old.disk size d (sym (ap (λ (m : Node Memory). m.disk) did.0.armed) ∙ at)
+turn_sectors n old new (Crash fill) w sent did size d at =
+    let was = some_of old.disk did.0.there in
+    (did.0.disk was.0 d was.1 at).0.size ∙ size was.0 was.1
 
 -- ---- what a turn was brought
 

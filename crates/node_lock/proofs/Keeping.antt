@@ -1,5 +1,5 @@
 -- A turn keeps what is always true.
-use Rattle.std.proofs.Common.{◌≡◌, ℕ, ◌<◌, ◌==◌, IsSome, IfOk, IfErr, Result, Ok, Err, Bool, true, false, cond, List, [], ◌∷◌, ◌++◌, length, slice_index, slice_index_or, refl, ap, sym, ◌∙◌, subst, arith, append_assoc}
+use Rattle.std.proofs.Common.{◌≡◌, ℕ, ◌+◌, ◌*◌, ◌<◌, ◌==◌, IsSome, IfOk, IfErr, Result, Ok, Err, Bool, true, false, cond, List, [], ◌∷◌, ◌++◌, length, slice_index, slice_index_or, refl, ap, sym, ◌∙◌, subst, arith, append_assoc}
 use Rattle.std.proofs.lemmas.List.{append-nil, map-append, length-append}
 use Rattle.wire_msg.specs.Envelope.{Envelope}
 use Rattle.sector_disk.specs.Memory.{Memory, state_of}
@@ -8,8 +8,8 @@ use Rattle.durable_node.specs.Node.{Node, Stands}
 use Rattle.histories.specs.NodeState.{NodeState, opening}
 use Rattle.histories.specs.What.{Entry as NodeEntry, brought, event_of}
 use Rattle.histories.specs.After.{after, sent_at}
-use Rattle.histories.specs.History.{replay, sent_in}
-use Rattle.histories.specs.Possible.{IsPossible}
+use Rattle.histories.specs.History.{replay, sent_in, FollowsSlots, SlotsGoOn}
+use Rattle.histories.specs.Possible.{IsPossible, IsOfSlots}
 use Rattle.histories.proofs.PublicLaws.{history_goes_on}
 use Rattle.node_lock.specs.declared.run.Run.{Run}
 use Rattle.node_lock.specs.declared.worker.Worker.{Worker}
@@ -22,9 +22,9 @@ use Rattle.node_lock.specs.History.{Turn, IsReplay, PlanStep, entries_of, polled
 use Rattle.node_lock.specs.declared.held.TheConstants.{MOST_ENTRIES}
 use Rattle.node_lock.specs.declared.held.HeldFault.{HeldFault}
 use Rattle.node_lock.specs.declared.held.HeldFault.TheVariants.{NoMemory}
-use Rattle.node_lock.specs.HeldView.{HeldView, Kept, IsPutLink, IsTakeLink, IsOther, Takes, Unserved}
+use Rattle.node_lock.specs.HeldView.{HeldView, Kept, AreEnds, IsPutLink, IsTakeLink, IsOther, Takes, Unserved}
 use Rattle.node_lock.proofs.Carried.{puts_append, addressed-append}
-use Rattle.node_lock.proofs.Comings.{Comes, turn_comes}
+use Rattle.node_lock.proofs.Comings.{Comes, turn_comes, turn_sectors}
 
 -- one step more
 pub path_snoc : {S E : Type 0} (step : S → E → S → Type 0) (s : S) (es : List E) (e : E) (t u : S) → Path step s es t → step t e u → Path step s (es ++ e ∷ []) u
@@ -64,6 +64,10 @@ put_link_more run ts t p q h s =
 pub stands_in : (h : HeldView) → Kept h → StandsForSome h.node
 stands_in h k = (replay h.run.node h.run.nodes (opening h.run.node) (entries_of h.history), k.replay.stands)
 
+-- the ends of its links are in the order of the other nodes
+pub ends_in : (h : HeldView) → Kept h → AreEnds h.node.id h.puts
+ends_in h k i d lt = subst (λ (own : ℕ). IsOther own i (slice_index_or h.puts i d).receiver) (sym k.id) (k.puts i d lt).1
+
 comes_in : (h : HeldView) (asked : Asked) (t : Turn) (new : Node Memory) → Kept h → TurnDid h.node asked t.entry.what t.entry.sent new → Comes h.node (replay h.run.node h.run.nodes (opening h.run.node) (entries_of h.history)) asked t.entry.what t.entry.sent new
 comes_in h asked t new k did = turn_comes h.node new asked t.entry.what t.entry.sent did (replay h.run.node h.run.nodes (opening h.run.node) (entries_of h.history)) k.replay.stands
 
@@ -82,6 +86,19 @@ replay_at id nodes ts t asked old new same_id same_nodes r here =
 replay_more : (h : HeldView) (asked : Asked) (t : Turn) (new : Node Memory) → Kept h → TurnDid h.node asked t.entry.what t.entry.sent new → IsReplay h.run.node h.run.nodes (entries_of (h.history ++ t ∷ [])) new
 replay_more h asked t new k did = replay_at h.run.node h.run.nodes h.history t asked h.node new k.id k.nodes k.replay (comes_in h asked t new k did)
 
+-- a history grows by what a journal of so many slots allows
+slots_go_on : SlotsGoOn
+slots_go_on slots self nodes s [] e fits may = (may, tt)
+slots_go_on slots self nodes s (x ∷ es) e fits may = (fits.0, slots_go_on slots self nodes (after self nodes s x.what) es e fits.1 may)
+
+slots_more : (h : HeldView) (asked : Asked) (t : Turn) (new : Node Memory) → Kept h → TurnDid h.node asked t.entry.what t.entry.sent new → FollowsSlots h.run.slots h.run.node h.run.nodes (opening h.run.node) (entries_of (h.history ++ t ∷ []))
+slots_more h asked t new k did =
+    let s = replay h.run.node h.run.nodes (opening h.run.node) (entries_of h.history) in
+    let what = t.entry.what in
+    let here = (comes_in h asked t new k did).of_slots h.run.slots k.most_slots k.sectors in
+    let may : IsOfSlots h.run.slots h.run.node h.run.nodes s what = subst (λ (n : ℕ). IsOfSlots h.run.slots h.run.node n s what) k.nodes (subst (λ (n : ℕ). IsOfSlots h.run.slots n h.node.nodes s what) k.id here) in
+    rw (entries-snoc h.history t) (slots_go_on h.run.slots h.run.node h.run.nodes (opening h.run.node) (entries_of h.history) t.entry k.slots may)
+
 -- what is written down may come of what was asked
 pub gives_in : (h : HeldView) (asked : Asked) (t : Turn) (new : Node Memory) → Kept h → TurnDid h.node asked t.entry.what t.entry.sent new → Gives asked t.entry.what
 gives_in h asked t new k did = (comes_in h asked t new k did).gives
@@ -96,6 +113,10 @@ keeps h n asked e k run plans history id nodes plan did sent len takes waiting f
   nodes = nodes ∙ (k.nodes ∙ ap (λ r. r.nodes) (sym run));
   member = rw run k.member;
   replay = rw (run, history) (replay_more h asked e n.node k did);
+  least_slots = rw run k.least_slots;
+  most_slots = rw run k.most_slots;
+  sectors = rw run (turn_sectors (8 + 4 * h.run.slots) h.node n.node asked e.entry.what e.entry.sent did k.sectors);
+  slots = rw (run, history) (slots_more h asked e n.node k did);
   turns = rw (plans, history) (path_snoc (PlanStep h.plans) no_turns h.history e h.turns n.turns k.turns plan);
   links = rw run (omega (arith, sent.len, k.links));
   puts = λ i d lt.

@@ -1,9 +1,11 @@
 -- What a turn does at its node, and what is written down of it.
-use Rattle.std.specs.Prelude.{ℕ, ◌≡◌, List, [], Some, None, IsSome}
+use Rattle.std.specs.Prelude.{ℕ, ◌≡◌, ◌≤◌, true, List, [], length, Some, None, IsSome, Ok}
 use Rattle.wire_msg.specs.Envelope.{Envelope}
 use Rattle.sector_disk.specs.Memory.{Memory, state_of, all_synced}
 use Rattle.sector_disk.specs.Crash.{IsCrashed}
 use Rattle.node_core.specs.declared.event.Event.{Event}
+use Rattle.node_core.specs.declared.event.Event.TheVariants.{Recover}
+use Rattle.node_core.specs.State.{is_down}
 use Rattle.node_core.specs.Start.{down}
 use Rattle.histories.specs.declared.what.What.{What}
 use Rattle.histories.specs.declared.what.What.TheVariants as what
@@ -15,18 +17,36 @@ use Rattle.histories.specs.Fates.{what_of}
 use Rattle.durable_node.specs.declared.came.Came.{Came}
 use Rattle.durable_node.specs.Arming.{armed_disk}
 use Rattle.durable_node.specs.Node.{Node, Stands}
-use Rattle.durable_node.specs.Stepping.{Steps}
+use Rattle.durable_node.specs.Faults.{answered}
+use Rattle.durable_node.specs.Forgetting.{forgotten_disk}
+use Rattle.durable_node.specs.Reading.{ReadsDisk}
+use Rattle.durable_node.specs.Refusing.{Answers}
+use Rattle.durable_node.specs.Remounting.{IsMountedBy, Remounted}
+use Rattle.durable_node.specs.Stepping.{CountsOf, Steps, most_by}
 use Rattle.node_lock.specs.Asking.{Asked, Hand, Rest, Arm, Crash}
 
 -- there is a state that the node and its disk stand for
 abbrev pub StandsForSome : Node Memory → Type 0
 StandsForSome node = (s : NodeState) × Stands state_of node s
 
--- the node took a step at the event, and just what it answered is written down
+-- the disk has so many sectors
+abbrev pub HasSectors : ℕ → Node Memory → Type 0
+HasSectors n node = (disk : Memory) → node.disk ≡ Some disk → (state_of disk).sectors ≡ n
+
+-- the node took a step at the event, of which all holds that is said of `DurableNode::step`; its disk then forgot the moments before; and just what the
+-- step answered is written down
 pub record Did (old : Node Memory) (event : Event) (w : What) (sent : List Envelope) (new : Node Memory) : Type 0 where
-  pub has : IsSome old.disk
   pub came : Came
-  pub steps : Steps state_of old new event came
+  -- as the step left it
+  pub left : Node Memory
+  pub steps : Steps state_of old left event came
+  pub answers : Answers old event (answered (Ok came))
+  pub counts : CountsOf state_of old.disk left.disk (answered (Ok came))
+  pub mounting : is_down old.state.phase ≡ true → event ≡ Recover → Remounted old left (answered (Ok came)) left.mounted
+  pub kept : is_down old.state.phase ≡ true → event ≡ Recover → IsMountedBy old.doubt came.fate left.mounted
+  pub reads : is_down old.state.phase ≡ true → event ≡ Recover → ReadsDisk state_of old.disk left.disk (answered (Ok came)) left.mounted
+  pub few : length came.sent.items ≤ most_by old.nodes old.kept
+  pub forgot : new ≡ record left { disk = forgotten_disk left.disk }
   pub written : w ≡ what_of event came.fate
   pub is_sent : sent ≡ came.sent.items
 
@@ -37,6 +57,7 @@ pub record WasArmed (calls : ℕ) (old new : Node Memory) : Type 0 where
 
 -- the node was stopped here, and its disk has these bytes in the sectors that weren't synced
 pub record WasCrashed (fill : List ℕ) (old new : Node Memory) : Type 0 where
+  pub there : IsSome old.disk
   pub down : new ≡ record old { state = down old.id; disk = new.disk; kept = None; area = None; mounted = None }
   pub disk : (was now : Memory) → old.disk ≡ Some was → new.disk ≡ Some now → IsCrashed was fill now.contents × (now ≡ all_synced now.contents was.failures)
   pub stands : (s : NodeState) → Stands state_of old s → Stands state_of new (after old.id old.nodes s what.Crashed)

@@ -1,18 +1,21 @@
 -- What a contract sees of what a lock holds, and what is always true of it.
-use Rattle.std.specs.Prelude.{◌≡◌, ◌≢◌, ℕ, ◌+◌, ◌<◌, ◌≤◌, ◌⊎◌, ⊤, Option, Some, None, List, [], ◌∷◌, ◌++◌, length, slice_index, slice_index_or, IsSome}
+use Rattle.std.specs.Prelude.{◌≡◌, ◌≢◌, ℕ, ◌+◌, ◌*◌, ◌<◌, ◌≤◌, ◌⊎◌, ⊤, Option, Some, None, List, [], ◌∷◌, ◌++◌, length, slice_index, slice_index_or, IsSome, ◌↔◌, Bool, true, false, Result, Ok, Err}
 use Rattle.wire_msg.specs.Envelope.{Envelope}
 use Rattle.sector_disk.specs.Memory.{Memory}
 use Rattle.link_ring.specs.Sides.{Side}
 use Rattle.durable_node.specs.Node.{Node}
-use Rattle.histories.specs.History.{sent_in}
+use Rattle.histories.specs.History.{sent_in, FollowsSlots}
+use Rattle.histories.specs.NodeState.{opening}
 use Rattle.histories.specs.What.{brought, event_of}
 use Rattle.node_lock.specs.declared.held.TheConstants.{MOST_ENTRIES}
+use Rattle.node_lock.specs.declared.lock.TurnFault.{TurnFault}
+use Rattle.node_lock.specs.declared.lock.TurnFault.TheVariants.{GateShut, HistoryFull, NoMemory}
 use Rattle.node_lock.specs.declared.run.Run.{Run}
 use Rattle.node_lock.specs.declared.worker.Turns.{Turns}
 use Rattle.node_lock.specs.declared.worker.Worker.{Worker}
 use Rattle.node_lock.specs.declared.worker.Worker.TheVariants.{Intake, Clock, Operator}
-use Rattle.node_lock.specs.Doing.{TurnDid}
-use Rattle.node_lock.specs.Planned.{Planned}
+use Rattle.node_lock.specs.Doing.{HasSectors, TurnDid}
+use Rattle.node_lock.specs.Planned.{Planned, plan_len, turns_of}
 use Rattle.node_lock.specs.Sending.{PutsSome, addressed_to, SameSides, IsFirst, Brings}
 use Rattle.node_lock.specs.History.{Turn, IsReplay, FollowsPlans, PlanStep, entries_of, polled, from_link, listed}
 
@@ -35,6 +38,10 @@ pub record HeldView : Type 0 where
 abbrev pub IsOther : ℕ → ℕ → ℕ → Type 0
 IsOther id k j = (k < id → j ≡ k) × (id ≤ k → j ≡ k + 1)
 
+-- these are ends of links to the other nodes, by their numbers
+abbrev pub AreEnds : ℕ → List Side → Type 0
+AreEnds id sides = (k : ℕ) (d : Side) → k < length sides → IsOther id k (slice_index_or sides k d).receiver
+
 -- what was put on a link is, in order, some of what the history sent to its receiver, and the first `capacity` of it
 pub record IsPutLink (run : Run) (history : List Turn) (p : Side) : Type 0 where
   pub sender : p.sender ≡ run.node
@@ -56,6 +63,11 @@ pub record Kept (h : HeldView) : Type 0 where
   pub nodes : h.node.nodes ≡ h.run.nodes
   pub member : h.run.node < h.run.nodes
   pub replay : IsReplay h.run.node h.run.nodes (entries_of h.history) h.node
+  -- the disk is of the run's size, and no entry is one that a journal of so many slots doesn't allow
+  pub least_slots : 4 ≤ h.run.slots
+  pub most_slots : h.run.slots ≤ 4096
+  pub sectors : HasSectors (8 + 4 * h.run.slots) h.node
+  pub slots : FollowsSlots h.run.slots h.run.node h.run.nodes (opening h.run.node) (entries_of h.history)
   pub turns : FollowsPlans h.plans h.history h.turns
   pub links : length h.puts + 1 ≡ h.run.nodes
   pub puts : (k : ℕ) (d : Side) → k < length h.puts → IsPutLink h.run h.history (slice_index_or h.puts k d) × IsOther h.run.node k (slice_index_or h.puts k d).receiver
@@ -106,3 +118,18 @@ pub record Unserved (old new : HeldView) : Type 0 where
   pub history : new.history ≡ old.history
   pub puts : SameSides old.puts new.puts
   pub takes : WaitsSince old.takes new.takes old.waiting new.waiting
+
+-- what a worker's turn did to what the lock holds, by what was answered: the gate's refusal changes nothing
+pub record Turned (by : Worker) (answer : Result Bool TurnFault) (old new : HeldView) : Type 0 where
+  pub used_up : answer ≡ Ok false ↔ (plan_len old.plans by ≤ turns_of old.turns by)
+  pub unchanged : answer ≡ Ok false → new ≡ old
+  pub taken : answer ≡ Ok true → (t : Turn) × Takes old by t new
+  pub shut : answer ≡ Err GateShut → new ≡ old
+  pub full : answer ≡ Err HistoryFull → (MOST_ENTRIES ≤ length old.history) × (new ≡ old)
+  pub memory : answer ≡ Err NoMemory → Unserved old new
+
+-- and so it did to what the lock then held
+pub record TurnedSome (by : Worker) (answer : Result Bool TurnFault) : Type 0 where
+  pub old : HeldView
+  pub new : HeldView
+  pub turned : Turned by answer old new

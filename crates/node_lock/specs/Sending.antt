@@ -1,8 +1,11 @@
 -- What goes onto the links.
-use Rattle.std.specs.Prelude.{◌≡◌, ℕ, ◌<◌, ◌≤◌, ◌==◌, ◌⊎◌, List, [], ◌∷◌, ◌++◌, length, slice_index_or, if◌then◌else◌, Option, Some, None}
+use Rattle.std.specs.Prelude.{◌≡◌, ℕ, ◌<◌, ◌≤◌, ◌==◌, ◌⊎◌, List, [], ◌∷◌, ◌++◌, length, min, slice_index_or, if◌then◌else◌, Option, Some, None}
 use Rattle.std.specs.List.{filter}
 use mathlib.Core.List.{IsPrefix}
 use Rattle.wire_msg.specs.Envelope.{Envelope}
+use Rattle.node_core.specs.declared.event.Event.{Event}
+use Rattle.node_core.specs.declared.event.Event.TheVariants as on
+use Rattle.node_core.specs.declared.timer.Timer.TheVariants.{Dispatch}
 use Rattle.link_ring.specs.Sides.{Side}
 
 -- the messages to one node, in order
@@ -31,9 +34,18 @@ pub record SentOn (sent : List Envelope) (old new : List Side) : Type 0 where
   pub len : length new ≡ length old
   pub each : (k : ℕ) (d : Side) → k < length old → SentTo sent (slice_index_or old k d) (slice_index_or new k d)
 
+-- how many messages to one node an event may send that sends so many at most: a dispatch all of them, and any other one
+abbrev pub most_to : Event → ℕ → ℕ
+most_to (on.Timer Dispatch) most = most
+most_to event most = min most 1
+
 -- there is room for n more messages on each link
 abbrev pub HasRoomFor : ℕ → List Side → Type 0
 HasRoomFor n sides = (k : ℕ) (d : Side) → k < length sides → n ≤ (slice_index_or sides k d).room
+
+-- there is room on each link for those of these messages that are for its receiver
+abbrev pub HasRoomToSend : List Envelope → List Side → Type 0
+HasRoomToSend sent sides = (k : ℕ) (d : Side) → k < length sides → length (addressed_to (slice_index_or sides k d).receiver sent) ≤ (slice_index_or sides k d).room
 
 -- the links as before, but for their room
 pub record SameSides (old new : List Side) : Type 0 where

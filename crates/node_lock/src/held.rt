@@ -128,6 +128,7 @@ impl Held {
         }
     }
 
+    #[tactic(auto, using(crate::proofs::Keeping::ends_in))]
     fn next_intake(&mut self) -> Result<bool, HeldFault>
         requires more { self.old.turns.intake < length self.old.plans.intake }
         requires few { length self.old.history < MOST_ENTRIES }
@@ -151,6 +152,7 @@ impl Held {
         Ok(true)
     }
 
+    #[tactic(auto, using(crate::proofs::Keeping::ends_in))]
     fn next_clock(&mut self) -> Result<bool, HeldFault>
         requires more { self.old.turns.clock < length self.old.plans.clock }
         requires few { length self.old.history < MOST_ENTRIES }
@@ -172,6 +174,7 @@ impl Held {
         Ok(true)
     }
 
+    #[tactic(auto, using(crate::proofs::Keeping::ends_in))]
     fn next_operator(&mut self) -> Result<bool, HeldFault>
         requires more { self.old.turns.operator < length self.old.plans.operator }
         requires few { length self.old.history < MOST_ENTRIES }

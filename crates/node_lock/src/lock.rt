@@ -1,12 +1,43 @@
 // The lock round a node.
-ghost use Rattle.std.specs.Prelude.{◌≡◌, ℕ, Bool, IsTrue, true, false, Err};
+ghost use Rattle.std.specs.Prelude.{◌≡◌, ◌↔◌, ◌≤◌, ℕ, Bool, IsTrue, true, false, length, Ok, Err};
+ghost use Rattle.node_lock.specs.HeldView.{Takes, TurnedSome, Unserved};
+ghost use Rattle.node_lock.specs.History.{Turn};
+ghost use Rattle.node_lock.specs.Planned.{plan_len, turns_of};
+ghost use Rattle.node_lock.specs.declared.held.TheConstants.{MOST_ENTRIES};
 ghost use Rattle.node_lock.specs.declared.worker.Worker.{Worker as Who};
-ghost use Rattle.node_lock.specs.declared.lock.TurnFault.TheVariants.{GateShut};
+ghost use Rattle.node_lock.specs.declared.lock.TurnFault.TheVariants.{GateShut, HistoryFull, NoMemory};
 
 use crate::held::{Held, HeldFault};
 use crate::worker::Worker;
 use group_task::NodeId;
 use std::sync::{Mutex, Wait};
+
+/// The worker's next turn at a node whose lock is held, once the gate lets it pass.
+fn turn_held<G: Gate>(
+    held: &mut Held,
+    node: NodeId,
+    worker: Worker,
+    gate: &G,
+) -> Result<bool, TurnFault>
+    ensures used_up { result ≡ Ok false ↔ (plan_len held.old.plans worker ≤ turns_of held.old.turns worker) }
+    ensures unchanged { result ≡ Ok false → held.new ≡ held.old }
+    ensures taken { result ≡ Ok true → (t : Turn) × Takes held.old worker t held.new }
+    ensures shut { result ≡ Err GateShut → (held.new ≡ held.old) × IsTrue (G.may_shut node worker) }
+    ensures full { result ≡ Err HistoryFull → (MOST_ENTRIES ≤ length held.old.history) × (held.new ≡ held.old) }
+    ensures memory { result ≡ Err NoMemory → Unserved held.old held.new }
+{
+    if held.is_used_up(worker) {
+        return Ok(false);
+    }
+    if !gate.pass(node, worker, held.turns(worker) as u64) {
+        return Err(TurnFault::GateShut);
+    }
+    match held.next(worker) {
+        Ok(taken) => Ok(taken),
+        Err(HeldFault::HistoryFull) => Err(TurnFault::HistoryFull),
+        Err(HeldFault::NoMemory) => Err(TurnFault::NoMemory),
+    }
+}
 
 /// What may hold workers up.
 pub trait Gate: Sync {
@@ -53,27 +84,19 @@ impl NodeLock {
     }
 
     /// Takes the worker's next turn, once the gate lets it pass. False where its plan is used up.
+    ///
+    /// What the lock holds is known while it is held and no longer, so the contract says that some such state was there, and what the turn made of it.
     pub fn turn<R: Wait, G: Gate>(
         &self,
         rt: &R,
         worker: Worker,
         gate: &G,
     ) -> Result<bool, TurnFault>
-        ensures { result ≡ Err GateShut → IsTrue (G.may_shut self.now.node worker) }
+        ensures shut { result ≡ Err GateShut → IsTrue (G.may_shut self.now.node worker) }
+        ensures turned { TurnedSome worker result }
     {
         let mut guard = self.held.lock(rt);
-        let held = &mut *guard;
-        if held.is_used_up(worker) {
-            return Ok(false);
-        }
-        if !gate.pass(self.node, worker, held.turns(worker) as u64) {
-            return Err(TurnFault::GateShut);
-        }
-        match held.next(worker) {
-            Ok(taken) => Ok(taken),
-            Err(HeldFault::HistoryFull) => Err(TurnFault::HistoryFull),
-            Err(HeldFault::NoMemory) => Err(TurnFault::NoMemory),
-        }
+        turn_held(&mut *guard, self.node, worker, gate)
     }
 
     /// What the lock holds.

@@ -1,18 +1,20 @@
 // One event at a node.
-ghost use Rattle.std.specs.Prelude.{◌≡◌, ◌≤◌, IfOk, IfErr, length, None};
+ghost use Rattle.std.specs.Prelude.{◌≡◌, ◌≤◌, ℕ, IfOk, IfErr, length, None};
+ghost use Rattle.group_task.specs.Ids.{IsSet};
 ghost use Rattle.durable_node.specs.Stepping.{most_by};
 ghost use Rattle.histories.specs.Fates.{what_of};
 ghost use Rattle.node_lock.specs.declared.held.HeldFault.TheVariants.{NoMemory};
 ghost use Rattle.node_lock.specs.Doing.{Did, StandsForSome};
+ghost use Rattle.node_lock.specs.Sending.{addressed_to, most_to};
 
 use crate::held::HeldFault;
 use durable_node::{Came, DurableNode};
 use histories::Fate;
-use node_core::Event;
+use node_core::{Event, Timer};
 use sector_disk::MemDisk;
 use wire_msg::Message;
 
-/// Does one event: what came of it, and what was sent. The disk forgets the moments before.
+/// Does one event: what came of it, and what was sent, to one node no more than [`most_to`] says. The disk forgets the moments before.
 ///
 /// An error is want of memory: the disk of a node that has a history can be mounted.
 pub(crate) fn perform(
@@ -24,8 +26,10 @@ pub(crate) fn perform(
     ensures nodes { node.new.nodes ≡ node.old.nodes }
     ensures did { IfOk result (λ r. Did node.old event.now (what_of event.now r.0) r.1.items node.new) }
     ensures few { IfOk result (λ r. length r.1.items ≤ most_by node.old.nodes node.old.kept) }
+    ensures each { IfOk result (λ r. (j : ℕ) → length (addressed_to j r.1.items) ≤ most_to event.now (most_by node.old.nodes node.old.kept)) }
     ensures memory { IfErr result (λ fault. (fault ≡ NoMemory) × (node.new ≡ record node.old { mounted = None })) }
 {
+    note_sets(node);
     match node.step(event) {
         Ok(came) => {
             node.forget();
@@ -33,5 +37,24 @@ pub(crate) fn perform(
             Ok((fate, sent))
         }
         Err(_) => Err(HeldFault::NoMemory),
+    }
+}
+
+/// The nodes that accepted, and those that were found, are sets. It does nothing.
+fn note_sets(node: &DurableNode<MemDisk>)
+    ensures { IsSet node.now.state.up × IsSet node.now.state.found }
+{
+    let standing = &node.vector().standing;
+    let _ = standing.up.len();
+    let _ = standing.found.len();
+}
+
+/// How many messages to one node an event may send that sends so many at most: a dispatch one for each pending job, and any other event one.
+pub(crate) fn most_to(event: &Event, most: usize) -> usize
+    ensures { result ≡ most_to event.now most }
+{
+    match event {
+        Event::Timer(Timer::Dispatch) => most,
+        _ => most.min(1),
     }
 }

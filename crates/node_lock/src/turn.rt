@@ -10,14 +10,15 @@ ghost use Rattle.node_lock.specs.Kept.{what_quiet};
 ghost use Rattle.node_lock.specs.declared.line.Quiet.TheVariants.{Rested};
 ghost use Rattle.node_lock.specs.Taking.{TookTurn, TookNone, site, turn_of};
 ghost use Rattle.link_ring.specs.Sides.{Side};
-ghost use Rattle.node_lock.specs.Sending.{HasRoomFor, SameSides, Brings};
+ghost use Rattle.node_lock.specs.HeldView.{AreEnds};
+ghost use Rattle.node_lock.specs.Sending.{HasRoomFor, SameSides, Brings, most_to};
 
 use crate::held::HeldFault;
 use crate::history::History;
 use crate::line::Quiet;
 use crate::links::{reserve_puts, send_all};
 use crate::order::Order;
-use crate::perform::perform;
+use crate::perform::{most_to, perform};
 use crate::worker::Worker;
 use durable_node::DurableNode;
 use link_ring::{PutEnd, TakeEnd};
@@ -36,10 +37,11 @@ pub(crate) fn hand(
     event: &Event,
 ) -> Result<(), HeldFault>
     requires stands { StandsForSome node.old }
+    requires ends { AreEnds node.old.id puts.old.items }
     ensures taken { OnOk result ((e : Entry) × TookTurn worker index (Hand event.now) e (site node.old puts.old.items history.old.turns) (site node.new puts.new.items history.new.turns)) }
     ensures memory { IfErr result (λ fault. (fault ≡ NoMemory) × TookNone (site node.old puts.old.items history.old.turns) (site node.new puts.new.items history.new.turns)) }
 {
-    if make_room(node, puts, history).is_err() {
+    if make_room(node, puts, history, event).is_err() {
         return Err(HeldFault::NoMemory);
     }
     let (fate, sent) = perform(node, event)?;
@@ -53,16 +55,17 @@ fn make_room(
     node: &DurableNode<MemDisk>,
     puts: &mut Vec<PutEnd>,
     history: &mut History,
+    event: &Event,
 ) -> Result<(), AllocError>
     ensures turns { history.new.turns ≡ history.old.turns }
     ensures same { SameSides puts.old.items puts.new.items }
     ensures room { OnOk result ((0 < history.new.room) × (0 < history.new.events)) }
     ensures sends { OnOk result (most_by node.now.nodes node.now.kept ≤ history.new.sends) }
-    ensures puts { OnOk result (HasRoomFor (most_by node.now.nodes node.now.kept) puts.new.items) }
+    ensures puts { OnOk result (HasRoomFor (most_to event.now (most_by node.now.nodes node.now.kept)) puts.new.items) }
 {
     let most = node.most();
     history.reserve(most)?;
-    reserve_puts(puts, most)
+    reserve_puts(puts, most_to(event, most))
 }
 
 /// A turn that hands no event to the node and leaves it as it is.
@@ -86,6 +89,7 @@ pub(crate) fn operate(
     order: &Order,
 ) -> Result<(), HeldFault>
     requires stands { StandsForSome node.old }
+    requires ends { AreEnds node.old.id puts.old.items }
     ensures taken { OnOk result ((e : Entry) × TookTurn Operator index (asked_in order.now) e (site node.old puts.old.items history.old.turns) (site node.new puts.new.items history.new.turns)) }
     ensures memory { IfErr result (λ fault. (fault ≡ NoMemory) × TookNone (site node.old puts.old.items history.old.turns) (site node.new puts.new.items history.new.turns)) }
 {
@@ -119,6 +123,7 @@ pub(crate) fn receive(
     arrived: &Option<Message>,
 ) -> Result<(), HeldFault>
     requires stands { StandsForSome node.old }
+    requires ends { AreEnds node.old.id puts.old.items }
     ensures taken { OnOk result ((e : Entry) × TookTurn Intake index (asked_by arrived.now) e (site node.old puts.old.items history.old.turns) (site node.new puts.new.items history.new.turns)) }
     ensures memory { IfErr result (λ fault. (fault ≡ NoMemory) × TookNone (site node.old puts.old.items history.old.turns) (site node.new puts.new.items history.new.turns)) }
 {
@@ -138,6 +143,7 @@ fn deliver(
     message: &Message,
 ) -> Result<(), HeldFault>
     requires stands { StandsForSome node.old }
+    requires ends { AreEnds node.old.id puts.old.items }
     ensures taken { OnOk result ((e : Entry) × TookTurn Intake index (Hand (Event.Deliver message.now)) e (site node.old puts.old.items history.old.turns) (site node.new puts.new.items history.new.turns)) }
     ensures memory { IfErr result (λ fault. (fault ≡ NoMemory) × TookNone (site node.old puts.old.items history.old.turns) (site node.new puts.new.items history.new.turns)) }
 {

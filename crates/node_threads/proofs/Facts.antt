@@ -7,7 +7,7 @@ use Rattle.wire_msg.specs.Envelope.{Envelope}
 use Rattle.link_ring.specs.Sides.{Side}
 use Rattle.histories.specs.Lists.{IsAmong}
 use Rattle.histories.specs.NodeState.{opening}
-use Rattle.histories.specs.History.{Follows}
+use Rattle.histories.specs.History.{Follows, FollowsSlots}
 use Rattle.node_lock.specs.declared.run.Run.{Run}
 use Rattle.node_lock.specs.declared.worker.Turns.{Turns}
 use Rattle.node_lock.specs.declared.worker.Worker.{Worker}
@@ -66,6 +66,7 @@ pub record IsAllTaken (run : Run) (plan : Planned) (history : List Turn) (t : Si
 
 pub record Facts (run : Run) (plan : Planned) (history : List Turn) (ends : NodeEnds) : Type 0 where
   pub follows : Follows run.node run.nodes (opening run.node) (entries_of history)
+  pub slots : FollowsSlots run.slots run.node run.nodes (opening run.node) (entries_of history)
   pub interleaved : IsInterleaving plan history
   pub puts : (x : Side) → IsAmong x ends.puts → IsPutLink run history x
   pub takes : (x : Side) → IsAmong x ends.takes → IsAllTaken run plan history x
@@ -83,6 +84,7 @@ facts run plan history ends e =
     let none = nothing_by h.waiting (λ s. let lt = e.kept.waiting s in let least = e.used_up Intake in absurd (omega (arith, lt, least))) in
     record {
       follows = rw (e.is_run, e.is_history) at e.kept.replay.follows;
+      slots = rw (e.is_run, e.is_history) at e.kept.slots;
       interleaved = rw (e.is_plan, e.is_history) at (interleaves h.plans h.history h.turns e.kept.turns e.used_up);
       puts = λ x is. let at = among_at x h.puts (rw e.is_puts is) in rw (at.2, e.is_run, e.is_history) at (e.kept.puts at.0 x at.1).0;
       takes = λ x is.

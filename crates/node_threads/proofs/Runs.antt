@@ -11,8 +11,8 @@ use Rattle.link_ring.specs.declared.gathering.LinkEnd.{LinkEnd}
 use Rattle.histories.specs.Lists.{IsAmong, Each}
 use Rattle.histories.specs.What.{brought, event_of, Entry}
 use Rattle.histories.specs.NodeState.{opening}
-use Rattle.histories.specs.History.{sent_in, brought_in, Follows}
-use Rattle.histories.proofs.PublicLaws.{among_left, among_right, among_either, each_at, each_of, sent_of_one, senders, each_bundle_rises, one_book, one_coordinator, one_task}
+use Rattle.histories.specs.History.{sent_in, brought_in, Follows, FollowsSlots}
+use Rattle.histories.proofs.PublicLaws.{among_left, among_right, among_either, each_at, each_of, sent_of_one, senders, each_bundle_rises, one_book, one_coordinator, one_task, one_worker, owner_finishes}
 use Rattle.histories.specs.Bundle.{Bundle, sent_by_all}
 use Rattle.node_lock.specs.declared.run.Run.{Run}
 use Rattle.node_lock.specs.declared.worker.Turns.{Turns}
@@ -268,11 +268,13 @@ in_one_book histories bundle =
 pub whole_run : (size : Size) (plans : List Planned) (histories : List Log) (ends : List NodeEnds) (links : List LinkEnd) → length plans ≡ size.nodes → AreEnded size plans histories ends → AreGathered ends links → IsWhole size plans histories links
 whole_run size plans histories ends links nodes ended gathered =
     let r : Ended size plans histories links = record { nodes = nodes; ends = ends; ended = ended; gathered = gathered } in
+    let bundle = is_bundle size plans histories links r in
     record {
       history_count = ended.history_count;
       interleaved = λ n p h at_plan at.
           let e = place_of ends n (omega (arith, slice_get_within histories n h at, ended.history_count, ended.ends_count)) in
           (facts (run_at size n) p h.turns e.0 (ended.each n p h e.0 at_plan at e.1)).interleaved;
+      of_slots = λ n h at. subst (λ (k : ℕ). FollowsSlots size.slots n k (opening n) (entries_of h.turns)) (sym nodes) (node_of size plans histories links r n h at).facts.slots;
       link_count = gathered.count ∙ ap (λ (n : ℕ). n * (n - 1)) ended.ends_count;
       carried = λ i k j p from to at_from at_to at_plan other.
           let a = node_of size plans histories links r i from at_from in
@@ -280,5 +282,6 @@ whole_run size plans histories ends links nodes ended gathered =
           let b : NodeOf size plans ends j to = record { plan = p; mine = e.0; plan_at = at_plan; ends_at = e.1; facts = facts (run_at size j) p to.turns e.0 (ended.each j p to e.0 at_plan at_to e.1) } in
           let l = joined size plans histories links r i k j from to a b other in
           (l.0, l.1, carried (run_at size i) (run_at size j) a.plan p from.turns to.turns l.0 l.2 (λ at k m named is. (polled_from size plans histories links r j to b at k m named is).2.by));
-      one_book = in_one_book (histories_in histories) (is_bundle size plans histories links r);
+      one_book = in_one_book (histories_in histories) bundle;
+      worked = record { finished = owner_finishes (histories_in histories) bundle; worker = one_worker (histories_in histories) bundle };
     }

@@ -8,7 +8,14 @@ use Rattle.node_core.specs.State.{State}
 use Rattle.node_core.specs.declared.phase.Phase.TheVariants.{Normal}
 use Rattle.link_ring.specs.declared.gathering.LinkEnd.{LinkEnd}
 use Rattle.histories.specs.What.{Entry}
-use Rattle.histories.specs.History.{sent_in, brought_in}
+use Rattle.histories.specs.History.{sent_in, brought_in, FollowsSlots}
+use Rattle.histories.specs.Lists.{IsAmong}
+use Rattle.histories.specs.NodeState.{opening}
+use Rattle.histories.specs.Marks.{commands_of, marks_of}
+use Rattle.histories.specs.Owners.{FinishedBy}
+use Rattle.histories.specs.declared.tried.Tried.{Tried}
+use Rattle.job_model.specs.declared.node_command.NodeCommand.TheVariants.{Done}
+use Rattle.node_core.specs.declared.in_hand.InHand.{InHand}
 use Rattle.histories.specs.Bundle.{Bundle}
 use Rattle.histories.specs.Rising.{EachRises}
 use Rattle.histories.specs.Moments.{IsMoment}
@@ -56,11 +63,21 @@ pub record IsOneBook (histories : List (List Entry)) : Type 0 where
   pub coordinator : (n m : ℕ) (v w : State) → IsMoment histories n v → IsMoment histories m w → IsInGroup v.phase → IsInGroup w.phase → v.group ≡ w.group → v.coordinator ≡ w.coordinator
   pub task : (n m : ℕ) (v w : State) → IsMoment histories n v → IsMoment histories m w → v.phase ≡ Normal → w.phase ≡ Normal → v.group ≡ w.group → v.task ≡ w.task
 
+-- each job that a node takes out of its journal was finished by a node that had it in hand and owned its queue; and those that have jobs of one queue in
+-- hand, in Normal and in one group, are one node
+pub record AreWorked (histories : List (List Entry)) : Type 0 where
+  pub finished : (n : ℕ) (h : List Entry) → slice_get histories n ≡ Some h → (t : Tried) (id : ℕ) → IsAmong t (commands_of (marks_of n (length histories) h)) → t.command ≡ Done id → FinishedBy histories n id
+  pub worker : (n m : ℕ) (v w : State) → IsMoment histories n v → IsMoment histories m w → v.phase ≡ Normal → w.phase ≡ Normal → v.group ≡ w.group
+      → (a b : InHand) → IsAmong a v.hand → IsAmong b w.hand → a.work.queue ≡ b.work.queue → n ≡ m
+
 -- a history for each node, and a link for each ordered pair of different nodes, by sender and then receiver: the k-th link of
 -- node i goes to the k-th other node
 pub record IsWhole (size : Size) (plans : List Planned) (histories : List Log) (links : List LinkEnd) : Type 0 where
   pub history_count : length histories ≡ length plans
   pub interleaved : (n : ℕ) (p : Planned) (h : Log) → slice_get plans n ≡ Some p → slice_get histories n ≡ Some h → IsInterleaving p h.turns
+  -- no entry is one that a journal of so many slots doesn't allow
+  pub of_slots : (n : ℕ) (h : Log) → slice_get histories n ≡ Some h → FollowsSlots size.slots n (length plans) (opening n) (entries_of h.turns)
   pub link_count : length links ≡ length plans * (length plans - 1)
   pub carried : (i k j : ℕ) (p : Planned) (from to : Log) → slice_get histories i ≡ Some from → slice_get histories j ≡ Some to → slice_get plans j ≡ Some p → IsOther i k j → (link : LinkEnd) × (slice_get links (i * (length plans - 1) + k) ≡ Some link) × IsCarried size.capacity i j p from.turns to.turns link
   pub one_book : IsOneBook (histories_in histories)
+  pub worked : AreWorked (histories_in histories)

@@ -1,12 +1,33 @@
-use Rattle.std.proofs.Common.{refl}
-use Rattle.durable_node.proofs.PublicLaws.{steps_and_forgets}
+use Rattle.std.proofs.Common.{refl, subst, Result, IfOk}
+use Rattle.sector_disk.specs.Memory.{state_of}
+use Rattle.durable_node.specs.declared.came.Came.{Came}
+use Rattle.durable_node.specs.declared.fault.NodeFault.{NodeFault}
+use Rattle.durable_node.specs.Faults.{answered}
+use Rattle.durable_node.specs.Reading.{ReadsDisk}
+use Rattle.durable_node.specs.Refusing.{Answers}
+use Rattle.durable_node.specs.Remounting.{IsMountedBy, Remounted}
+use Rattle.durable_node.specs.Stepping.{CountsOf, most_by}
+use Rattle.node_lock.proofs.Once.{sends_few}
 use Rattle.node_lock.proofs.perform.perform.Goals as goal
 
 pub returns-in-Ok-clause-did : goal.returns-in-Ok-clause-did
-returns-in-Ok-clause-did c = record {
-  has = c.step.ensures.counts.was_there;
-  came = c.in-Ok.came;
-  steps = steps_and_forgets c.args.node.now c.step.new.self c.forget.new.self c.args.event.now c.in-Ok.came c.forget.ensures.forgot c.in-Ok.ensures.step;
-  written = refl;
-  is_sent = refl;
-}
+returns-in-Ok-clause-did c =
+    let old = c.args.node.now in
+    let left = c.step.new.self in
+    record {
+      came = c.in-Ok.came;
+      left = left;
+      steps = c.in-Ok.ensures.step;
+      answers = subst (λ (r : Result Came NodeFault). Answers old c.args.event.now (answered r)) c.in-Ok.is c.step.ensures.answers;
+      counts = subst (λ (r : Result Came NodeFault). CountsOf state_of old.disk left.disk (answered r)) c.in-Ok.is c.step.ensures.counts;
+      mounting = λ down is. subst (λ (r : Result Came NodeFault). Remounted old left (answered r) left.mounted) c.in-Ok.is (c.step.ensures.mounting down is);
+      kept = λ down is. subst (λ (r : Result Came NodeFault). IfOk r (λ came. IsMountedBy old.doubt came.fate left.mounted)) c.in-Ok.is (c.step.ensures.kept down is);
+      reads = λ down is. subst (λ (r : Result Came NodeFault). ReadsDisk state_of old.disk left.disk (answered r) left.mounted) c.in-Ok.is (c.step.ensures.reads down is);
+      few = c.in-Ok.ensures.few;
+      forgot = c.forget.ensures.forgot;
+      written = refl;
+      is_sent = refl;
+    }
+
+pub returns-in-Ok-clause-each : goal.returns-in-Ok-clause-each
+returns-in-Ok-clause-each c = sends_few _ c.forget.new.self c.args.event.now c.in-Ok.came.fate c.in-Ok.came.sent.items (most_by c.args.node.now.nodes c.args.node.now.kept) c.requires.stands (returns-in-Ok-clause-did c) c.in-Ok.ensures.few c.note_sets.ensures

@@ -5,6 +5,7 @@ use Rattle.histories.specs.Fates.{what_of}
 use Rattle.node_lock.specs.Sending.{SentOn}
 use Rattle.node_lock.specs.Taking.{turn_of}
 use Rattle.node_lock.proofs.Keeping.{sent_since}
+use Rattle.node_lock.proofs.Putting.{ends_same}
 use Rattle.node_lock.proofs.turn.hand.Goals as goal
 
 pub returns-clause-taken : goal.returns-clause-taken
@@ -20,3 +21,6 @@ returns-clause-taken c =
         turns = c.push.ensures ∙ (λ i. c.make_room.ensures.turns i ++ turn_of c.args.worker c.args.index (record { what = what; sent = c.deref-2.ensures.value i }) ∷ []);
       },
     )
+
+pub send_all-requires-clause-ends : goal.send_all-requires-clause-ends
+send_all-requires-clause-ends c = (c.args.node.now.id, ends_same c.args.node.now.id c.args.puts.now.items c.make_room.new.puts.items c.requires.ends c.make_room.ensures.same)

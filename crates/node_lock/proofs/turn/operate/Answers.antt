@@ -16,7 +16,7 @@ pub returns-in-Crash-clause-taken : goal.returns-in-Crash-clause-taken
 returns-in-Crash-clause-taken c =
     let old = c.args.node.now in
     let new = c.crash.new.self in
-    let crashed : WasCrashed c.as_slice.result.now old new = record { down = c.crash.ensures.down; disk = c.crash.ensures.disk; stands = c.crash.ensures.stands } in
+    let crashed : WasCrashed c.as_slice.result.now old new = record { there = c.crash.ensures.there; down = c.crash.ensures.down; disk = c.crash.ensures.disk; stands = c.crash.ensures.stands } in
     let did : TurnDid old (asked_in c.args.order.now) Crashed [] new =
     subst (λ (o : Order). TurnDid old (asked_in o) Crashed [] new) (sym c.in-Crash.is) (subst (λ (f : List ℕ). WasCrashed f old new) c.as_slice.ensures crashed, refl, refl) in (
       record { what = Crashed; sent = [] },

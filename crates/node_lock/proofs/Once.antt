@@ -1,0 +1,290 @@
+-- No event but a dispatch sends two messages to one node.
+use Rattle.std.proofs.Common.{◌≡◌, ◌≢◌, ℕ, zero, suc, ◌+◌, ◌<◌, ◌≤◌, ◌==◌, min, Bool, true, false, not, ◌&&◌, ◌||◌, List, [], ◌∷◌, ◌++◌, map, length, refl, sym, ap, ◌∙◌, subst, arith, eqb, ltb}
+use Rattle.std.specs.Prelude.{if◌then◌else◌, nat_lt, ⊤}
+use Rattle.std.specs.List.{filter}
+use Rattle.std.proofs.lemmas.Bool.Decides.{nat_tests}
+use Rattle.std.proofs.lemmas.List.{length-append}
+use Rattle.std.proofs.Math.Nat.{le-min}
+use Rattle.group_task.specs.Group.{Group, same_group}
+use Rattle.group_task.specs.Ids.{has, with_id, without_id, either_of, ids_below, RisesWithin, IsSet}
+use Rattle.group_task.specs.declared.node.TheConstants.{NODES}
+use Rattle.job_model.specs.declared.job.Job.{Job}
+use Rattle.wire_msg.specs.Envelope.{Envelope}
+use Rattle.wire_msg.specs.declared.body.Body.{Body}
+use Rattle.wire_msg.specs.declared.body.Body.TheVariants as says
+use Rattle.node_core.specs.declared.event.Event.{Event}
+use Rattle.node_core.specs.declared.event.Event.TheVariants as on
+use Rattle.node_core.specs.declared.timer.Timer.{Timer}
+use Rattle.node_core.specs.declared.timer.Timer.TheVariants as timer
+use Rattle.node_core.specs.State.{State, is_down, is_election, is_reorganization, is_normal}
+use Rattle.node_core.specs.Start.{alone}
+use Rattle.node_core.specs.Effect.{Effect, quietly}
+use Rattle.node_core.specs.Words.{letter, to_each, is_empty, leads, members_of, owner, holds, own_group, task_of}
+use Rattle.node_core.specs.Timers.{timed, merges, awaits_ready, follows}
+use Rattle.node_core.specs.Messages.{delivered, was_probed, takes_invitation, passed_on, is_told}
+use Rattle.node_core.specs.Operator.{submit, finish}
+use Rattle.node_core.specs.Effects.{effect_of}
+use Rattle.sector_disk.specs.Memory.{Memory}
+use Rattle.histories.specs.declared.fate.Fate.{Fate}
+use Rattle.histories.specs.declared.fate.Fate.TheVariants as fate
+use Rattle.histories.specs.NodeState.{NodeState, wants_at}
+use Rattle.job_model.specs.Answer.{answer_to}
+use Rattle.histories.specs.After.{sent_at}
+use Rattle.histories.specs.Fates.{what_of}
+use Rattle.durable_node.specs.Node.{Node}
+use Rattle.node_lock.specs.Asking.{Hand}
+use Rattle.node_lock.specs.Doing.{Did, StandsForSome}
+use Rattle.node_lock.specs.Sending.{addressed_to, most_to}
+use Rattle.node_lock.proofs.Carried.{addressed-append}
+use Rattle.node_lock.proofs.Comings.{turn_comes}
+
+-- how often an id stands in a list
+abbrev times : ℕ → List ℕ → ℕ
+times j ids = length (filter (λ (x : ℕ). x == j) ids)
+
+-- ---- sets
+
+not_before : (j low limit : ℕ) (xs : List ℕ) → j < low → RisesWithin low limit xs → times j xs ≡ 0
+not_before j low limit [] lt r = refl
+not_before j low limit (x ∷ xs) lt r = by_test (x == j) refl (not_before j (x + 1) limit xs (let at = r.0 in omega (arith, lt, at)) r.2)
+  where
+    by_test : (b : Bool) → (x == j) ≡ b → times j xs ≡ 0 → length (if b then x ∷ filter (λ (y : ℕ). y == j) xs else filter (λ (y : ℕ). y == j) xs) ≡ 0
+    by_test true is rest = absurd (let at = r.0 in let low' : low ≤ j = grind (arith, nat_tests, is, at) in let no : ⊥ = omega (arith, lt, low') in no)
+    by_test false is rest = rest
+
+once : (j low limit : ℕ) (xs : List ℕ) → RisesWithin low limit xs → times j xs ≤ 1
+once j low limit [] r = omega arith
+once j low limit (x ∷ xs) r = by_test (x == j) refl (once j (x + 1) limit xs r.2)
+  where
+    by_test : (b : Bool) → (x == j) ≡ b → times j xs ≤ 1 → length (if b then x ∷ filter (λ (y : ℕ). y == j) xs else filter (λ (y : ℕ). y == j) xs) ≤ 1
+    by_test true is rest = let none = not_before j (x + 1) limit xs (grind (arith, nat_tests, is)) r.2 in omega (arith, none)
+    by_test false is rest = rest
+
+rises_with : (i low limit : ℕ) (xs : List ℕ) → low ≤ i → i < limit → RisesWithin low limit xs → RisesWithin low limit (with_id xs i)
+rises_with i low limit [] le lt r = (le, lt, tt)
+rises_with i low limit (x ∷ xs) le lt r = by_place (nat_lt i x) (i == x) refl refl (λ above. rises_with i (x + 1) limit xs above lt r.2)
+  where
+    by_place : (b c : Bool) → nat_lt i x ≡ b → (i == x) ≡ c → (x + 1 ≤ i → RisesWithin (x + 1) limit (with_id xs i)) → RisesWithin low limit (if b then i ∷ x ∷ xs else (if c then x ∷ xs else x ∷ with_id xs i))
+    by_place true c before is rest = (le, lt, (grind (arith, nat_tests, before), r.1, r.2))
+    by_place false true before is rest = r
+    by_place false false before is rest = (r.0, r.1, rest (grind (arith, nat_tests, before, is)))
+
+rises_either : (low limit : ℕ) (xs ys : List ℕ) → RisesWithin low limit xs → RisesWithin 0 limit ys → RisesWithin 0 limit (either_of xs ys)
+rises_either low limit [] ys r q = q
+rises_either low limit (x ∷ xs) ys r q = rises_with x 0 limit (either_of xs ys) (omega arith) r.1 (rises_either (x + 1) limit xs ys r.2 q)
+
+rises_wider : (low limit wide : ℕ) (xs : List ℕ) → limit ≤ wide → RisesWithin low limit xs → RisesWithin low wide xs
+rises_wider low limit wide [] le r = tt
+rises_wider low limit wide (x ∷ xs) le r = (r.0, (let lt = r.1 in omega (arith, lt, le)), rises_wider (x + 1) limit wide xs le r.2)
+
+rises_below : (n : ℕ) → RisesWithin 0 n (ids_below n)
+rises_below zero = tt
+rises_below (suc n) = rises_with n 0 (suc n) (ids_below n) (omega arith) (omega arith) (rises_wider 0 n (suc n) (ids_below n) (omega arith) (rises_below n))
+
+fewer_left : (j : ℕ) (keep : ℕ → Bool) (xs : List ℕ) → times j (filter keep xs) ≤ times j xs
+fewer_left j keep [] = omega arith
+fewer_left j keep (x ∷ xs) = by_test (keep x) (fewer_left j keep xs)
+  where
+    one_more : (d : Bool) → times j (filter keep xs) ≤ times j xs
+        → length (if d then x ∷ filter (λ (y : ℕ). y == j) (filter keep xs) else filter (λ (y : ℕ). y == j) (filter keep xs)) ≤ length (if d then x ∷ filter (λ (y : ℕ). y == j) xs else filter (λ (y : ℕ). y == j) xs)
+    one_more true rest = omega (arith, rest)
+    one_more false rest = rest
+
+    none_more : (d : Bool) → times j (filter keep xs) ≤ times j xs → times j (filter keep xs) ≤ length (if d then x ∷ filter (λ (y : ℕ). y == j) xs else filter (λ (y : ℕ). y == j) xs)
+    none_more true rest = omega (arith, rest)
+    none_more false rest = rest
+
+    by_test : (b : Bool) → times j (filter keep xs) ≤ times j xs
+        → length (filter (λ (y : ℕ). y == j) (if b then x ∷ filter keep xs else filter keep xs)) ≤ length (if x == j then x ∷ filter (λ (y : ℕ). y == j) xs else filter (λ (y : ℕ). y == j) xs)
+    by_test true rest = one_more (x == j) rest
+    by_test false rest = none_more (x == j) rest
+
+taken_out : (j : ℕ) (xs : List ℕ) → times j (without_id xs j) ≡ 0
+taken_out j [] = refl
+taken_out j (x ∷ xs) = by_test (x == j) refl (taken_out j xs)
+  where
+    kept : (b : Bool) → b ≡ false → times j (without_id xs j) ≡ 0 → length (if b then x ∷ filter (λ (y : ℕ). y == j) (without_id xs j) else filter (λ (y : ℕ). y == j) (without_id xs j)) ≡ 0
+    kept true is rest = absurd cc
+    kept false is rest = rest
+
+    by_test : (b : Bool) → (x == j) ≡ b → times j (without_id xs j) ≡ 0 → length (filter (λ (y : ℕ). y == j) (if not b then x ∷ without_id xs j else without_id xs j)) ≡ 0
+    by_test true is rest = rest
+    by_test false is rest = kept (x == j) is rest
+
+-- ---- messages to each of a set
+
+to_each_times : (j self : ℕ) (body : Body) (ids : List ℕ) → length (addressed_to j (to_each self ids body)) ≡ times j ids
+to_each_times j self body [] = refl
+to_each_times j self body (x ∷ xs) = by_test (x == j) (to_each_times j self body xs)
+  where
+    by_test : (b : Bool) → length (addressed_to j (to_each self xs body)) ≡ times j xs
+        → length (if b then letter self x body ∷ addressed_to j (to_each self xs body) else addressed_to j (to_each self xs body)) ≡ length (if b then x ∷ filter (λ (y : ℕ). y == j) xs else filter (λ (y : ℕ). y == j) xs)
+    by_test true rest = ap suc rest
+    by_test false rest = rest
+
+to_set : (j self limit : ℕ) (body : Body) (ids : List ℕ) → RisesWithin 0 limit ids → length (addressed_to j (to_each self ids body)) ≤ 1
+to_set j self limit body ids r = let same = to_each_times j self body ids in let few = once j 0 limit ids r in omega (arith, same, few)
+
+one_letter : (j self receiver : ℕ) (body : Body) → length (addressed_to j (letter self receiver body ∷ [])) ≤ 1
+one_letter j self receiver body = by_test (receiver == j)
+  where
+    by_test : (b : Bool) → length (if b then letter self receiver body ∷ [] else []) ≤ 1
+    by_test true = omega arith
+    by_test false = omega arith
+
+none : 0 ≤ 1
+none = omega arith
+
+-- ---- the rows
+
+-- at most one message goes to this node
+record SendsOnce (j : ℕ) (e : Effect) : Type 0 where
+  few : length (addressed_to j e.sent) ≤ 1
+
+-- the timer is no dispatch
+abbrev pub IsOther : Timer → Type 0
+IsOther timer.Dispatch = ⊥
+IsOther t = ⊤
+
+-- the event is no dispatch
+abbrev pub IsSingle : Event → Type 0
+IsSingle (on.Timer t) = IsOther t
+IsSingle event = ⊤
+
+module _ (nodes self j : ℕ) (s : State) (up : IsSet s.up) (found : IsSet s.found) where
+  by : (b : Bool) (x y : Effect) → SendsOnce j x → SendsOnce j y → SendsOnce j (if b then x else y)
+  by true x y t f = t
+  by false x y t f = f
+
+  quiet : (t : State) → SendsOnce j (quietly t)
+  quiet t = record { few = none }
+
+  when : (b : Bool) (x : Effect) → SendsOnce j x → SendsOnce j (if b then x else quietly s)
+  when b x t = by b x (quietly s) t (quiet s)
+
+  -- one message is sent
+  sends_one : (t : State) (receiver : ℕ) (body : Body) → SendsOnce j (record { state = t; sent = letter self receiver body ∷ [] })
+  sends_one t receiver body = record { few = one_letter j self receiver body }
+
+  -- an invitation is passed on to all but its creator, who is told that it is accepted
+  passes : (group : Group) → length (addressed_to j (to_each self (passed_on self group s) (says.Invitation group) ++ letter self group.creator (says.Accept group) ∷ [])) ≤ 1
+  passes group = by_creator (group.creator == j) refl
+    where
+      split : length (addressed_to j (to_each self (passed_on self group s) (says.Invitation group) ++ letter self group.creator (says.Accept group) ∷ []))
+          ≡ times j (passed_on self group s) + length (addressed_to j (letter self group.creator (says.Accept group) ∷ []))
+      split = ap length (addressed-append j (to_each self (passed_on self group s) (says.Invitation group)) (letter self group.creator (says.Accept group) ∷ []))
+          ∙ (length-append (addressed_to j (to_each self (passed_on self group s) (says.Invitation group))) (addressed_to j (letter self group.creator (says.Accept group) ∷ []))
+          ∙ ap (λ (n : ℕ). n + length (addressed_to j (letter self group.creator (says.Accept group) ∷ []))) (to_each_times j self (says.Invitation group) (passed_on self group s)))
+
+      few_passed : (b : Bool) → times j (if b then without_id s.up group.creator else []) ≤ 1
+      few_passed true = let few = fewer_left j (λ (x : ℕ). not (x == group.creator)) s.up in let one = once j 0 NODES s.up up in omega (arith, few, one)
+      few_passed false = none
+
+      none_passed : (b : Bool) → group.creator ≡ j → times j (if b then without_id s.up group.creator else []) ≡ 0
+      none_passed true same = subst (λ (c : ℕ). times j (without_id s.up c) ≡ 0) (sym same) (taken_out j s.up)
+      none_passed false same = refl
+
+      last_by : (b : Bool) → (group.creator == j) ≡ b → length (addressed_to j (letter self group.creator (says.Accept group) ∷ [])) ≡ length (if b then letter self group.creator (says.Accept group) ∷ [] else [])
+      last_by b is = ap (λ (c : Bool). length (if c then letter self group.creator (says.Accept group) ∷ [] else [])) is
+
+      by_creator : (b : Bool) → (group.creator == j) ≡ b → length (addressed_to j (to_each self (passed_on self group s) (says.Invitation group) ++ letter self group.creator (says.Accept group) ∷ [])) ≤ 1
+      by_creator true is =
+          let same : group.creator ≡ j = grind (arith, nat_tests, is) in
+          let zero_passed = none_passed (s.coordinator == self) same in
+          let last = last_by true is in
+          omega (arith, split, zero_passed, last)
+      by_creator false is =
+          let few = few_passed (s.coordinator == self) in
+          let last = last_by false is in
+          omega (arith, split, few, last)
+
+  body_once : (from : ℕ) (body : Body) (answer : ℕ) → SendsOnce j (delivered self from body answer s)
+  unfolding delivered
+  body_once from says.AreYouCoordinator answer = by (is_down s.phase) _ _ (quiet s) (sends_one s from (says.Coordinator (leads self s)))
+  body_once from (says.Coordinator agreed) answer = when (agreed && merges self s) _ (quiet _)
+  body_once from (says.AreYouThere group) answer = by (is_down s.phase) _ _ (quiet s) (sends_one s from (says.Here group (same_group group s.group && s.coordinator == self && has s.up from)))
+  body_once from (says.Here group agreed) answer = when (was_probed from group s) _ (by agreed _ _ (quiet _) (quiet _))
+  body_once from (says.Invitation group) answer = when (takes_invitation self group s) _ (record { few = passes group })
+  body_once from (says.Accept group) answer = when (is_election s.phase && s.coordinator == self && same_group group s.group) _ (quiet _)
+  body_once from (says.Ready task) answer = by (is_told self from task s && is_reorganization s.phase) _ _ (sends_one _ from (says.ReadyAck s.group))
+      (when (is_told self from task s && is_normal s.phase) _ (sends_one s from (says.ReadyAck s.group)))
+  body_once from (says.ReadyAck group) answer = when (awaits_ready self s && same_group group s.group) _ (quiet _)
+  body_once from (says.Work group id work) answer =
+      when (is_normal s.phase && same_group group s.group && has (members_of s.task) from && owner s work.queue == self && not (holds s.hand from id)) _ (quiet _)
+  body_once from (says.Done id) answer = quiet s
+
+  to_others : length (addressed_to j (to_each self (without_id (ids_below nodes) self) says.AreYouCoordinator)) ≤ 1
+  to_others =
+      let same = to_each_times j self says.AreYouCoordinator (without_id (ids_below nodes) self) in
+      let few = fewer_left j (λ (x : ℕ). not (x == self)) (ids_below nodes) in
+      let one = once j 0 nodes (ids_below nodes) (rises_below nodes) in
+      omega (arith, same, few, one)
+
+  timer_once : (pending : List Job) (t : Timer) (answer : ℕ) → IsOther t → SendsOnce j (timed nodes self pending t answer s)
+  unfolding timed
+  timer_once pending timer.Check answer o = when (leads self s) _ (record { few = to_others })
+  timer_once pending timer.Merge answer o = when (merges self s) _ (by (is_empty s.found) _ _ (quiet _)
+      (record { few = to_set j self NODES (says.Invitation (own_group self answer)) (either_of s.up s.found) (rises_either 0 NODES s.up s.found up found) }))
+  timer_once pending timer.Accept answer o = when (is_election s.phase && s.coordinator == self) _ (record { few = to_set j self NODES (says.Ready (task_of s.group (with_id s.up self))) s.up up })
+  timer_once pending timer.Ready answer o = when (awaits_ready self s) _ (quiet _)
+  timer_once pending timer.Coord answer o = when (follows self s) _ (by s.probing _ _ (quiet _) (sends_one _ s.coordinator (says.AreYouThere s.group)))
+  timer_once pending timer.Dispatch answer o = absurd o
+
+  finish_once : (origin id : ℕ) (b : Bool) → length (addressed_to j (if b then [] else letter self origin (says.Done id) ∷ [])) ≤ 1
+  finish_once origin id true = none
+  finish_once origin id false = one_letter j self origin (says.Done id)
+
+  event_once : (pending : List Job) (event : Event) (answer : ℕ) → IsSingle event → SendsOnce j (effect_of nodes self pending event answer s)
+  unfolding submit finish
+  event_once pending (on.Timer t) answer o = timer_once pending t answer o
+  event_once pending (on.Deliver m) answer o = body_once m.sender m.body answer
+  event_once pending (on.Submit work) answer o = by (owner s work.queue == self) _ _ (quiet _) (sends_one s (owner s work.queue) (says.Work s.group answer work))
+  event_once pending (on.Finish origin id) answer o = record { few = finish_once origin id (origin == self) }
+  event_once pending on.Recover answer o = quiet _
+
+-- ---- what a node sends at an event
+
+fate_once : (nodes self j : ℕ) (s : NodeState) (event : Event) (fate : Fate) → IsSet s.state.up → IsSet s.state.found → IsSingle event → length (addressed_to j (sent_at self nodes s (what_of event fate))) ≤ 1
+fate_once nodes self j s event fate.Done up found single = (event_once nodes self j s.state up found s.durable.pending event (answer_to s.durable (wants_at self nodes s event)) single).few
+fate_once nodes self j s event (fate.Refused why) up found single = none
+fate_once nodes self j s event fate.Faulted up found single = none
+fate_once nodes self j s event (fate.Recovered kept) up found single = none
+fate_once nodes self j s event fate.MountFailed up found single = none
+fate_once nodes self j s event (fate.RaiseFailed kept) up found single = none
+fate_once nodes self j s event (fate.RaiseRefused kept) up found single = none
+
+fewer : (j : ℕ) (ms : List Envelope) → length (addressed_to j ms) ≤ length ms
+fewer j [] = omega arith
+fewer j (m ∷ ms) = by_test (m.receiver == j) (fewer j ms)
+  where
+    by_test : (b : Bool) → length (addressed_to j ms) ≤ length ms → length (if b then m ∷ addressed_to j ms else addressed_to j ms) ≤ suc (length ms)
+    by_test true rest = omega (arith, rest)
+    by_test false rest = omega (arith, rest)
+
+both : (n most : ℕ) → n ≤ most → n ≤ 1 → n ≤ min most 1
+both n most all one = le-min all one
+
+at_most : (n most : ℕ) (event : Event) → n ≤ most → (IsSingle event → n ≤ 1) → n ≤ most_to event most
+at_most n most (on.Timer timer.Check) all one = both n most all (one tt)
+at_most n most (on.Timer timer.Merge) all one = both n most all (one tt)
+at_most n most (on.Timer timer.Accept) all one = both n most all (one tt)
+at_most n most (on.Timer timer.Ready) all one = both n most all (one tt)
+at_most n most (on.Timer timer.Coord) all one = both n most all (one tt)
+at_most n most (on.Timer timer.Dispatch) all one = all
+at_most n most (on.Deliver m) all one = both n most all (one tt)
+at_most n most (on.Submit work) all one = both n most all (one tt)
+at_most n most (on.Finish origin id) all one = both n most all (one tt)
+at_most n most on.Recover all one = both n most all (one tt)
+
+-- to each node an event sends no more than it may
+pub sends_few : (old new : Node Memory) (event : Event) (fate : Fate) (sent : List Envelope) (most : ℕ) → StandsForSome old → Did old event (what_of event fate) sent new → length sent ≤ most → IsSet old.state.up × IsSet old.state.found
+    → (j : ℕ) → length (addressed_to j sent) ≤ most_to event most
+sends_few old new event fate sent most stands did few sets j =
+    let s = stands.0 in
+    let is : old.state ≡ s.state = stands.1.state in
+    let came = turn_comes old new (Hand event) (what_of event fate) sent did s stands.1 in
+    let one : IsSingle event → length (addressed_to j sent) ≤ 1 = λ single.
+    subst (λ (ms : List Envelope). length (addressed_to j ms) ≤ 1) (sym came.is_sent)
+    (fate_once old.nodes old.id j s event fate (subst (λ (v : State). IsSet v.up) is sets.0) (subst (λ (v : State). IsSet v.found) is sets.1) single) in
+    let shorter = fewer j sent in
+    at_most (length (addressed_to j sent)) most event (omega (arith, shorter, few)) one
