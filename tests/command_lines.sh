@@ -51,7 +51,7 @@ helps() {
     mark "$problem" invite "$1" --help
 }
 
-# says REASON: what the next run has to say on standard error, in one line
+# says REASON: what the next run has to say on standard error
 reason=''
 says() {
     reason="invite: $1"
@@ -119,6 +119,10 @@ refused trace 1
 refused record 1
 refused threads 1
 refused draw 1
+refused inspect
+refused inspect a b
+refused export
+refused format a 4 0 3 1 --jobs
 for word in --version -V; do
     problem=''
     start 'unread\n' "$room/out" "$word"
@@ -128,7 +132,7 @@ for word in --version -V; do
     cmp -s "$room/in" "$room/left" || problem='it read its input'
     mark "$problem" invite "$word"
 done
-for command in answer show sim store format node trace record threads draw; do
+for command in answer show sim store format node inspect export trace record threads draw; do
     problem=''
     start '' "$room/out" --help
     grep -q "^  $command " "$room/out" || problem="the help doesn't name $command"
@@ -196,7 +200,7 @@ prints 0 'cluster 128 4\ncut 127 0\n' "0 ok\n$every" sim
 file=$room/store
 prints 0 'raise\nformat 4\nmount\nraise\nput 1 6869\n' 'refused Broken\nok\nok\nok 1\nok 0\n' store "$file"
 prints 0 'mount\nlist\ndone 0\ndone 0\nlist\n' 'ok\ncount 1 next 1\njob 0 1 6869\nok\nrefused NoSuchJob\ncount 1 next 1\n' store "$file"
-prints 0 'mount\n' 'refused Device\n' store "$room/none"
+prints 0 'mount\n' 'refused NotFound\n' store "$room/none"
 says 'line 2: no such request: mout'
 prints 1 'mount\nmout\n' 'bad line 2\n' store "$file"
 says 'line 1: not of the form put QUEUE HEX [P]'
@@ -211,17 +215,26 @@ prints 0 'mount\nlist\n' 'ok\ncount 1 next 1\n' store "$file"
 
 # What is no regular file, and what may not be read and written.
 mkfifo "$room/pipe"
-prints 0 'format 4\nmount\n' 'refused Device\nrefused Device\n' store "$room/pipe"
-prints 0 'format 4\nmount\n' 'refused Device\nrefused Device\n' store "$room"
-prints 0 'format 4\nmount\n' 'refused Device\nrefused Device\n' store /dev/full
+prints 0 'format 4\nmount\n' 'refused NotAFile\nrefused NotAFile\n' store "$room/pipe"
+prints 0 'format 4\nmount\n' 'refused Folder\nrefused Folder\n' store "$room"
+prints 0 'format 4\nmount\n' 'refused NotAFile\nrefused NotAFile\n' store /dev/full
 chmod a-w "$file"
 if [ ! -w "$file" ]; then
-    prints 0 'mount\nformat 4\n' 'refused Device\nrefused Device\n' store "$file"
+    prints 0 'mount\nformat 4\n' 'refused Denied\nrefused Denied\n' store "$file"
 fi
 chmod u+w "$file"
 prints 0 'mount\nlist\n' 'ok\ncount 1 next 1\n' store "$file"
 prints 0 '{"nodes":2,"histories":[[{"do":"check","sent":["010100010000"]}],[{"do":"deliver","msg":"010100010000","sent":["01020100000101"]}]]}' 'Run 0 1\n' trace
+says $'no order takes all entries: each that is left waits for a message that none sent\nnode 1: entry 0 waits for 010100010000'
 prints 1 '{"nodes":2,"histories":[[],[{"do":"deliver","msg":"010100010000","sent":["01020100000101"]}]]}\n' 'NotARun 1 0\n' trace
+says $'no order takes all entries: look first at node 1, entry 0\nnode 0: entry 1 waits for 01020100000101\nnode 1: entry 0 (deliver) can\'t be: it would send 01020100000101'
+prints 1 '{"nodes":2,"histories":[[{"do":"check","sent":["010100010000"]},{"do":"deliver","msg":"01020100000101","sent":[]}],[{"do":"deliver","msg":"010100010000","sent":[]}]]}' 'NotARun 0 1\n' trace
+says $'no order takes all entries: look first at node 1, entry 0\nnode 1: entry 0 (deliver) can\'t be: it is for node 2'
+prints 1 '{"nodes":3,"histories":[[{"do":"check","sent":["010100010000","010100020000"]}],[{"do":"deliver","msg":"010100020000","sent":[]}],[]]}' 'NotARun 1 0\n' trace
+says $'no order takes all entries: look first at node 0, entry 1\nnode 0: entry 1 (submit) can\'t be: its node refuses it, being Down'
+prints 1 '{"nodes":1,"histories":[[{"do":"crash","sent":[]},{"do":"submit","queue":0,"payload":"","sent":[]}]]}' 'NotARun 0 1\n' trace
+says $'no order takes all entries: look first at node 0, entry 0\nnode 0: entry 0 (crash) can\'t be: it would send nothing'
+prints 1 '{"nodes":2,"histories":[[{"do":"crash","sent":["010100010000"]}],[]]}' 'NotARun 0 0\n' trace
 prints 1 '{"nodes":1,"histories":[[{"do":"none","sent":[]},{"do":"none"}]]}\n' 'bad trace 0 1\n' trace
 prints 1 '' 'bad trace\n' trace
 prints 0 'cluster 2 8\ncheck 0\ndeliver 0\n' '{"histories":[[{"do":"check","sent":["010100010000"]}],[{"do":"deliver","msg":"010100010000","sent":["01020100000101"]}]],"nodes":2}\n' record

@@ -1,11 +1,11 @@
 #!/usr/bin/env bash
-# The examples of docs/PROTOCOL.md print what stands behind them. Called at the top of the repository with the program, as in:
+# The examples of docs/GUARANTEES.md print what stands behind them. Called at the top of the repository with the program, as in:
 # examples.sh crates/invite/out/invite. Its last line counts them.
 #
 # An example is a fenced block that calls ./invite: its commands, an empty line, and what they print. A variable that one
 # block sets stands in the later ones too.
 program=$1
-page=docs/PROTOCOL.md
+page=docs/GUARANTEES.md
 passed=0
 failed=0
 

@@ -4,7 +4,7 @@
     failed_device.py PROGRAM
 
 The file lies on a file system over /dev/fuse whose device fails one write. The kernel holds that page to be clean, so a node that is started at once
-would go on over what the device never had. docs/DISK.md says what has to be done before: the cache of the file is dropped. The last line counts the
+would go on over what the device never had. docs/OPERATING.md says what has to be done before: the cache of the file is dropped. The last line counts the
 checks. Where there is no /dev/fuse nothing is tried, and a line says so."""
 import os
 import shutil
@@ -16,8 +16,8 @@ sys.path.insert(0, os.path.join(os.path.dirname(os.path.abspath(__file__)), "shi
 from device import Device
 
 SLOTS = 16
-# A page of 4,096 bytes has the slots 0 to 3 of the journal, so what is appended behind the fourth record touches another page.
-BEFORE, AFTER = 3, 2
+# A page of 4,096 bytes has the slots 0 to 3 of the journal, so what is appended behind the fourth record touches another page. The first one is a Base.
+BEFORE, AFTER = 2, 2
 # An append has two syncs, and each writes one page: the second is that of the gate.
 WRITE_OF_THE_GATE = 2
 
@@ -39,7 +39,7 @@ def kept(answers):
 
 
 def drop_cache(file):
-    """The command of docs/DISK.md."""
+    """The command of docs/OPERATING.md."""
     subprocess.run(["dd", f"if={file}", "iflag=nocache", "count=0", "status=none"], check=True)
 
 

@@ -4,7 +4,7 @@ are refused, what is left of them, and who else may have them meanwhile.
 
     files.py PROGRAM
 
-What is expected was worked out from docs/DISK.md, STORE.md and NODE.md. The last line counts the checks."""
+What is expected was worked out from docs/FORMATS.md. The last line counts the checks."""
 import errno, fcntl, os, re, resource, select, shutil, signal, subprocess, sys, tempfile
 
 HERE = os.path.dirname(os.path.abspath(__file__))
@@ -43,11 +43,11 @@ STORES = [
 
 # The files of a node: SLOTS SELF NODES FIRST, what is asked of it, its sectors, and the label behind the last one.
 NODES = [
-    ("4 0 3", "", EMPTY, "64756d6765726f6b 01 00 03 0000000000"),
-    ("8 127 128", "", EMPTY, "64756d6765726f6b 01 7f 80 0000000000"),
-    ("4 0 1 258", "", {**EMPTY, 0: "0000000000000102"}, "64756d6765726f6b 01 00 01 0000000000"),
-    ("4 0 1 18446744073709551615", "", {**EMPTY, 0: "ff" * 8}, "64756d6765726f6b 01 00 01 0000000000"),
-    ("4 2 3", "recover\nsubmit 3 6869 7\n", {**EMPTY, 2: "0000000000000001", 3: SEAL, 8: "05 0000000000000000 03 07 0002 6869", 9: SEAL}, "64756d6765726f6b 01 02 03 0000000000"),
+    ("4 0 3", "", {**EMPTY, 8: "03", 9: SEAL}, "64756d6765726f6b 01 00 03 0000000000"),
+    ("8 127 128", "", {**EMPTY, 8: "03", 9: SEAL}, "64756d6765726f6b 01 7f 80 0000000000"),
+    ("4 0 1 258", "", {**EMPTY, 0: "0000000000000102", 8: "03 0000000000000102", 9: SEAL}, "64756d6765726f6b 01 00 01 0000000000"),
+    ("4 0 1 18446744073709551615", "", {**EMPTY, 0: "ff" * 8, 8: "03" + "ff" * 8, 9: SEAL}, "64756d6765726f6b 01 00 01 0000000000"),
+    ("4 2 3", "recover\nsubmit 3 6869 7\n", {**EMPTY, 2: "0000000000000001", 3: SEAL, 8: "03", 9: SEAL, 10: "05 0000000000000000 03 07 0002 6869", 11: SEAL}, "64756d6765726f6b 01 02 03 0000000000"),
 ]
 
 # Files that a store is made in place of: how long, of bytes 55, and with how many slots.
@@ -59,29 +59,44 @@ LENGTHS = [(0, "TooSmall"), (1, "TooSmall"), (511, "TooSmall"), (512, "TooSmall"
 # How many bytes stand behind a store of four slots, and how many jobs it then takes: two less than it has slots.
 BEHIND = [(0, 2), (1, 2), (511, 2), (512, 2), (3 * 512 + 511, 2), (4 * 512, 3), (4 * 512 + 511, 3), (8 * 512, 4), (8 * 512 + 13, 4)]
 
-# Where a path leads to, whether `store` may make its file there, and the statuses of `node` and of `format`.
+# Where a path leads to, whether `store` may make its file there, and else its word for it, the statuses of `node` and of `format`, and what `node` says.
 PLACES = [
-    ("nothing", True, 5, 0),
-    ("nothing/below", False, 5, 5),
-    ("folder", False, 5, 1),
-    ("file/below", False, 3, 3),
-    ("pipe", False, 5, 1),
-    ("/dev/null", False, 5, 1),
-    ("/dev/zero", False, 5, 1),
-    ("/dev/full", False, 5, 1),
-    ("to-nothing", True, 5, 1),
-    ("to-folder", False, 5, 1),
-    ("to-itself", False, 3, 1),
-    ("x" * 300, False, 3, 3),
+    ("nothing", True, "NotFound", 7, 0, "there is no such file or folder: No such file or directory (os error 2)"),
+    ("nothing/below", False, "NotFound", 7, 7, "there is no such file or folder: No such file or directory (os error 2)"),
+    ("folder", False, "Folder", 7, 1, "it is a folder: Is a directory (os error 21)"),
+    ("file/below", False, "Unusable", 7, 7, "it can't be opened: Not a directory (os error 20)"),
+    ("pipe", False, "NotAFile", 7, 1, "it is no regular file"),
+    ("/dev/null", False, "NotAFile", 7, 1, "it is no regular file"),
+    ("/dev/zero", False, "NotAFile", 7, 1, "it is no regular file"),
+    ("/dev/full", False, "NotAFile", 7, 1, "it is no regular file"),
+    ("to-nothing", True, "NotFound", 7, 1, "there is no such file or folder: No such file or directory (os error 2)"),
+    ("to-folder", False, "Folder", 7, 1, "it is a folder: Is a directory (os error 21)"),
+    ("to-itself", False, "Unusable", 7, 1, "it can't be opened: Too many levels of symbolic links (os error 40)"),
+    ("x" * 300, False, "Unusable", 7, 7, "it can't be opened: File name too long (os error 36)"),
 ]
 
-# How `node` and `format` end where the system refuses to open the file so, and where a node's file can't be locked so.
-OPENING = [(errno.ENOENT, 5, 5), (errno.EEXIST, 1, 1), (errno.EACCES, 3, 3), (errno.EPERM, 3, 3), (errno.EROFS, 3, 3), (errno.EISDIR, 5, 5), (errno.ENOSPC, 3, 3),
-           (errno.EFBIG, 3, 3), (errno.EAGAIN, 3, 3), (errno.EIO, 3, 3), (errno.EMFILE, 3, 3)]
+# How `node` and `format` end where the system refuses to open the file so, and the word of `store`; and the same where a file can't be locked so.
+OPENING = [(errno.ENOENT, 7, "NotFound"), (errno.EEXIST, 1, "Unusable"), (errno.EACCES, 7, "Denied"), (errno.EPERM, 7, "Denied"), (errno.EROFS, 7, "Denied"),
+           (errno.EISDIR, 7, "Folder"), (errno.ENOSPC, 8, "NoRoom"), (errno.EDQUOT, 8, "NoRoom"), (errno.EFBIG, 8, "NoRoom"), (errno.EAGAIN, 7, "Unusable"),
+           (errno.ETXTBSY, 7, "Unusable"), (errno.EIO, 3, "Device"), (errno.EMFILE, 3, "Device")]
 LOCKING = [(errno.EWOULDBLOCK, 4, "Locked"), (errno.EIO, 3, "Device"), (errno.ENOLCK, 3, "Device")]
 
-# The lengths that a node's file of 24 sectors is cut to, once the node has opened it.
-CUT = [0, 1, 512, 1024, 2047, 4096, 4608, 4609, 5120, 12_287]
+# What is said of a file by the label behind its last sector, or by none.
+NOBODYS = "it is no node's file: it was never formatted, or its end was cut off"
+LABELS = [
+    ("", NOBODYS),
+    ("64756d6765726f6b 01 01 03 0000000000", "it is the file of node 1 of 3"),
+    ("64756d6765726f6b 01 00 04 0000000000", "it is the file of node 0 of 4"),
+    ("64756d6765726f6b 01 7f 80 0000000000", "it is the file of node 127 of 128"),
+    ("64756d6765726f6b 02 00 03 0000000000", "its format is of version 2, which isn't read here"),
+    ("64756d6765726f6b ff 00 00 0000000001", "its format is of version 255, which isn't read here"),
+    ("64756d6765726f6b 01 00 03 0000000001", NOBODYS),
+    ("64756d6765726f6c 01 00 03 0000000000", NOBODYS),
+    ("64756d6765726f6b 01 00 03 00000000", NOBODYS),
+]
+
+# The lengths that a node's file of 24 sectors and its label is cut to, once the node has opened it.
+CUT = [0, 1, 512, 1024, 2047, 4096, 4608, 4609, 5120, 12_287, 12_288, 12_303]
 
 UP = b"group Normal 0 0:1 0\nkeeps 1 0 0\nok 1\n"
 
@@ -127,6 +142,11 @@ class Tried:
             self.mark(f"it says {ended.stderr!r}", words)
         return ended.returncode, ended.stdout
 
+    def says(self, words, fed, status, said, **more):
+        """Nothing is printed, and one line is said."""
+        ended = subprocess.run([self.program, *words], input=fed.encode(), capture_output=True, timeout=60, **more)
+        self.same((ended.returncode, ended.stdout, ended.stderr.decode()), (status, b"", f"invite: {said}\n"), words)
+
     def expect(self, words, fed, text, status=0, **more):
         self.same(self.run(words, fed, **more), (status, text.encode() if isinstance(text, str) else text), (words, fed))
 
@@ -164,6 +184,7 @@ def try_bytes(tried, path):
         found = tried.run(["store", path], "".join(line + "\n" for line in [f"format {slots}", "mount", *lines, "list"]))
         tried.same(found[1].decode()[-len(shown):], shown, requests)
         tried.same(read(path), bytes_of(slots, sectors), (slots, requests))
+        tried.mark("" if os.stat(path).st_mode & 0o777 == 0o600 else "others may read it", (slots, requests))
         # the zeros take the room that later writes need: a file of holes would have none
         tried.mark("" if os.stat(path).st_blocks >= 8 + 4 * slots else "it has no room", (slots, requests))
         write(path, bytes_of(slots, sectors))
@@ -173,6 +194,7 @@ def try_bytes(tried, path):
         _, out = tried.run(["node", path, *words.split()[1:3]], requests)
         tried.mark("" if out.count(b"ok ") == requests.count("\n") else f"it answers {out!r}", (words, requests))
         tried.same(read(path), bytes_of(int(words.split()[0]), sectors, label), (words, requests))
+        tried.mark("" if os.stat(path).st_mode & 0o777 == 0o600 else "others may read it", (words, requests))
 
 
 def try_made(tried, folder):
@@ -191,6 +213,10 @@ def try_made(tried, folder):
     os.symlink(path, link)
     tried.expect(["store", link], "format 4\n", "ok\n")
     tried.same((os.path.islink(link), read(path)), (True, bytes_of(4, EMPTY)), "a symbolic link")
+    # what was left of a format that was cut off is in nobody's way
+    write(path + ".unfinished", b"\x55" * 70_000)
+    tried.expect(["store", path], "format 5\nmount\nlist\n", "ok\nok\ncount 0 next 0\n")
+    tried.same((read(path), sorted(os.listdir(folder))), (bytes_of(5, EMPTY), ["link", "made"]), "what was left")
     for kept in (b"", b"kept", bytes_of(4, EMPTY, NODES[0][3])):
         write(path, kept)
         for name in (path, link):
@@ -198,7 +224,7 @@ def try_made(tried, folder):
         tried.same(read(path), kept, "a file that is there")
     # in the folder that it runs in
     tried.expect(["format", "here", "4", "0", "3"], "", "", cwd=folder)
-    tried.same(read(os.path.join(folder, "here")), bytes_of(4, EMPTY, NODES[0][3]), "a file in this folder")
+    tried.same(read(os.path.join(folder, "here")), bytes_of(4, NODES[0][2], NODES[0][3]), "a file in this folder")
 
 
 def try_lengths(tried, path):
@@ -226,22 +252,34 @@ def try_places(tried, folder):
     os.mkfifo(os.path.join(folder, "pipe"))
     for name, to in (("to-nothing", "nowhere"), ("to-folder", "folder"), ("to-itself", "to-itself")):
         os.symlink(to, os.path.join(folder, name))
-    for place, may_be_made, node, making in PLACES:
+    for place, may_be_made, word, node, making, said in PLACES:
         path = os.path.join(folder, place)
         before = sorted(os.listdir(folder))
-        tried.expect(["store", path], "mount\nlist\n", "refused Device\nrefused Broken\n")
-        tried.expect(["node", path, "0", "3"], "recover\n", "", node)
+        tried.expect(["store", path], "mount\nlist\n", f"refused {word}\nrefused Broken\n")
+        tried.says(["node", path, "0", "3"], "recover\n", node, f"{path}: {said}")
         tried.same(sorted(os.listdir(folder)), before, (place, "what is there"))
-        tried.expect(["format", path, "4", "0", "3"], "", "", making)
-        if making == 0:
+        if making == 1:
+            tried.says(["format", path, "4", "0", "3"], "", making, f"{path}: there is something of this name: File exists (os error 17)")
+        elif making:
+            tried.says(["format", path, "4", "0", "3"], "", making, f"{path}: {said}")
+        else:
+            tried.expect(["format", path, "4", "0", "3"], "", "")
             os.remove(path)
         tried.same(sorted(os.listdir(folder)), before, (place, "what is there"))
-        tried.expect(["store", path], "format 4\n", "ok\n" if may_be_made else "refused Device\n")
+        tried.expect(["store", path], "format 4\n", "ok\n" if may_be_made else f"refused {word}\n")
         if may_be_made:
             tried.same(read(path), bytes_of(4, EMPTY), place)
             os.remove(os.path.realpath(path))
         tried.same(sorted(os.listdir(folder)), before, (place, "what is there"))
     tried.same(read(os.path.join(folder, "file")), b"kept", "a file in a folder's place")
+
+
+def try_labels(tried, path):
+    """Whose a file is, is said where it isn't this node's."""
+    for label, said in LABELS:
+        write(path, bytes_of(4, EMPTY, label))
+        tried.says(["node", path, "0", "3"], "recover\n", 5, f"{path}: {said}")
+        tried.same(read(path), bytes_of(4, EMPTY, label), (label, "a label"))
 
 
 def as_another():
@@ -263,7 +301,7 @@ def try_denied(tried, folder):
     except (OSError, subprocess.SubprocessError):
         print("files.py: the program can't be run as another user, so nothing was denied")
         return
-    other = Tried(mine)
+    other, denied = Tried(mine), "it may not be read and written: Permission denied (os error 13)"
     os.mkdir(inner, 0o755)
     write(os.path.join(inner, "there"), bytes_of(4, EMPTY, NODES[0][3]))
     if not who:
@@ -271,14 +309,14 @@ def try_denied(tried, folder):
     for mode in (0o000, 0o444, 0o222):
         write(path, bytes_of(4, EMPTY, NODES[0][3]))
         os.chmod(path, mode)
-        other.expect(["store", path], "mount\nformat 4\n", "refused Device\n" * 2, **who)
-        other.expect(["node", path, "0", "3"], "recover\n", "", 3, **who)
+        other.expect(["store", path], "mount\nformat 4\n", "refused Denied\n" * 2, **who)
+        other.says(["node", path, "0", "3"], "recover\n", 7, f"{path}: {denied}", **who)
         os.chmod(path, 0o600)
         tried.same(read(path), bytes_of(4, EMPTY, NODES[0][3]), ("a file of mode", mode))
         os.remove(path)
     new = os.path.join(inner, "new")
-    other.expect(["format", new, "4", "0", "3"], "", "", 3, **who)
-    other.expect(["store", new], "format 4\n", "refused Device\n", **who)
+    other.says(["format", new, "4", "0", "3"], "", 7, f"{new}: {denied}", **who)
+    other.expect(["store", new], "format 4\n", "refused Denied\n", **who)
     tried.same(os.listdir(inner), ["there"], "a folder that may not be written")
     tried.passed, tried.failed = tried.passed + other.passed, tried.failed + other.failed
     os.chmod(inner, 0o755)
@@ -289,7 +327,7 @@ def try_locked(tried, path):
     tried.formatted(path)
     child, before = tried.node(path), read(path)
     tried.expect(["store", path], "mount\nformat 4\nlist\n", "refused Locked\nrefused Locked\nrefused Broken\n")
-    tried.expect(["node", path, "0", "1"], "recover\n", "", 4)
+    tried.says(["node", path, "0", "1"], "recover\n", 4, f"{path}: another process has it open")
     tried.expect(["format", path, "4", "0", "1"], "", "", 1)
     tried.same(read(path), before, "a file that is locked")
     with open(path, "rb") as file:
@@ -308,7 +346,10 @@ def try_locked(tried, path):
             tried.expect(["store", path], "mount\nformat 4\nraise\n", "refused Locked\nrefused Locked\nrefused Broken\n")
             tried.expect(["node", path, "0", "1"], "recover\n", "", 4)
             tried.same(read(path), before, ("locked by another process", how))
-        tried.expect(["store", path], "mount\nlist\n", "ok\ncount 1 next 1\njob 0 3 6869\n")
+        write(path + ".copy", read(path)[:-16])
+        tried.expect(["store", path + ".copy"], "mount\nlist\n", "ok\ncount 1 next 1\njob 0 3 6869\n")
+        os.remove(path + ".copy")
+    os.truncate(path, 12_288)
     # a second mounting in one process has the file once the first one has given it up, and so has a format
     tried.expect(["store", path], "format 4\nmount\nmount\nraise\nmount\nlist\nformat 5\nmount\nlist\n", "ok\nok\nok\nok 1\nok\ncount 1 next 0\nok\nok\ncount 0 next 0\n")
 
@@ -320,7 +361,7 @@ def try_changed(tried, path):
         child, before = tried.node(path), read(path)
         os.truncate(path, length)
         tried.ask(child, b"recover\n", b"fault 2 Device\n")
-        tried.end(child, 3, b"", ("cut before it is mounted", length))
+        tried.end(child, 7, b"", ("cut before it is mounted", length))
         tried.same(read(path), before[:length], ("cut before it is mounted", length))
 
         tried.formatted(path)
@@ -329,20 +370,62 @@ def try_changed(tried, path):
         before = read(path)
         os.truncate(path, length)
         tried.ask(child, b"submit 0 61\n", b"group Down\nfault 3 Device\n")
-        tried.end(child, 3, b"", ("cut before a write", length))
+        tried.end(child, 7, b"", ("cut before a write", length))
         tried.same(read(path), before[:length], ("cut before a write", length))
         # put back it is fit for use
         write(path, before)
         tried.expect(["node", path, "0", "1"], "recover\n", "group Normal 0 0:2 0\nkeeps 2 0 0\nok 1\n")
-    for length in (12_288, 12_303, 12_305, 20_000):
+    for length in (12_305, 20_000):
         tried.formatted(path)
         child = tried.node(path)
         os.truncate(path, length)
         tried.ask(child, b"recover\n", UP.replace(b"ok 1", b"ok 2"))
         tried.end(child, 0, b"", ("another length, with all sectors", length))
         tried.same(os.path.getsize(path), length, ("another length, with all sectors", length))
-        tried.expect(["store", path], "mount\nlist\n", "ok\ncount 1 next 0\n")
         tried.expect(["node", path, "0", "1"], "", "", 5)
+        os.truncate(path, 12_288)
+        tried.expect(["store", path], "mount\nlist\n", "ok\ncount 1 next 0\n")
+
+
+def try_removed(tried, path):
+    """A file that is removed, or that another one takes the name of, while a node has it open: noticed at the next recovery and compaction."""
+    for how in (os.remove, lambda path: os.rename(path + ".other", path)):
+        for lines, asked, text in (
+            (b"", b"recover\n", b"fault 2 Device\n"),
+            (b"recover\n", b"recover\n", b"group Down\nfault 3 Device\n"),
+            (b"recover\n", b"compact\n", b"group Down\nfault 3 Device\n"),
+        ):
+            write(path + ".other", b"")
+            tried.formatted(path)
+            child = tried.node(path)
+            if lines:
+                tried.ask(child, lines, UP.replace(b"ok 1", b"ok 2"))
+            how(path)
+            tried.ask(child, asked, text)
+            said = child.stderr.read()
+            tried.same(said.decode(), f"invite: {path}: the file was removed while it was open\n", (lines, asked))
+            tried.end(child, 7, b"", (lines, asked))
+            os.remove(path + ".other") if os.path.exists(path + ".other") else None
+        # and so by the next compaction that a job asks for: a Base stands in the first of four slots, and each job takes two
+        write(path + ".other", b"")
+        tried.formatted(path)
+        child = tried.node(path)
+        tried.ask(child, b"recover\n", UP.replace(b"ok 1", b"ok 2"))
+        how(path)
+        out, _ = child.communicate(b"".join(b"submit 0 -\nfinish 0 %d\n" % at for at in range(8)), timeout=60)
+        tried.mark("" if child.returncode == 7 and b"fault 6 Device" in out else f"status {child.returncode}, it answers {out[-200:]!r}", "removed before jobs")
+        os.remove(path + ".other") if os.path.exists(path + ".other") else None
+
+
+def try_foreign(tried, path):
+    """No store is made or mounted of a node's file, whatever the version of its format."""
+    for label in (NODES[0][3], "64756d6765726f6b 02 00 03 0000000000", "64756d6765726f6b ff ff ff ffffffffff"):
+        write(path, bytes_of(4, EMPTY, label))
+        tried.expect(["store", path], "format 4\nmount\nlist\n", "refused Foreign\nrefused Foreign\nrefused Broken\n")
+        tried.same(read(path), bytes_of(4, EMPTY, label), ("a node's file", label))
+    for label in ("64756d6765726f6b 01 00 03 00000000", "64756d6765726f6c 01 00 03 0000000000"):
+        write(path, bytes_of(4, EMPTY, label))
+        tried.expect(["store", path], "mount\nlist\n", "ok\ncount 0 next 0\n")
 
 
 def limited(most):
@@ -357,15 +440,20 @@ def try_too_long(tried, path):
     """A length that can't be had."""
     for kept in (b"", b"\x55" * 5000, bytes_of(5, EMPTY)):
         write(path, kept)
-        tried.expect(["store", path], "format 73\nmount\n" if kept == b"" else "format 73\n", "refused Device\n" + "refused TooSmall\n" * (kept == b""), preexec_fn=limited(150_000))
-        tried.same(read(path), kept, "a file that is there")
+        tried.expect(["store", path], "format 73\nmount\n" if kept == b"" else "format 73\n", "refused NoRoom\n" + "refused TooSmall\n" * (kept == b""), preexec_fn=limited(150_000))
+        tried.same((read(path), os.path.exists(path + ".unfinished")), (kept, False), "a file that is there")
     tried.expect(["store", path], "format 73\n", "ok\n", preexec_fn=limited(153_600))
     os.remove(path)
-    # the label is written last; what was cut off in it is no node's file
-    for most, status in ((12_287, 3), (12_288, 3), (12_303, 3), (12_304, 0)):
-        tried.expect(["format", path, "4", "0", "1"], "", "", status, preexec_fn=limited(most))
-        tried.expect(["node", path, "0", "1"], "", "", 5 if status else 0)
-        os.remove(path)
+    # the label is written last; what was made of a file that isn't whole is removed
+    for most in (12_287, 12_288, 12_303):
+        tried.says(["format", path, "4", "0", "1"], "", 8, f"{path}: there is no room for it: File too large (os error 27)", preexec_fn=limited(most))
+        tried.mark("it is there" if os.path.exists(path) else "", ("format", most))
+        tried.expect(["store", path], "format 4\n", "refused NoRoom\n" if most == 12_287 else "ok\n", preexec_fn=limited(most))
+        tried.same(os.path.exists(path), most > 12_287, ("store", most))
+        if most > 12_287:
+            os.remove(path)
+    tried.expect(["format", path, "4", "0", "1"], "", "", preexec_fn=limited(12_304))
+    tried.expect(["node", path, "0", "1"], "", "")
 
 
 def built(folder, name):
@@ -381,39 +469,61 @@ def try_refused_calls(tried, folder, path):
     def failing(at, error):
         return {"env": {**os.environ, "LD_PRELOAD": library, "FAULT_FILE": path, "FAULT_AT": str(at), "FAULT": str(error), "FAULT_COUNT": noted}}
 
-    for error, node, making in OPENING:
+    for error, status, word in OPENING:
         tried.formatted(path)
-        tried.expect(["node", path, "0", "1"], "recover\n", "", node, **failing(1, error))
-        tried.expect(["store", path], "mount\nlist\n", "refused Device\nrefused Broken\n", **failing(1, error))
+        tried.expect(["node", path, "0", "1"], "recover\n", "", status, **failing(1, error))
+        tried.expect(["store", path], "mount\nlist\n", f"refused {word}\nrefused Broken\n", **failing(1, error))
         os.remove(path)
-        tried.expect(["format", path, "4", "0", "1"], "", "", making, **failing(1, error))
+        tried.expect(["format", path, "4", "0", "1"], "", "", status, **failing(1, error))
         tried.mark("it was made" if os.path.exists(path) else "", ("format", errno.errorcode[error]))
     # opened, asked what it is, and then locked
-    for error, node, word in LOCKING:
+    for error, status, word in LOCKING:
         tried.formatted(path)
         before = read(path)
-        tried.expect(["node", path, "0", "1"], "recover\n", "", node, **failing(3, error))
+        tried.expect(["node", path, "0", "1"], "recover\n", "", status, **failing(3, error))
         tried.same(read(noted).split()[1:], [b"flock"], "the third call")
         tried.expect(["store", path], "mount\n", f"refused {word}\n", **failing(3, error))
         tried.expect(["store", path], "format 5\n", f"refused {word}\n", **failing(3, error))
+        tried.same(read(noted).split()[1:], [b"flock"], "the third call")
         tried.same(read(path), before, "a file that couldn't be locked")
+    # a format that fails at any call removes what it made, and says why
+    for error, status, said in ((errno.EIO, 3, "the device failed: Input/output error (os error 5)"), (errno.ENOSPC, 8, "there is no room for it: No space left on device (os error 28)")):
+        for at in range(1, 200):
+            if os.path.exists(path):
+                os.remove(path)
+            ended = subprocess.run([tried.program, "format", path, "4", "0", "3", "7"], capture_output=True, timeout=60, check=False, **failing(at, error))
+            if ended.returncode == 0:
+                break
+            tried.same((ended.returncode, ended.stderr.decode(), os.path.exists(path)), (status, f"invite: {path}: {said}\n", False), ("format", at, read(noted)))
+        tried.mark("" if 40 < at < 199 else f"{at} calls", "a format's calls")
+    # a device that fails while a node runs
+    for at in range(7, 30):
+        tried.formatted(path)
+        ended = subprocess.run([tried.program, "node", path, "0", "1"], input=b"recover\n", capture_output=True, timeout=60, check=False, **failing(at, errno.EIO))
+        tried.same((ended.returncode, ended.stderr.decode()), (3, f"invite: {path}: the device failed: Input/output error (os error 5)\n") if b"fault 1 Device" in ended.stdout else (0, ""), at)
 
-    # Calls of a mounting: it opens the file, asks what it is, locks it and asks for its length; a sync; eight reads, one less before the first raise.
-    # Of a raise: a look at the length with each of two or three writes, and as many syncs.
-    session, at = "mount\nraise\nmount\nraise\nlist\n", 0
-    for calls, text in (
-        (12, "refused Device\nrefused Broken\nok\nok 1\ncount 1 next 0\n"),
-        (5, "ok\nrefused Device\nok\nok 1\ncount 1 next 0\n"),
+    # Calls of a mounting: it opens the file, asks what it is, locks it and asks for its length, and once more for its label; a sync; eight reads, one
+    # less before the first raise, and before all but the last a look whether the file has its name. Of a raise: such a look before the number, a look at
+    # the length with each of two or three writes, and as many syncs. Once one failed, nothing is mounted by this process any more.
+    session, at, none_more = "mount\nraise\nmount\nraise\nlist\n", 0, "refused Device\nrefused Broken\nrefused Broken\n"
+    for calls, text, counts in (
+        (19, "refused Device\nrefused Broken\n" + none_more, "0"),
+        (6, "ok\nrefused Device\n" + none_more, "01"),
         # the sync of the gate alone: it was written
-        (1, "ok\nrefused Device\nok\nok 2\ncount 2 next 0\n"),
-        (13, "ok\nok 1\nrefused Device\nrefused Broken\nrefused Broken\n"),
-        (9, "ok\nok 1\nok\nrefused Device\ncount 1 next 0\n"),
-        (3, "ok\nok 1\nok\nok 2\ncount 2 next 0\n"),
+        (1, "ok\nrefused Device\n" + none_more, "1"),
+        (21, "ok\nok 1\n" + none_more, "1"),
+        (10, "ok\nok 1\nok\nrefused Device\ncount 1 next 0\n", "12"),
+        (3, "ok\nok 1\nok\nok 2\ncount 2 next 0\n", "2"),
     ):
         for _ in range(calls):
             at += 1
             write(path, bytes_of(4, EMPTY))
             tried.expect(["store", path], session, text, **failing(at, errno.EIO))
+            found = tried.run(["store", path], "mount\nlist\n")[1].decode()
+            tried.mark("" if found in [f"ok\ncount {count} next 0\n" for count in counts] else f"then there is {found!r}", ("call that fails", at))
+    # a format makes a file of its own, which may be mounted
+    write(path, bytes_of(4, EMPTY))
+    tried.expect(["store", path], "mount\nmount\nformat 4\nmount\nlist\n", "refused Device\nrefused Device\nok\nok\ncount 0 next 0\n", **failing(6, errno.EIO))
 
 
 def try_short_calls(tried, folder, path):
@@ -439,8 +549,10 @@ def try_short_calls(tried, folder, path):
     tried.expect(["store", path], "mount\n", "refused Device\n", env=env)
     tried.same(read(path), before, "nothing is moved")
     tried.expect(["store", path], "format 4\n", "refused Device\n", env=env)
+    tried.same((read(path), os.path.exists(path + ".unfinished")), (before, False), "nothing is moved")
     os.remove(path)
     tried.expect(["format", path, "4", "0", "1"], "", "", 3, env=env)
+    tried.mark("it is there" if os.path.exists(path) else "", "a format that moves nothing")
 
 
 def main():
@@ -452,8 +564,11 @@ def main():
         path = os.path.join(folder, "path")
         try_bytes(tried, path)
         try_lengths(tried, path)
+        try_labels(tried, path)
         try_locked(tried, path)
         try_changed(tried, path)
+        try_removed(tried, path)
+        try_foreign(tried, path)
         try_too_long(tried, path)
         for run in (try_made, try_places, try_denied):
             inner = os.path.join(folder, run.__name__)

@@ -51,7 +51,7 @@ ends 2 'format with few slots' format "$file" 3 0 3
 ends 2 'format with many slots' format "$file" 4097 0 3
 ends 2 'format of no node' format "$file" 8 3 3
 ends 2 'node with no NODES' node "$file" 0
-ends 5 'node with no file' node "$file" 0 3
+ends 7 'node with no file' node "$file" 0 3
 ends 0 'format' format "$file" 8 0 3
 ends 1 'format over a file' format "$file" 8 0 3
 ends 5 "another node's file" node "$file" 1 3
@@ -97,7 +97,7 @@ ask 'a job that a new group drops' 'recover\nsubmit 0 -\ndispatch\nrecover\n' \
     "${alone}take 0 0 0 -\nok 2 id 0\nok 3\ngroup Normal 0 0:2 0\ndrop 0 0\nkeeps 2 1 1\nok 4\n"
 ask 'a job outlives its node' 'recover\njobs\n' 'group Normal 0 0:3 0\nkeeps 3 1 1\nok 1\npending 0 0 -\nok 2\n'
 fresh 1000
-ask 'a first count' 'recover\n' 'group Normal 0 0:1001 0\nkeeps 1001 0 0\nok 1\n'
+ask 'a first count' 'recover\nsubmit 0 -\n' 'group Normal 0 0:1001 0\nkeeps 1001 1000 0\nok 1\ntake 0 1000 0 -\nok 2 id 1000\n'
 
 # A tick fires the check at the latest after 20 and 10 round trips of 20 ms, and then nothing more at that time.
 fresh

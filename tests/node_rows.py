@@ -4,7 +4,7 @@
     node_rows.py PROGRAM
 
 The input comes through a pipe whose reads give one written piece each, and the program's own clock stands, so that what it does takes it no time; in the last rows it
-goes, and a sync takes long. What is expected was worked out from docs/NODE.md, TIMERS.md and DISK.md. The
+goes, and a sync takes long. What is expected was worked out from docs/FORMATS.md and TIMERS.md. The
 last line counts the checks."""
 import errno, os, re, shutil, subprocess, sys, tempfile
 
@@ -57,6 +57,10 @@ TIMERS = [
     (1, 2, JOINED, "coord", [(7, False), (406, False), (607, True), (607, False), (806, False), (807, True), (807, False)]),
     # what is heard of the coordinator puts its question off no further
     (1, 2, JOINED, "coord", [(7, False), ("deliver 010100010000", None), (406, False), ("deliver 010100010000", None), (607, True)]),
+    # a greater node that looks for others is to merge first: a merge waits anew for its turn, once; a lesser one changes nothing
+    (0, 2, "recover;check;deliver 01020100000101", "merge", [(0, False), (290, False), ("deliver 010101000000", None), (291, False), (590, False), (691, True)]),
+    (0, 2, "recover;check;deliver 01020100000101", "merge", [(0, False), (200, False), ("deliver 010101000000", None), (201, False), ("deliver 010101000000", None), (500, False), (601, True)]),
+    (1, 6, "recover;check;deliver 01020501000101", "merge", [(0, False), (899, False), ("deliver 010100010000", None), (1000, True)]),
     # at once in a group that is new, then once the oldest job was the same for 5 and a millisecond for each job, and after a quarter more each time, up to 300;
     # never where there is no job
     (0, 1, "recover", "dispatch", [(0, False), (1000, False), (10_000, False), ("submit 0 -", None), (10_001, False), (10_101, False), (10_102, True)]),
@@ -84,15 +88,24 @@ TIMERS = [
     (0, 2, "recover;check;deliver 01020100000101", "merge", [(2**64 - 1, False), (2**64 - 1, False)]),
 ]
 
+# The same where a round trip is said to be so many milliseconds: all waits are so many of them.
+OF_A_ROUND_TRIP = [
+    ("5", 0, 1, "recover", "check", [(0, False), (99, False), (150, True), (150, False)]),
+    ("5", 0, 2, INVITING, "accept", [(7, False), (31, False), (32, True)]),
+    ("1", 1, 2, JOINING, "coord", [(7, False), (26, False), (27, True), (36, False), (37, True)]),
+    ("60000", 0, 2, INVITING, "accept", [(0, False), (299_999, False), (300_000, True)]),
+    ("40", 0, 1, "recover;submit 0 -", "dispatch", [(0, True), (201, False), (202, True)]),
+]
+
 # A session whose calls on the file fail one after another, what it answers then, and how many calls do so. In front of them stand those that open the
-# file. A mounting of an empty store makes eight calls; a raise makes six, nine where the slot is sealed, and so does a job six: a look at the length for
+# file. A mounting of a store with a Base alone makes ten calls; a raise makes six, nine where the slot is sealed, and so does a job six: a look at the length for
 # each write, and a sync.
 FAILING = "recover\n\nsubmit 0 -\nrecover\n"
 TAKEN = "take 0 0 0 -\nok 2 id 0\n"
 FAILED = [
-    ("fault 1 Device\n", 14),
+    ("fault 1 Device\n", 23),
     (UP + "group Down\nfault 2 Device\n", 6),
-    (UP + TAKEN + "group Down\ndrop 0 0\nfault 3 Device\n", 9),
+    (UP + TAKEN + "group Down\ndrop 0 0\nfault 3 Device\n", 10),
 ]
 UNFAILED = UP + TAKEN + "group Normal 0 0:2 0\ndrop 0 0\nkeeps 2 1 1\nok 3\n"
 
@@ -132,12 +145,12 @@ class Tried:
         with open(self.path, "wb") as file:
             file.write(self.made[own, nodes])
 
-    def serve(self, pieces, own=0, nodes=3, **more):
+    def serve(self, pieces, own=0, nodes=3, words=(), **more):
         """What a node answers to these pieces, each the whole of what one read gives, and its status."""
         reading, writing = os.pipe2(os.O_DIRECT)
         environment = {**os.environ, "LD_PRELOAD": self.still, **more}
         with open(os.path.join(self.folder, "out"), "w+b") as out:
-            child = subprocess.Popen([self.program, "node", self.path, str(own), str(nodes)], stdin=reading, stdout=out, stderr=subprocess.DEVNULL, env=environment)
+            child = subprocess.Popen([self.program, "node", self.path, str(own), str(nodes), *words], stdin=reading, stdout=out, stderr=subprocess.DEVNULL, env=environment)
             os.close(reading)
             try:
                 for piece in pieces:
@@ -165,16 +178,24 @@ def fired(answer):
 
 
 def try_timers(tried):
-    for own, nodes, before, event, times in TIMERS:
+    for *words, own, nodes, before, event, times in TIMERS + OF_A_ROUND_TRIP:
         before = before.split(";")
         lines = before + [f"tick {time}" if due is not None else time for time, due in times]
         tried.fresh(own, nodes)
-        text, status = tried.serve(["".join(line + "\n" for line in lines).encode()], own, nodes)
+        text, status = tried.serve(["".join(line + "\n" for line in lines).encode()], own, nodes, words)
         answers = re.split(r"^ok .*\n", text, flags=re.MULTILINE)
         tried.mark("" if status == 0 and len(answers) == len(lines) + 1 and answers[-1] == "" else f"status {status}, it answers {text!r}", lines)
         for answer, (time, due) in zip(answers[len(before):], times):
             if due is not None:
                 tried.mark("" if (event in fired(answer)) == due else f"{event} at {time}: {fired(answer)}", lines)
+
+
+def try_round_trips(tried):
+    """What is no round trip."""
+    for word in ("0", "60001", "65536", "x", "-1", "20.0", ""):
+        tried.fresh()
+        done = subprocess.run([tried.program, "node", tried.path, "0", "3", word], stdin=subprocess.DEVNULL, capture_output=True, text=True, timeout=60)
+        tried.mark("" if done.returncode == 2 and done.stdout.startswith("error: ") else f"status {done.returncode}, {done.stdout!r}", ("a round trip of", word))
 
 
 def try_jitter(tried):
@@ -295,6 +316,7 @@ def main():
         tried = Tried(program, folder)
         try_cuts(tried)
         try_timers(tried)
+        try_round_trips(tried)
         try_jitter(tried)
         try_next(tried)
         try_falling_back(tried)

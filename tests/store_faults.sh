@@ -81,6 +81,10 @@ fail_at() {
     done
     if [ "$k" -lt "${#session[@]}" ]; then
         want='refused Device'
+        # a file that can't be opened for want of room
+        if [ "$at" -le "$OPENING" ] && [ "$fault" = 28 ]; then
+            want='refused NoRoom'
+        fi
         for line in "${lines[@]:$k}"; do
             [ "$line" = "$want" ] || problem="line $k is answered $line"
             want='refused Broken'
@@ -120,7 +124,7 @@ format_at() {
     with "$at" "$fault"
     found
     case $found in
-        $'refused Device\nrefused Broken' | $'refused TooSmall\nrefused Broken' | $'refused NotFormatted\nrefused Broken' | $'ok\ncount 0 next 0') ;;
+        $'refused NotFound\nrefused Broken' | $'refused TooSmall\nrefused Broken' | $'refused NotFormatted\nrefused Broken' | $'ok\ncount 0 next 0') ;;
         *) problem="it leaves $found" ;;
     esac
     if [ "$(cat "$room/out")" = ok ] && [ "$found" != $'ok\ncount 0 next 0' ]; then
@@ -131,6 +135,9 @@ format_at() {
     [ "$found" = $'ok\ncount 0 next 0' ] || problem="a second one leaves $found"
     mark "$problem" "$fault at call $at of a format"
 }
+
+# An opening is so many calls: open, a look what the file is, the lock, a look at the length, and one at what is behind the last sector.
+OPENING=5
 
 # EIO, ENOSPC and EINTR
 errors=(5 28 4)
@@ -176,5 +183,48 @@ for ((at = 1; at <= ends[-1]; at++)); do
         end_at "$at" "$fault"
     done
 done
-echo "$formatting calls of a format and ${ends[-1]} of a session were failed"
+# A format over a store in use: whenever it fails or is cut off, the name leads to that store, of which no byte was written, or to the new one, which
+# is whole, and no write of it is unsynced (the shim sees to that). So no crash leaves anything else.
+begin 4
+printf '%s\n' "format 4" "${session[@]}" >"$room/in"
+cp "$room/fresh" "$file"
+with 0 none
+cp "$file" "$room/used"
+echo 'format 5' >"$room/in"
+rm -f "$file"
+with 0 none
+cp "$file" "$room/new"
+replace_at() {
+    local at=$1 fault=$2
+    problem=''
+    cp "$room/used" "$file"
+    [ "$((at % 2))" -eq 0 ] || head -c 70000 /dev/urandom >"$file.unfinished"
+    with "$at" "$fault"
+    cmp -s "$file" "$room/used" || cmp -s "$file" "$room/new" || problem='another file is left'
+    case $fault in
+        kill | torn) [ "$status" -eq 137 ] && [ ! -s "$room/out" ] || problem="status $status" ;;
+        *)
+            [ "$status" -eq 0 ] || problem="status $status"
+            if [ "$(cat "$room/out")" = ok ]; then
+                cmp -s "$file" "$room/new" || problem='it was acknowledged, and the old file is left'
+            fi
+            [ "$((at % 2))" -eq 1 ] || [ ! -e "$file.unfinished" ] || problem='the file beside it is left'
+            ;;
+    esac
+    rm -f "$file.unfinished"
+    mark "$problem" "$fault at call $at of a format over a store, $name"
+}
+problem=''
+cp "$room/used" "$file"
+with 0 none
+replacing=$calls
+cmp -s "$file" "$room/new" || problem='it makes another file'
+[ "$replacing" -gt "$formatting" ] || problem="it makes $replacing calls"
+mark "$problem" 'a format over a store'
+for ((at = 1; at <= replacing; at++)); do
+    for fault in $(errors_at "$at") "${ends_by[@]}"; do
+        replace_at "$at" "$fault"
+    done
+done
+echo "$formatting calls of a format, $replacing of one over a store and ${ends[-1]} of a session were failed"
 tally

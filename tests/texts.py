@@ -178,7 +178,7 @@ SESSIONS = [
       "ok\nok\nok 0\nok 1\nrefused Full\nok\nok 2\nok\ncount 0 next 3\njob 2 0 64\nok\ncount 0 next 3\njob 2 0 64\nok\ncount 0 next 3\njob 2 0 64\n")],
     # nothing is mounted, for there is no file, or none any more
     [("put 0 61\ndone 0\ncompact\nlist\nmount\nraise\nformat 4\nlist\nmount\nformat 5\nraise\n",
-      "refused Broken\nrefused Broken\nrefused Broken\nrefused Broken\nrefused Device\nrefused Broken\nok\nrefused Broken\nok\nok\nrefused Broken\n")],
+      "refused Broken\nrefused Broken\nrefused Broken\nrefused Broken\nrefused NotFound\nrefused Broken\nok\nrefused Broken\nok\nok\nrefused Broken\n")],
 ]
 
 # What isn't to be mounted: the bytes of a file of 23 or 24 sectors, or what is written where into a store of four slots; and a session over it.

@@ -6,7 +6,7 @@
 A text that is no trace of a run is given to `trace` and to `draw`, which print the same for it; each trace that a run is expected to have is judged
 too. The status and what stands on standard error are compared as well. What is expected was written by hand, from the pages under docs/. The last
 line counts the checks."""
-import os, subprocess, sys
+import os, re, subprocess, sys
 from typing import NamedTuple
 
 
@@ -444,6 +444,13 @@ def all_rows():
         yield Row(repr(plans), "threads", plans.encode(), 1, (f"bad line {number}\n".encode(),), f"invite: line {number}: {flaw}\n".encode())
 
 
+# What stands on standard error where no order takes all entries: where to look, and a line for each node with entries left.
+REASONS = re.compile(
+    rb"invite: no order takes all entries: (look first at node \d+, entry \d+|each that is left waits for a message that none sent)\n"
+    rb"(node \d+: entry \d+ (waits for ([0-9a-f]{2})+|\([a-z]+\) can't be: [ -~]+)\n)+"
+)
+
+
 def problem_of(program, row):
     """What is wrong with what the program makes of a row; an empty text if nothing is."""
     try:
@@ -454,8 +461,13 @@ def problem_of(program, row):
         return f"status {ended.returncode} in place of {row.status}, it prints {ended.stdout[:300]!r}"
     if ended.stdout not in row.printed:
         return f"it prints {ended.stdout[:300]!r} in place of {' or '.join(repr(text[:300]) for text in row.printed)}"
-    if ended.stderr != row.said:
-        return f"it says {ended.stderr[:300]!r} in place of {row.said!r}"
+    said = ended.stderr
+    if row.command == "trace" and ended.stdout.startswith(b"NotARun "):
+        node, entry = ended.stdout.split()[1:]
+        if not REASONS.fullmatch(said) or b"\nnode %s: entry %s " % (node, entry) not in said:
+            return f"it says {said[:300]!r}, which is no reason for {ended.stdout!r}"
+    elif said != row.said:
+        return f"it says {said[:300]!r} in place of {row.said!r}"
     return ""
 
 

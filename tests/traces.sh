@@ -29,7 +29,11 @@ judge() {
     problem=''
     sed 's/"sent":\["[0-9a-f]*"/"sent":["010100010000"/' "$trace" >"$room/spoiled"
     if ! cmp -s "$trace" "$room/spoiled"; then
-        "$program" trace <"$room/spoiled" >"$room/verdict" && problem='it is a run without its first message'
+        "$program" trace <"$room/spoiled" >"$room/verdict" 2>"$room/why" && problem='it is a run without its first message'
+        # The entry that is named is one of those that are left, each on a line of its own.
+        node=$(cut -d' ' -f2 "$room/verdict")
+        index=$(cut -d' ' -f3 "$room/verdict")
+        grep -qE "^node $node: entry $index (\\([a-z]+\\) can't be: |waits for )" "$room/why" || problem='it is not said why'
         mark "$problem" "$command $name, spoiled"
     fi
 }

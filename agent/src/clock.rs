@@ -2,9 +2,6 @@
 
 use std::time::{Duration, Instant};
 
-/// The node takes a round trip to be so many milliseconds of the clock that it is told.
-const ROUND_TRIP: u64 = 20;
-
 /// It is told the time so often at least, and by that asked whether it lives.
 const LONGEST_SLEEP: Duration = Duration::from_secs(1);
 
@@ -30,14 +27,12 @@ impl Clock {
 
     /// The node's time, in milliseconds.
     fn node_ms(&self, now: Instant) -> u64 {
-        let micros = now.saturating_duration_since(self.began).as_micros() as u64;
-        micros.saturating_mul(ROUND_TRIP) / (1000 * self.round_trip_ms)
+        now.saturating_duration_since(self.began).as_millis() as u64
     }
 
-    /// When the node's clock shows this time, or later.
+    /// When the node's clock shows this time.
     fn at(&self, node_ms: u64) -> Instant {
-        let micros = node_ms.saturating_mul(1000 * self.round_trip_ms) / ROUND_TRIP + 1;
-        self.began.checked_add(Duration::from_micros(micros)).unwrap_or(self.began)
+        self.began.checked_add(Duration::from_millis(node_ms)).unwrap_or(self.began)
     }
 
     fn pause(&self) -> Duration {
@@ -104,13 +99,13 @@ mod tests {
     }
 
     #[test]
-    fn a_quicker_link_has_a_quicker_clock() {
+    fn it_tells_true_milliseconds_whatever_the_link() {
         let now = Instant::now();
         let mut clock = Clock::new(5, now);
-        assert_eq!(clock.tick(after(now, 100)), Some(400));
-        clock.ticked(Some(480), after(now, 100));
+        assert_eq!(clock.tick(after(now, 100)), Some(100));
+        clock.ticked(Some(120), after(now, 100));
         assert_eq!(clock.tick(after(now, 119)), None);
-        assert_eq!(clock.tick(after(now, 121)), Some(484));
+        assert_eq!(clock.tick(after(now, 121)), Some(121));
     }
 
     #[test]

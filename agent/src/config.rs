@@ -29,7 +29,7 @@ pub struct Config {
     pub socket: PathBuf,
     /// An address of the loopback for probes, metrics and the page.
     pub http: Option<SocketAddr>,
-    /// What a round trip between nodes takes at most, in milliseconds, with what their disks take for three syncs.
+    /// What a round trip between nodes takes at most, in milliseconds.
     #[serde(default = "default_round_trip")]
     pub round_trip_ms: u64,
     #[serde(default)]
@@ -108,8 +108,11 @@ impl Config {
         if let Some((setting, _, why)) = rows.into_iter().find(|(_, is_right, _)| !is_right) {
             return Err(ConfigError::Setting { setting, why });
         }
-        for node in &self.nodes {
+        for (at, node) in self.nodes.iter().enumerate() {
             host_and_port(node)?;
+            if self.nodes[..at].contains(node) {
+                return Err(ConfigError::Setting { setting: "nodes", why: format!("{node:?} stands there twice") });
+            }
         }
         Ok(())
     }
@@ -169,6 +172,8 @@ mod tests {
             assert!(error.contains(said), "{more}: {error}");
         }
         assert!(Config::parse("cluster = \"c\"\n").unwrap_err().to_string().contains("missing field"));
+        let twice = Config::parse(&WHOLE.replace("[::1]:2", "a:1")).unwrap_err().to_string();
+        assert_eq!(twice, "nodes: \"a:1\" stands there twice");
         for node in ["a", ":7", "a:0", "a:x", "a:70000"] {
             let text = format!("cluster = \"c\"\nid = 0\nfile = \"f\"\nnodes = [\"{node}\"]\n");
             assert!(Config::parse(&text).unwrap_err().to_string().starts_with("nodes: "), "{node}");

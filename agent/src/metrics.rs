@@ -1,7 +1,8 @@
 //! Counts and gauges for Prometheus.
 
+use crate::node::Phase;
 use crate::view::View;
-use prometheus::{Encoder, Gauge, IntCounter, IntCounterVec, IntGauge, Opts, Registry, TextEncoder};
+use prometheus::{Encoder, Gauge, IntCounter, IntCounterVec, IntGauge, IntGaugeVec, Opts, Registry, TextEncoder};
 use std::time::Instant;
 
 /// The kinds of messages, by their number.
@@ -20,11 +21,29 @@ const KINDS: [&str; 12] = [
     "Work",
 ];
 
+/// Why the node refuses something, and NoMessage for what it can't read.
+const REFUSALS: [&str; 10] = [
+    "NoMessage",
+    "Stranger",
+    "Forged",
+    "Stale",
+    "Down",
+    "NotNormal",
+    "NotCoordinator",
+    "UnknownJob",
+    "Full",
+    "Exhausted",
+];
+
 /// The name of a message's kind.
 pub fn kind_of(message: &[u8]) -> &'static str {
     let number = message.get(1).map_or(0, |byte| usize::from(*byte));
     KINDS.get(number).copied().unwrap_or(KINDS[0])
 }
+
+/// The node tells no syncs, so what they were for is counted: a group made takes up to three, a job kept or done two. Compactions make more.
+const DURABLE: &str =
+    "What the node made durable: group (2 or 3 syncs), put or done of a job (2 syncs). Compactions come on top.";
 
 pub struct Metrics {
     registry: Registry,
@@ -35,7 +54,9 @@ pub struct Metrics {
     pub dropped: IntCounterVec,
     pub forwarded: IntCounterVec,
     pub jobs: IntCounterVec,
+    pub durable: IntCounterVec,
     pub groups: IntCounter,
+    phase: IntGaugeVec,
     pub cut_off: IntGauge,
     up: IntGauge,
     normal: IntGauge,
@@ -61,6 +82,12 @@ impl Maker {
         Ok(made)
     }
 
+    fn gauges(&self, name: &str, help: &str, label: &str) -> prometheus::Result<IntGaugeVec> {
+        let made = IntGaugeVec::new(Opts::new(format!("dumgerok_{name}"), help), &[label])?;
+        self.0.register(Box::new(made.clone()))?;
+        Ok(made)
+    }
+
     fn gauge(&self, name: &str, help: &str) -> prometheus::Result<IntGauge> {
         let made = IntGauge::with_opts(Opts::new(format!("dumgerok_{name}"), help))?;
         self.0.register(Box::new(made.clone()))?;
@@ -75,7 +102,7 @@ impl Metrics {
         let group_age = Gauge::new("dumgerok_group_age_seconds", "Since the node's group last changed.")?;
         maker.0.register(Box::new(groups.clone()))?;
         maker.0.register(Box::new(group_age.clone()))?;
-        Ok(Metrics {
+        let metrics = Metrics {
             messages_in: maker.counters("messages_in", "Messages that the node took, by kind.", "kind")?,
             messages_out: maker.counters("messages_out", "Messages that the node sent, by kind.", "kind")?,
             refused: maker.counters("refused", "What the node refused, by reason.", "reason")?,
@@ -83,6 +110,8 @@ impl Metrics {
             dropped: maker.counters("dropped", "Datagrams that were dropped, by reason.", "reason")?,
             forwarded: maker.counters("forwarded", "Submissions between agents, by what came of them.", "event")?,
             jobs: maker.counters("jobs", "Jobs, by what happened to them.", "event")?,
+            durable: maker.counters("commands_durable", DURABLE, "command")?,
+            phase: maker.gauges("phase", "1 for the phase that the node is in, 0 for the others.", "phase")?,
             cut_off: maker.gauge("clients_cut_off", "Clients that were cut off since they didn't read.")?,
             up: maker.gauge("up", "Whether the node answers.")?,
             normal: maker.gauge("normal", "Whether the node is at work in a group.")?,
@@ -98,12 +127,34 @@ impl Metrics {
             groups,
             group_age,
             registry: maker.0,
-        })
+        };
+        metrics.begin_at_zero();
+        Ok(metrics)
+    }
+
+    /// A count that isn't told before it is one has no rate: so those that an alarm may follow are told from the start.
+    fn begin_at_zero(&self) {
+        let known: [(&IntCounterVec, &[&str]); 7] = [
+            (&self.messages_in, &KINDS),
+            (&self.messages_out, &KINDS),
+            (&self.refused, &REFUSALS),
+            (&self.dropped, &["NoRoom", "NotSent", "Forged", "Empty"]),
+            (&self.forwarded, &["taken", "again"]),
+            (&self.jobs, &["kept", "gone", "taken", "dropped"]),
+            (&self.durable, &["group", "put", "done"]),
+        ];
+        for (counters, labels) in known {
+            labels.iter().for_each(|label| counters.with_label_values(&[label]).inc_by(0));
+        }
     }
 
     /// The text of all, as of now.
     pub fn text(&self, view: &View, now: Instant) -> String {
         self.up.set(i64::from(view.is_ready && view.is_alive(now)));
+        for phase in Phase::ALL {
+            let is_in = i64::from(view.group.phase == phase);
+            self.phase.with_label_values(&[&format!("{phase:?}")]).set(is_in);
+        }
         self.normal.set(i64::from(view.group.is_normal()));
         self.coordinator.set(i64::from(view.is_coordinator()));
         self.majority.set(i64::from(view.is_majority()));

@@ -30,6 +30,8 @@ pub struct View {
     pub nodes: usize,
     pub began: Instant,
     pub group: Group,
+    /// The greatest count of a group of its own.
+    count: Option<u64>,
     /// When the group last changed.
     pub changed: Instant,
     /// When the node last answered.
@@ -81,10 +83,14 @@ fn ms(duration: Duration) -> u64 {
 impl View {
     pub fn new(cluster: &str, own: u8, nodes: usize, now: Instant) -> View {
         let (cluster, group, past) = (cluster.to_string(), Group::default(), VecDeque::new());
-        View { cluster, own, nodes, began: now, group, changed: now, answered: now, is_ready: false, past }
+        View { cluster, own, nodes, began: now, group, count: None, changed: now, answered: now, is_ready: false, past }
     }
 
-    pub fn enter(&mut self, group: Group, now: Instant) {
+    /// The node is in another group or phase; how many groups it made for that. It counts its groups, each by one more.
+    pub fn enter(&mut self, group: Group, now: Instant) -> u64 {
+        let count = (group.is_any() && group.number.creator == self.own).then_some(group.number.count);
+        let made = count.map_or(0, |count| self.count.map_or(1, |last| count.saturating_sub(last)));
+        self.count = self.count.max(count);
         if self.past.len() == MAX_PAST {
             self.past.pop_front();
         }
@@ -96,6 +102,7 @@ impl View {
             members: group.members.clone(),
         });
         (self.group, self.changed) = (group, now);
+        made
     }
 
     pub fn is_coordinator(&self) -> bool {
@@ -141,5 +148,23 @@ impl View {
             heard_ms: peer.heard.map(|at| ms(now.saturating_duration_since(at))),
         };
         (0..).zip(peers.all()).map(|(node, peer)| member(node, peer)).collect()
+    }
+}
+
+#[cfg(test)]
+mod tests {
+    use super::*;
+
+    #[test]
+    fn groups_that_it_made_are_counted() {
+        let now = Instant::now();
+        let mut view = View::new("c", 1, 3, now);
+        let mut enter = |words: &[&str]| view.enter(Group::read(words).unwrap(), now);
+        assert_eq!(enter(&["Normal", "1", "1:1700", "1"]), 1, "that of its recovery");
+        assert_eq!(enter(&["Election", "1", "1:1701", "-"]), 1);
+        assert_eq!(enter(&["Normal", "1", "1:1701", "0,1"]), 0, "another phase");
+        assert_eq!(enter(&["Normal", "2", "2:9000", "0,1,2"]), 0, "another node's");
+        assert_eq!(enter(&["Down"]), 0);
+        assert_eq!(enter(&["Election", "1", "1:1704", "-"]), 3);
     }
 }

@@ -87,7 +87,7 @@ class Agents:
         return os.path.join(self.folder, "%d.%s" % (i, what))
 
     def start(self, i, **environment):
-        words = ["sh", "-c", 'export WATCHDOG_PID=$$; exec "$0" "$1"', self.daemon, self.path(i, "toml")]
+        words = ["sh", "-c", 'export WATCHDOG_PID=$$; ulimit -n "${FILES:-1024}"; exec "$0" "$1"', self.daemon, self.path(i, "toml")]
         with open(self.path(i, "log"), "ab") as log:
             self.processes[i] = subprocess.Popen(words, stderr=log, env=dict(os.environ, **environment))
 

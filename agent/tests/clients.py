@@ -1,5 +1,5 @@
 """Clients that don't read, that send rubbish, that are many."""
-import json, os, random, socket, stat, time
+import json, os, random, socket, stat, threading, time
 
 from cluster import judged, metric, page
 from datagrams import random_bytes
@@ -17,6 +17,7 @@ def odd_clients(bed):
     agents.one_group()
     check = bed.tally.check
     rubbish(agents, check)
+    half_closed(agents, check)
     many(agents, check)
     deaf(agents, check)
     mode = stat.S_IMODE(os.stat(agents.path(0, "sock")).st_mode)
@@ -36,7 +37,7 @@ def rubbish(agents, check):
     with agents.connect(0) as link:
         try:
             link.sendall(b"x" * 100_000)
-            is_cut_off = link.recv(10) == b""
+            is_cut_off = b"TooLong" in link.recv(100)
         except OSError:
             is_cut_off = True
         check("a line without an end is cut off", is_cut_off)
@@ -48,6 +49,75 @@ def rubbish(agents, check):
         except OSError:
             pass
     check("rubbish stops nobody", agents.status(0)["ok"])
+
+
+def half_closed(agents, check):
+    """A client that ends what it writes and then waits, as `socat` does, gets its answers."""
+    ask = [dict(do="submit", queue=2, text="half", request=1), dict(do="jobs", request=2), dict(do="watch", since=0, request=3)]
+    for count in (1, 2):
+        with agents.connect(0) as link:
+            link.sendall(b"".join(json.dumps(one).encode() + b"\n" for one in ask[:count]))
+            link.shutdown(socket.SHUT_WR)
+            answers = [json.loads(line) for line in link.makefile()]
+            check("a client that has ended its requests gets all %d answers" % count,
+                  [(one["ok"], one["request"]) for one in answers] == [(True, one["request"]) for one in ask[:count]], answers)
+    with agents.connect(0) as link:
+        link.sendall(json.dumps(ask[2]).encode() + b"\n")
+        check("an answer to `watch` names its request", json.loads(link.makefile().readline()).get("request") == 3)
+    with agents.connect(0) as link:
+        link.sendall(b"x" * 20_000)
+        check("a line that is too long is answered so", json.loads(link.makefile().readline()) == {"ok": False, "error": "TooLong"})
+    for _ in range(2):
+        job = agents.ask(0, do="take", queue=2)
+        check("jobs of clients that went away are given to others", job["ok"] and agents.ask(0, do="finish", origin=job["origin"], id=job["id"])["ok"], job)
+
+
+def greedy(bed):
+    """Clients that keep the node busy without an end don't keep it from others."""
+    agents, check = bed.agents("greedy", count=1, slots=1024, record=None), bed.tally.check
+    agents.start(0)
+    agents.one_group()
+    with agents.connect(0) as link:
+        link.settimeout(120)
+        link.sendall(b'{"do":"submit","queue":1,"text":"%s"}\n' % (b"x" * 400) * 1000)
+        reader = link.makefile()
+        kept = sum(json.loads(reader.readline())["ok"] for _ in range(1000))
+    check("a thousand jobs are kept", kept == 1000, kept)
+    runs, links = [True], [agents.connect(0) for _ in range(2)]
+    asked = [b'{"do":"submit","queue":1,"text":"%s"}\n' % (b"x" * 400), b'{"do":"jobs"}\n']
+
+    def ask(link, line):
+        try:
+            while runs[0]:
+                link.sendall(line * 64)
+        except OSError:
+            pass
+
+    def read(link):
+        try:
+            while link.recv(1 << 20):
+                pass
+        except OSError:
+            pass
+
+    for link, line in zip(links, asked):
+        link.settimeout(None)
+        threading.Thread(target=ask, args=(link, line), daemon=True).start()
+        threading.Thread(target=read, args=(link,), daemon=True).start()
+    time.sleep(1)
+    waits, memory = [], 0
+    for _ in range(20):
+        begin = time.monotonic()
+        answer = agents.status(0)
+        waits.append(time.monotonic() - begin if answer else 99.0)
+        memory = max(memory, agents.figures(0)["agent"][1])
+        time.sleep(0.1)
+    runs[0] = False
+    for link in links:
+        link.close()
+    check("greedy clients leave others their turn", max(waits) < 2, waits)
+    check("and the agent small", memory < 48_000, memory)
+    agents.stop()
 
 
 def many(agents, check):
@@ -77,6 +147,41 @@ def many(agents, check):
     check("a thousand come and go", served == 1000, "%d in %.1f s" % (served, time.monotonic() - begin))
     job = agents.ask(0, do="take")
     check("a job is finished", agents.ask(0, do="finish", origin=job["origin"], id=job["id"])["ok"], job)
+
+
+def web(bed):
+    """Those that ask for pages in odd ways, and more connections than there are file descriptors."""
+    agents, check = bed.agents("web", count=1, record=None), bed.tally.check
+    agents.start(0, FILES="64")
+    agents.one_group()
+    for sent, said in ((b"POST / HTTP/1.1\r\n\r\n", b" 405 "), (b"\x16\x03\x01\r\n\r\n", b" 400 "), (b"GET / HTTP/1.1\r\nA: " + b"b" * 8200, b" 400 "),
+                       (b"GET /healthz?x HTTP/1.0\r\n\r\n", b" 200 ")):
+        with socket.create_connection(("127.0.0.1", agents.http[0]), 5) as link:
+            link.sendall(sent)
+            answer = link.recv(4096)
+            check("%r is answered with%s" % (sent[:20], said.decode()), answer.startswith(b"HTTP/1.1" + said), answer[:100])
+    links = []
+    for _ in range(120):
+        link = socket.socket()
+        link.setblocking(False)
+        link.connect_ex(("127.0.0.1", agents.http[0]))
+        links.append(link)
+    time.sleep(0.5)
+    check("idle connections to the page don't end the agent", agents.processes[0].poll() is None and agents.status(0)["ok"])
+    check("nor take more than its threads", len(os.listdir("/proc/%d/task" % agents.processes[0].pid)) < 20)
+    for link in links:
+        link.close()
+    agents.until(lambda: page(agents, 0, "/healthz")[0] == 200, 30)
+    links = [socket.socket(socket.AF_UNIX) for _ in range(100)]
+    for link in links:
+        link.settimeout(1)
+        link.connect(agents.path(0, "sock"))
+    time.sleep(0.5)
+    check("with no file descriptor left it lives", agents.processes[0].poll() is None)
+    for link in links:
+        link.close()
+    agents.until(lambda: (agents.status(0) or {}).get("ok"), 10)
+    agents.stop()
 
 
 def deaf(agents, check):

@@ -1,5 +1,5 @@
 """Three agents: groups, jobs, kills, cuts."""
-import json, os, signal, socket, time, urllib.request
+import json, os, signal, socket, subprocess, time, urllib.request
 
 from bed import free_port
 
@@ -39,8 +39,7 @@ def page(agents, i, path):
 
 def metric(agents, i, name):
     text = page(agents, i, "/metrics")[1]
-    return next((float(line.rsplit(" ", 1)[1]) for line in text.splitlines() if line.startswith("dumgerok_" + name + " ") or
-                 line.startswith("dumgerok_" + name + "{")), 0.0)
+    return sum(float(line.rsplit(" ", 1)[1]) for line in text.splitlines() if line.startswith(("dumgerok_" + name + " ", "dumgerok_" + name + "{")))
 
 
 def whole_life(bed):
@@ -51,6 +50,7 @@ def whole_life(bed):
         agents.start(i)
     agents.one_group()
     job_elsewhere(agents, check)
+    metrics(agents, check)
     workers(agents, check)
     for turn in range(2):
         lead = agents.status(0)["coordinator"]
@@ -89,6 +89,21 @@ def job_elsewhere(agents, check):
     agents.until(lambda: agents.ask(lead, do="jobs")["total"] == 0, 10)
     never = agents.ask(other, do="finish", origin=lead, id=kept["id"] + 1000)
     check("a finish of a job that isn't in hand is refused", never == {"ok": False, "error": "UnknownJob"}, never)
+
+
+def metrics(agents, check):
+    """What Prometheus is told of the cluster, at the coordinator and at a member, once a job was done."""
+    lead = agents.status(0)["coordinator"]
+    other = (lead + 1) % 3
+    for i, rows in ((lead, ['phase{phase="Normal"} 1', 'phase{phase="Down"} 0', "coordinator 1", "majority 1", "members 3", "nodes 3", "up 1",
+                            'commands_durable_total{command="put"} 1', 'commands_durable_total{command="done"} 1', 'commands_durable_total{command="group"} ',
+                            'messages_in_total{kind="Accept"} ', 'messages_out_total{kind="Invitation"} ', 'messages_out_total{kind="Ready"} ', "jobs_pending 0",
+                            'jobs_total{event="kept"} 1', 'jobs_total{event="gone"} 1', "group_age_seconds ", "groups_total "]),
+                    (other, ["coordinator 0", 'messages_in_total{kind="Ready"} ', 'refused_total{reason="UnknownJob"} 1', "jobs_in_hand 0", "jobs_held 0",
+                             'jobs_total{event="taken"} ', 'commands_durable_total{command="group"} '])):
+        text = page(agents, i, "/metrics")[1]
+        missing = [row for row in rows if not any(line.startswith("dumgerok_" + row) for line in text.splitlines())]
+        check("node %d's metrics" % i, not missing, (missing, text))
 
 
 def workers(agents, check):
@@ -152,6 +167,8 @@ def partition(agents, check):
     agents.until(lambda: agents.is_one_group(rest) and agents.is_one_group([out]), 60)
     sides = [agents.status(i)["majority"] for i in (out, *rest)]
     check("both sides of a partition say what they know", sides == [False, True, True], sides)
+    alarms = [[metric(agents, i, name) for i in (out, *rest)] for name in ("majority", "coordinator")]
+    check("and so do their metrics: no majority on one side, two coordinators", alarms[0] == [0, 1, 1] and sum(alarms[1]) == 2, alarms)
     ready = [page(agents, i, "/readyz")[0] for i in (out, *rest)]
     check("and are ready or not by it", ready == [503, 200, 200], ready)
     kept = agents.ask(out, do="submit", queue=0, text="alone")
@@ -181,7 +198,23 @@ def addresses(bed):
     time.sleep(0.3)
     check("one that can't be read changes nothing", agents.one_group() < 30)
     judged(bed, agents, "changed addresses")
+    no_address(bed)
     ipv6(bed)
+
+
+def no_address(bed):
+    """A name that means nothing, and an address that the socket doesn't reach."""
+    agents = bed.agents("nowhere", count=1, record=None)
+    agents.write(0, nodes=[agents.relay.peers(0)[0], "nowhere.invalid:7000", "[::1]:7000"], record=None)
+    os.unlink(agents.path(0, "node"))
+    subprocess.run([bed.program, "format", agents.path(0, "node"), "64", "0", "3"], check=True)
+    agents.start(0)
+    agents.until(lambda: (agents.status(0) or {}).get("alive"), 10)
+    agents.until(lambda: metric(agents, 0, 'dropped_total{reason="NotSent"}') > 0, 20)
+    said = lambda: open(agents.path(0, "log")).read()
+    agents.until(lambda: "node 1: nowhere.invalid:7000 has no address" in said(), 30)
+    bed.tally.check("nodes that can't be reached are named", "node 2: [::1]:7000 can't be reached" in said() and said().count("has no address") == 1, said())
+    agents.stop()
 
 
 def ipv6(bed):

@@ -1,21 +1,9 @@
 """Datagrams that nobody of the cluster sent now: spoiled, of another cluster, recorded and sent again."""
-import os, random, subprocess, time
+import os, random, time
 
-from cluster import judged, page
+from cluster import judged, metric, page
 
 WINDOW = 4
-
-
-def has_keys(program, folder):
-    """Whether the node seals its messages: the question of a check has six bytes, and more behind them where it does."""
-    path, key = os.path.join(folder, "keys.node"), os.path.join(folder, "keys.key")
-    subprocess.run([program, "format", path, "64", "0", "2"], check=True)
-    with open(key, "w") as file:
-        file.write("ab" * 32 + "\n")
-    os.chmod(key, 0o600)
-    words = [program, "node", path, "0", "2", "--key", key, "--cluster", "bed"]
-    done = subprocess.run(words, input=b"recover\ncheck\n", stdout=subprocess.PIPE, stderr=subprocess.PIPE)
-    return any(line.startswith(b"send 1 ") and len(line) > len("send 1 010100010000") for line in done.stdout.splitlines())
 
 
 def random_bytes(chance, least, most):
@@ -40,14 +28,15 @@ def rubbish(bed):
     agents, check, chance = bed.agents("rubbish", count=2), bed.tally.check, random.Random(3)
     agents.start_all()
     agents.one_group()
-    sent, before = 0, refused(agents, 0)
+    counted = lambda: metric(agents, 0, "refused_total") + metric(agents, 0, "dropped_total")
+    sent, before = 0, counted()
     for _ in range(400):
         agents.relay.send(0, random_bytes(chance, 1, 1500))
         agents.relay.send(0, b"\xd6\x01" + random_bytes(chance, 0, 300))
         sent += 2
         time.sleep(0.001)
     agents.relay.send(0, b"")
-    agents.until(lambda: refused(agents, 0) - before >= 0.9 * sent, 10)
+    agents.until(lambda: counted() - before >= 0.9 * sent, 10)
     check("bytes that are no message are refused and counted", agents.status(0)["alive"])
     check("the group stays", agents.one_group() < 30)
     agents.stop()
@@ -93,8 +82,6 @@ def forwarded(bed):
 
 def forged(bed):
     """With a key: each bit of a message spoiled, messages of another cluster and of another key, and messages that were recorded."""
-    if not has_keys(bed.program, bed.folder):
-        return bed.tally.left_out("spoiled, foreign and recorded datagrams", "the program has no keys")
     key = bed.key("ab")
     agents, check = bed.agents("forged", key=key), bed.tally.check
     agents.start_all()

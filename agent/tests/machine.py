@@ -1,9 +1,11 @@
 """A node that stops or dies, and a file that can't be used."""
-import os, shutil, signal, socket, subprocess, tempfile, time
+import fcntl, json, os, shutil, signal, socket, subprocess, sys, tempfile, time
 
-from cluster import judged, page
+from cluster import judged, metric, page
 
 ROOT = os.path.dirname(os.path.dirname(os.path.dirname(os.path.abspath(__file__))))
+sys.path.insert(0, os.path.join(ROOT, "tests/shim"))
+from device import Device
 
 
 class Notices:
@@ -39,6 +41,7 @@ def stopped_node(bed):
     notices.within(0.2)
     check("a node that stopped: no sign of life", "WATCHDOG=1" not in notices.within(2))
     check("the agent answers all the same", agents.status(0)["alive"] is False)
+    without_answer(agents, check)
     os.kill(node, signal.SIGCONT)
     agents.until(lambda: page(agents, 0, "/healthz")[0] == 200, 10)
     check("it goes on", "WATCHDOG=1" in notices.within(3, "WATCHDOG=1"))
@@ -46,6 +49,27 @@ def stopped_node(bed):
     check("a killed node ends its agent with 1", agents.processes[0].wait(5) == 1)
     check("and the socket is gone", not os.path.exists(agents.path(0, "sock")))
     judged(bed, agents, "a stopped node")
+
+
+def without_answer(agents, check):
+    """Submissions at a node that stopped: each is answered in its time. What the node may have read may be kept, the rest isn't."""
+    count, line = 120, json.dumps(dict(do="submit", queue=1, text="x" * 400)).encode() + b"\n"
+    with agents.connect(0) as link:
+        link.settimeout(20)
+        link.sendall(line * count)
+        reader = link.makefile()
+        answers = [json.loads(reader.readline()) for _ in range(count)]
+    check("a submission at a node that stopped has no answer", all(one["ok"] is False and one["error"] == "NoAnswer" for one in answers), answers[:2])
+    unsure = sum(one.get("may_be_kept", False) for one in answers)
+    check("it may be kept where the node was asked, and isn't elsewhere", 0 < unsure < count, unsure)
+    check("and the agent answers on", agents.status(0)["alive"] is False)
+    check("the alarm for that: up is 0", metric(agents, 0, "up") == 0)
+    for _ in range(200):
+        agents.relay.send(0, b"\1" * 1000)
+    agents.until(lambda: metric(agents, 0, 'dropped_total{reason="NoRoom"}') > 0, 5)
+    time.sleep(0.3)
+    dropped = metric(agents, 0, 'dropped_total{reason="NoRoom"}')
+    check("what clients ask leaves room for datagrams", 100 < dropped < 195, dropped)
 
 
 def unread_notices(bed):
@@ -60,6 +84,24 @@ def unread_notices(bed):
     status = agents.kill(0, signal.SIGTERM)
     bed.tally.check("SIGTERM ends it within a second", status == 0 and time.monotonic() - begin < 1.0, (status, time.monotonic() - begin))
     agents.stop()
+
+
+def unread_log(bed):
+    """A log that nobody reads stops nobody."""
+    agents, check = bed.agents("log", count=1, log="debug"), bed.tally.check
+    reader, writer = os.pipe()
+    fcntl.fcntl(writer, 1031, 4096)          # F_SETPIPE_SZ
+    agents.processes[0] = subprocess.Popen([agents.daemon, agents.path(0, "toml")], stderr=writer)
+    os.close(writer)
+    agents.one_group()
+    for _ in range(600):
+        agents.processes[0].send_signal(signal.SIGHUP)
+        time.sleep(0.002)
+    check("a log that nobody reads stops nobody", (agents.status(0) or {}).get("alive"))
+    begin = time.monotonic()
+    status = agents.kill(0, signal.SIGTERM)
+    check("nor does it keep the agent from its end", status == 0 and time.monotonic() - begin < 1.0, (status, time.monotonic() - begin))
+    os.close(reader)
 
 
 def ends(agents, i=0, **more):
@@ -77,12 +119,13 @@ def files(bed):
     check("a second agent ends", status == 1 and "another agent" in said, said)
     agents.write(1, id=0, file=agents.path(0, "node"), record=None)
     check("a locked file: 4", ends(agents, 1)[0] == 4)
+    looked_at(bed, agents, check)
     agents.kill(0)
     agents.write(1, id=1, file=agents.path(0, "node"), record=None)
     check("another node's file: 5", ends(agents, 1)[0] == 5)
     agents.write(1, file=agents.path(1, "nowhere"), record=None)
     status, said = ends(agents, 1)
-    check("no file: 5", status == 5 and "no such file" in said, said)
+    check("no file: 7", status == 7 and "no such file" in said, said)
     agents.write(1, nodes=agents.relay.peers(1)[:1], record=None)
     check("a configuration that can't be read: 2", ends(agents, 1)[0] == 2)
     agents.write(1, key=agents.path(1, "toml"), record=None)
@@ -92,6 +135,25 @@ def files(bed):
     else:
         bed.tally.left_out("a file without permission", "this isn't root, or there is no setpriv")
     agents.stop()
+
+
+def looked_at(bed, agents, check):
+    """What a file holds while its node runs, by its path and by the configuration; and a file that is made with jobs."""
+    file, restored, program = agents.path(0, "node"), agents.path(0, "restored"), ("--program", bed.program)
+    said = agents.ctl(0, "inspect", file, *program)
+    check("a file is inspected", said.returncode == 0 and said.stdout.startswith("kind node\nnode 0\nnodes 2\n"), said)
+    said = agents.ctl(0, "--json", "inspect", "--config", agents.path(0, "toml"))
+    found = json.loads(said.stdout or "{}")
+    check("and as JSON", said.returncode == 0 and found.get("kind") == "node" and found.get("queues") == {}, said)
+    said = agents.ctl(0, "inspect", agents.path(0, "nowhere"), *program)
+    check("no file is inspected: 7", said.returncode == 7 and said.stdout == "", said)
+    agents.write(1, id=0, file=restored, record=None)
+    words = ("format", "--config", agents.path(1, "toml"), "--slots", "8", "--first", "9", "--jobs", "-")
+    said = agents.ctl(0, *words, input="job 7 3 6869 255\n")
+    check("a file is made with jobs", said.returncode == 0, said)
+    said = agents.ctl(0, "--json", "export", restored, *program)
+    jobs = [json.loads(line) for line in said.stdout.splitlines()]
+    check("which are exported", jobs == [{"id": 7, "queue": 3, "priority": 255, "payload": "6869"}], said)
 
 
 def no_permission(agents, check):
@@ -106,8 +168,7 @@ def no_permission(agents, check):
     daemon = shutil.copy(agents.daemon, os.path.join(folder, "dumgerokd"))
     words = ["setpriv", "--reuid", "65534", "--clear-groups", daemon, config]
     done = subprocess.run(words, stderr=subprocess.PIPE, text=True, timeout=20)
-    is_marked = os.path.exists(os.path.join(folder, "sock.device-failed"))
-    check("a file without permission: 1, and no device failed", done.returncode == 1 and "may not open" in done.stderr and not is_marked, done)
+    check("a file without permission: 7, and no device failed", done.returncode == 7 and "may not open" in done.stderr, done)
     shutil.rmtree(folder)
 
 
@@ -130,7 +191,7 @@ def compiled(bed, name, source):
 
 
 def failed_device(bed):
-    """A device that fails: status 3, and the file isn't opened again."""
+    """A device that fails: status 3. Started again, the agent has what was answered."""
     check = bed.tally.check
     if not shutil.which("cc"):
         return bed.tally.left_out("a device that fails, a slow sync", "there is no C compiler")
@@ -146,17 +207,49 @@ def failed_device(bed):
         answers.append(agents.ask(0, do="submit", queue=0, text="x"))
     check("some jobs were kept before", bool(answers) and answers[0] is not None and answers[0].get("ok"), answers[:2])
     check("a failed device: 3", agents.processes[0].wait(5) == 3)
-    check("a marker stands", os.path.exists(agents.path(0, "sock.device-failed")))
     agents.write(0)
-    status, said = ends(agents)
-    check("and the file isn't opened again before the machine was started anew", status == 3 and "started anew" in said, said)
-    with open(agents.path(0, "sock.device-failed"), "w") as file:
-        file.write("another-start-of-the-machine\n")
     agents.start(0)
     agents.one_group()
     kept = sum(1 for answer in answers if answer and answer.get("ok"))
-    check("then it is, and what was answered is there", agents.ask(0, do="jobs", queue=0)["total"] >= kept, kept)
+    check("started again, it has what was answered", agents.ask(0, do="jobs", queue=0)["total"] >= kept, kept)
     judged(bed, agents, "a failed device")
+
+
+def failed_write_back(bed):
+    """A device that fails to write one page, which the kernel then holds to be clean, and an agent that is started again at once: what a loss of power
+    leaves has all that was answered, and no id was given twice."""
+    check, folder = bed.tally.check, os.path.join(bed.folder, "over-a-device")
+    os.mkdir(folder)
+    try:
+        device = Device(folder)
+    except OSError as why:
+        return bed.tally.left_out("a page that isn't written", "there is no file system over /dev/fuse (%s)" % why)
+    agents, given = bed.agents("page", count=1), []
+    with device:
+        file = os.path.join(folder, "node")
+        subprocess.run([agents.program, "format", file, "16", "0", "1"], check=True)
+        agents.write(0, file=file, record=None)
+
+        def serve(jobs):
+            agents.start(0)
+            agents.one_group()
+            given.extend((agents.ask(0, do="submit", queue=0, text="x") or {}).get("id") for _ in range(jobs))
+
+        # the fourth job's record is the last one in its page, and later ones lie in the next
+        serve(3)
+        device.fail_write(2)
+        agents.ask(0, do="submit", queue=0, text="x")
+        check("a page that isn't written: 3", agents.processes[0].wait(10) == 3 and device.failed == 1, device.failed)
+        serve(2)
+        agents.kill(0, signal.SIGTERM)
+        left = agents.path(0, "left")
+        with open(left, "wb") as out:
+            out.write(device.held("node"))
+    done = subprocess.run([agents.program, "node", left, "0", "1"], input="recover\njobs\n", stdout=subprocess.PIPE, text=True, timeout=20)
+    kept = {int(line.split()[1]) for line in done.stdout.splitlines() if line.startswith("pending ")}
+    check("a page that isn't written: all that was answered is kept", len(given) == 5 and None not in given and set(given) <= kept, (given, kept))
+    check("a page that isn't written: no id was given twice", len(set(given)) == 5, given)
+    agents.stop()
 
 
 def slow_sync(bed):

@@ -3,8 +3,9 @@ ghost use Rattle.group_task.specs.declared.node.TheConstants.{NODES};
 
 use crate::link::Link;
 use crate::options::{Options, UNIT};
-use crate::timed::Timed;
+use crate::timed::{Counts, Timed};
 use group_task::{Members, NodeId};
+use job_model::Work;
 use rand_core::utils::NextWord;
 use rand_pcg::Pcg32;
 use std::alloc::Global;
@@ -115,6 +116,48 @@ impl Cluster {
         }
     }
 
+    /// What came of jobs at all nodes: sums, and the greatest of waits and of messages that were sent again at once.
+    pub fn jobs(&self) -> Counts {
+        let mut all = Counts {
+            kept: 0,
+            done: 0,
+            longest: 0,
+            worked: 0,
+            again: 0,
+        };
+        for place in &self.places {
+            let own = place.node.jobs();
+            all.kept = all.kept.saturating_add(own.kept);
+            all.done = all.done.saturating_add(own.done);
+            all.longest = all.longest.max(own.longest);
+            all.worked = all.worked.saturating_add(own.worked);
+            all.again = all.again.max(own.again);
+        }
+        all
+    }
+
+    /// A job comes to this node.
+    pub fn submit(&mut self, id: NodeId, work: Work) -> Result<(), &'static str> {
+        match self.places.get_mut(usize::from(id.number())) {
+            Some(place) => place.node.submit(work),
+            None => Ok(()),
+        }
+    }
+
+    /// A dead node comes up again, over what its disk kept.
+    pub fn restart(
+        &mut self,
+        id: NodeId,
+        options: &Options,
+        nodes: u8,
+        seed: u64,
+    ) -> Result<(), &'static str> {
+        match self.places.get_mut(usize::from(id.number())) {
+            Some(place) => place.node.restart(options, nodes, seed),
+            None => Ok(()),
+        }
+    }
+
     /// Runs until all live nodes are one group, for so many round trips at most. It answers its coordinator.
     pub fn run_until_one(&mut self, most: u16) -> Result<Option<NodeId>, &'static str> {
         for unit in 0..most {
@@ -156,7 +199,8 @@ impl Cluster {
         let receiver = usize::from(message.receiver().number());
         if let Some(place) = self.places.get_mut(receiver) {
             if !place.node.is_dead {
-                place.node.deliver(message, &mut self.sent)?;
+                place.node.deliver(message)?;
+                place.node.work(at, &mut self.sent)?;
                 self.send(at)?;
             }
         }
@@ -175,10 +219,10 @@ impl Cluster {
         if step == place.starts {
             place.node.start()?;
         } else if step.saturating_add(place.offset) % STEPS == 0 {
-            place.node.tick(now, &mut self.sent)?;
-            self.send(now)?;
+            place.node.tick(now)?;
         }
-        Ok(())
+        place.node.work(now, &mut self.sent)?;
+        self.send(now)
     }
 
     /// Gives the link what was sent.

@@ -1,4 +1,5 @@
-use crate::options::Options;
+use crate::options::{Options, UNIT};
+use crate::timed::Counts;
 use crate::trial::Trial;
 use std::alloc::{AllocError, Global};
 use std::io;
@@ -45,11 +46,17 @@ impl Times {
 pub struct Figures {
     to_one: Times,
     coordinator: Times,
+    back: Times,
     member: Times,
     extra: u64,
     needless: u64,
     whole: u64,
     sent: u64,
+    kept: u64,
+    worked: u64,
+    undone: u64,
+    longest: u64,
+    again: u64,
     trials: u64,
 }
 
@@ -58,11 +65,17 @@ impl Figures {
         Figures {
             to_one: Times::new(alloc),
             coordinator: Times::new(alloc),
+            back: Times::new(alloc),
             member: Times::new(alloc),
             extra: 0,
             needless: 0,
             whole: 0,
             sent: 0,
+            kept: 0,
+            worked: 0,
+            undone: 0,
+            longest: 0,
+            again: 0,
             trials: 0,
         }
     }
@@ -73,13 +86,25 @@ impl Figures {
             return Ok(());
         }
         self.coordinator.add(trial.coordinator)?;
+        self.back.add(trial.back)?;
         self.member.add(trial.member)?;
         self.extra = self.extra.saturating_add(trial.extra);
         self.needless = self.needless.saturating_add(trial.needless);
         self.whole = self.whole.saturating_add(trial.whole);
         self.sent = self.sent.saturating_add(trial.sent);
+        self.add_jobs(&trial.jobs);
         self.trials = self.trials.saturating_add(1);
         Ok(())
+    }
+
+    fn add_jobs(&mut self, jobs: &Counts) {
+        self.kept = self.kept.saturating_add(jobs.kept);
+        self.worked = self.worked.saturating_add(jobs.worked);
+        self.undone = self
+            .undone
+            .saturating_add(jobs.kept.saturating_sub(jobs.done));
+        self.longest = self.longest.max(jobs.longest);
+        self.again = self.again.max(jobs.again);
     }
 
     /// Prints a row: times, and what comes to a trial.
@@ -92,6 +117,7 @@ impl Figures {
     ) -> io::Result<()> {
         self.to_one.times.sort()?;
         self.coordinator.times.sort()?;
+        self.back.times.sort()?;
         self.member.times.sort()?;
         let units = self.trials.saturating_mul(u64::from(options.quiet));
         print!(rt; "{nodes:>5} {loss:>5}")?;
@@ -102,9 +128,20 @@ impl Figures {
         print_share(rt, self.needless, self.trials)?;
         print_share(rt, self.whole.saturating_mul(100), units)?;
         print_share(rt, self.sent, units)?;
+        self.print_jobs(rt)?;
         self.coordinator.print(rt)?;
+        self.back.print(rt)?;
         self.member.print(rt)?;
         println!(rt;)
+    }
+}
+
+impl Figures {
+    fn print_jobs(&self, rt: &impl Print) -> io::Result<()> {
+        let longest = self.longest / u64::from(UNIT);
+        print!(rt; " {:>5} |", self.again)?;
+        print_share(rt, self.worked, self.kept.saturating_sub(self.undone))?;
+        print!(rt; " {longest:>5} {:>6}", self.undone)
     }
 }
 

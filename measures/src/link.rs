@@ -2,15 +2,8 @@ use crate::options::{Options, UNIT};
 use rand_core::utils::NextWord;
 use rand_pcg::Pcg32;
 use std::alloc::Global;
+use std::collections::BTreeMap;
 use wire_msg::Message;
-
-/// A message on its way, and the time at which it arrives.
-#[derive(Clone, Copy)]
-struct Carried {
-    at: u64,
-    number: u64,
-    message: Message,
-}
 
 /// The network between all nodes: it loses messages, and sends each again until it is acknowledged. Of two messages that arrive
 /// at one time the one that was sent first comes first.
@@ -20,7 +13,8 @@ pub struct Link {
     loss: u32,
     resends: u16,
     slow: u64,
-    carried: Vec<Carried>,
+    // by when they arrive, and those that arrive at one time in the order in which they were sent
+    carried: BTreeMap<(u64, u64), Message>,
     sent: u64,
 }
 
@@ -31,7 +25,7 @@ impl Link {
             loss: u32::from(loss),
             resends: options.resends,
             slow: u64::from(options.slow),
-            carried: Vec::new(alloc),
+            carried: BTreeMap::new(alloc),
             sent: 0,
         }
     }
@@ -52,12 +46,10 @@ impl Link {
             self.sent = self.sent.saturating_add(1);
             let arrives = at.saturating_add(self.delay());
             if !self.is_lost() && !is_dead {
-                let carried = Carried {
-                    at: arrives,
-                    number: self.sent,
-                    message: *message,
-                };
-                self.carried.push(carried).ok().ok_or("no memory")?;
+                let place = (arrives, self.sent);
+                if self.carried.insert(place, *message).is_err() {
+                    return Err("no memory");
+                }
                 let answered = arrives.saturating_add(self.delay());
                 if !self.is_lost() {
                     acknowledged = acknowledged.min(answered);
@@ -70,19 +62,15 @@ impl Link {
 
     /// The next message that arrives up to this time, and when it does.
     pub fn arrival(&mut self, now: u64) -> Option<(u64, Message)> {
-        let mut first = usize::MAX;
-        let mut least = (now, u64::MAX);
-        for (place, carried) in self.carried.iter().enumerate() {
-            if carried.at < least.0 || carried.at == least.0 && carried.number < least.1 {
-                first = place;
-                least = (carried.at, carried.number);
-            }
+        let is_due = match self.carried.first_key_value() {
+            Some(((at, _number), _message)) => *at <= now,
+            None => false,
+        };
+        if !is_due {
+            return None;
         }
-        if first < self.carried.len() {
-            let carried = self.carried.swap_remove(first);
-            return Some((carried.at, carried.message));
-        }
-        None
+        let ((at, _number), message) = self.carried.pop_first()?;
+        Some((at, message))
     }
 
     fn is_lost(&mut self) -> bool {

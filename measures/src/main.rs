@@ -28,15 +28,17 @@
 //!
 //! 1. All nodes come up within 10 round trips of each other, and run until they are one group.
 //! 2. They go on for as long as `quiet` says, with no fault but loss: each new group in that time was without need.
-//! 3. The coordinator dies for good, and then a member, each time until all others are one group.
+//! 3. The coordinator dies and, once all others are one group, comes up again, until all are; then a member dies for good.
 //!
 //! A message is lost with the given probability and takes 0.2 to 0.5 round trips. Nodes send again what they wait for; a link
-//! that does so until a message is acknowledged can be tried too. Each node's timers are looked at twice a round trip. The words
+//! that does so until a message is acknowledged can be tried too. Each node's timers are looked at twice a round trip. A raise
+//! is three syncs of a disk and a job is one; a node answers nothing meanwhile. The words
 //! stand in any order; `options.rt` has them.
 //!
 //! A row has times in round trips: their median, the worst of 99 in 100, the worst, and in how many trials it never came. Its
 //! groups are those that a trial starts beside each node's own, `whole%` is the part of the time in which all nodes were one
-//! group, and messages, each copy counted, are those of a round trip.
+//! group, and messages, each copy counted, are those of a round trip; the most that one node sent again at once stand behind them. Of
+//! jobs there is how often one that is done was worked on, the longest that one waited, and how many weren't done in that time.
 //!
 //! `few NAME=VALUE ..` is a short run of `live` and of `dispatch`, and then `pace` with these words.
 //!

@@ -4,8 +4,8 @@ ghost use Rattle.group_task.specs.declared.node.TheConstants.{NODES};
 ghost use Rattle.job_model.specs.declared.node_command.NodeCommand.TheVariants.{Raise};
 ghost use Rattle.node_core.specs.Planned.{wanted_by};
 
-use group_task::NodeId;
-use job_model::{Command, JobTable};
+use group_task::{NODES, NodeId};
+use job_model::{Command, Job, JobTable};
 use node_core::{Event, NodeCore, Wanted};
 use std::alloc::Global;
 use std::mem;
@@ -18,6 +18,11 @@ pub struct Node {
     pub core: NodeCore,
     table: JobTable,
     pub count: u64,
+    // how many syncs its commands were: three are a raise
+    pub syncs: u64,
+    // the id of the job that was kept last, and of the one that was done
+    pub kept: Option<u64>,
+    pub done: Option<u64>,
     // the list of the last messages that were sent, which is kept for its room
     sent: Vec<Message>,
 }
@@ -34,15 +39,31 @@ impl Node {
                 core: NodeCore::down(alloc, id, nodes),
                 table,
                 count: 0,
+                syncs: 0,
+                kept: None,
+                done: None,
                 sent: Vec::new(alloc),
             }),
             Err(_) => Err("no memory"),
         }
     }
 
+    /// It is Down, with what its disk keeps, in a cluster of so many nodes.
+    pub fn crash(&mut self, nodes: u8) {
+        let id = self.core.id();
+        if id.number() < nodes && nodes <= NODES {
+            self.core = NodeCore::down(self.alloc, id, nodes);
+        }
+    }
+
     /// The messages of the last step.
     pub fn sent(&self) -> &[Message] {
         self.sent.as_slice()
+    }
+
+    /// The jobs that it keeps.
+    pub fn pending(&self) -> &[Job] {
+        self.table.pending()
     }
 
     /// One whole step: its plan, its command, and its commit.
@@ -76,17 +97,26 @@ impl Node {
         match wants {
             Wanted::None => 0,
             Wanted::Raise => {
+                self.syncs = self.syncs.saturating_add(3);
                 self.count = self.count.saturating_add(1);
                 self.count
             }
-            Wanted::Put(work) => self.apply(Command::Put(work)),
-            Wanted::Done(id) => self.apply(Command::Done(id)),
+            Wanted::Put(work) => {
+                let id = self.apply(Command::Put(work));
+                self.kept = Some(id);
+                id
+            }
+            Wanted::Done(id) => {
+                self.done = Some(id);
+                self.apply(Command::Done(id))
+            }
         }
     }
 
     fn apply(&mut self, command: Command) -> u64
         ensures { self.new.core ≡ self.old.core }
     {
+        self.syncs = self.syncs.saturating_add(1);
         if self.table.can_apply(&command) {
             self.table.apply(command)
         } else {

@@ -2,6 +2,8 @@ use pace::Setting;
 
 /// A round trip, in ticks of the simulated clock.
 pub const UNIT: u16 = 1_000;
+/// How many milliseconds a round trip takes, where a time is given in milliseconds.
+const ROUND_TRIP: u64 = 20;
 
 /// What the command line asks for.
 #[derive(Drop)]
@@ -17,6 +19,10 @@ pub struct Options {
     pub repeats: u16,
     /// `slow`: the link takes so many times longer than the setting says.
     pub slow: u16,
+    /// `sync`: how many milliseconds a sync of a disk takes, where a round trip takes 20.
+    pub sync: u16,
+    /// `jobs`: how many jobs come while a group is watched, over all that time; each is finished as soon as it is in hand.
+    pub jobs: u16,
     /// `quiet`: how many round trips a group is watched with no fault but loss.
     pub quiet: u16,
     /// `check`, `check_jitter`, and so on: the fields of a setting but its unit.
@@ -32,9 +38,16 @@ impl Options {
             resends: 0,
             repeats: 1,
             slow: 1,
+            sync: 0,
+            jobs: 0,
             quiet: 1_000,
             setting: Setting::measured(UNIT),
         }
+    }
+
+    /// How long a sync takes, in ticks of the simulated clock.
+    pub fn sync(&self) -> u64 {
+        u64::from(self.sync) * u64::from(UNIT) / ROUND_TRIP
     }
 
     /// Whether this row was asked for.
@@ -62,6 +75,8 @@ impl Options {
             "repeats" => self.repeats = value,
             "resends" => self.resends = value,
             "slow" => self.slow = value,
+            "sync" => self.sync = value,
+            "jobs" => self.jobs = value,
             "quiet" => self.quiet = value,
             _ => return self.set_wait(name, value),
         }

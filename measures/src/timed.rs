@@ -4,17 +4,56 @@ ghost use Rattle.group_task.specs.declared.node.TheConstants.{NODES};
 use crate::node::Node;
 use crate::options::Options;
 use group_task::{GroupNo, Members, NodeId};
+use job_model::Work;
 use node_core::{Event, Phase};
 use pace::{Pace, Sight, Waiting};
 use std::alloc::Global;
-use wire_msg::Message;
+use std::collections::{BTreeMap, VecDeque};
+use wire_msg::{Body, Message};
 
-/// A node with its timers.
+/// What a node is told.
+#[derive(Clone, Copy)]
+enum Told {
+    /// It comes up.
+    Start,
+    Message(Message),
+    /// It is so late.
+    Time(u64),
+    /// A job comes, which a coordinator takes.
+    Job(Work),
+}
+
+/// What came of jobs at a node.
+#[derive(Clone, Copy)]
+pub struct Counts {
+    /// How many it keeps or kept, how many of them are done, and for how long one wasn't at most.
+    pub kept: u64,
+    pub done: u64,
+    pub longest: u64,
+    /// How often it worked on one.
+    pub worked: u64,
+    /// The most messages that it sent again at one time.
+    pub again: u64,
+}
+
+/// A node with its timers, over a disk whose syncs take a while: what it is told meanwhile it answers behind its command, and what the
+/// command sends leaves with its end.
 #[derive(Drop)]
 pub struct Timed {
+    alloc: Global,
     node: Node,
     pace: Pace,
     waiting: Waiting,
+    // the group in which a timer was last looked for
+    group: Option<GroupNo>,
+    // how long a sync takes, the end of the command that is under way, what it sends and what was told since it began
+    sync: u64,
+    free: u64,
+    held: Vec<Message>,
+    told: VecDeque<Told>,
+    // when each job came that it keeps and that isn't done
+    open: BTreeMap<u64, u64>,
+    jobs: Counts,
     // whether it sends again what it waits for, and doesn't leave that to the link
     repeats: bool,
     pub is_dead: bool,
@@ -34,16 +73,48 @@ impl Timed {
     {
         let setting = options.setting;
         Ok(Timed {
-            node: Node::new(alloc, id, nodes, 0)?,
+            alloc,
+            node: Node::new(alloc, id, nodes, usize::from(options.jobs))?,
             pace: Pace::new(setting, id, seed),
             waiting: Waiting::new(alloc, setting.unit),
+            group: None,
+            sync: options.sync(),
+            free: 0,
+            held: Vec::new(alloc),
+            told: VecDeque::new(alloc),
+            open: BTreeMap::new(alloc),
+            jobs: Counts {
+                kept: 0,
+                done: 0,
+                longest: 0,
+                worked: 0,
+                again: 0,
+            },
             repeats: options.repeats != 0,
             is_dead: false,
         })
     }
 
+    /// Its process is started anew, over what its disk kept: it is Down, and will come up.
+    pub fn restart(&mut self, options: &Options, nodes: u8, seed: u64) -> Result<(), &'static str> {
+        self.pace = Pace::new(options.setting, self.id(), seed);
+        self.waiting = Waiting::new(self.alloc, options.setting.unit);
+        self.group = None;
+        self.free = 0;
+        self.held.clear();
+        self.told.clear();
+        self.node.crash(nodes);
+        self.is_dead = false;
+        self.tell(Told::Start)
+    }
+
     pub fn id(&self) -> NodeId {
         self.node.core.id()
+    }
+
+    /// What came of jobs at it.
+    pub fn jobs(&self) -> Counts {
+        self.jobs
     }
 
     /// How many groups it started.
@@ -70,40 +141,151 @@ impl Timed {
 
     /// It comes up, alone in a new group, and sends nothing.
     pub fn start(&mut self) -> Result<(), &'static str> {
-        self.step(&Event::Recover)
+        self.tell(Told::Start)
     }
 
-    /// What it sends again at this time, and what it sends where a timer is due, is put behind the others.
-    pub fn tick(&mut self, now: u64, sent: &mut Vec<Message>) -> Result<(), &'static str> {
-        if self.repeats {
-            put_all(sent, self.waiting.due(now))?;
-            if self.waiting.go_on(now).is_err() {
-                return Err("no memory");
-            }
+    /// It is so late.
+    pub fn tick(&mut self, now: u64) -> Result<(), &'static str> {
+        self.tell(Told::Time(now))
+    }
+
+    /// A message comes.
+    pub fn deliver(&mut self, message: Message) -> Result<(), &'static str> {
+        self.tell(Told::Message(message))
+    }
+
+    /// A job comes.
+    pub fn submit(&mut self, work: Work) -> Result<(), &'static str> {
+        self.tell(Told::Job(work))
+    }
+
+    fn tell(&mut self, told: Told) -> Result<(), &'static str> {
+        self.told.push_back(told).ok().ok_or("no memory")
+    }
+
+    /// Answers what it was told, up to a command that takes longer than until now. What is sent is put behind the others.
+    pub fn work(&mut self, now: u64, sent: &mut Vec<Message>) -> Result<(), &'static str> {
+        if now < self.free {
+            return Ok(());
         }
-        let core = &self.node.core;
-        let sight = Sight::of(core.id(), core.vector(), core.merge_wait(), &[]);
-        self.pace.pass(now);
-        if let Some(event) = self.pace.tick(&sight) {
-            self.step(&event)?;
-            put_all(sent, self.node.sent())?;
+        put_all(sent, self.held.as_slice())?;
+        self.held.clear();
+        for _told in 0..u64::MAX {
+            let Some(told) = self.told.pop_front() else {
+                break;
+            };
+            let (count, syncs) = (self.node.count, self.node.syncs);
+            self.answer(told, now)?;
+            if syncs != self.node.syncs && 0 < self.sync {
+                self.spend(now, count, syncs);
+                return Ok(());
+            }
+            put_all(sent, self.held.as_slice())?;
+            self.held.clear();
         }
         Ok(())
     }
 
-    /// What it answers to a message is put behind the others.
-    pub fn deliver(
-        &mut self,
-        message: Message,
-        sent: &mut Vec<Message>,
-    ) -> Result<(), &'static str> {
-        self.pace.heard(message.sender());
-        self.step(&Event::Deliver(message))?;
-        put_all(sent, self.node.sent())
+    /// Its commands since took a while.
+    fn spend(&mut self, now: u64, count: u64, syncs: u64) {
+        let long = self
+            .sync
+            .saturating_mul(self.node.syncs.saturating_sub(syncs));
+        self.free = now.saturating_add(long);
+        self.pace.spend(long);
+        if count != self.node.count {
+            self.pace.raised(long);
+        }
+    }
+
+    fn answer(&mut self, told: Told, now: u64) -> Result<(), &'static str> {
+        self.take(told)?;
+        self.note(now)?;
+        self.finish(now)
+    }
+
+    /// Notes what was kept and what was done.
+    fn note(&mut self, now: u64) -> Result<(), &'static str> {
+        if let Some(id) = self.node.kept {
+            self.jobs.kept = self.jobs.kept.saturating_add(1);
+            if self.open.insert(id, now).is_err() {
+                return Err("no memory");
+            }
+        }
+        if let Some(id) = self.node.done {
+            if let Some(came) = self.open.remove(&id) {
+                self.jobs.done = self.jobs.done.saturating_add(1);
+                self.jobs.longest = self.jobs.longest.max(now.saturating_sub(came));
+            }
+        }
+        self.node.kept = None;
+        self.node.done = None;
+        Ok(())
+    }
+
+    /// Each job in hand is worked on, and finished at once.
+    fn finish(&mut self, now: u64) -> Result<(), &'static str> {
+        for _job in 0..u64::MAX {
+            let (origin, id) = match self.node.core.vector().hand.jobs() {
+                [] => break,
+                [first, ..] => (first.origin, first.id),
+            };
+            self.jobs.worked = self.jobs.worked.saturating_add(1);
+            self.step(&Event::Finish(origin, id))?;
+            self.note(now)?;
+        }
+        Ok(())
+    }
+
+    fn take(&mut self, told: Told) -> Result<(), &'static str> {
+        match told {
+            Told::Start => self.step(&Event::Recover),
+            Told::Time(now) => self.pass(now),
+            Told::Job(work) => self.keep(work),
+            Told::Message(message) => {
+                self.pace.heard(message.sender());
+                if matches!(message.body(), Body::AreYouCoordinator) {
+                    self.pace.asked(message.sender());
+                }
+                self.step(&Event::Deliver(message))
+            }
+        }
+    }
+
+    /// A coordinator that is Normal takes a job; at others it is lost.
+    fn keep(&mut self, work: Work) -> Result<(), &'static str> {
+        let standing = &self.node.core.vector().standing;
+        if matches!(standing.phase, Phase::Normal) && standing.coordinator.is(self.id()) {
+            self.step(&Event::Submit(work))
+        } else {
+            Ok(())
+        }
+    }
+
+    /// Sends again what is due at this time, and makes the event of the timer that is.
+    fn pass(&mut self, now: u64) -> Result<(), &'static str> {
+        if self.repeats {
+            let again = put_again(&mut self.held, &self.waiting, now)?;
+            self.jobs.again = self.jobs.again.max(again);
+            if self.waiting.go_on(now).is_err() {
+                return Err("no memory");
+            }
+        }
+        let sight = sight_of(&self.node);
+        if self.group != Some(sight.group) {
+            self.group = Some(sight.group);
+            self.pace.regrouped();
+        }
+        self.pace.pass(now);
+        match self.pace.tick(&sight) {
+            Some(event) => self.step(&event),
+            None => Ok(()),
+        }
     }
 
     fn step(&mut self, event: &Event) -> Result<(), &'static str> {
         self.node.step(event)?;
+        put_all(&mut self.held, self.node.sent())?;
         if self.repeats && !keep(&mut self.waiting, event, &self.node) {
             return Err("no memory");
         }
@@ -111,9 +293,22 @@ impl Timed {
     }
 }
 
+/// What is seen of a node.
+fn sight_of(node: &Node) -> Sight {
+    let core = &node.core;
+    Sight::of(core.id(), core.vector(), core.merge_wait(), node.pending())
+}
+
 /// Keeps what a node waits for, or answers false.
 fn keep(waiting: &mut Waiting, event: &Event, node: &Node) -> bool {
     waiting.keep(event, node.sent(), node.core.vector()).is_ok()
+}
+
+/// What is sent again at this time is put behind the others; it answers how many messages these are.
+fn put_again(held: &mut Vec<Message>, waiting: &Waiting, now: u64) -> Result<u64, &'static str> {
+    let again = waiting.due(now);
+    put_all(held, again)?;
+    Ok(again.len() as u64)
 }
 
 fn put_all(sent: &mut Vec<Message>, more: &[Message]) -> Result<(), &'static str> {

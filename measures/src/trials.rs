@@ -18,7 +18,7 @@ pub fn pace(rt: &impl Print, alloc: Global, words: &[String]) -> Result<(), &'st
     if print_heading(rt).is_err() {
         return Err("no output");
     }
-    for nodes in [3u8, 5, 16] {
+    for nodes in [3u8, 5, 16, 64, 128] {
         for loss in [0u8, 1, 5, 10, 20] {
             if options.has(nodes, loss) {
                 print_row(rt, alloc, &options, nodes, loss)?;
@@ -30,10 +30,10 @@ pub fn pace(rt: &impl Print, alloc: Global, words: &[String]) -> Result<(), &'st
 
 fn print_heading(rt: &impl Print) -> io::Result<()> {
     println!(rt;
-        "            | until one group       | until it | with no fault but loss   | a coordinator dies    | a member dies"
+        "            | until one group       | until it | with no fault but loss         | jobs                 | a coordinator dies    | it comes up again     | a member dies"
     )?;
     println!(rt;
-        "nodes loss% | med.  99% worst never |   groups |   groups  whole% messages | med.  99% worst never | med.  99% worst never"
+        "nodes loss% | med.  99% worst never |   groups |   groups  whole% messages again | worked longest undone | med.  99% worst never | med.  99% worst never | med.  99% worst never"
     )
 }
 

@@ -232,7 +232,7 @@ def try_nodes(tried, folder):
     """The file of a node with a sector damaged, and with its label damaged."""
     path, own = os.path.join(folder, "node"), 1
     tried.expect(["format", path, "6", str(own), "3", "40"], b"", 0, b"", "format")
-    fed = feed(["recover", "submit 0 61", "submit 1 62", "finish 1 0", "recover", "submit 2 -"])
+    fed = feed(["recover", "submit 0 61", "submit 1 62", "finish 1 40", "recover", "submit 2 -"])
     status, out, trouble = tried.run(["node", path, str(own), "3"], fed)
     tried.mark(trouble or ("" if status == 0 and out.count(b"\nok ") == 6 and b"1:42" in out else f"it answers {out!r}"), "the node's file")
     data = read(path)
@@ -361,7 +361,7 @@ def try_half_made(tried, folder, library):
         status = tried.run(words, b"", shim.environment(library, noted, END_AT=at))[0]
         shim.read_noted(noted)
         if status == 0:
-            tried.expect(["node", path, "0", "3"], b"recover\n", 0, b"group Normal 0 0:6 0\nkeeps 6 0 0\nok 1\n", "a whole file")
+            tried.expect(["node", path, "0", "3"], b"recover\n", 0, b"group Normal 0 0:6 0\nkeeps 6 5 0\nok 1\n", "a whole file")
             continue
         data = read(path)
         got, out, trouble = tried.run(["node", path, "0", "3"], b"recover\n")

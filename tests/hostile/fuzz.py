@@ -147,7 +147,7 @@ class Stores:
             return "ok\n"
         if verb == "mount":
             self.mounted = self.file
-            return "ok\n" if self.file else "refused Device\n"
+            return "ok\n" if self.file else "refused NotFound\n"
         if self.mounted is None:
             return "refused Broken\n"
         return self.mounted.listed() if verb == "list" else self.mounted.apply(line) + "\n"
@@ -185,7 +185,7 @@ def one_format(fuzz):
         with open(path, "wb") as file:
             file.write(there)
     where = path if there is not False or chance.random() < 0.9 else os.path.join(fuzz.folder, "none", "made")
-    want = (2,) if not fits else (1,) if there is not False else (0,) if where == path else (3, 5)
+    want = (2,) if not fits else (1,) if there is not False else (0,) if where == path else (7,)
     return ["format", where, *words], b"unread", lambda status, out: problem_in_made(fuzz, path, words, there, status, want)
 
 
@@ -207,9 +207,9 @@ def problem_in_made(fuzz, path, words, there, status, want):
         found = mounted(data)
     except Refused as refused:
         return f"the layout finds {refused}"
-    if len(data) != (8 + 4 * slots) * 512 + 16 or data[-16:] != b"dumgerok" + bytes([1, own, nodes, 0, 0, 0, 0, 0]) or found != (first, 0, {}):
+    if len(data) != (8 + 4 * slots) * 512 + 16 or data[-16:] != b"dumgerok" + bytes([1, own, nodes, 0, 0, 0, 0, 0]) or found != (first, first, {}):
         return f"the file has {len(data)} bytes, ends with {data[-16:]!r}, and is mounted as {found}"
-    text = f"group Normal {own} {own}:{first + 1} {own}\nkeeps {first + 1} 0 0\nok 1\n" if first < grammar.GREATEST else "refused 1 Exhausted\n"
+    text = f"group Normal {own} {own}:{first + 1} {own}\nkeeps {first + 1} {first} 0\nok 1\n" if first < grammar.GREATEST else "refused 1 Exhausted\n"
     got, out, trouble = fuzz.tried.run(["node", path, str(own), str(nodes)], b"recover\n")
     return trouble or (f"status {got} of its node" if got else unlike(out, text.encode()))
 

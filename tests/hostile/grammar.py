@@ -1,4 +1,4 @@
-"""Which lines can be read, from docs/SCHEDULES.md, docs/THREADS.md, docs/STORE.md and docs/NODE.md."""
+"""Which lines can be read, from docs/SIMULATION.md and docs/FORMATS.md."""
 import re
 from spelling import HAS_PRIORITIES
 from wire import Malformed, decode

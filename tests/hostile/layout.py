@@ -1,4 +1,4 @@
-"""What a file of sectors stands for, worked out from docs/DISK.md and not from the program: the counter, the next id and the pending jobs, or
+"""What a file of sectors stands for, worked out from docs/FORMATS.md and not from the program: the counter, the next id and the pending jobs, or
 how its mounting is refused."""
 from spelling import HAS_PRIORITIES
 

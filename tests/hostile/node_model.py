@@ -1,4 +1,4 @@
-"""One node as docs/PROTOCOL.md has it, a cluster of them as docs/SCHEDULES.md prints it, and the search of docs/TRACES.md for an order. No disk
+"""One node as docs/PROTOCOL.md has it, a cluster of them as docs/SIMULATION.md prints it, and the search of docs/SIMULATION.md for an order. No disk
 ever fails here, but that a trace says so."""
 from wire import decode, encode
 

@@ -1,4 +1,4 @@
-"""The picture that docs/TRACES.md says `draw` makes of a run: its lines, arrows and marks, wherever on the paper they stand."""
+"""The picture that docs/SIMULATION.md says `draw` makes of a run: its lines, arrows and marks, wherever on the paper they stand."""
 import re
 from xml.etree import ElementTree
 from node_model import DOWN, Search

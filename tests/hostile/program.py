@@ -3,8 +3,9 @@ and where it ends badly with one line on standard error that says why. What is w
 import os, re, subprocess, sys
 
 SECONDS = 20
-ERRORS = re.compile(rb"(invite: [ -~]+\n)?")
-STATUSES = {"answer": {0, 1}, "show": {0, 1}, "sim": {0, 1}, "trace": {0, 1}, "record": {0, 1}, "threads": {0, 1}, "draw": {0, 1}, "store": {0, 1}, "format": {0, 1, 2, 3, 4, 5}, "node": {0, 1, 3, 4, 5}}
+# What may stand on standard error: a line, and behind that of a trace that is no run one for each node with entries left.
+ERRORS = re.compile(rb"(invite: [ -~]+\n(node [0-9]+: entry [0-9]+ [ -~]+\n)*)?")
+STATUSES = {"answer": {0, 1}, "show": {0, 1}, "sim": {0, 1}, "trace": {0, 1}, "record": {0, 1}, "threads": {0, 1}, "draw": {0, 1}, "store": {0, 1}, "format": {0, 1, 2, 3, 4, 5, 7, 8}, "node": {0, 1, 3, 4, 5, 6, 7, 8}, "inspect": {0, 1, 3, 7, 8}, "export": {0, 1, 3, 7, 8}}
 
 
 class Tried:

@@ -1,4 +1,4 @@
-"""What `invite node` answers, from docs/NODE.md: all but ticks and losses."""
+"""What `invite node` answers, from docs/FORMATS.md: all but ticks and losses."""
 from node_model import DOWN, Denied, Node
 
 

@@ -8,7 +8,7 @@ INPUTS = {
     ("store", "FILE"): b"mount\nraise\nput 0 61\n", ("node", "FILE", "0", "3"): b"recover\nsubmit 0 61\n",
 }
 # What the file may hold then: as it was, and with the commands done.
-ALLOWED = ("count 7 next 0\n", "count 8 next 0\n", "count 8 next 1\njob 0 0 61\n")
+ALLOWED = ("count 7 next 7\n", "count 8 next 7\n", "count 8 next 8\njob 7 0 61\n")
 
 
 class Streams:
@@ -91,7 +91,7 @@ def try_words(streams):
     for words in ([b"answer", b"\xff", b"3"], [b"\xff"], [b"show", b"\xff\xfe"]):
         streams.tried.mark(strange(tried, words, (2,)), words)
     for path in ("", "a" * 300, "/" * 5000, "a/" * 3000, "no\nfolder/none", "\u00e9/none"):
-        for command, status in ((["store", path], 0), (["node", path, "0", "3"], (3, 5)), (["format", path, "4", "0", "3"], (3, 5))):
+        for command, status in ((["store", path], 0), (["node", path, "0", "3"], 7), (["format", path, "4", "0", "3"], 7)):
             allowed = status if isinstance(status, tuple) else (status,)
             streams.tried.mark(strange(tried, command, allowed), (command[0], path[:40]))
 

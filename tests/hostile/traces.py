@@ -1,4 +1,4 @@
-"""Traces, read as docs/TRACES.md says and not as the program does: a text is a trace, or a bad one, with or without a place."""
+"""Traces, read as docs/SIMULATION.md says and not as the program does: a text is a trace, or a bad one, with or without a place."""
 import re
 from grammar import TIMERS
 from spelling import HAS_PRIORITIES

@@ -1,4 +1,4 @@
-"""Messages, streams and the commands `show` and `answer`, written from docs/MESSAGES.md and docs/PROTOCOL.md and not from the program."""
+"""Messages, streams and the commands `show` and `answer`, written from docs/FORMATS.md and docs/PROTOCOL.md and not from the program."""
 from spelling import HAS_PRIORITIES
 
 NAMES = {1: "AreYouCoordinator", 2: "Coordinator", 3: "AreYouThere", 4: "Here", 5: "Invitation", 6: "Accept", 7: "Ready", 8: "ReadyAck", 9: "Work", 10: "Done", 11: "Work"}

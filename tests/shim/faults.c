@@ -1,7 +1,8 @@
 // Fails one call of the system that a program makes of one file, or ends the program there. To be loaded by LD_PRELOAD; what it does is set
 // by the environment. It stands in front of the calls of the C library that `invite store` makes.
 //
-//   FAULT_FILE   the file, by the path that the program gives. Its opening, its folder's, and each call on either is counted
+//   FAULT_FILE   the file, by the path that the program gives. Its opening, that of FILE.unfinished and of their folder, each call on one of them and each
+//                renaming of one is counted
 //   FAULT_AT     the number of the call, from 1 on; none fails where it is 0 or left out
 //   FAULT        the number of the error that the call answers; or `kill`: the program is ended by SIGKILL in place of the call;
 //                or `torn`: the same, but half of what the call was to write is written before
@@ -21,13 +22,18 @@
 #include <unistd.h>
 
 #define MOST_DESCRIPTORS 1024
+#define FOLDER 2
 
 static char is_watched[MOST_DESCRIPTORS];
 static long calls;
 static const char *failed = "none";
 
+// A renaming has to be one of a file whose writes are all synced, and is itself made durable by a sync of the folder. Where it isn't, the program
+// is ended by SIGABRT: at the renaming, or at its end.
+static int is_unsynced, is_renamed;
+
 static int watched(int fd) {
-    return fd >= 0 && fd < MOST_DESCRIPTORS && is_watched[fd];
+    return fd >= 0 && fd < MOST_DESCRIPTORS ? is_watched[fd] : 0;
 }
 
 static void end_here(void) {
@@ -56,15 +62,18 @@ static int is_torn(void) {
     return strcmp(getenv("FAULT"), "torn") == 0;
 }
 
-// Whether the path is the file's, or that of the folder that holds it.
+// Whether the path is the file's, or that of the one that is made beside it; or that of the folder that holds them.
 static int is_counted(const char *path) {
     const char *file = getenv("FAULT_FILE");
     const char *slash;
     if (file == NULL)
         return 0;
     slash = strrchr(file, '/');
-    return strcmp(path, file) == 0 ||
-           (slash != NULL && strlen(path) == (size_t)(slash - file) && strncmp(path, file, slash - file) == 0);
+    if (strncmp(path, file, strlen(file)) == 0)
+        return path[strlen(file)] == 0 || strcmp(path + strlen(file), ".unfinished") == 0;
+    if (slash != NULL && strlen(path) == (size_t)(slash - file) && strncmp(path, file, slash - file) == 0)
+        return FOLDER;
+    return 0;
 }
 
 int open(const char *path, int flags, ...) {
@@ -95,11 +104,41 @@ int open(const char *path, int flags, ...) {
         return real arguments;                                                                                         \
     }
 
-PLAIN(fsync, (int fd), (fd))
-PLAIN(fdatasync, (int fd), (fd))
+// A sync, after which all that was written or renamed is durable.
+#define SYNC(name)                                                                                                     \
+    int name(int fd) {                                                                                                 \
+        int (*real)(int) = (int (*)(int))dlsym(RTLD_NEXT, #name);                                                      \
+        if (watched(fd) && fails(#name, 0))                                                                            \
+            return -1;                                                                                                 \
+        if (watched(fd) == FOLDER)                                                                                     \
+            is_renamed = 0;                                                                                            \
+        else if (watched(fd))                                                                                          \
+            is_unsynced = 0;                                                                                           \
+        return real(fd);                                                                                               \
+    }
+
+SYNC(fsync)
+SYNC(fdatasync)
 PLAIN(flock, (int fd, int how), (fd, how))
-PLAIN(ftruncate, (int fd, off_t length), (fd, length))
 PLAIN(statx, (int fd, const char *path, int flags, unsigned mask, struct statx *about), (fd, path, flags, mask, about))
+
+int ftruncate(int fd, off_t length) {
+    int (*real)(int, off_t) = (int (*)(int, off_t))dlsym(RTLD_NEXT, "ftruncate");
+    if (watched(fd) && fails("ftruncate", 0))
+        return -1;
+    is_unsynced |= watched(fd);
+    return real(fd, length);
+}
+
+int rename(const char *from, const char *to) {
+    int (*real)(const char *, const char *) = (int (*)(const char *, const char *))dlsym(RTLD_NEXT, "rename");
+    if (is_counted(from) && fails("rename", 0))
+        return -1;
+    if (is_counted(from) && is_unsynced)
+        abort();
+    is_renamed |= is_counted(from);
+    return real(from, to);
+}
 
 off_t lseek(int fd, off_t offset, int whence) {
     off_t (*real)(int, off_t, int) = (off_t(*)(int, off_t, int))dlsym(RTLD_NEXT, "lseek");
@@ -118,6 +157,8 @@ off_t lseek(int fd, off_t offset, int whence) {
             (void)!real halved;                                                                                        \
             end_here();                                                                                                \
         }                                                                                                              \
+        if (is_write)                                                                                                  \
+            is_unsynced |= watched(fd);                                                                                \
         return real arguments;                                                                                         \
     }
 
@@ -127,6 +168,8 @@ MOVING(pread, (int fd, void *into, size_t count, off_t at), (fd, into, count, at
 
 __attribute__((destructor)) static void tell_count(void) {
     const char *path = getenv("FAULT_COUNT");
+    if (is_renamed && strcmp(failed, "none") == 0)
+        abort();
     FILE *out = path == NULL ? NULL : fopen(path, "w");
     if (out != NULL) {
         fprintf(out, "%ld %s\n", calls, failed);

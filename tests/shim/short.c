@@ -1,7 +1,7 @@
 // Lets each call that moves bytes of one file move a few of them alone, and interrupts every second one. To be loaded by LD_PRELOAD; what it does is
 // set by the environment. A call for no more bytes than that isn't shortened.
 //
-//   SHORT_FILE   the file, by the path that the program gives
+//   SHORT_FILE   the file, by the path that the program gives, and FILE.unfinished, which is made beside it
 //   SHORT_MOST   how many bytes a read or a write moves at most. Where it is 0, each write answers that it took none
 //   SHORT_COUNT  a file for the number of calls that were interrupted or moved less than they were asked to, written when the program ends
 #define _GNU_SOURCE
@@ -38,7 +38,7 @@ int open(const char *path, int flags, ...) {
     }
     fd = real(path, flags, mode);
     if (fd >= 0 && fd < MOST_DESCRIPTORS)
-        is_watched[fd] = file != NULL && strcmp(path, file) == 0;
+        is_watched[fd] = file != NULL && strncmp(path, file, strlen(file)) == 0 && (path[strlen(file)] == 0 || strcmp(path + strlen(file), ".unfinished") == 0);
     return fd;
 }
 

@@ -6,23 +6,25 @@ use anyhow::Context;
 use clap::Parser;
 use dumgerok_agent::config::{Config, LogLevel};
 use dumgerok_agent::daemon::Daemon;
-use dumgerok_agent::device_marker::DeviceMarker;
+use dumgerok_agent::file_cache::drop_cache;
 use dumgerok_agent::forward::KeyError;
+use dumgerok_agent::log_lines::LogLines;
 use log::{error, info, LevelFilter};
-use std::fs::OpenOptions;
+use std::fs::{File, OpenOptions};
 use std::io::{ErrorKind, Write};
 use std::path::{Path, PathBuf};
 use std::process::ExitCode;
 
 const CONFIG: u8 = 2;
 const DEVICE: u8 = 3;
-const FOREIGN: u8 = 5;
 const KEY: u8 = 6;
+const UNUSABLE: u8 = 7;
 
 /// Runs the node of a Dumgerok cluster on this machine.
 ///
 /// It ends with the status of the node: 0 by SIGTERM, 1 reading or writing failed, 2 the configuration can't be read, 3 the device failed,
-/// 4 another process has the file open, 5 the file is another node's or was never formatted, 6 the key can't be read.
+/// 4 another process has the file open, 5 the file is another node's or was never formatted, 6 the key can't be read, 7 the file isn't there,
+/// may not be opened, or is no file.
 #[derive(Parser)]
 #[command(version)]
 struct Arguments {
@@ -31,7 +33,7 @@ struct Arguments {
 }
 
 /// A line for each message; with the priority in front where the journal reads it.
-fn log_as(level: LogLevel) {
+fn log_as(level: LogLevel, lines: LogLines) {
     let filter = match level {
         LogLevel::Error => LevelFilter::Error,
         LogLevel::Warning => LevelFilter::Warn,
@@ -39,7 +41,7 @@ fn log_as(level: LogLevel) {
         LogLevel::Debug => LevelFilter::Debug,
     };
     let mut builder = env_logger::Builder::new();
-    builder.filter_level(filter);
+    builder.filter_level(filter).target(env_logger::Target::Pipe(Box::new(lines)));
     if std::env::var_os("JOURNAL_STREAM").is_some() {
         builder.format(|out, record| {
             let priority = [3, 3, 4, 6, 7, 7][record.level() as usize];
@@ -51,37 +53,37 @@ fn log_as(level: LogLevel) {
     builder.init();
 }
 
-/// The file can be opened, or the status to end with: so the node isn't blamed for what the machine doesn't permit.
-fn can_open(file: &Path) -> Result<(), u8> {
-    match OpenOptions::new().read(true).write(true).open(file) {
-        Ok(_) => Ok(()),
+/// Opens the file, or answers the status to end with: so the node isn't blamed for what the machine doesn't permit. None where the node is to say what is
+/// wrong with it.
+fn opened(path: &Path) -> Result<Option<File>, u8> {
+    match OpenOptions::new().read(true).write(true).open(path) {
+        Ok(file) => Ok(Some(file)),
         Err(why) if why.kind() == ErrorKind::NotFound => {
-            error!("{}: there is no such file: `dumgerokctl format` makes it", file.display());
-            Err(FOREIGN)
+            error!("{}: there is no such file: `dumgerokctl format` makes it", path.display());
+            Err(UNUSABLE)
         }
         Err(why) if why.kind() == ErrorKind::PermissionDenied => {
-            error!("{}: this user may not open it", file.display());
-            Err(1)
+            error!("{}: this user may not open it", path.display());
+            Err(UNUSABLE)
         }
-        // what else is wrong with it the node says
-        Err(_) => Ok(()),
+        Err(_) => Ok(None),
     }
 }
 
 fn run(config: Config, path: PathBuf) -> anyhow::Result<u8> {
-    let marker = DeviceMarker::beside(&config.socket).context("the start of the machine isn't known")?;
-    if marker.is_set() {
-        let (file, at) = (config.file.display(), marker.path().display());
-        error!("the device of {file} failed, and the machine wasn't started anew since ({at})");
-        return Ok(DEVICE);
-    }
-    if let Err(status) = can_open(&config.file) {
-        return Ok(status);
+    let file = match opened(&config.file) {
+        Ok(file) => file,
+        Err(status) => return Ok(status),
+    };
+    // A device may have failed under the node before: nothing is read but what it holds.
+    if let Some(file) = file {
+        drop_cache(&file).with_context(|| format!("{}: the system doesn't let go of it", config.file.display()))?;
     }
     info!("node {} of cluster {}, {} nodes, at {}", config.id, config.cluster, config.nodes.len(), config.listens_at());
+    let file = config.file.clone();
     let status = Daemon::start(config, path)?.run()?;
     if status == DEVICE {
-        marker.set().with_context(|| format!("{} can't be written", marker.path().display()))?;
+        error!("{}: look why the device failed before the agent is started again", file.display());
     }
     Ok(status)
 }
@@ -95,13 +97,17 @@ fn main() -> ExitCode {
             return ExitCode::from(CONFIG);
         }
     };
-    log_as(config.log);
-    match run(config, path) {
-        Ok(status) => ExitCode::from(status),
-        Err(why) => {
-            error!("{why:#}");
-            let is_key = why.downcast_ref::<KeyError>().is_some();
-            ExitCode::from(if is_key { KEY } else { 1 })
+    let lines = LogLines::start(std::io::stderr());
+    log_as(config.log, lines.clone());
+    let status = run(config, path).unwrap_or_else(|why| {
+        error!("{why:#}");
+        let is_key = why.downcast_ref::<KeyError>().is_some();
+        if is_key {
+            KEY
+        } else {
+            1
         }
-    }
+    });
+    lines.finish();
+    ExitCode::from(status)
 }

@@ -1,6 +1,6 @@
 //! The command line.
 
-use clap::{Parser, Subcommand, ValueEnum};
+use clap::{Args, Parser, Subcommand, ValueEnum};
 use clap_complete::Shell;
 use std::ffi::OsString;
 use std::path::PathBuf;
@@ -84,20 +84,17 @@ pub enum Command {
         /// How many records the journal holds, 4 to 4096
         #[arg(long, default_value_t = 4096)]
         slots: u32,
-        /// The node's group numbers begin behind this; else behind the time
+        /// The node's group numbers and ids begin behind this; else behind the time
         #[arg(long)]
         first: Option<u64>,
+        /// A file of jobs that it begins with, as `export` prints them; - for standard input
+        #[arg(long, value_name = "PATH")]
+        jobs: Option<PathBuf>,
     },
-    /// What a node's file holds
-    Inspect {
-        #[arg(long, value_name = "PATH", default_value = "/etc/dumgerok/node.toml")]
-        config: PathBuf,
-    },
-    /// The jobs of a node's file, as lines
-    Export {
-        #[arg(long, value_name = "PATH", default_value = "/etc/dumgerok/node.toml")]
-        config: PathBuf,
-    },
+    /// What a file holds: whose it is, its counts, its jobs by queue, or what is damaged and where
+    Inspect(Look),
+    /// The jobs of a file, a line each
+    Export(Look),
     /// Has the records of all nodes judged: whether a cluster can have done what stands there
     Judge {
         /// The files of the records of all nodes, in any order
@@ -112,6 +109,18 @@ pub enum Command {
     },
     /// Prints completions for a shell
     Completions { shell: Shell },
+}
+
+/// A file that is looked at. It isn't locked, and nothing is written to it.
+#[derive(Args)]
+pub struct Look {
+    /// The file of a node or of a store; else that of the configuration
+    pub file: Option<PathBuf>,
+    #[arg(long, value_name = "PATH", default_value = "/etc/dumgerok/node.toml")]
+    pub config: PathBuf,
+    /// The proved program, where FILE is given; else that of the configuration
+    #[arg(long, value_name = "PATH", default_value = "/usr/lib/dumgerok/invite")]
+    pub program: PathBuf,
 }
 
 #[derive(Clone, Copy, PartialEq, Eq, ValueEnum)]

@@ -3,7 +3,7 @@
 use super::agent::{socket, Agent};
 use super::arguments::{Arguments, Command, OnOff};
 use super::worker::{self, Worker};
-use super::{program, show, Failure};
+use super::{file, program, show, Failure};
 use clap::CommandFactory;
 use serde_json::{json, Value};
 use std::io::{self, Write};
@@ -21,9 +21,9 @@ fn print(text: &str) -> Result<(), Failure> {
 pub fn run(arguments: Arguments) -> Result<(), Failure> {
     let Arguments { socket: given, json: is_json, command } = arguments;
     match &command {
-        Command::Format { config, slots, first } => program::format(config, *slots, *first),
-        Command::Inspect { config } => program::look(config, "inspect"),
-        Command::Export { config } => program::look(config, "export"),
+        Command::Format { config, slots, first, jobs } => program::format(config, *slots, *first, jobs.as_deref()),
+        Command::Inspect(look) => shown(program::look(look, "inspect")?, is_json, file::inspected),
+        Command::Export(look) => shown(program::look(look, "export")?, is_json, file::exported),
         Command::Judge { files, program: _, trace: true } => print(&format!("{}\n", program::trace_of(files)?)),
         Command::Judge { files, program, trace: false } => program::judge(files, program),
         Command::Completions { shell } => {
@@ -31,6 +31,15 @@ pub fn run(arguments: Arguments) -> Result<(), Failure> {
             Ok(())
         }
         _ => with_agent(&socket(given), is_json, command),
+    }
+}
+
+/// Prints what the program said of a file; how the program ended is how the command ends.
+fn shown((text, status): (String, u8), is_json: bool, as_json: fn(&str) -> String) -> Result<(), Failure> {
+    print(&if is_json { as_json(&text) } else { text })?;
+    match status {
+        0 => Ok(()),
+        _ => Err(Failure::Program(status)),
     }
 }
 
@@ -57,8 +66,8 @@ fn with_agent(socket: &Path, is_json: bool, command: Command) -> Result<(), Fail
         Command::Take { queue, once, command } => Worker { socket, queue, once, command: &command }.work(),
         // these ask no agent
         Command::Format { .. }
-        | Command::Inspect { .. }
-        | Command::Export { .. }
+        | Command::Inspect(_)
+        | Command::Export(_)
         | Command::Judge { .. }
         | Command::Completions { .. } => Ok(()),
     }

@@ -3,6 +3,7 @@
 mod agent;
 mod arguments;
 mod commands;
+mod file;
 mod program;
 mod show;
 mod table;

@@ -1,5 +1,6 @@
 //! Commands that the proved program does, over the file of a configuration.
 
+use super::arguments::Look;
 use super::Failure;
 use crate::config::Config;
 use crate::judge;
@@ -22,21 +23,30 @@ fn call(config: &Config, words: &[OsString]) -> Result<(), Failure> {
     }
 }
 
-/// Makes the node's file. Its counts begin behind the time, so that a machine which lost its file gives no number again.
-pub fn format(path: &Path, slots: u32, first: Option<u64>) -> Result<(), Failure> {
+/// Makes the node's file. Its counts and ids begin behind the time, so that a machine which lost its file gives no number again.
+pub fn format(path: &Path, slots: u32, first: Option<u64>, jobs: Option<&Path>) -> Result<(), Failure> {
     let config = read(path)?;
     let since = SystemTime::now().duration_since(UNIX_EPOCH).map_err(|why| Failure::Usage(why.to_string()))?;
     let first = first.unwrap_or(since.as_millis() as u64);
     let numbers = [u64::from(slots), u64::from(config.id), config.nodes.len() as u64, first];
     let mut words: Vec<OsString> = vec!["format".into(), config.file.clone().into()];
     words.extend(numbers.iter().map(|number| number.to_string().into()));
+    if let Some(jobs) = jobs {
+        words.extend(["--jobs".into(), jobs.into()]);
+    }
     call(&config, &words)
 }
 
-/// `inspect` or `export`, of the node's file.
-pub fn look(path: &Path, word: &str) -> Result<(), Failure> {
-    let config = read(path)?;
-    call(&config, &[word.into(), config.file.clone().into()])
+/// What `inspect` or `export` prints of a file, and how it ends. What is wrong with the file itself it says on standard error.
+pub fn look(look: &Look, word: &str) -> Result<(String, u8), Failure> {
+    let (program, file) = match &look.file {
+        Some(file) => (look.program.clone(), file.clone()),
+        None => read(&look.config).map(|config| (config.program, config.file))?,
+    };
+    let named = |why| Failure::Usage(format!("{}: {why}", program.display()));
+    let done = Command::new(&program).arg(word).arg(file).stderr(Stdio::inherit()).output().map_err(named)?;
+    let status = done.status.code().and_then(|code| u8::try_from(code).ok()).unwrap_or(1);
+    Ok((String::from_utf8_lossy(&done.stdout).into_owned(), status))
 }
 
 /// One trace of the records of all nodes.

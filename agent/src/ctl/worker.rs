@@ -51,7 +51,7 @@ pub fn next_job(agent: &mut Agent, queue: Option<u8>) -> Result<Value, Failure> 
             return Ok(line);
         }
         if line["ok"] == false {
-            return Err(Failure::Refused(line["error"].to_string()));
+            return Err(Failure::Refused(line["error"].as_str().unwrap_or("?").to_string()));
         }
     }
 }

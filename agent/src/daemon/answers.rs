@@ -30,6 +30,7 @@ impl Daemon {
         }
         if let Closing::Ok(Some(_)) = answer.closing {
             self.metrics.jobs.with_label_values(&["kept"]).inc();
+            self.metrics.durable.with_label_values(&["put"]).inc();
             self.metrics.pending.inc();
         }
         if answer.closing == Closing::Fault {
@@ -46,6 +47,7 @@ impl Daemon {
             Line::Drop(key) => self.drop_job(*key),
             Line::Gone { id } => {
                 self.metrics.jobs.with_label_values(&["gone"]).inc();
+                self.metrics.durable.with_label_values(&["done"]).inc();
                 self.metrics.pending.dec();
                 self.tell(Reply::event("gone").with("origin", self.config.id).with("id", id));
             }
@@ -60,7 +62,8 @@ impl Daemon {
 
     fn enter(&mut self, group: Group, now: Instant) {
         self.metrics.groups.inc();
-        self.view.enter(group, now);
+        let made = self.view.enter(group, now);
+        self.metrics.durable.with_label_values(&["group"]).inc_by(made);
         let status = self.view.status(now);
         let said =
             format!("{:?} {} of {:?}, coordinator {}", status.phase, status.group, status.members, status.coordinator);
@@ -72,9 +75,10 @@ impl Daemon {
     fn take_job(&mut self, job: Job) {
         self.metrics.jobs.with_label_values(&["taken"]).inc();
         let event = Reply::event("take").and(GivenJob::of(&job));
+        let (key, queue) = (job.key, job.queue);
         self.hand.take(job);
         self.tell(event);
-        self.hand_out();
+        self.offer(key, queue);
     }
 
     fn drop_job(&mut self, key: JobKey) {
@@ -96,18 +100,25 @@ impl Daemon {
             Asker::Start => self.started(&answer.closing),
             Asker::Tick => self.clock.ticked(due_of(&answer.lines), now),
             Asker::Datagram { sender, kind } => self.delivered(sender, kind, &answer.closing, now),
-            Asker::Submission { serial } => self.tried(serial, given_of(answer.closing, self.config.id), now),
+            Asker::Submission { serial } => {
+                self.outbox.own_answered(serial);
+                self.tried(serial, given_of(answer.closing, self.config.id), now);
+            }
             Asker::Forwarded { from, token } => self.reply_to_agent(from, token, outcome_of(answer.closing)),
             Asker::Finish { client, tag, key } => {
                 self.hand.leave(key);
-                self.clients.tell(client, &reply_of(&answer.closing).tagged(&tag));
+                self.clients.answer(client, &reply_of(&answer.closing).tagged(&tag));
             }
-            Asker::Compact { client, tag } => self.clients.tell(client, &reply_of(&answer.closing).tagged(&tag)),
+            Asker::Compact { client, tag } => self.clients.answer(client, &reply_of(&answer.closing).tagged(&tag)),
             Asker::Jobs { client, tag, queue, skip, limit } => {
+                self.listings -= 1;
                 let reply = jobs_of(&answer.lines, queue, skip, limit).tagged(&tag);
-                self.clients.tell(client, &reply);
+                self.clients.answer(client, &reply);
             }
-            Asker::Page => self.count_jobs(&answer.lines),
+            Asker::Page => {
+                self.listings -= 1;
+                self.count_jobs(&answer.lines);
+            }
         }
     }
 

@@ -1,7 +1,7 @@
 //! On whose behalf the node is asked.
 
 use crate::forward::Token;
-use crate::node::JobKey;
+use crate::node::{JobKey, Lane};
 use crate::protocol::Tag;
 use crate::service::ClientId;
 
@@ -41,4 +41,13 @@ pub enum Asker {
     },
     /// The page asks for the jobs.
     Page,
+}
+
+impl Asker {
+    pub fn lane(&self) -> Lane {
+        match self {
+            Asker::Datagram { .. } | Asker::Forwarded { .. } => Lane::Network,
+            _ => Lane::Local,
+        }
+    }
 }

@@ -5,6 +5,7 @@ use crate::config::Config;
 use crate::forward::is_of_agents;
 use crate::metrics::kind_of;
 use crate::net::MAX_DATAGRAM;
+use crate::node::Lane;
 use log::{info, warn};
 use std::time::Instant;
 
@@ -21,7 +22,7 @@ impl Daemon {
             };
             if is_of_agents(&datagram) {
                 self.take_of_agent(&datagram, now);
-            } else if self.node.has_room() {
+            } else if self.node.has_room(Lane::Network) {
                 self.deliver(&datagram);
             } else {
                 self.metrics.dropped.with_label_values(&["NoRoom"]).inc();
@@ -47,6 +48,13 @@ impl Daemon {
         }
     }
 
+    pub(super) fn warn_of_addresses(&self) {
+        for (node, name) in self.peers.out_of_reach() {
+            let listens_at = self.config.listens_at();
+            warn!("node {node}: {name} can't be reached from {listens_at}: `listen` at an IPv6 address, as [::]:7000, reaches both");
+        }
+    }
+
     /// Reads the configuration again, and takes its addresses.
     pub(super) fn reload(&mut self) {
         let read = Config::read(&self.path).and_then(|changed| self.config.addresses_of(&changed));
@@ -55,6 +63,7 @@ impl Daemon {
                 self.peers.rename(&names);
                 self.config.nodes = names;
                 info!("the addresses were read again");
+                self.warn_of_addresses();
             }
             Err(error) => warn!("{}: {error}: nothing was taken of it", self.path.display()),
         }

@@ -2,6 +2,7 @@
 
 use super::{Asker, Daemon};
 use crate::forward::{Client, Datagram, Due, Given, Outcome, Submission, Token, Verdict, What};
+use crate::node::Lane;
 use crate::protocol::Reply;
 use std::time::Instant;
 
@@ -16,14 +17,23 @@ fn line_of(job: &Submission) -> String {
 impl Daemon {
     /// A local client submits a job.
     pub(super) fn submit(&mut self, client: Client, job: Submission, now: Instant) {
-        let text = line_of(&job);
         match self.outbox.add(client.clone(), job, now) {
             None => self.clients.tell(client.id, &Reply::refused("Busy").tagged(&client.tag)),
-            // where another node leads the own one would only say so
-            Some(serial) if self.view.group.is_normal() && !self.view.is_coordinator() => {
-                self.tried(serial, Given::Elsewhere { coordinator: self.view.group.coordinator }, now);
+            Some(serial) => {
+                self.clients.owe(client.id);
+                // where another node leads the own one would only say so
+                if self.view.group.is_normal() && !self.view.is_coordinator() {
+                    self.tried(serial, Given::Elsewhere { coordinator: self.view.group.coordinator }, now);
+                } else {
+                    self.ask_own(serial);
+                }
             }
-            Some(serial) => self.ask(Asker::Submission { serial }, text),
+        }
+    }
+
+    fn ask_own(&mut self, serial: u64) {
+        if let Some(text) = self.outbox.asks_own(serial).map(line_of) {
+            self.ask(Asker::Submission { serial }, text);
         }
     }
 
@@ -35,25 +45,16 @@ impl Daemon {
             }
         }
         if let Some((client, reply)) = self.outbox.settle(serial, given, now) {
-            self.clients.tell(client.id, &reply.tagged(&client.tag));
+            self.clients.answer(client.id, &reply.tagged(&client.tag));
         }
     }
 
-    /// Tries once more what has no answer yet.
+    /// Tries once more what has no answer yet, and tells those whose time is over.
     pub(super) fn try_again(&mut self, now: Instant) {
-        while self.node.has_room() {
-            match self.outbox.due(now) {
-                Some((Due::Ask { serial }, _)) => {
-                    if let Some(text) = self.outbox.job(serial).map(line_of) {
-                        self.ask(Asker::Submission { serial }, text);
-                    }
-                }
-                Some((Due::Told, told)) => {
-                    if let Some((client, reply)) = told {
-                        self.clients.tell(client.id, &reply.tagged(&client.tag));
-                    }
-                }
-                None => return,
+        while let Some(due) = self.outbox.due(now, self.node.has_room(Lane::Local)) {
+            match due {
+                Due::Ask { serial } => self.ask_own(serial),
+                Due::Tell { client, reply } => self.clients.answer(client.id, &reply.tagged(&client.tag)),
             }
         }
     }
@@ -86,7 +87,7 @@ impl Daemon {
     /// Another agent forwards a submission, with the stamps by which an old one is known.
     fn take_forwarded(&mut self, from: u8, token: Token, (life, number): (u64, u64), job: &Submission) {
         match self.inbox.judge(from, token, life, number) {
-            Some(Verdict::Ask) if self.node.has_room() => {
+            Some(Verdict::Ask) if self.node.has_room(Lane::Network) => {
                 self.inbox.asked(token);
                 self.metrics.forwarded.with_label_values(&["taken"]).inc();
                 self.ask(Asker::Forwarded { from, token }, line_of(job));

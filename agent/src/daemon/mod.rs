@@ -15,15 +15,16 @@ use crate::config::Config;
 use crate::forward::{self, Inbox, Outbox, Seal};
 use crate::http::Server;
 use crate::metrics::Metrics;
-use crate::net::{Link, Peers};
-use crate::node::{Answer, NodeProcess};
+use crate::net::{Link, News, Peers};
+use crate::node::{Answer, Lane, NodeProcess};
 use crate::notify::Notify;
 use crate::record::Record;
 use crate::resolver::Resolver;
 use crate::service::{Changes, Clients, Hand};
 use crate::view::View;
 use anyhow::Context;
-use log::info;
+use log::{info, warn};
+use mio::event::Event;
 use mio::{Events, Poll, Registry, Token, Waker};
 use pages::PendingJobs;
 use signals::Signals;
@@ -66,6 +67,8 @@ pub struct Daemon {
     signals: Signals,
     http: Option<Server>,
     pending_jobs: PendingJobs,
+    /// Listings of jobs that the node is asked for.
+    listings: usize,
 }
 
 impl Daemon {
@@ -99,6 +102,7 @@ impl Daemon {
             signals,
             http,
             pending_jobs: PendingJobs::default(),
+            listings: 0,
             poll,
             config,
             path,
@@ -108,6 +112,7 @@ impl Daemon {
     /// Runs until the node ends or a signal ends it; the status to exit with.
     pub fn run(mut self) -> anyhow::Result<u8> {
         let mut events = Events::with_capacity(256);
+        self.warn_of_addresses();
         self.ask(Asker::Start, "recover".to_string());
         loop {
             self.node.flush();
@@ -115,12 +120,10 @@ impl Daemon {
                 Err(error) if error.kind() != std::io::ErrorKind::Interrupted => return Err(error.into()),
                 _ => {}
             }
-            let tokens: Vec<Token> = events.iter().map(|event| event.token()).collect();
-            let has_answers = tokens.contains(&NODE_OUTPUT);
-            for token in tokens {
-                self.wake(token);
+            for event in &events {
+                self.wake(event);
             }
-            if has_answers && !self.hear() {
+            if self.node.is_readable() && !self.hear() {
                 let status = self.node.end(PATIENCE_AT_END)?;
                 return Ok(self.ended(status));
             }
@@ -134,13 +137,14 @@ impl Daemon {
         }
     }
 
-    fn wake(&mut self, token: Token) {
-        match token {
-            NODE_INPUT | NODE_OUTPUT | WAKER => {}
+    fn wake(&mut self, event: &Event) {
+        match event.token() {
+            NODE_INPUT | WAKER => {}
+            NODE_OUTPUT => self.node.wake(),
             LINK => self.link.wake(),
-            LISTENER => self.clients.accept(self.poll.registry()),
+            LISTENER => self.clients.wake_listener(),
             SIGNALS => self.signals.read(),
-            Token(client) => self.clients.wake(client),
+            Token(client) => self.clients.wake(client, event.is_write_closed()),
         }
     }
 
@@ -160,13 +164,14 @@ impl Daemon {
             self.reload();
         }
         self.receive(now);
+        self.clients.accept(self.poll.registry(), now);
         self.obey(now);
         self.give_up_gone();
         self.try_again(now);
         self.look_up(now);
         self.serve_pages(now);
         if let Some(ms) = self.clock.tick(now) {
-            self.node.ask(Asker::Tick, format!("tick {ms}"));
+            self.node.ask(Asker::Tick, Lane::Local, format!("tick {ms}"));
         }
         if self.view.is_ready && self.view.is_alive(now) {
             self.notify.lives(now);
@@ -175,26 +180,32 @@ impl Daemon {
 
     /// How long to wait for something to come. Where the node has no room its answer is waited for.
     fn sleep(&self, now: Instant) -> Duration {
-        let until = match self.outbox.next().filter(|_| self.node.has_room()) {
-            Some(next) => next.saturating_duration_since(now),
-            None => Duration::MAX,
-        };
-        if self.link.is_readable() || (self.node.has_room() && !self.clients.with_input().is_empty()) {
+        let is_behind = self.node.is_readable() || self.link.is_readable() || self.clients.has_more_to_take();
+        if is_behind || self.clients.have_input(self.takes_requests(now)) {
             return Duration::ZERO;
         }
+        let until = self
+            .outbox
+            .next(self.node.has_room(Lane::Local))
+            .map_or(Duration::MAX, |next| next.saturating_duration_since(now));
         self.clock.sleep(now).min(until)
     }
 
     /// Asks the node something else than the time.
     fn ask(&mut self, asker: Asker, text: String) {
         self.clock.asked();
-        self.node.ask(asker, text);
+        let lane = asker.lane();
+        self.node.ask(asker, lane, text);
     }
 
     fn look_up(&mut self, now: Instant) {
         while let Some(found) = self.resolver.found() {
-            if !self.peers.found(found.at, &found.name, &found.addresses) {
-                info!("node {}: {} has no address", found.at, found.name);
+            match self.peers.found(found.at, &found.name, &found.addresses) {
+                News::NoAddress => {
+                    warn!("node {}: {} has no address that {} reaches", found.at, found.name, self.config.listens_at())
+                }
+                News::At(address) => info!("node {}: {} is {address}", found.at, found.name),
+                News::Nothing => {}
             }
         }
         if !self.resolver.is_busy() {

@@ -1,8 +1,9 @@
 //! What is shown over HTTP.
 
+use super::requests::MAX_LISTINGS;
 use super::{Asker, Daemon};
 use crate::http::{Page, Response, PAGE};
-use crate::node::Line;
+use crate::node::{Lane, Line};
 use serde_json::json;
 use std::time::{Duration, Instant};
 
@@ -49,8 +50,9 @@ impl Daemon {
     /// All that the page draws.
     fn state(&mut self, now: Instant) -> Response {
         let is_old = self.pending_jobs.asked.map_or(true, |asked| now - asked >= PAUSE);
-        if is_old && self.node.has_room() {
+        if is_old && self.node.has_room(Lane::Local) && self.listings < MAX_LISTINGS {
             self.pending_jobs.asked = Some(now);
+            self.listings += 1;
             self.ask(Asker::Page, "jobs".to_string());
         }
         let state = json!({

@@ -2,7 +2,7 @@
 
 use super::{Asker, Daemon};
 use crate::forward::{Client, Submission};
-use crate::node::JobKey;
+use crate::node::{JobKey, Lane};
 use crate::protocol::{payload_of, Envelope, Reply, Request, RequestError, Tag};
 use crate::record::Record;
 use crate::service::{ClientId, Waiting};
@@ -14,24 +14,42 @@ const MAX_AT_A_TIME: usize = 64;
 /// So many rows `jobs` has at most.
 const MAX_ROWS: usize = 250;
 
+/// So many times the node may be asked for all its jobs at a time: each time it writes them all.
+pub(super) const MAX_LISTINGS: usize = 8;
+
 impl Daemon {
-    /// Takes requests of all clients, as long as the node has room.
+    /// Takes requests of all clients in turn. What the node is to be asked waits until it has room, as long as it answers at all; all else is answered
+    /// all the same.
     pub(super) fn obey(&mut self, now: Instant) {
-        for client in self.clients.with_input() {
+        for client in self.clients.in_turn(self.takes_requests(now)) {
+            if self.node.has_room(Lane::Local) {
+                self.clients.had_turn(client);
+            }
             for _ in 0..MAX_AT_A_TIME {
-                if !self.node.has_room() {
-                    return;
-                }
-                match self.clients.next_line(client) {
-                    Some(line) => self.obey_line(client, &line, now),
+                let line = match self.clients.next_line(client) {
+                    Some(line) => line,
                     None => break,
+                };
+                let envelope = Envelope::read(&line);
+                if !envelope.asks_node() || self.node.has_room(Lane::Local) {
+                    self.obey_one(client, envelope, now);
+                } else if self.view.is_alive(now) {
+                    self.clients.put_back(client, line);
+                    break;
+                } else {
+                    self.clients.tell(client, &Reply::refused("NoAnswer").tagged(&envelope.tag));
                 }
             }
         }
     }
 
-    fn obey_line(&mut self, client: ClientId, line: &[u8], now: Instant) {
-        let Envelope { tag, request } = Envelope::read(line);
+    /// Whether no request has to wait.
+    pub(super) fn takes_requests(&self, now: Instant) -> bool {
+        self.node.has_room(Lane::Local) || !self.view.is_alive(now)
+    }
+
+    fn obey_one(&mut self, client: ClientId, envelope: Envelope, now: Instant) {
+        let Envelope { tag, request } = envelope;
         let done = request.and_then(|request| self.perform(client, &tag, request, now));
         match done {
             Ok(Some(reply)) => self.clients.tell(client, &reply.tagged(&tag)),
@@ -52,7 +70,7 @@ impl Daemon {
         Ok(match request {
             Request::Status {} => Some(self.status(now)),
             Request::Members {} => Some(Reply::ok().with("members", self.view.members(&self.peers, now))),
-            Request::Watch { since } => self.watch(client, since, now),
+            Request::Watch { since } => self.watch(client, &tag, since, now),
             Request::Take { queue, wait } => self.give(client, tag, queue, wait),
             Request::Submit { queue, priority, text, hex } => {
                 let payload = payload_of(text, hex)?.hex().to_string();
@@ -61,15 +79,20 @@ impl Daemon {
             }
             Request::Finish { origin, id } => {
                 let key = JobKey { origin, id };
+                self.clients.owe(client);
                 self.ask(Asker::Finish { client, tag, key }, format!("finish {origin} {id}"));
                 None
             }
+            Request::Jobs { .. } if self.listings >= MAX_LISTINGS => Some(Reply::refused("Busy")),
             Request::Jobs { queue, skip, limit } => {
+                self.clients.owe(client);
+                self.listings += 1;
                 let limit = limit.unwrap_or(MAX_ROWS).min(MAX_ROWS);
                 self.ask(Asker::Jobs { client, tag, queue, skip, limit }, "jobs".to_string());
                 None
             }
             Request::Compact {} => {
+                self.clients.owe(client);
                 self.ask(Asker::Compact { client, tag }, "compact".to_string());
                 None
             }
@@ -103,14 +126,14 @@ impl Daemon {
     }
 
     /// The state, or what was missed; from then on each change.
-    fn watch(&mut self, client: ClientId, since: Option<u64>, now: Instant) -> Option<Reply> {
+    fn watch(&mut self, client: ClientId, tag: &Tag, since: Option<u64>, now: Instant) -> Option<Reply> {
         self.clients.watch(client);
         let missed = since
             .and_then(|since| self.changes.behind(since))
             .map(|lines| lines.flatten().copied().collect::<Vec<u8>>());
         match missed {
             Some(lines) => {
-                self.clients.tell(client, &Reply::ok());
+                self.clients.tell(client, &Reply::ok().tagged(tag));
                 self.clients.tell_lines(client, &lines);
                 None
             }
@@ -125,8 +148,20 @@ impl Daemon {
         if !wait {
             return Some(Reply::refused("NoJob"));
         }
-        let waits = self.clients.wait(Waiting { client, tag, queue });
-        (!waits).then(|| Reply::refused("Busy"))
+        if !self.clients.wait(Waiting { client, tag, queue }) {
+            return Some(Reply::refused("Busy"));
+        }
+        self.clients.owe(client);
+        None
+    }
+
+    /// Gives a job that came in hand now to the first that waits for one of its queue: no other job is for it, or it wouldn't wait.
+    pub(super) fn offer(&mut self, key: JobKey, queue: u8) {
+        if let Some(one) = self.clients.take_first_waiting(queue) {
+            if let Some(given) = self.hand.give_this(key, one.client) {
+                self.clients.answer(one.client, &Reply::ok().and(given).tagged(&one.tag));
+            }
+        }
     }
 
     /// Gives those that wait the jobs that nobody works on.
@@ -134,7 +169,7 @@ impl Daemon {
         let mut waiting = self.clients.take_waiting();
         waiting.retain(|one| match self.hand.give(one.client, one.queue) {
             Some(given) => {
-                self.clients.tell(one.client, &Reply::ok().and(given).tagged(&one.tag));
+                self.clients.answer(one.client, &Reply::ok().and(given).tagged(&one.tag));
                 false
             }
             None => true,
@@ -149,11 +184,14 @@ impl Daemon {
             if gone.is_empty() {
                 return;
             }
+            let mut has_freed = false;
             for client in gone {
-                self.hand.give_up(client);
+                has_freed |= self.hand.give_up(client);
                 self.outbox.give_up(client);
             }
-            self.hand_out();
+            if has_freed {
+                self.hand_out();
+            }
         }
     }
 }

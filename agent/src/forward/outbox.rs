@@ -16,6 +16,9 @@ const MIN_PATIENCE: Duration = Duration::from_secs(4);
 /// So many round trips later it is tried once more.
 const PAUSE: u32 = 4;
 
+/// So often an agent may ask for other stamps before its answer is waited for: where two agents don't agree they don't write to each other without an end.
+const MAX_STALE: u32 = 4;
+
 /// Who is to be answered.
 #[derive(Clone, Debug)]
 pub struct Client {
@@ -41,12 +44,12 @@ pub enum Given {
 }
 
 /// What is to be done with a submission whose time has come.
-#[derive(Debug, PartialEq, Eq)]
+#[derive(Debug)]
 pub enum Due {
     /// The own node is to be asked, which keeps it, or says who coordinates.
     Ask { serial: u64 },
-    /// The client was to be told.
-    Told,
+    /// The client is to be told: it isn't tried any more.
+    Tell { client: Client, reply: Reply },
 }
 
 struct Open {
@@ -54,9 +57,30 @@ struct Open {
     job: Submission,
     until: Instant,
     next: Instant,
-    /// Whether another node may keep it without our knowing.
-    was_sent: bool,
+    /// Whether the own node was asked and didn't answer yet.
+    asks_own: bool,
+    /// How often it was sent to agents that may have taken it, and whether one of them said that its node doesn't keep it.
+    sent: u32,
+    was_refused: bool,
+    /// How often an agent asked for other stamps since it was tried last.
+    stale: u32,
     last_error: String,
+}
+
+impl Open {
+    /// Whether some node may keep it without our knowing. A refusal says so of one request alone.
+    fn may_be_kept(&self) -> bool {
+        self.asks_own || self.sent > 1 || (self.sent == 1 && !self.was_refused)
+    }
+
+    fn refusal(&self, error: &str) -> Reply {
+        let reply = Reply::refused(error);
+        if self.may_be_kept() {
+            reply.with("may_be_kept", true)
+        } else {
+            reply
+        }
+    }
 }
 
 /// What is known of another agent.
@@ -91,34 +115,50 @@ impl Outbox {
         }
         self.serial += 1;
         let until = now + (self.round_trip * PATIENCE).max(MIN_PATIENCE);
-        let (was_sent, last_error) = (false, "NoAnswer".to_string());
-        self.open.insert(self.serial, Open { client, job, until, next: until, was_sent, last_error });
+        let (asks_own, sent, was_refused, stale) = (false, 0, false, 0);
+        let last_error = "NoAnswer".to_string();
+        let open = Open { client, job, until, next: until, asks_own, sent, was_refused, stale, last_error };
+        self.open.insert(self.serial, open);
         Some(self.serial)
     }
 
-    pub fn job(&self, serial: u64) -> Option<&Submission> {
-        self.open.get(&serial).map(|open| &open.job)
+    /// The own node is asked for it now.
+    pub fn asks_own(&mut self, serial: u64) -> Option<&Submission> {
+        self.open.get_mut(&serial).map(|open| {
+            open.asks_own = true;
+            &open.job
+        })
+    }
+
+    /// The own node answered: what it doesn't keep by that it doesn't keep.
+    pub fn own_answered(&mut self, serial: u64) {
+        if let Some(open) = self.open.get_mut(&serial) {
+            open.asks_own = false;
+        }
     }
 
     /// The datagram that asks the agent of a coordinator.
     pub fn datagram(&mut self, serial: u64, to: u8) -> Option<(Token, What)> {
         let open = self.open.get_mut(&serial)?;
         let receiver = self.receivers.get_mut(usize::from(to))?;
-        receiver.number += 1;
-        open.was_sent |= receiver.life != 0;
+        receiver.number = receiver.number.saturating_add(1);
+        open.sent = open.sent.saturating_add(u32::from(receiver.life != 0));
         let what = What::Submit { life: receiver.life, number: receiver.number, job: open.job.clone() };
         Some((Token { life: self.life, serial }, what))
     }
 
     /// An agent answered; what its answer says of one of the submissions. Where it asks for other stamps, the request goes there again.
     pub fn replied(&mut self, from: u8, token: Token, outcome: Outcome) -> Option<(u64, Given)> {
-        if token.life != self.life || !self.open.contains_key(&token.serial) {
-            return None;
-        }
+        let open = self.open.get_mut(&token.serial).filter(|_| token.life == self.life)?;
         let given = match outcome {
             Outcome::Kept { id } => Given::Kept { origin: from, id },
-            Outcome::Refused { error } => Given::Refused { error },
+            Outcome::Refused { error } => {
+                open.was_refused = true;
+                Given::Refused { error }
+            }
+            Outcome::Stale { .. } if open.stale == MAX_STALE => return None,
             Outcome::Stale { life, last } => {
+                open.stale += 1;
                 let receiver = self.receivers.get_mut(usize::from(from))?;
                 *receiver = Receiver { life, number: receiver.number.max(last) };
                 Given::Elsewhere { coordinator: from }
@@ -139,28 +179,28 @@ impl Outbox {
                 open.last_error = error;
                 return None;
             }
-            Given::Refused { error } => Reply::refused(&error),
+            Given::Refused { error } => open.refusal(&error),
         };
         self.open.remove(&serial).map(|open| (open.client, reply))
     }
 
-    /// What is to be done now, one at a time; with the answer of a client whose patience ends.
-    pub fn due(&mut self, now: Instant) -> Option<(Due, Option<(Client, Reply)>)> {
-        let (serial, open) = self.open.iter_mut().find(|(_, open)| open.next <= now || open.until <= now)?;
+    /// What is to be done now, one at a time. Where the own node has no room it can't be asked; a client whose patience ends is told so all the same.
+    pub fn due(&mut self, now: Instant, has_room: bool) -> Option<Due> {
+        let is_due = |open: &Open| open.until <= now || (has_room && open.next <= now);
+        let (serial, open) = self.open.iter_mut().find(|(_, open)| is_due(open))?;
         let serial = *serial;
         if open.until > now {
-            open.next = open.until;
-            return Some((Due::Ask { serial }, None));
+            (open.next, open.stale) = (open.until, 0);
+            return Some(Due::Ask { serial });
         }
         let open = self.open.remove(&serial)?;
-        let reply = Reply::refused(if open.was_sent { "NoAnswer" } else { &open.last_error });
-        let reply = if open.was_sent { reply.with("may_be_kept", true) } else { reply };
-        Some((Due::Told, Some((open.client, reply))))
+        let reply = open.refusal(if open.may_be_kept() { "NoAnswer" } else { &open.last_error });
+        Some(Due::Tell { client: open.client, reply })
     }
 
     /// When something is due next.
-    pub fn next(&self) -> Option<Instant> {
-        self.open.values().map(|open| open.next.min(open.until)).min()
+    pub fn next(&self, has_room: bool) -> Option<Instant> {
+        self.open.values().map(|open| if has_room { open.next.min(open.until) } else { open.until }).min()
     }
 
     /// A client ended: nobody is to be answered, and what it submitted isn't tried again.
@@ -172,6 +212,7 @@ impl Outbox {
 #[cfg(test)]
 mod tests {
     use super::*;
+    use serde_json::{json, Value};
 
     fn outbox(now: Instant) -> (Outbox, u64) {
         let mut outbox = Outbox::new(9, 3, Duration::from_millis(20));
@@ -209,14 +250,57 @@ mod tests {
     fn what_may_pass_is_tried_again_until_its_time_is_over() {
         let now = Instant::now();
         let (mut outbox, serial) = outbox(now);
-        assert!(outbox.due(now).is_none());
+        assert!(outbox.due(now, true).is_none());
         assert!(outbox.settle(serial, Given::Refused { error: "NotNormal".to_string() }, now).is_none());
         let later = now + Duration::from_millis(80);
-        assert_eq!(outbox.next(), Some(later));
-        assert_eq!(outbox.due(later).unwrap().0, Due::Ask { serial });
-        let (due, told) = outbox.due(now + MIN_PATIENCE).unwrap();
-        assert_eq!(due, Due::Told);
-        assert!(String::from_utf8(told.unwrap().1.line()).unwrap().contains("NotNormal"));
+        assert_eq!((outbox.next(true), outbox.next(false)), (Some(later), Some(now + MIN_PATIENCE)));
+        assert!(outbox.due(later, false).is_none(), "the own node has no room");
+        assert!(matches!(outbox.due(later, true), Some(Due::Ask { serial: asked }) if asked == serial));
+        assert_eq!(told(outbox.due(now + MIN_PATIENCE, false)), json!({"ok": false, "error": "NotNormal"}));
+    }
+
+    fn told(due: Option<Due>) -> Value {
+        match due {
+            Some(Due::Tell { reply, .. }) => serde_json::from_slice(&reply.line()).unwrap(),
+            other => panic!("{other:?}"),
+        }
+    }
+
+    #[test]
+    fn what_the_own_node_was_asked_may_be_kept() {
+        let now = Instant::now();
+        let (mut outbox, serial) = outbox(now);
+        outbox.asks_own(serial).unwrap();
+        let unknown = json!({"ok": false, "error": "NoAnswer", "may_be_kept": true});
+        assert_eq!(told(outbox.due(now + MIN_PATIENCE, false)), unknown);
+    }
+
+    #[test]
+    fn a_refusal_is_sure_where_one_request_alone_was_sent() {
+        let (now, full) = (Instant::now(), || Outcome::Refused { error: "Full".to_string() });
+        for (requests, reply) in [
+            (1, json!({"ok": false, "error": "Full"})),
+            (2, json!({"ok": false, "error": "Full", "may_be_kept": true})),
+        ] {
+            let (mut outbox, serial) = outbox(now);
+            let token = Token { life: 9, serial };
+            outbox.datagram(serial, 2);
+            outbox.replied(2, token, Outcome::Stale { life: 77, last: 0 });
+            (0..requests).for_each(|_| drop(outbox.datagram(serial, 2)));
+            let (_, given) = outbox.replied(2, token, full()).unwrap();
+            let (_, said) = outbox.settle(serial, given, now).unwrap();
+            assert_eq!(serde_json::from_slice::<Value>(&said.line()).unwrap(), reply);
+        }
+    }
+
+    #[test]
+    fn agents_that_do_not_agree_on_stamps_pause() {
+        let now = Instant::now();
+        let (mut outbox, serial) = outbox(now);
+        let (token, stale) = (Token { life: 9, serial }, || Outcome::Stale { life: 77, last: u64::MAX });
+        let times = (0..100).take_while(|_| outbox.replied(2, token, stale()).is_some()).count();
+        assert_eq!(times, MAX_STALE as usize);
+        assert_eq!(stamps(outbox.datagram(serial, 2)), (77, u64::MAX));
     }
 
     #[test]
@@ -224,6 +308,6 @@ mod tests {
         let now = Instant::now();
         let (mut outbox, serial) = outbox(now);
         assert!(outbox.settle(serial, Given::Refused { error: "Full".to_string() }, now).is_some());
-        assert!(outbox.due(now + MIN_PATIENCE).is_none());
+        assert!(outbox.due(now + MIN_PATIENCE, true).is_none());
     }
 }

@@ -1,5 +1,6 @@
 //! HTTP on the loopback: probes, Prometheus, and a page for a look at the cluster.
 
+mod request;
 mod server;
 
 pub use server::{Page, Response, Server};

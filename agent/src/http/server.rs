@@ -1,19 +1,20 @@
-//! The server: a few threads that hand each request to the loop.
+//! The server: a few threads, each for one request at a time, which the loop answers. It reads no more of a request than its head, for so long at most,
+//! and ends the connection behind each answer: so however many come, they take no more than these threads.
 
+use super::request::{read_head, Head};
 use log::warn;
 use mio::Waker;
-use std::io::{Error, ErrorKind};
-use std::net::SocketAddr;
+use std::io::{self, Read, Write};
+use std::net::{Shutdown, SocketAddr, TcpListener, TcpStream};
 use std::sync::mpsc::{sync_channel, Receiver, SyncSender};
 use std::sync::Arc;
 use std::thread;
-use std::time::Duration;
-use tiny_http::{Header, Method, Request};
+use std::time::{Duration, Instant};
 
 /// So many requests are served at a time.
-const THREADS: usize = 4;
+const THREADS: usize = 8;
 
-/// An agent that doesn't answer for so long isn't healthy.
+/// So long a request may take to come, and its answer to be taken.
 const PATIENCE: Duration = Duration::from_secs(2);
 
 #[derive(Clone, Debug)]
@@ -40,6 +41,26 @@ impl Response {
     pub fn json(body: String) -> Response {
         Response { status: 200, content_type: "application/json", body }
     }
+
+    fn bytes(&self) -> Vec<u8> {
+        let reason = match self.status {
+            200 => "OK",
+            404 => "Not Found",
+            405 => "Method Not Allowed",
+            503 => "Service Unavailable",
+            _ => "Bad Request",
+        };
+        let csp = "default-src 'none'; style-src 'unsafe-inline'; script-src 'unsafe-inline'; connect-src 'self'";
+        let head = [
+            format!("HTTP/1.1 {} {reason}", self.status),
+            format!("Content-Type: {}", self.content_type),
+            format!("Content-Length: {}", self.body.len()),
+            format!("Content-Security-Policy: {csp}"),
+            "Cache-Control: no-store".to_string(),
+            "Connection: close".to_string(),
+        ];
+        format!("{}\r\n\r\n{}", head.join("\r\n"), self.body).into_bytes()
+    }
 }
 
 /// A page that somebody asks for.
@@ -60,13 +81,12 @@ pub struct Server {
 }
 
 impl Server {
-    pub fn start(at: SocketAddr, waker: Arc<Waker>) -> Result<Server, Error> {
-        let server = tiny_http::Server::http(at).map_err(|error| Error::new(ErrorKind::Other, error))?;
+    pub fn start(at: SocketAddr, waker: Arc<Waker>) -> io::Result<Server> {
+        let listener = Arc::new(TcpListener::bind(at)?);
         let (to, from) = sync_channel(THREADS);
-        let server = Arc::new(server);
         for _ in 0..THREADS {
-            let (server, to, waker) = (Arc::clone(&server), to.clone(), Arc::clone(&waker));
-            thread::spawn(move || serve(&server, &to, &waker));
+            let (listener, to, waker) = (Arc::clone(&listener), to.clone(), Arc::clone(&waker));
+            thread::spawn(move || serve(&listener, &to, &waker));
         }
         Ok(Server { from })
     }
@@ -77,42 +97,69 @@ impl Server {
     }
 }
 
-fn serve(server: &tiny_http::Server, to: &SyncSender<Page>, waker: &Waker) {
+fn serve(listener: &TcpListener, to: &SyncSender<Page>, waker: &Waker) {
     loop {
-        match server.recv() {
-            Ok(request) => {
-                let response = response_to(&request, to, waker);
-                respond(request, response);
-            }
+        match listener.accept() {
+            // one that went away isn't told
+            Ok((stream, _)) => drop(serve_one(&stream, to, waker)),
+            Err(error) if matches!(error.kind(), io::ErrorKind::Interrupted | io::ErrorKind::ConnectionAborted) => {}
             Err(error) => {
                 warn!("HTTP: {error}");
-                thread::sleep(Duration::from_millis(100));
+                thread::sleep(Duration::from_secs(1));
             }
         }
     }
 }
 
-fn response_to(request: &Request, to: &SyncSender<Page>, waker: &Waker) -> Response {
-    if *request.method() != Method::Get {
-        return Response::text(405, "GET alone");
-    }
-    let path = request.url().split('?').next().unwrap_or_default().to_string();
+fn serve_one(stream: &TcpStream, to: &SyncSender<Page>, waker: &Waker) -> io::Result<()> {
+    let until = Instant::now() + PATIENCE;
+    let response = match read_head(&mut Timed { stream, until })? {
+        Head::Get(path) => response_to(path, to, waker),
+        Head::Other => Response::text(405, "GET alone"),
+        Head::Unreadable => Response::text(400, "this is no request"),
+    };
+    let until = Instant::now() + PATIENCE;
+    Timed { stream, until }.write_all(&response.bytes())?;
+    stream.shutdown(Shutdown::Write)
+}
+
+fn response_to(path: String, to: &SyncSender<Page>, waker: &Waker) -> Response {
     let (back, response) = sync_channel(1);
     let is_taken = to.try_send(Page { path, to: back }).is_ok() && waker.wake().is_ok();
     let answered = if is_taken { response.recv_timeout(PATIENCE).ok() } else { None };
     answered.unwrap_or_else(|| Response::text(503, "the agent doesn't answer"))
 }
 
-fn respond(request: Request, response: Response) {
-    let csp = "default-src 'none'; style-src 'unsafe-inline'; script-src 'unsafe-inline'; connect-src 'self'";
-    let headers =
-        [("Content-Type", response.content_type), ("Cache-Control", "no-store"), ("Content-Security-Policy", csp)];
-    let mut reply = tiny_http::Response::from_string(response.body).with_status_code(response.status);
-    for (name, value) in headers {
-        if let Ok(header) = Header::from_bytes(name, value) {
-            reply.add_header(header);
+/// A connection on which all that is read, or all that is written, takes until then at most.
+struct Timed<'a> {
+    stream: &'a TcpStream,
+    until: Instant,
+}
+
+impl Timed<'_> {
+    fn left(&self) -> io::Result<Option<Duration>> {
+        let left = self.until.saturating_duration_since(Instant::now());
+        if left.is_zero() {
+            return Err(io::ErrorKind::TimedOut.into());
         }
+        Ok(Some(left))
     }
-    // a client that went away isn't told
-    let _gone = request.respond(reply);
+}
+
+impl Read for Timed<'_> {
+    fn read(&mut self, bytes: &mut [u8]) -> io::Result<usize> {
+        self.stream.set_read_timeout(self.left()?)?;
+        self.stream.read(bytes)
+    }
+}
+
+impl Write for Timed<'_> {
+    fn write(&mut self, bytes: &[u8]) -> io::Result<usize> {
+        self.stream.set_write_timeout(self.left()?)?;
+        self.stream.write(bytes)
+    }
+
+    fn flush(&mut self) -> io::Result<()> {
+        Ok(())
+    }
 }

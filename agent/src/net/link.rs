@@ -8,6 +8,9 @@ use std::net::{SocketAddr, ToSocketAddrs};
 /// A sealed message of the node, and one of an agent, are far shorter; what is longer is cut, and refused by its form.
 pub const MAX_DATAGRAM: usize = 2048;
 
+/// So many errors at a time are passed over.
+const MAX_ERRORS: usize = 16;
+
 pub struct Link {
     socket: UdpSocket,
     /// Whether datagrams may be waiting.
@@ -45,14 +48,16 @@ impl Link {
 
     /// The next datagram that came, if any.
     pub fn receive<'a>(&mut self, bytes: &'a mut [u8; MAX_DATAGRAM]) -> Option<&'a [u8]> {
-        while self.is_readable {
+        let tries = if self.is_readable { MAX_ERRORS } else { 0 };
+        for _ in 0..tries {
             match self.socket.recv_from(bytes) {
                 Ok((count, _)) => return Some(&bytes[..count]),
-                Err(error) if error.kind() == ErrorKind::WouldBlock => self.is_readable = false,
+                Err(error) if error.kind() == ErrorKind::WouldBlock => break,
                 // an answer of the network to a datagram that was sent, as "connection refused"
                 Err(_) => {}
             }
         }
+        self.is_readable = false;
         None
     }
 

@@ -4,4 +4,4 @@ mod link;
 mod peers;
 
 pub use link::{Link, MAX_DATAGRAM};
-pub use peers::{Peer, Peers};
+pub use peers::{News, Peer, Peers};

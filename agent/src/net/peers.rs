@@ -13,6 +13,18 @@ pub struct Peer {
     /// When the node last took a message that names this one as its sender.
     pub heard: Option<Instant>,
     looked_up: Option<Instant>,
+    /// Whether the last look-up found an address; None before the first.
+    was_found: Option<bool>,
+}
+
+/// What a look-up changed.
+#[derive(Debug, PartialEq, Eq)]
+pub enum News {
+    Nothing,
+    /// The node is at another address now.
+    At(SocketAddr),
+    /// Its name has no address that this machine's socket reaches.
+    NoAddress,
 }
 
 pub struct Peers {
@@ -23,7 +35,8 @@ pub struct Peers {
 
 impl Peers {
     pub fn new(own: u8, names: &[String], is_ipv6: bool) -> Peers {
-        let peer = |name: &String| Peer { name: name.clone(), address: None, heard: None, looked_up: None };
+        let peer =
+            |name: &String| Peer { name: name.clone(), address: None, heard: None, looked_up: None, was_found: None };
         let mut peers = Peers { own: usize::from(own), is_ipv6, peers: names.iter().map(peer).collect() };
         (0..peers.peers.len()).for_each(|at| peers.take_literal(at));
         peers
@@ -48,7 +61,7 @@ impl Peers {
         for (at, name) in names.iter().enumerate().take(self.peers.len()) {
             if self.peers[at].name != *name {
                 self.peers[at].name = name.clone();
-                self.peers[at].looked_up = None;
+                (self.peers[at].looked_up, self.peers[at].was_found) = (None, None);
                 self.take_literal(at);
             }
         }
@@ -83,13 +96,27 @@ impl Peers {
     }
 
     /// What a name was found to mean. Where it means nothing now, the last address stays.
-    pub fn found(&mut self, at: usize, name: &str, addresses: &[SocketAddr]) -> bool {
+    pub fn found(&mut self, at: usize, name: &str, addresses: &[SocketAddr]) -> News {
         let usable = addresses.iter().find_map(|address| self.usable(*address));
-        match self.peers.get_mut(at) {
-            Some(peer) if peer.name == name && usable.is_some() => peer.address = usable,
-            _ => return usable.is_some(),
+        let peer = match self.peers.get_mut(at).filter(|peer| peer.name == name) {
+            Some(peer) => peer,
+            None => return News::Nothing,
+        };
+        let was_found = peer.was_found.replace(usable.is_some());
+        match usable {
+            Some(address) if peer.address != usable => {
+                peer.address = usable;
+                News::At(address)
+            }
+            None if was_found != Some(false) => News::NoAddress,
+            _ => News::Nothing,
         }
-        true
+    }
+
+    /// Nodes whose address is spelled out, but not one that this machine's socket reaches.
+    pub fn out_of_reach(&self) -> impl Iterator<Item = (usize, &str)> {
+        let is_out = |peer: &Peer| peer.address.is_none() && peer.name.parse::<SocketAddr>().is_ok();
+        self.peers.iter().enumerate().filter(move |(_, peer)| is_out(peer)).map(|(at, peer)| (at, peer.name.as_str()))
     }
 }
 
@@ -107,12 +134,16 @@ mod tests {
         let mut peers = Peers::new(0, &names(), false);
         assert_eq!(peers.next_look_up(now), Some((1, "b:2".to_string())));
         assert_eq!(peers.next_look_up(now), None);
-        peers.found(1, "b:2", &["[::1]:2".parse().unwrap(), "10.0.0.2:2".parse().unwrap()]);
+        let found: SocketAddr = "10.0.0.2:2".parse().unwrap();
+        assert_eq!(peers.found(1, "b:2", &["[::1]:2".parse().unwrap(), found]), News::At(found));
+        assert_eq!(peers.found(1, "b:2", &[found]), News::Nothing);
         assert_eq!(peers.address(1), Some("10.0.0.2:2".parse().unwrap()));
         peers.hear(1, now + SILENCE);
         assert_eq!(peers.next_look_up(now + SILENCE), None);
         assert!(peers.next_look_up(now + SILENCE * 2).is_some());
-        assert!(!peers.found(1, "b:2", &[]));
+        assert_eq!(peers.found(1, "b:2", &[]), News::NoAddress);
+        assert_eq!(peers.found(1, "b:2", &[]), News::Nothing, "which is no news any more");
+        assert_eq!(peers.found(1, "c:2", &[]), News::Nothing);
         assert_eq!(peers.address(1), Some("10.0.0.2:2".parse().unwrap()));
     }
 
@@ -122,6 +153,8 @@ mod tests {
         assert_eq!(peers.address(2), Some("[::1]:3".parse().unwrap()));
         assert_eq!(peers.address(0), Some("[::ffff:127.0.0.1]:1".parse().unwrap()));
         assert_eq!(Peers::new(0, &names(), false).address(2), None);
+        assert_eq!(Peers::new(0, &names(), false).out_of_reach().collect::<Vec<_>>(), [(2, "[::1]:3")]);
+        assert_eq!(peers.out_of_reach().count(), 0);
         peers.rename(&["127.0.0.1:1".to_string(), "10.0.0.9:2".to_string(), "[::1]:3".to_string()]);
         assert_eq!(peers.address(1), Some("[::ffff:10.0.0.9]:2".parse().unwrap()));
     }

@@ -18,6 +18,10 @@ pub enum Phase {
     Normal,
 }
 
+impl Phase {
+    pub const ALL: [Phase; 4] = [Phase::Down, Phase::Election, Phase::Reorganization, Phase::Normal];
+}
+
 impl FromStr for Phase {
     type Err = LineError;
 
@@ -85,6 +89,11 @@ impl Group {
             }),
             _ => Err(LineError),
         }
+    }
+
+    /// Whether the node is in a group at all.
+    pub fn is_any(&self) -> bool {
+        self.phase != Phase::Down
     }
 
     pub fn is_normal(&self) -> bool {

@@ -10,4 +10,4 @@ pub use answer::{Answer, Closing, Refusal};
 pub use group::{Group, GroupNumber, Phase};
 pub use job::{Job, JobKey, Payload};
 pub use line::{Line, LineError};
-pub use process::NodeProcess;
+pub use process::{Lane, NodeProcess};

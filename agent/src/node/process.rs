@@ -12,15 +12,28 @@ use std::process::{Child, Command, ExitStatus, Stdio};
 use std::thread;
 use std::time::{Duration, Instant};
 
-/// Bytes of requests that may be on their way: less than a pipe holds.
-const MAX_ON_THE_WAY: usize = 48 * 1024;
+/// Bytes of requests of each lane that may be on their way: of both together less than a pipe holds.
+const MAX_ON_THE_WAY: usize = 24 * 1024;
+
+/// Where a request comes from. Each has its own room, so that neither keeps the other from the node.
+#[derive(Clone, Copy, Debug, PartialEq, Eq)]
+pub enum Lane {
+    Network,
+    Local,
+}
 
 /// The node's longest line is far shorter.
 const MAX_LINE: usize = 64 * 1024;
 
+/// So many bytes are read at a time, so that what they say is done before more of it is held.
+const MAX_AT_A_TIME: usize = 256 * 1024;
+
 struct Request<A> {
     asker: A,
+    lane: Lane,
     text: String,
+    /// Whether it stands in the record.
+    is_recorded: bool,
 }
 
 /// A node, and who asked what it hasn't answered yet.
@@ -33,10 +46,12 @@ pub struct NodeProcess<A> {
     input_token: Token,
     is_waiting_for_room: bool,
     output: pipe::Receiver,
+    /// Whether more of its output may be waiting.
+    is_readable: bool,
     /// Requests that wait for the answers before them: only where there is a record.
     waiting: VecDeque<Request<A>>,
     asked: VecDeque<Request<A>>,
-    on_the_way: usize,
+    on_the_way: [usize; 2],
     record: Option<Record>,
     unwritten: Vec<u8>,
     unread: Vec<u8>,
@@ -49,6 +64,7 @@ impl<A> NodeProcess<A> {
     pub fn start(config: &Config, registry: &Registry, input: Token, output: Token) -> io::Result<NodeProcess<A>> {
         let mut command = Command::new(&config.program);
         command.arg("node").arg(&config.file).arg(config.id.to_string()).arg(config.nodes.len().to_string());
+        command.arg(config.round_trip_ms.to_string());
         if let Some(key) = &config.key {
             command.arg("--key").arg(key).arg("--cluster").arg(&config.cluster);
         }
@@ -67,9 +83,10 @@ impl<A> NodeProcess<A> {
             input_token: input,
             is_waiting_for_room: false,
             output: from,
+            is_readable: false,
             waiting: VecDeque::new(),
             asked: VecDeque::new(),
-            on_the_way: 0,
+            on_the_way: [0; 2],
             record: None,
             unwritten: Vec::new(),
             unread: Vec::new(),
@@ -81,26 +98,27 @@ impl<A> NodeProcess<A> {
         self.child.id()
     }
 
-    /// Whether a request would be taken now.
-    pub fn has_room(&self) -> bool {
-        self.on_the_way < MAX_ON_THE_WAY
+    /// Whether a request of this lane would be taken now.
+    pub fn has_room(&self, lane: Lane) -> bool {
+        self.on_the_way[lane as usize] < MAX_ON_THE_WAY
     }
 
     /// Takes a request; `flush` writes it.
-    pub fn ask(&mut self, asker: A, text: String) {
-        self.on_the_way += text.len() + 1;
-        self.waiting.push_back(Request { asker, text });
+    pub fn ask(&mut self, asker: A, lane: Lane, text: String) {
+        self.on_the_way[lane as usize] += text.len() + 1;
+        self.waiting.push_back(Request { asker, lane, text, is_recorded: false });
         self.go_on();
     }
 
     /// Hands on the requests that may be asked now. With a record each waits for the answer before it, so that after a kill one is in doubt at most.
     fn go_on(&mut self) {
         while self.record.is_none() || self.asked.is_empty() {
-            let request = match self.waiting.pop_front() {
+            let mut request = match self.waiting.pop_front() {
                 Some(request) => request,
                 None => return,
             };
             self.write_down([format!("> {}", request.text).as_str()]);
+            request.is_recorded = self.is_recorded();
             self.unwritten.extend_from_slice(request.text.as_bytes());
             self.unwritten.push(b'\n');
             self.asked.push_back(request);
@@ -151,15 +169,27 @@ impl<A> NodeProcess<A> {
         }
     }
 
-    /// Reads what the node wrote, and answers whether it goes on. Whole answers are put to `answers`; a piece of one that has no end is dropped.
+    /// Something came of the node, or it ended.
+    pub fn wake(&mut self) {
+        self.is_readable = true;
+    }
+
+    pub fn is_readable(&self) -> bool {
+        self.is_readable
+    }
+
+    /// Reads some of what the node wrote, and answers whether it goes on. Whole answers are put to `answers`; a piece of one that has no end is dropped.
     pub fn read(&mut self, answers: &mut Vec<Answer<A>>) -> bool {
         let mut piece = [0; 16 * 1024];
-        loop {
+        for _ in 0..MAX_AT_A_TIME / piece.len() {
             match self.output.read(&mut piece) {
                 Ok(0) => return false,
                 Ok(count) => self.unread.extend_from_slice(&piece[..count]),
                 Err(error) if error.kind() == ErrorKind::Interrupted => continue,
-                Err(error) => return error.kind() == ErrorKind::WouldBlock,
+                Err(error) => {
+                    self.is_readable = false;
+                    return error.kind() == ErrorKind::WouldBlock;
+                }
             }
             self.cut_lines(answers);
             if self.unread.len() > MAX_LINE {
@@ -167,6 +197,7 @@ impl<A> NodeProcess<A> {
                 return false;
             }
         }
+        true
     }
 
     fn cut_lines(&mut self, answers: &mut Vec<Answer<A>>) {
@@ -192,9 +223,11 @@ impl<A> NodeProcess<A> {
             }
         };
         let request = self.asked.pop_front()?;
-        self.on_the_way -= request.text.len() + 1;
+        self.on_the_way[request.lane as usize] -= request.text.len() + 1;
         let texts = std::mem::take(&mut self.texts);
-        self.write_down(texts.iter().chain([&text]).map(String::as_str));
+        if request.is_recorded {
+            self.write_down(texts.iter().chain([&text]).map(String::as_str));
+        }
         self.go_on();
         let (answer, faults) = Answer::of(self.own, request.asker, &texts, closing);
         if !faults.is_empty() {

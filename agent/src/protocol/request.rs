@@ -98,6 +98,12 @@ impl Envelope {
         Envelope { tag, request }
     }
 
+    /// Whether the node is asked for the answer.
+    pub fn asks_node(&self) -> bool {
+        use Request::{Compact, Finish, Jobs, Submit};
+        matches!(self.request, Ok(Submit { .. } | Finish { .. } | Jobs { .. } | Compact {}))
+    }
+
     fn request_of(object: Map<String, Value>) -> Result<Request, RequestError> {
         let read = serde_json::from_value::<Request>(Value::Object(object));
         let request = read.map_err(|error| RequestError::Unreadable(error.to_string()))?;

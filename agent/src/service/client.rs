@@ -15,6 +15,14 @@ pub struct Client {
     output: Vec<u8>,
     /// Whether more of its input may be waiting.
     is_readable: bool,
+    /// Whether its next request waits until the node has room.
+    is_waiting: bool,
+    /// Whether its input ended: it may wait for answers all the same.
+    is_ended: bool,
+    /// Whether nothing that is written to it will be read.
+    has_hung_up: bool,
+    /// Requests that have no answer yet.
+    pub owed: usize,
     pub watches: bool,
 }
 
@@ -22,24 +30,44 @@ pub struct Client {
 pub enum Next {
     Line(Vec<u8>),
     Nothing,
+    TooLong,
     Gone,
 }
 
 impl Client {
     pub fn new(stream: UnixStream) -> Client {
-        Client { stream, input: Vec::new(), output: Vec::new(), is_readable: true, watches: false }
+        Client {
+            stream,
+            input: Vec::new(),
+            output: Vec::new(),
+            is_readable: true,
+            is_waiting: false,
+            is_ended: false,
+            has_hung_up: false,
+            owed: 0,
+            watches: false,
+        }
     }
 
     pub fn stream(&mut self) -> &mut UnixStream {
         &mut self.stream
     }
 
-    pub fn wake(&mut self) {
-        self.is_readable = true;
+    /// Something came of it, it takes more, or it hung up.
+    pub fn wake(&mut self, has_hung_up: bool) {
+        self.is_readable = !self.is_ended;
+        self.has_hung_up |= has_hung_up;
+    }
+
+    /// Whether nobody is there any more who would be told something. A watcher is there until it hangs up.
+    pub fn is_gone(&self) -> bool {
+        let is_served = self.owed == 0 && !self.watches && self.output.is_empty();
+        self.is_ended && (self.has_hung_up || is_served)
     }
 
     /// Its next request.
     pub fn next_line(&mut self) -> Next {
+        self.is_waiting = false;
         loop {
             if let Some(end) = self.input.iter().position(|byte| *byte == b'\n') {
                 let rest = self.input.split_off(end + 1);
@@ -47,10 +75,11 @@ impl Client {
                 return Next::Line(line);
             }
             if self.input.len() >= MAX_LINE {
-                return Next::Gone;
+                return Next::TooLong;
             }
             match self.fill() {
                 Ok(true) => {}
+                Ok(false) if self.is_gone() => return Next::Gone,
                 Ok(false) => return Next::Nothing,
                 Err(_) => return Next::Gone,
             }
@@ -62,7 +91,7 @@ impl Client {
         let mut piece = [0; 4096];
         while self.is_readable {
             match self.stream.read(&mut piece) {
-                Ok(0) => return Err(ErrorKind::UnexpectedEof.into()),
+                Ok(0) => (self.is_readable, self.is_ended) = (false, true),
                 Ok(count) => {
                     self.input.extend_from_slice(&piece[..count]);
                     return Ok(true);
@@ -75,9 +104,16 @@ impl Client {
         Ok(false)
     }
 
-    /// Whether it may have a request.
-    pub fn has_input(&self) -> bool {
-        self.is_readable || self.input.contains(&b'\n')
+    /// Puts its request back, until the node has room for it.
+    pub fn put_back(&mut self, line: Vec<u8>) {
+        let rest = std::mem::replace(&mut self.input, line);
+        self.input.extend(rest);
+        self.is_waiting = true;
+    }
+
+    /// Whether it may have a request; one that was put back counts where those have their turn.
+    pub fn has_input(&self, has_turn: bool) -> bool {
+        (has_turn || !self.is_waiting) && (self.is_readable || self.input.contains(&b'\n'))
     }
 
     /// Tells it a line; false where it is to be cut off.

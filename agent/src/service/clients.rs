@@ -8,14 +8,22 @@ use mio::{Interest, Registry, Token};
 use std::collections::{BTreeMap, VecDeque};
 use std::fs::{self, Permissions};
 use std::io::{self, ErrorKind};
+use std::ops::Bound::{Excluded, Unbounded};
 use std::os::unix::fs::PermissionsExt;
 use std::path::{Path, PathBuf};
+use std::time::{Duration, Instant};
 
 /// So many are served at a time; one more is told so, and its connection ends.
 const MAX_CLIENTS: usize = 256;
 
 /// So many requests to take a job may wait.
 const MAX_WAITING: usize = 1024;
+
+/// So many that came are taken at a time.
+const MAX_AT_A_TIME: usize = 64;
+
+/// Where one that came can't be taken it is tried again so much later.
+const PAUSE: Duration = Duration::from_secs(1);
 
 pub type ClientId = usize;
 
@@ -29,10 +37,15 @@ pub struct Waiting {
 pub struct Clients {
     path: PathBuf,
     listener: UnixListener,
+    /// Whether more clients may be waiting to be taken; not before this time where one couldn't be.
+    has_more: bool,
+    not_before: Option<Instant>,
     /// Tokens from this one on are clients'.
     first: ClientId,
     next: ClientId,
     all: BTreeMap<ClientId, Client>,
+    /// Who had its turn last.
+    turn: ClientId,
     waiting: VecDeque<Waiting>,
     /// Clients that ended and weren't given up yet.
     gone: Vec<ClientId>,
@@ -52,23 +65,53 @@ impl Clients {
         let mut listener = UnixListener::bind(path)?;
         fs::set_permissions(path, Permissions::from_mode(0o660))?;
         registry.register(&mut listener, token, Interest::READABLE)?;
-        let all = BTreeMap::new();
-        let (waiting, gone) = (VecDeque::new(), Vec::new());
-        Ok(Clients { path: path.to_path_buf(), listener, first, next: first, all, waiting, gone, cut_off: 0 })
+        Ok(Clients {
+            path: path.to_path_buf(),
+            listener,
+            has_more: true,
+            not_before: None,
+            first,
+            next: first,
+            all: BTreeMap::new(),
+            turn: first,
+            waiting: VecDeque::new(),
+            gone: Vec::new(),
+            cut_off: 0,
+        })
     }
 
     pub fn count(&self) -> usize {
         self.all.len()
     }
 
+    /// One came.
+    pub fn wake_listener(&mut self) {
+        self.has_more = true;
+    }
+
+    /// Whether more of those that came can be taken now.
+    pub fn has_more_to_take(&self) -> bool {
+        self.has_more && self.not_before.is_none()
+    }
+
     /// Takes those that came.
-    pub fn accept(&mut self, registry: &Registry) {
-        loop {
+    pub fn accept(&mut self, registry: &Registry, now: Instant) {
+        if !self.has_more || self.not_before.map_or(false, |at| now < at) {
+            return;
+        }
+        self.not_before = None;
+        for _ in 0..MAX_AT_A_TIME {
             match self.listener.accept() {
                 Ok((stream, _)) => self.add(Client::new(stream), registry),
-                Err(error) if error.kind() == ErrorKind::WouldBlock => return,
+                Err(error) if error.kind() == ErrorKind::WouldBlock => {
+                    self.has_more = false;
+                    return;
+                }
+                Err(error) if matches!(error.kind(), ErrorKind::Interrupted | ErrorKind::ConnectionAborted) => {}
+                // there is no file descriptor or no memory for it: it waits
                 Err(error) => {
                     warn!("a client can't be taken: {error}");
+                    self.not_before = Some(now + PAUSE);
                     return;
                 }
             }
@@ -88,30 +131,67 @@ impl Clients {
         }
     }
 
-    /// Something came of a client, or it takes more.
-    pub fn wake(&mut self, id: ClientId) {
+    /// Something came of a client, it takes more, or it hung up.
+    pub fn wake(&mut self, id: ClientId, has_hung_up: bool) {
         let is_there = self.all.get_mut(&id).map(|client| {
-            client.wake();
-            client.flush()
+            client.wake(has_hung_up);
+            client.flush() && !client.is_gone()
         });
         if is_there == Some(false) {
             self.remove(id);
         }
     }
 
-    /// Those that may have requests.
-    pub fn with_input(&self) -> Vec<ClientId> {
-        self.all.iter().filter(|(_, client)| client.has_input()).map(|(id, _)| *id).collect()
+    /// Whether some may have requests; those that were put back count where they have their turn.
+    pub fn have_input(&self, has_turn: bool) -> bool {
+        self.all.values().any(|client| client.has_input(has_turn))
+    }
+
+    /// These, from the one behind the last that had its turn while there was room.
+    pub fn in_turn(&self, has_turn: bool) -> Vec<ClientId> {
+        let behind = self.all.range((Excluded(self.turn), Unbounded));
+        let others = self.all.range(..=self.turn);
+        behind.chain(others).filter(|(_, client)| client.has_input(has_turn)).map(|(id, _)| *id).collect()
+    }
+
+    /// Requests of this client are taken while there is room.
+    pub fn had_turn(&mut self, id: ClientId) {
+        self.turn = id;
+    }
+
+    /// A request of a client waits until there is room.
+    pub fn put_back(&mut self, id: ClientId, line: Vec<u8>) {
+        if let Some(client) = self.all.get_mut(&id) {
+            client.put_back(line);
+        }
     }
 
     pub fn next_line(&mut self, id: ClientId) -> Option<Vec<u8>> {
         match self.all.get_mut(&id)?.next_line() {
-            Next::Line(line) => Some(line),
-            Next::Nothing => None,
-            Next::Gone => {
-                self.remove(id);
-                None
-            }
+            Next::Line(line) => return Some(line),
+            Next::Nothing => return None,
+            Next::TooLong => self.tell(id, &Reply::refused("TooLong")),
+            Next::Gone => {}
+        }
+        self.remove(id);
+        None
+    }
+
+    /// A client is owed an answer.
+    pub fn owe(&mut self, id: ClientId) {
+        if let Some(client) = self.all.get_mut(&id) {
+            client.owed += 1;
+        }
+    }
+
+    /// Gives a client an answer that it is owed.
+    pub fn answer(&mut self, id: ClientId, reply: &Reply) {
+        if let Some(client) = self.all.get_mut(&id) {
+            client.owed -= 1;
+        }
+        self.tell(id, reply);
+        if self.all.get(&id).map_or(false, Client::is_gone) {
+            self.remove(id);
         }
     }
 
@@ -165,6 +245,12 @@ impl Clients {
             self.waiting.push_back(waiting);
         }
         has_room
+    }
+
+    /// The oldest request that waits for a job of this queue.
+    pub fn take_first_waiting(&mut self, queue: u8) -> Option<Waiting> {
+        let at = self.waiting.iter().position(|one| one.queue.map_or(true, |wanted| wanted == queue))?;
+        self.waiting.remove(at)
     }
 
     /// Those that wait, the oldest request first.

@@ -59,11 +59,20 @@ impl Hand {
         Some(Given::of(&next.job))
     }
 
-    /// A client ended: what it worked on may be given to another.
-    pub fn give_up(&mut self, client: ClientId) {
+    /// Gives a client this job, where nobody works on it.
+    pub fn give_this(&mut self, key: JobKey, client: ClientId) -> Option<Given> {
+        let in_hand = self.0.get_mut(&key).filter(|in_hand| in_hand.holder.is_none())?;
+        in_hand.holder = Some(client);
+        Some(Given::of(&in_hand.job))
+    }
+
+    /// A client ended: what it worked on may be given to another. Whether there was any.
+    pub fn give_up(&mut self, client: ClientId) -> bool {
+        let mut has_freed = false;
         for in_hand in self.0.values_mut().filter(|in_hand| in_hand.holder == Some(client)) {
-            in_hand.holder = None;
+            (in_hand.holder, has_freed) = (None, true);
         }
+        has_freed
     }
 }
 
@@ -85,10 +94,12 @@ mod tests {
         assert_eq!(ids(hand.give(7, Some(2))), Some(2));
         assert_eq!(ids(hand.give(8, None)), Some(0));
         assert_eq!(ids(hand.give(9, None)), None);
-        hand.give_up(7);
+        assert!(hand.give_up(7) && !hand.give_up(7));
         assert_eq!(ids(hand.give(9, Some(2))), Some(2), "handed to another where its holder ended");
         assert_eq!(hand.leave(JobKey { origin: 0, id: 0 }), Some(8));
         assert_eq!(hand.leave(JobKey { origin: 0, id: 0 }), None);
         assert_eq!((hand.count(), hand.count_held()), (2, 1));
+        let key = JobKey { origin: 0, id: 1 };
+        assert_eq!((ids(hand.give_this(key, 4)), ids(hand.give_this(key, 5))), (Some(1), None));
     }
 }

@@ -3,14 +3,16 @@
 use crate::protocol::Reply;
 use std::collections::VecDeque;
 
-/// So many changes are kept for a watcher that comes back.
+/// So many changes are kept for a watcher that comes back, and of so many bytes together: it is told them at once.
 const MAX_KEPT: usize = 1024;
+const MAX_BYTES: usize = 128 * 1024;
 
 #[derive(Default)]
 pub struct Changes {
     /// The number of the last change.
     last: u64,
     kept: VecDeque<Vec<u8>>,
+    bytes: usize,
 }
 
 impl Changes {
@@ -22,10 +24,11 @@ impl Changes {
     pub fn put(&mut self, event: Reply) -> Vec<u8> {
         self.last += 1;
         let line = event.with("change", self.last).line();
-        if self.kept.len() == MAX_KEPT {
-            self.kept.pop_front();
-        }
+        self.bytes += line.len();
         self.kept.push_back(line.clone());
+        while self.kept.len() > MAX_KEPT || self.bytes > MAX_BYTES {
+            self.bytes -= self.kept.pop_front().map_or(self.bytes, |oldest| oldest.len());
+        }
         line
     }
 
@@ -54,5 +57,15 @@ mod tests {
         assert_eq!(changes.behind(last - MAX_KEPT as u64).unwrap().count(), MAX_KEPT);
         assert!(changes.behind(last - MAX_KEPT as u64 - 1).is_none());
         assert!(changes.behind(last + 1).is_none());
+    }
+
+    #[test]
+    fn long_ones_are_fewer() {
+        let mut changes = Changes::default();
+        let put = |changes: &mut Changes| changes.put(Reply::event("take").with("payload", "f".repeat(800))).len();
+        let length = (0..MAX_KEPT).map(|_| put(&mut changes)).max().unwrap_or(0);
+        let all = changes.behind(changes.last() - (MAX_BYTES / length) as u64).unwrap().map(Vec::len).sum::<usize>();
+        assert!(all <= MAX_BYTES && all > MAX_BYTES - 2 * length, "{all}");
+        assert!(changes.behind(0).is_none());
     }
 }

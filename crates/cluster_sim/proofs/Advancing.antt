@@ -1,7 +1,7 @@
 -- An act that is reported: the room for it, and the report after it.
-use Rattle.std.proofs.Common.{◌≡◌, ◌⊎◌, inl, inr, ⊎_elim, ℕ, suc, ◌+◌, ◌<◌, ◌≤◌, Bool, true, false, List, [], ◌∷◌, ◌++◌, length, map, slice_get, refl, sym, ◌∙◌, ap, subst, arith, Option, Some, None, option_map}
+use Rattle.std.proofs.Common.{◌≡◌, ◌≢◌, ◌^◌, ◌⊎◌, inl, inr, ⊎_elim, ℕ, suc, ◌+◌, ◌<◌, ◌≤◌, Bool, true, false, List, [], ◌∷◌, ◌++◌, length, map, slice_get, refl, sym, ◌∙◌, ap, subst, arith, Option, Some, None, option_map}
 use Rattle.std.specs.Prelude.{slice_set, is_some as is_some_option}
-use Rattle.std.proofs.lemmas.List.{append-nil, length-set}
+use Rattle.std.proofs.lemmas.List.{append-nil, length-append, length-set}
 use Rattle.std.proofs.lemmas.Option.{slice_get_within}
 use Rattle.job_model.specs.Durable.{Durable}
 use Rattle.wire_msg.specs.Envelope.{Envelope}
@@ -16,13 +16,19 @@ use Rattle.durable_node.proofs.PublicLaws.{is_some}
 use Rattle.schedule.specs.declared.act.Act.{Act}
 use Rattle.runs.specs.World.{World, node_in}
 use Rattle.runs.specs.Step.{Step, Takes, step_sent, world_after}
-use Rattle.runs.specs.Acts.{IsStepOf}
+use Rattle.node_core.specs.declared.fault.Refusal.TheVariants.{Worn}
+use Rattle.runs.specs.declared.outcome.Outcome.{Outcome}
+use Rattle.runs.specs.declared.outcome.Outcome.TheVariants.{Refused}
+use Rattle.runs.specs.declared.outcome.Refusal.TheVariants.{Node as OfNode}
+use Rattle.runs.specs.Acts.{IsStepOf, act_outcome}
 use Rattle.runs.specs.Reporting.{Moment, Report, own_commands, node_of, moment_of, grown}
 use Rattle.runs.specs.declared.tried.TriedAt.{TriedAt}
 use Rattle.cluster_sim.specs.Names.{node_named}
+use Rattle.cluster_sim.proofs.Answering.{untouched_areas}
 use Rattle.cluster_sim.proofs.Names.{step_named}
+use Rattle.runs.specs.Headline.{NoneWorn}
 use Rattle.runs.specs.Growth.{IsLeft}
-use Rattle.cluster_sim.specs.World.{WorldView, DeedOf, Performed, StandsFor, Shows, ReportsDeed}
+use Rattle.cluster_sim.specs.World.{AreasRise, AreasWithin, IsUntouched, WorldView, DeedOf, Performed, StandsFor, Shows, ReportsDeed}
 use Rattle.cluster_sim.specs.Cluster.{AreCounted, IsCluster, Reports, GoesOn, command_in, pending_room, cluster_with, report_in, moment_in, tried_as, tried_at, mounting_at, mounted_now, listed, with_deed}
 use Rattle.runs.specs.Numbered.{sent_under}
 use Rattle.cluster_sim.specs.declared.report.Moment.{Moment as KeptMoment}
@@ -33,7 +39,7 @@ use Rattle.histories.specs.declared.attempt.Attempt.{Attempt}
 use Rattle.histories.specs.Fates.{attempt_of}
 use Rattle.histories.specs.Possible.{IsPossible}
 use Rattle.runs.specs.Run.{IsAllowed}
-use Rattle.runs.proofs.PublicLaws.{runs_grow, step_length, counts_more, hands_grow, mounted_few, left_few, left_numbered, step_adds, step_numbered, at_place, node_there}
+use Rattle.runs.proofs.PublicLaws.{runs_grow, step_length, counts_more, hands_grow, mounted_few, left_few, left_numbered, step_adds, step_numbered, all_more, at_place, node_there}
 use Rattle.cluster_sim.proofs.Reporting.{AddsNothing, StepReported, quiet_reported, takes_reported}
 
 -- the room for pending jobs is enough
@@ -61,6 +67,10 @@ same_report : (kept : KeptReport) (nodes slots : ℕ) (w : World) (more : List E
 same_report kept nodes slots w more left =
     let same = same_sent kept.moments.items w.net.sent (w.net.sent ++ more) (left_numbered nodes slots w (report_in kept w.net.sent) more left) in
     λ i. record (report_in kept w.net.sent) { moments = same i }
+
+-- with an act that isn't refused so
+grown_unworn : (nodes : ℕ) (w : World) (a : Act) (step : Step) (r : Report) → NoneWorn r → act_outcome nodes w a step ≢ Refused (OfNode Worn) → NoneWorn (grown nodes w a step r)
+grown_unworn nodes w a step r before last = all_more (λ (k : ℕ) (m : Moment). m.outcome ≢ Refused (OfNode Worn)) r.moments (moment_of nodes w a step) before last
 
 -- ---- one act, at the node that it names
 
@@ -179,13 +189,15 @@ module _ (old new : WorldView) (w : World) (a : Act) (deed : Deed) (n : ℕ) (wa
         let left : IsLeft (length old.nodes) old.slots w (report_in kept w.net.sent) = subst (λ (ms : List Envelope). IsLeft (length old.nodes) old.slots w (report_in kept ms)) same_net reports.left in
         ap (report_in kept) more ∙ sym (same_report kept (length old.nodes) old.slots w (step_sent nodes w p.acted.step) left) ∙ ap (report_in kept) (sym same_net)
 
+    grows : report_in kept' new.net.sent ≡ grown (length w.states) w a p.acted.step (report_in kept old.net.sent)
+    grows = is ∙ ap (with_deed new.net.sent n before a deed node) same_before ∙ report_is (report_in kept old.net.sent) before so_many
+
     pub goes_on : GoesOn w a deed.outcome (cluster_with old kept) (cluster_with new kept')
     goes_on =
         let nodes = length w.states in
         let step = p.acted.step in
         let r = report_in kept old.net.sent in
         let left : IsLeft nodes new.slots w r = subst (λ (k : ℕ). IsLeft k new.slots w r) stands.count (subst (λ (k : ℕ). IsLeft (length old.nodes) k w r) (sym same_slots) reports.left) in
-        let grows : report_in kept' new.net.sent ≡ grown nodes w a step r = is ∙ ap (with_deed new.net.sent n before a deed node) same_before ∙ report_is r before so_many in
         record {
           step = step;
           next = p.acted.next;
@@ -198,8 +210,10 @@ module _ (old new : WorldView) (w : World) (a : Act) (deed : Deed) (n : ℕ) (wa
         }
 
     pub cluster_on : (counts counts' : List ℕ) → AreCounted (length old.nodes) (cluster_with old kept).report.commands counts → slice_get counts n ≡ Some before
-        → ((is_some_option deed.tried ≡ true) × (counts' ≡ slice_set counts n (before + 1))) ⊎ ((is_some_option deed.tried ≡ false) × (counts' ≡ counts)) → IsCluster (cluster_with new kept') counts'
-    cluster_on counts counts' counted at_count either =
+        → ((is_some_option deed.tried ≡ true) × (counts' ≡ slice_set counts n (before + 1))) ⊎ ((is_some_option deed.tried ≡ false) × (counts' ≡ counts))
+        → AreasRise old new deed.outcome → AreasWithin (length (cluster_with old kept).report.moments + 2) old.nodes → NoneWorn (cluster_with old kept).report → length (cluster_with old kept).report.moments + 3 < 2 ^ 64
+        → IsCluster (cluster_with new kept') counts'
+    cluster_on counts counts' counted at_count either rises within unworn short =
         let r = report_in kept old.net.sent in
         let whole = (step_reported r).whole in
         let commands : (report_in kept' new.net.sent).commands ≡ r.commands ++ listed (tried_at n (tried_as (command_in a deed.tried) deed.acked)) = ap (λ (x : Report). x.commands) is in
@@ -207,4 +221,26 @@ module _ (old new : WorldView) (w : World) (a : Act) (deed : Deed) (n : ℕ) (wa
           last = _;
           reports = goes_on.reports;
           counted = rw (same_count, commands, whole.is) (counted_on (length old.nodes) n before r.commands counts counts' deed.tried deed.acked whole.command whole.which counted at_count either);
+          areas = subst (λ (x : Report). AreasWithin (length x.moments + 2) new.nodes) (sym grows)
+              (subst (λ (k : ℕ). AreasWithin k new.nodes) (omega (arith, length-append r.moments (moment_of (length w.states) w a p.acted.step ∷ []))) (rises (length r.moments + 2) within).0);
+          unworn = subst NoneWorn (sym grows) (grown_unworn (length w.states) w a p.acted.step r unworn
+              (subst (λ (o : Outcome). o ≢ Refused (OfNode Worn)) p.acted.outcome_is ((rises (length r.moments + 2) within).1 (omega (arith, short)))));
         }
+
+-- an act for which there was no memory leaves all of it true
+pub cluster_still : (old new : WorldView) (kept kept' : KeptReport) (at : ℕ) (counts : List ℕ) → IsCluster (cluster_with old kept) counts → ((sent : List Envelope) → report_in kept' sent ≡ report_in kept sent) → new.slots ≡ old.slots
+    → ((w : World) → StandsFor old w → StandsFor new w) → ((w : World) → StandsFor old w → IsUntouched at old new) → IsCluster (cluster_with new kept') counts
+cluster_still old new kept kept' at counts is same_kept same_slots stands untouched =
+    let same = untouched is.last is.reports.stands in
+    let report_same : report_in kept' new.net.sent ≡ report_in kept old.net.sent = same_kept new.net.sent ∙ ap (λ (net : Network). report_in kept net.sent) same.net in
+    record {
+      last = is.last;
+      reports = record {
+        stands = stands is.last is.reports.stands;
+        left = subst (λ (n : ℕ). IsLeft n new.slots is.last (report_in kept' new.net.sent)) (sym same.count)
+            (subst (λ (n : ℕ). IsLeft (length old.nodes) n is.last (report_in kept' new.net.sent)) (sym same_slots) (subst (IsLeft (length old.nodes) old.slots is.last) (sym report_same) is.reports.left));
+      };
+      counted = subst (λ (n : ℕ). AreCounted n (report_in kept' new.net.sent).commands counts) (sym same.count) (subst (λ (x : Report). AreCounted (length old.nodes) x.commands counts) (sym report_same) is.counted);
+      areas = subst (λ (x : Report). AreasWithin (length x.moments + 2) new.nodes) (sym report_same) (untouched_areas at _ old new same is.areas);
+      unworn = subst NoneWorn (sym report_same) is.unworn;
+    }

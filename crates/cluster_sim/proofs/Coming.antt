@@ -35,6 +35,8 @@ use Rattle.histories.specs.declared.what.What.{What}
 use Rattle.histories.specs.declared.what.What.TheVariants.{Rests, Crashed}
 use Rattle.histories.specs.declared.what.Rest.TheVariants.{Nothing, Compacted}
 use Rattle.histories.specs.After.{after}
+use Rattle.node_core.specs.declared.fault.CoreFault.TheVariants.{Down}
+use Rattle.node_core.specs.State.{State, is_down}
 use Rattle.runs.proofs.PublicLaws.{none_sent}
 
 -- what came of an event has the outcome of what comes of it
@@ -108,16 +110,16 @@ came_counted old new came first _ counts = counted_by old new _ _ (λ bad. absur
 
 -- it has the outcome of what came of it
 pub outcome_so : {A : Type 0} (self nodes first n : ℕ) (s : NodeState) (what : What) (result : Result A NodeFault) → CompactionAnswers what result
-    → IsCompaction what × (compaction_outcome first result ≡ what_outcome self nodes first s what (act.Compact n))
-outcome_so self nodes first n s (Rests Nothing) result is = absurd is
-outcome_so self nodes first n s (Rests Compacted) (Ok a) is = (tt, refl)
-outcome_so self nodes first n s (Rests Compacted) (Err fault) is = absurd cc
-outcome_so self nodes first n s (Rests _) result is = (tt, rw is refl)
-outcome_so self nodes first n s Crashed result is = (tt, rw is refl)
-outcome_so self nodes first n s _ result is = absurd is
+    → (result ≡ Err node.Device → is_down s.state.phase ≡ false) → IsCompaction s what × (compaction_outcome first result ≡ what_outcome self nodes first s what (act.Compact n))
+outcome_so self nodes first n s (Rests Nothing) result is up = absurd is
+outcome_so self nodes first n s (Rests Compacted) (Ok a) is up = (tt, refl)
+outcome_so self nodes first n s (Rests Compacted) (Err fault) is up = absurd cc
+outcome_so self nodes first n s (Rests _) result is up = (tt, rw is refl)
+outcome_so self nodes first n s Crashed result is up = (up is, rw is refl)
+outcome_so self nodes first n s _ result is up = absurd is
 
-pub compacted_comes : (slots n id nodes : ℕ) (s : NodeState) (o : Outcome) (new : Node Memory) (net : Network) (what : What) → IsCompaction what → IsPossible id nodes s what
-    → o ≡ what_outcome id nodes (length net.sent) s what (act.Compact n) → new.mounted ≡ None → Stands state_of new (after id nodes s what) → Comes slots id nodes (act.Compact n) IsCompaction s (bare o) new net net
+pub compacted_comes : (slots n id nodes : ℕ) (s : NodeState) (o : Outcome) (new : Node Memory) (net : Network) (what : What) → IsCompaction s what → IsPossible id nodes s what
+    → o ≡ what_outcome id nodes (length net.sent) s what (act.Compact n) → new.mounted ≡ None → Stands state_of new (after id nodes s what) → Comes slots id nodes (act.Compact n) (IsCompaction s) s (bare o) new net net
 compacted_comes slots n id nodes s o new net (Rests rest) is may shown none stands =
     record { what = Rests rest; is = is; possible = may; of_slots = tt; outcome_is = shown; reports = record { tried = refl; acked = refl; mounted = refl }; sent = sym (none_sent net); mounted = none; stands = stands }
 compacted_comes slots n id nodes s o new net Crashed is may shown none stands =
@@ -147,7 +149,7 @@ never_refused first (Err node.Device) either why bad = cc
 never_refused first (Err _) (inl ok) why bad = absurd (let no = ok in cc)
 never_refused first (Err _) (inr device) why bad = absurd (let no = device in cc)
 
-compacted_refused : {A : Type 0} (area : Option Area) (first : ℕ) (result : Result A NodeFault) → AnswersTo (compaction_refusal area) result → IsRefusedAs (compaction_refusal area) (compaction_outcome first result)
+pub compacted_refused : {A : Type 0} (area : Option Area) (first : ℕ) (result : Result A NodeFault) → AnswersTo (compaction_refusal area) result → IsRefusedAs (compaction_refusal area) (compaction_outcome first result)
 compacted_refused None first result is = rw is refl
 compacted_refused (Some area) first result is = by_last (is_last area) is
   where
@@ -159,3 +161,12 @@ pub compacted : {A : Type 0} (old new : Node Memory) (first : ℕ) (result : Res
     → (IsErrOf result node.Device → IsFallenNode old new) → IfErr result (λ fault. fault ≢ node.Device → new ≡ record old { mounted = None }) → StaysKept state_of old new → IsCompacted old new (compaction_outcome first result)
 compacted old new first result answers moved fallen refused kept =
     record { refused = compacted_refused old.area first result answers; left = compacted_left old new first result moved fallen refused; kept = kept }
+
+-- only a node that is up meets a device
+pub meets_up : {A : Type 0} (old : Node Memory) (s : NodeState) (result : Result A NodeFault) → Stands state_of old s → AnswersTo (compaction_refusal old.area) result → (is_down old.state.phase ≡ true → old.area ≡ None)
+    → result ≡ Err node.Device → is_down s.state.phase ≡ false
+meets_up old s result stands answers hidden device = by_phase (is_down old.state.phase) refl
+  where
+    by_phase : (b : Bool) → is_down old.state.phase ≡ b → is_down s.state.phase ≡ false
+    by_phase true is = (let refused : result ≡ Err (node.Core Down) = rw (hidden is) at answers in let both = sym refused ∙ device in absurd cc)
+    by_phase false is = ap (λ (x : State). is_down x.phase) (sym stands.state) ∙ is

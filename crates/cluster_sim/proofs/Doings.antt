@@ -1,5 +1,5 @@
 -- What a cluster makes of an act, by the kind of the act.
-use Rattle.std.proofs.Common.{◌≡◌, ◌≤◌, ℕ, Bool, true, List, [], length, nat_lt, slice_get, refl, sym, ◌∙◌, ap, subst, Option, Some, None, Result, Ok, Err, ◌&&◌, if◌then◌else◌, IfSome, IfOk}
+use Rattle.std.proofs.Common.{◌≡◌, ◌≤◌, ℕ, Bool, true, List, [], length, nat_lt, slice_get, refl, sym, ◌∙◌, ap, subst, Option, Some, None, Result, Ok, Err, ◌&&◌, if◌then◌else◌, IfSome, IfOk, OnErr}
 use Rattle.std.proofs.lemmas.Option.{slice_get_past}
 use Rattle.wire_msg.specs.Envelope.{Envelope}
 use Rattle.sim_net.specs.declared.fault.NetFault.{NetFault}
@@ -14,7 +14,8 @@ use Rattle.schedule.specs.declared.act.Act.TheVariants as act
 use Rattle.runs.specs.declared.outcome.Outcome.{Outcome}
 use Rattle.runs.specs.declared.outcome.Outcome.TheVariants as outcome
 use Rattle.runs.specs.declared.outcome.Refusal.TheVariants as refusal
-use Rattle.runs.specs.World.{World}
+use Rattle.histories.specs.NodeState.{NodeState}
+use Rattle.runs.specs.World.{World, node_in}
 use Rattle.runs.specs.declared.outcome.Refusal.{Refusal}
 use Rattle.runs.specs.Step.{Step, Changes, Denies}
 use Rattle.runs.specs.Run.{IsBrought}
@@ -24,7 +25,7 @@ use Rattle.sector_disk.specs.Memory.{Memory}
 use Rattle.durable_node.specs.Arming.{armed_disk}
 use Rattle.durable_node.specs.Node.{Node}
 use Rattle.durable_node.proofs.PublicLaws.{is_some}
-use Rattle.cluster_sim.specs.World.{FaultsAt, WorldView, StandsFor, Performed, Makes, bare, disk_of}
+use Rattle.cluster_sim.specs.World.{FaultsAt, IsUntouched, WorldView, StandsFor, Performed, Makes, bare, disk_of}
 use Rattle.cluster_sim.specs.Operated.{Operates, IsCompacted, OperatedAs, OperatesNode, operated_at}
 use Rattle.cluster_sim.specs.Names.{node_named, node_or_first}
 use Rattle.cluster_sim.specs.declared.deed.Deed.{Deed}
@@ -80,6 +81,11 @@ pub faults_named : {E : Type 0} (a : Act) (n : ℕ) (event : Event) (was now new
     → IfOk result (λ (d : Deed). FaultsAt (node_or_first (length was.nodes) n) was new d.outcome) → IfOk result (λ (d : Deed). FaultsAt (node_named (length now.nodes) now.net.sent a) now new d.outcome)
 faults_named a n event was now new result viewed is faults =
     rw (← viewed, (taken_as a n event is).named (length was.nodes) was.net.sent) faults
+
+pub untouched_named : {E : Type 0} (a : Act) (n : ℕ) (event : Event) (was now new : WorldView) (result : Result Deed E) → was ≡ now → event_at a ≡ Some (n, event)
+    → OnErr result (IsUntouched (node_or_first (length was.nodes) n) was new) → OnErr result (IsUntouched (node_named (length now.nodes) now.net.sent a) now new)
+untouched_named a n event was now new result viewed is same =
+    rw (← viewed, (taken_as a n event is).named (length was.nodes) was.net.sent) same
 
 -- ---- the network's acts
 
@@ -149,28 +155,28 @@ linked_by w act a b after view now net' o is_step viewed stands known sent same 
 
 -- an act of the operator at node n is what comes there, brings no message, and does what it does to that node, if there is one
 pub record OperatesAt (a : Act) (n : ℕ) : Type 0 where
-  pub is_step : (nodes : ℕ) (w : World) (step : Step) → At (nat_lt n nodes) n 0 (OperatedAs a) step → IsStepOf nodes w a step
-  pub brings : (what : What) → OperatedAs a what → brought (event_of what) ≡ []
+  pub is_step : (nodes : ℕ) (w : World) (step : Step) → At (nat_lt n nodes) n 0 (OperatedAs a (node_in w.states n)) step → IsStepOf nodes w a step
+  pub brings : (s : NodeState) (what : What) → OperatedAs a s what → brought (event_of what) ≡ []
   pub named : (nodes : ℕ) (sent : List Envelope) → node_named nodes sent a ≡ node_or_first nodes n
   pub there : (old new : WorldView) (was now : Node Memory) (o : Outcome) → slice_get old.nodes n ≡ Some was → slice_get new.nodes n ≡ Some now → OperatesNode a was now o → Operates a old new o
   pub nowhere : (view : WorldView) (o : Outcome) → length view.nodes ≤ n → Operates a view view o
 
-compaction_brings : (what : What) → IsCompaction what → brought (event_of what) ≡ []
-compaction_brings (Rests rest) is = refl
-compaction_brings Crashed is = refl
-compaction_brings _ is = absurd is
+compaction_brings : (s : NodeState) (what : What) → IsCompaction s what → brought (event_of what) ≡ []
+compaction_brings s (Rests rest) is = refl
+compaction_brings s Crashed is = refl
+compaction_brings s _ is = absurd is
 
 operates_at : (a : Act) → IfSome (operated_at a) (OperatesAt a)
 operates_at (act.Arm n calls) = record {
   is_step = λ nodes w step at. at;
-  brings = λ what is. ap (λ (x : What). brought (event_of x)) is;
+  brings = λ s what is. ap (λ (x : What). brought (event_of x)) is;
   named = λ nodes sent. refl;
   there = λ old new was now o at_was at_now is. ap disk_of at_now ∙ is ∙ ap (λ (x : Option (Node Memory)). armed_disk calls (disk_of x)) (sym at_was);
   nowhere = λ view o past. rw (slice_get_past view.nodes n past) refl;
 }
 operates_at (act.Crash n fill) = record {
   is_step = λ nodes w step at. at;
-  brings = λ what is. ap (λ (x : What). brought (event_of x)) is;
+  brings = λ s what is. ap (λ (x : What). brought (event_of x)) is;
   named = λ nodes sent. refl;
   there = λ old new was now o at_was at_now is x y at_x at_y. is x y (ap disk_of (sym at_was) ∙ at_x) (ap disk_of (sym at_now) ∙ at_y);
   nowhere = λ view o past x y at_x at_y. absurd (let none : None ≡ Some x = ap disk_of (sym (slice_get_past view.nodes n past)) ∙ at_x in cc);

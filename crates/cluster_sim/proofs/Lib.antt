@@ -1,6 +1,7 @@
 mod Names
 mod Coming
 mod Members
+mod Answering
 mod Doings
 mod Reporting
 mod Advancing

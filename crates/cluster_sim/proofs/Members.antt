@@ -1,5 +1,5 @@
 -- A cluster of which one node took a step, or the network alone, or nothing.
-use Rattle.std.proofs.Common.{◌≡◌, ◌≢◌, ℕ, ◌<◌, ◌≤◌, Bool, true, false, List, length, slice_get, nat_lt, refl, sym, ◌∙◌, ap, subst, subst₂, arith, Some, Result, Ok, Err, ◌==◌, slice_set, IfOk, OnErr}
+use Rattle.std.proofs.Common.{◌≡◌, ◌≢◌, ℕ, ◌<◌, ◌≤◌, Bool, true, false, List, length, slice_get, nat_lt, refl, sym, ◌∙◌, ap, subst, subst₂, arith, inl, inr, Some, Result, Ok, Err, ◌==◌, slice_set, IfOk, OnErr}
 use Rattle.std.proofs.lemmas.List.{length-set}
 use Rattle.std.proofs.lemmas.Option.{slice_get_within}
 use Rattle.sector_disk.specs.Memory.{Memory, state_of}
@@ -28,7 +28,7 @@ use Rattle.cluster_sim.specs.Names.{node_or_first}
 -- ---- one place is written
 
 -- what holds at the new place, and at the others, holds at all
-at_each : {A : Type 0} (P : ℕ → A → Type 0) (xs : List A) (n : ℕ) (old new : A) → slice_get xs n ≡ Some old → P n new → ((k : ℕ) (x : A) → k ≢ n → slice_get xs k ≡ Some x → P k x)
+pub at_each : {A : Type 0} (P : ℕ → A → Type 0) (xs : List A) (n : ℕ) (old new : A) → slice_get xs n ≡ Some old → P n new → ((k : ℕ) (x : A) → k ≢ n → slice_get xs k ≡ Some x → P k x)
     → (k : ℕ) (x : A) → slice_get (slice_set xs n new) k ≡ Some x → P k x
 at_each {A} P xs n old new was here all k x at = by_place (k == n) refl
   where
@@ -71,11 +71,11 @@ moves slots n nodes old new net net' net'' w s s' at stands was is same_net = re
 pub true_within : (n count : ℕ) → n < count → nat_lt n count ≡ true
 true_within n count within = grind (arith, nat_tests)
 
-pub takes : {E : Type 0} (slots n number : ℕ) (a : Act) (P : What → Type 0) (nodes : List (Node Memory)) (old new : Node Memory) (net net' : Network) (result : Result Deed E) (w : World) → IsWorld slots nodes
+pub takes : {E : Type 0} (slots n number : ℕ) (a : Act) (P : NodeState → What → Type 0) (nodes : List (Node Memory)) (old new : Node Memory) (net net' : Network) (result : Result Deed E) (w : World) → IsWorld slots nodes
     → slice_get nodes n ≡ Some old → StandsFor (record { slots = slots; nodes = nodes; net = net }) w
-    → ((what : What) → P what → IsBrought w number (brought (event_of what)) × AreAddressed n (brought (event_of what)))
-    → ((s : NodeState) → Stands state_of old s → IfOk result (λ (d : Deed). Comes slots old.id old.nodes a P s d new net net'))
-    → IfOk result (λ (d : Deed). Makes a (λ step. At (nat_lt n (length w.states)) n number P step) w d (record { slots = slots; nodes = slice_set nodes n new; net = net' }))
+    → ((s : NodeState) (what : What) → P s what → IsBrought w number (brought (event_of what)) × AreAddressed n (brought (event_of what)))
+    → ((s : NodeState) → Stands state_of old s → IfOk result (λ (d : Deed). Comes slots old.id old.nodes a (P s) s d new net net'))
+    → IfOk result (λ (d : Deed). Makes a (λ step. At (nat_lt n (length w.states)) n number (P (node_in w.states n)) step) w d (record { slots = slots; nodes = slice_set nodes n new; net = net' }))
 takes slots n number a P nodes old new net net' (Ok deed) w cluster at stands brings comes =
     let within : n < length w.states = subst (λ (k : ℕ). n < k) stands.count (slice_get_within nodes n old at) in
     let count = length w.states in
@@ -84,12 +84,12 @@ takes slots n number a P nodes old new net net' (Ok deed) w cluster at stands br
     let was = here.0 in
     let was_at = here.1 in
     let it : node_in w.states n ≡ was = node_there w.states n was was_at in
-    let came : Comes slots n count a P was deed new net net' =
-    subst₂ (λ (k l : ℕ). Comes slots k l a P was deed new net net') member.id_is (member.nodes_is ∙ stands.count) (comes was (stands.each n old was at was_at)) in
+    let came : Comes slots n count a (P was) was deed new net net' =
+    subst₂ (λ (k l : ℕ). Comes slots k l a (P was) was deed new net net') member.id_is (member.nodes_is ∙ stands.count) (comes was (stands.each n old was at was_at)) in
     record {
       step = Takes n number came.what;
-      is = subst (λ (b : Bool). At b n number P (Takes n number came.what)) (sym (true_within n count within)) (came.what, refl, came.is);
-      allowed = (was, was_at, came.possible, (brings came.what came.is).0, (brings came.what came.is).1);
+      is = subst (λ (b : Bool). At b n number (P (node_in w.states n)) (Takes n number came.what)) (sym (true_within n count within)) (came.what, refl, subst (λ (x : NodeState). P x came.what) (sym it) came.is);
+      allowed = (was, was_at, came.possible, (brings was came.what came.is).0, (brings was came.what came.is).1);
       of_slots = rw it came.of_slots;
       outcome_is = came.outcome_is ∙ (λ i. what_outcome n count (length (stands.net i).sent) (sym it i) came.what a);
       shows = λ node s at_n was_n. ap (λ (x : Node Memory). x.mounted) (sym (is_some new node (sym (get_set_same nodes n old new at) ∙ at_n))) ∙ came.mounted
@@ -102,6 +102,10 @@ takes slots n number a P nodes old new net net' (Err e) w cluster at stands brin
 
 -- ---- a node that gave nothing, and a node outside the cluster
 
+untouched_stands : (old new : Node Memory) (s : NodeState) → IsUntouchedNode old new → Stands state_of old s → Stands state_of new s
+untouched_stands old new s (inl same) is = subst (λ (x : Node Memory). Stands state_of x s) (sym same) is
+untouched_stands old new s (inr same) is = subst (λ (x : Node Memory). Stands state_of x s) (sym same) (record { state = is.state; doubt = is.doubt; up = is.up; disk = is.disk })
+
 pub rests_if : {E : Type 0} (slots n : ℕ) (nodes : List (Node Memory)) (old new : Node Memory) (net net' : Network) (result : Result Deed E) (w : World) → slice_get nodes n ≡ Some old
     → StandsFor (record { slots = slots; nodes = nodes; net = net }) w → OnErr result ((s : NodeState) → Stands state_of old s → IsUntouchedNode old new) → OnErr result (net' ≡ net)
     → OnErr result (StandsFor (record { slots = slots; nodes = slice_set nodes n new; net = net' }) w)
@@ -110,24 +114,25 @@ rests_if slots n nodes old new net net' (Err e) w at stands keeps same_net = rec
   count = length-set nodes n new ∙ stands.count;
   net = same_net ∙ stands.net;
   each = λ k node t at_k was_k. at_each (λ (j : ℕ) (x : Node Memory). (t : NodeState) → slice_get w.states j ≡ Some t → Stands state_of x t) nodes n old new at
-      (λ t' was_n. (let is = stands.each n old t' at was_n in subst (λ (x : Node Memory). Stands state_of x t') (sym (keeps t' is)) (record { state = is.state; doubt = is.doubt; up = is.up; disk = is.disk })))
+      (λ t' was_n. (let is = stands.each n old t' at was_n in untouched_stands old new t' (keeps t' is) is))
       (λ j x ne at_j t' was_j. stands.each j x t' at_j was_j) k node at_k t was_k;
 }
 
 -- one node is as it was, and the others too
-pub untouched_if : {E : Type 0} (slots n : ℕ) (nodes : List (Node Memory)) (old new : Node Memory) (net net' : Network) (result : Result Deed E) (w : World) → slice_get nodes n ≡ Some old
-    → StandsFor (record { slots = slots; nodes = nodes; net = net }) w → OnErr result ((s : NodeState) → Stands state_of old s → IsUntouchedNode old new) → OnErr result (net' ≡ net)
-    → OnErr result (IsUntouched (record { slots = slots; nodes = nodes; net = net }) (record { slots = slots; nodes = slice_set nodes n new; net = net' }))
-untouched_if slots n nodes old new net net' (Ok o) w at stands keeps same = tt
-untouched_if slots n nodes old new net net' (Err e) w at stands keeps same_net =
+pub untouched_if : {E : Type 0} (slots n : ℕ) (nodes : List (Node Memory)) (old new : Node Memory) (net net' : Network) (result : Result Deed E) (w : World) (now : WorldView) → record { slots = slots; nodes = nodes; net = net } ≡ now
+    → slice_get nodes n ≡ Some old → StandsFor (record { slots = slots; nodes = nodes; net = net }) w → OnErr result ((s : NodeState) → Stands state_of old s → IsUntouchedNode old new) → OnErr result (net' ≡ net)
+    → OnErr result (IsUntouched (node_or_first (length now.nodes) n) now (record { slots = slots; nodes = slice_set nodes n new; net = net' }))
+untouched_if slots n nodes old new net net' (Ok o) w now viewed at stands keeps same = tt
+untouched_if slots n nodes old new net net' (Err e) w now viewed at stands keeps same_net =
     let s = at_place w.states n (subst (λ (k : ℕ). n < k) stands.count (slice_get_within nodes n old at)) in
-    record {
+    let known : node_or_first (length nodes) n ≡ n = rw (true_within n (length nodes) (slice_get_within nodes n old at)) refl in
+    rw (← viewed, known) (record {
       count = length-set nodes n new;
       net = same_net;
-      each = λ k was now was_k at_k. at_each (λ (j : ℕ) (x : Node Memory). (y : Node Memory) → slice_get nodes j ≡ Some y → IsUntouchedNode y x) nodes n old new at
-          (λ y was_n. subst (λ (z : Node Memory). IsUntouchedNode z new) (is_some old y (sym at ∙ was_n)) (keeps s.0 (stands.each n old s.0 at s.1)))
-          (λ j x ne at_j y was_j. subst (λ (z : Node Memory). IsUntouchedNode y z) (is_some y x (sym was_j ∙ at_j)) refl) k now at_k was was_k;
-    }
+      here = λ was now on_was on_now. subst (λ (x : Node Memory). IsUntouchedNode was x) (is_some new now (sym (get_set_same nodes n old new at) ∙ on_now))
+          (subst (λ (x : Node Memory). IsUntouchedNode x new) (is_some old was (sym at ∙ on_was)) (keeps s.0 (stands.each n old s.0 at s.1)));
+      elsewhere = λ k other. get_set_other nodes k n new other;
+    })
 
 -- a node outside the cluster
 pub denied_at : (w : World) (id number : ℕ) (a : Act) (P : What → Type 0) (view : WorldView) → StandsFor view w → length view.nodes ≤ id

@@ -6,7 +6,7 @@ use Rattle.sector_disk.specs.Memory.{Memory, state_of}
 use Rattle.durable_node.specs.Node.{Node, Stands}
 use Rattle.histories.specs.NodeState.{NodeState, opening}
 use Rattle.runs.specs.World.{start}
-use Rattle.cluster_sim.specs.World.{WorldView, StandsFor, IsOfSize, IsMember, AreOpened}
+use Rattle.cluster_sim.specs.World.{AreaWithin, IsUnarmed, WorldView, StandsFor, IsOfSize, IsMember, AreOpened}
 use Rattle.runs.specs.Reporting.{first_report, report_of}
 use Rattle.cluster_sim.specs.Cluster.{ClusterView, with_opening, AreCounted, Reports}
 use Rattle.runs.proofs.PublicLaws.{all_more, counts_opened, length_openings, opened, opened_more as report_more, runs_open, starts_opened}
@@ -14,13 +14,15 @@ use Rattle.sim_net.specs.Network.{Network, silent}
 
 -- ---- the nodes
 
-pub nodes_more : (slots count so_far : ℕ) (nodes : List (Node Memory)) (node : Node Memory) → AreOpened slots count so_far nodes → node.id ≡ so_far → node.nodes ≡ count → IsOfSize slots node.disk → Stands state_of node (opening so_far)
+pub nodes_more : (slots count so_far : ℕ) (nodes : List (Node Memory)) (node : Node Memory) → AreOpened slots count so_far nodes → node.id ≡ so_far → node.nodes ≡ count → IsOfSize slots node.disk → Stands state_of node (opening so_far) → AreaWithin 2 node.disk → IsUnarmed node.disk
     → AreOpened slots count (so_far + 1) (nodes ++ node ∷ [])
-nodes_more slots count so_far nodes node so id_is nodes_is size opens = record {
+nodes_more slots count so_far nodes node so id_is nodes_is size opens number unarmed = record {
   len = length-append nodes (node ∷ []) ∙ ap (λ (n : ℕ). n + 1) so.len;
   member = all_more (λ (k : ℕ) (x : Node Memory). IsMember slots count k x) nodes node so.member
       (subst (λ (k : ℕ). IsMember slots count k node) (sym so.len) (record { id_is = id_is; nodes_is = nodes_is; size = size }));
   opens = all_more (λ (k : ℕ) (x : Node Memory). Stands state_of x (opening k)) nodes node so.opens (subst (λ (k : ℕ). Stands state_of node (opening k)) (sym so.len) opens);
+  areas = all_more (λ (k : ℕ) (x : Node Memory). AreaWithin 2 x.disk) nodes node so.areas number;
+  unarmed = all_more (λ (k : ℕ) (x : Node Memory). IsUnarmed x.disk) nodes node so.unarmed unarmed;
 }
 
 pub starts : (slots count : ℕ) (nodes : List (Node Memory)) (net : Network) → AreOpened slots count count nodes → net ≡ silent → StandsFor (record { slots = slots; nodes = nodes; net = net }) (start count)

@@ -15,7 +15,7 @@ use Rattle.job_model.specs.Answer.{answer_of}
 use Rattle.durable_node.specs.Stepping.{answer_at, command_at}
 use Rattle.durable_node.proofs.PublicLaws.{is_some}
 use Rattle.cluster_sim.specs.declared.deed.Deed.{Deed}
-use Rattle.runs.specs.World.{World}
+use Rattle.runs.specs.World.{World, node_in}
 use Rattle.runs.specs.Step.{Step, Takes}
 use Rattle.histories.specs.What.{IsOf}
 use Rattle.runs.specs.Acts.{Brings, IsCompaction, IsStepOf}
@@ -77,10 +77,10 @@ event_whole n nodes s event (Did e) of = subst (λ (v : Event). Whole n nodes s 
 event_whole n nodes s event (Faulted e) of = subst (λ (v : Event). Whole n nodes s (work_of v) (Faulted e)) (let same : e ≡ event = cc of in same) (wanted_whole n s.durable.pending e s.state)
 event_whole n nodes s event _ of = refl
 
-compaction_whole : (n nodes : ℕ) (s : NodeState) (what : What) → IsCompaction what → Whole n nodes s None what
-compaction_whole n nodes s (Did e) of = absurd of
-compaction_whole n nodes s (Faulted e) of = absurd of
-compaction_whole n nodes s _ of = refl
+compaction_whole : (n nodes : ℕ) (t s : NodeState) (what : What) → IsCompaction t what → Whole n nodes s None what
+compaction_whole n nodes t s (Did e) of = absurd of
+compaction_whole n nodes t s (Faulted e) of = absurd of
+compaction_whole n nodes t s _ of = refl
 
 brought_whole : (n nodes : ℕ) (net : Network) (k number : ℕ) (s : NodeState) (r : Result Envelope NetFault) (what : What) → Brings nodes net k r (Takes n number what) → Whole n nodes s None what
 brought_whole n nodes net k number s (Ok m) what of = event_whole n nodes s (on.Deliver m) what (taken_there (nat_lt m.receiver nodes) m.receiver k (IsOf (on.Deliver m)) n number what of).1
@@ -94,7 +94,7 @@ act_whole n nodes number w (act.Cut x y) what s of = absurd (link_none (nat_lt x
 act_whole n nodes number w (act.Mend x y) what s of = absurd (link_none (nat_lt x nodes && nat_lt y nodes) (after_mend w.net x y) n number what of)
 act_whole n nodes number w (act.Arm m calls) what s of = rw (taken_there (nat_lt m nodes) m 0 (λ (x : What). x ≡ Rests Nothing) n number what of).1 refl
 act_whole n nodes number w (act.Crash m fill) what s of = rw (taken_there (nat_lt m nodes) m 0 (λ (x : What). x ≡ Crashed) n number what of).1 refl
-act_whole n nodes number w (act.Compact m) what s of = compaction_whole n nodes s what (taken_there (nat_lt m nodes) m 0 IsCompaction n number what of).1
+act_whole n nodes number w (act.Compact m) what s of = compaction_whole n nodes (node_in w.states m) s what (taken_there (nat_lt m nodes) m 0 (IsCompaction (node_in w.states m)) n number what of).1
 act_whole n nodes number w _ what s of = event_whole n nodes s _ what (taken_there _ _ 0 (IsOf _) n number what of).1
 
 -- what a step adds to a report is what its node n says

@@ -1,5 +1,5 @@
 -- A cluster with its report, as code keeps it.
-use Rattle.std.specs.Prelude.{ℕ, ◌≡◌, ◌<◌, Bool, true, false, List, [], ◌∷◌, ◌++◌, map, length, slice_get, Option, Some, None, vec_len, vec_capacity}
+use Rattle.std.specs.Prelude.{ℕ, ◌≡◌, ◌+◌, ◌<◌, Bool, true, false, List, [], ◌∷◌, ◌++◌, map, length, slice_get, Option, Some, None, vec_len, vec_capacity}
 use Rattle.group_task.specs.Group.{Group}
 use Rattle.job_model.specs.declared.node_command.NodeCommand.{NodeCommand as Command}
 use Rattle.job_model.specs.declared.node_command.NodeCommand.TheVariants.{Raise}
@@ -26,8 +26,9 @@ use Rattle.runs.specs.Acts.{act_outcome}
 use Rattle.runs.specs.Reporting.{Moment, MountedAt, Report, own_commands, group_of, grown}
 use Rattle.runs.specs.declared.tried.TriedAt.{TriedAt}
 use Rattle.runs.specs.Growth.{acts_in, IsLeft, IsNext}
+use Rattle.runs.specs.Headline.{NoneWorn}
 use Rattle.runs.specs.Numbered.{sent_under}
-use Rattle.cluster_sim.specs.World.{WorldView, StandsFor}
+use Rattle.cluster_sim.specs.World.{AreasWithin, WorldView, StandsFor}
 
 -- ---- a report, as code keeps it
 
@@ -153,6 +154,9 @@ pub record IsCluster (c : ClusterView) (counts : List ℕ) : Type 0 where
   pub last : World
   pub reports : Reports c last
   pub counted : AreCounted (length c.world.nodes) c.report.commands counts
+  -- each act raises the number of an area by one at most
+  pub areas : AreasWithin (length c.report.moments + 2) c.world.nodes
+  pub unworn : NoneWorn c.report
 
 -- how many jobs a node may take in hand in one step, where its disk has so many slots
 abbrev pub pending_room : ℕ → Bool → Option Durable → ℕ

@@ -6,6 +6,7 @@ use Rattle.durable_node.specs.Arming.{armed_disk}
 use Rattle.durable_node.specs.Compacting.{IsFallenNode, IsMovedNode, StaysKept}
 use Rattle.durable_node.specs.Node.{Node}
 use Rattle.durable_node.specs.Refusing.{compaction_refusal}
+use Rattle.histories.specs.NodeState.{NodeState}
 use Rattle.histories.specs.declared.what.What.{What}
 use Rattle.histories.specs.declared.what.What.TheVariants.{Rests, Crashed}
 use Rattle.histories.specs.declared.what.Rest.TheVariants.{Nothing}
@@ -59,12 +60,12 @@ operated_at (act.Crash n fill) = Some n
 operated_at (act.Compact n) = Some n
 operated_at a = None
 
--- what may come of it there
-abbrev pub OperatedAs : Act → What → Type 0
-OperatedAs (act.Arm n calls) what = what ≡ Rests Nothing
-OperatedAs (act.Crash n fill) what = what ≡ Crashed
-OperatedAs (act.Compact n) what = IsCompaction what
-OperatedAs a what = ⊥
+-- what may come of it there, where the node is in this state
+abbrev pub OperatedAs : Act → NodeState → What → Type 0
+OperatedAs (act.Arm n calls) s what = what ≡ Rests Nothing
+OperatedAs (act.Crash n fill) s what = what ≡ Crashed
+OperatedAs (act.Compact n) s what = IsCompaction s what
+OperatedAs a s what = ⊥
 
 -- what it does there
 abbrev pub OperatesNode : Act → Node Memory → Node Memory → Outcome → Type 0

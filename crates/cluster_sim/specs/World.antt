@@ -1,8 +1,10 @@
 -- What contracts see of the world of a cluster, and what it stands for.
-use Rattle.std.specs.Prelude.{ℕ, ◌≡◌, ◌≢◌, ◌+◌, ◌*◌, ◌≤◌, ◌⊎◌, Bool, true, false, List, length, slice_get, Option, Some, None, option_map}
+use Rattle.std.specs.Prelude.{ℕ, ◌≡◌, ◌≢◌, ◌+◌, ◌*◌, ◌≤◌, ◌⊎◌, ◌<◌, ◌^◌, Bool, true, false, List, length, slice_get, Option, Some, None, option_map}
 use Rattle.group_task.specs.declared.node.TheConstants.{NODES}
 use Rattle.sector_disk.specs.Disk.{Counts}
 use Rattle.sector_disk.specs.Memory.{Memory, state_of}
+use Rattle.job_journal.specs.Journal.{AllWithin}
+use Rattle.node_core.specs.declared.fault.Refusal.TheVariants.{Worn}
 use Rattle.sim_net.specs.Network.{Network, after_all_sent}
 use Rattle.durable_node.specs.Forgetting.{forgotten_disk}
 use Rattle.durable_node.specs.Node.{Node, Stands}
@@ -17,6 +19,7 @@ use Rattle.durable_node.specs.Stepping.{answer_at, command_at}
 use Rattle.histories.specs.Fates.{attempt_of}
 use Rattle.runs.specs.declared.outcome.Outcome.{Outcome}
 use Rattle.runs.specs.declared.outcome.Outcome.TheVariants as outcome
+use Rattle.runs.specs.declared.outcome.Refusal.TheVariants.{Node as OfNode}
 use Rattle.runs.specs.World.{World}
 use Rattle.runs.specs.Step.{Step, Takes, world_after}
 use Rattle.runs.specs.Run.{IsAllowed}
@@ -53,11 +56,28 @@ pub record StandsFor (view : WorldView) (w : World) : Type 0 where
   pub net : view.net ≡ w.net
   pub each : (k : ℕ) (node : Node Memory) (s : NodeState) → slice_get view.nodes k ≡ Some node → slice_get w.states k ≡ Some s → Stands state_of node s
 
+-- the area of a disk, if there is one, has at most this number, in each image that a crash now may leave
+abbrev pub AreaWithin : ℕ → Option Memory → Type 0
+AreaWithin bound disk = (d : Memory) → disk ≡ Some d → AllWithin bound (state_of d)
+
+-- the areas of all disks have
+abbrev pub AreasWithin : ℕ → List (Node Memory) → Type 0
+AreasWithin bound nodes = (k : ℕ) (node : Node Memory) → slice_get nodes k ≡ Some node → AreaWithin bound node.disk
+
+-- no disk is armed, and no call of one has failed
+abbrev pub IsUnarmed : Option Memory → Type 0
+IsUnarmed disk = (d : Memory) → disk ≡ Some d → (d.left ≡ None) × (d.failures ≡ 0)
+
+abbrev pub AreUnarmed : List (Node Memory) → Type 0
+AreUnarmed nodes = (k : ℕ) (node : Node Memory) → slice_get nodes k ≡ Some node → IsUnarmed node.disk
+
 -- the first of so many nodes, each of which has just opened over a disk of so many slots
 pub record AreOpened (slots count so_far : ℕ) (nodes : List (Node Memory)) : Type 0 where
   pub len : length nodes ≡ so_far
   pub member : (k : ℕ) (node : Node Memory) → slice_get nodes k ≡ Some node → IsMember slots count k node
   pub opens : (k : ℕ) (node : Node Memory) → slice_get nodes k ≡ Some node → Stands state_of node (opening k)
+  pub areas : AreasWithin 2 nodes
+  pub unarmed : AreUnarmed nodes
 
 -- ---- one node
 
@@ -105,9 +125,14 @@ pub record IsSame (old new : Node Memory) : Type 0 where
   pub nodes : new.nodes ≡ old.nodes
   pub size : (slots : ℕ) → IsOfSize slots old.disk → IsOfSize slots new.disk
 
--- nothing but what the last call mounted has changed
+-- nothing has changed, but that the node may not show any more what it mounted last
 abbrev pub IsUntouchedNode : Node Memory → Node Memory → Type 0
-IsUntouchedNode old new = new ≡ record old { mounted = new.mounted }
+IsUntouchedNode old new = (new ≡ old) ⊎ (new ≡ record old { mounted = None })
+
+-- the number of its disk's area rises by one at most, and where it can be raised no act is refused because the areas are used up
+abbrev pub AreaRises : Option Memory → Option Memory → Outcome → Type 0
+AreaRises old new o = (bound : ℕ) → AreaWithin bound old →
+    AreaWithin (bound + 1) new × (bound + 1 < 2 ^ 64 → o ≢ outcome.Refused (OfNode Worn))
 
 -- it is as it was, or its disk forgot the moments before
 abbrev pub MayHaveForgotten : Node Memory → Node Memory → Type 0
@@ -115,11 +140,17 @@ MayHaveForgotten old new = (new ≡ old) ⊎ (new ≡ record old { disk = forgot
 
 -- ---- the cluster
 
--- nothing has changed, but for what a node's last call mounted
-pub record IsUntouched (old new : WorldView) : Type 0 where
+-- nothing has changed, but that this node may not show any more what it mounted last
+pub record IsUntouched (at : ℕ) (old new : WorldView) : Type 0 where
   pub count : length new.nodes ≡ length old.nodes
   pub net : new.net ≡ old.net
-  pub each : (k : ℕ) (was now : Node Memory) → slice_get old.nodes k ≡ Some was → slice_get new.nodes k ≡ Some now → IsUntouchedNode was now
+  pub here : (was now : Node Memory) → slice_get old.nodes at ≡ Some was → slice_get new.nodes at ≡ Some now → IsUntouchedNode was now
+  pub elsewhere : (k : ℕ) → k ≢ at → slice_get new.nodes k ≡ slice_get old.nodes k
+
+-- the numbers of the areas rise by one at most
+abbrev pub AreasRise : WorldView → WorldView → Outcome → Type 0
+AreasRise old new o = (bound : ℕ) → AreasWithin bound old.nodes →
+    AreasWithin (bound + 1) new.nodes × (bound + 1 < 2 ^ 64 → o ≢ outcome.Refused (OfNode Worn))
 
 -- the node of a step shows what it mounted in it, if it mounted anything
 abbrev pub Shows : World → Step → WorldView → Type 0

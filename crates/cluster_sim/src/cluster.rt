@@ -1,12 +1,16 @@
 // A cluster that keeps a report of all its acts.
-ghost use Rattle.std.specs.Prelude.{◌≡◌, ◌≤◌, ◌<◌, ◌+◌, [], ◌++◌, map, length, slice_get, Some, IfOk, OnErr, OnOk, ℕ};
+ghost use Rattle.std.specs.Prelude.{◌≡◌, ◌≢◌, ◌≤◌, ◌<◌, ◌+◌, [], ◌++◌, map, length, slice_get, Some, IfOk, OnErr, OnOk, ℕ};
 ghost use Rattle.group_task.specs.declared.node.TheConstants.{NODES};
 ghost use Rattle.cluster_sim.specs.World.{FaultsAt, IsUntouched};
+ghost use Rattle.cluster_sim.specs.Answering.{IsAnsweredBy};
 ghost use Rattle.cluster_sim.specs.Operated.{Operates};
 ghost use Rattle.cluster_sim.specs.Cluster.{report_in, cluster_with, Reports, GoesOn, HasRun, IsCluster};
+ghost use Rattle.node_core.specs.declared.fault.Refusal.TheVariants.{Worn};
+ghost use Rattle.runs.specs.declared.outcome.Outcome.TheVariants as outcomes;
+ghost use Rattle.runs.specs.declared.outcome.Refusal.TheVariants.{Node as OfNode};
 ghost use Rattle.runs.specs.Growth.{acts_in};
 ghost use Rattle.cluster_sim.specs.Names.{node_named};
-ghost use Rattle.runs.specs.Headline.{Headline};
+ghost use Rattle.runs.specs.Headline.{Headline, NoneWorn};
 ghost use Rattle.runs.specs.Reporting.{report_of};
 ghost use Rattle.cluster_sim.specs.declared.report.Moment.{Moment as KeptMoment};
 ghost use Rattle.runs.specs.World.{World as RunWorld, start};
@@ -57,6 +61,9 @@ impl Cluster {
         requires most_slots { slots ≤ 4096 }
         ensures slots { IfOk result (λ cluster. cluster.world.slots ≡ slots) }
         ensures nodes { IfOk result (λ cluster. length cluster.world.nodes ≡ nodes) }
+        // Promise: A cluster opens with the report of no act: each node Normal, alone in the group of its first count, its raise
+        // and its mounting reported, and nothing sent.
+        // Refuses: opening_raises_not_reported, opened_by_one_node.
         ensures opens { IfOk result (λ cluster. Reports cluster (start nodes)) }
         ensures report { IfOk result (λ cluster. cluster.report ≡ report_of nodes [] []) }
     {
@@ -73,14 +80,32 @@ impl Cluster {
 
     /// One act. It is refused where it names a node outside the cluster, and else as the node or the network refuses it:
     /// then nothing changed but the report, which has it. An error says that there was no memory for it, and nothing
-    /// changed at all, but that a node may not show any more what it mounted last.
+    /// changed at all, but that the act's node may not show any more what it mounted last.
     pub fn step(&mut self, act: Act) -> Result<Outcome, AllocError>
         ensures slots { self.new.world.slots ≡ self.old.world.slots }
+        // Promise: For each run that cluster and report represent: the act has one of the steps that the definitions allow, it is
+        // reported so (moment, group, command with its answer, mounting), and both represent the run that goes on by it.
+        // Refuses: refused_act_forgotten, mountings_not_reported, groups_not_reported, commands_not_counted,
+        // faulted_command_acknowledged, failed_mounting_answered_as_raise, reported_of_the_sender.
         ensures goes_on { (w : RunWorld) → Reports self.old w → IfOk result (λ outcome. GoesOn w act outcome self.old self.new) }
+        // Promise: An act faults exactly where the disk of its node failed in it, by the count of failures before and after (or the
+        // count stands at its greatest value), and no other node changed.
+        // Also: World::step.
+        // Refuses: failure_answered_as_refusal.
         ensures faults { IfOk result (FaultsAt (node_named (length self.old.world.nodes) self.old.world.net.sent act) self.old.world self.new.world) }
+        // Promise: An act `arm` arms its node's disk with just so many calls, `crash` leaves of it what a crash leaves with just
+        // these bytes, and `compact` is refused and does as `DurableNode::compact` says.
+        // Also: World::step.
+        // Refuses: armed_for_one_call_at_most, crash_with_one_byte, worn_answered_as_exhausted, compaction_left_out.
         ensures disk { IfOk result (Operates act self.old.world self.new.world) }
+        ensures answers { IfOk result (IsAnsweredBy act self.old.world) }
+        ensures unworn { IfOk result (λ outcome. outcome ≢ outcomes.Refused (OfNode Worn)) }
+        // Promise: Want of memory leaves cluster and report as they were, so the same act made again has the same steps; no node,
+        // disk or network has changed, but that a node may not show any more what it mounted last.
+        // Also: untouched, World::step.
+        // Refuses: act_before_its_room, want_of_memory_arms_the_disk.
         ensures memory { (w : RunWorld) → Reports self.old w → OnErr result (Reports self.new w) }
-        ensures untouched { OnErr result (IsUntouched self.old.world self.new.world × (self.new.report ≡ self.old.report)) }
+        ensures untouched { OnErr result (IsUntouched (node_named (length self.old.world.nodes) self.old.world.net.sent act) self.old.world self.new.world × (self.new.report ≡ self.old.report)) }
     {
         advance(
             self.alloc,
@@ -108,6 +133,7 @@ impl Cluster {
     fn into_parts(self) -> (Report, Net)
         ensures report { report_in result.0 self.world.net.sent ≡ self.report }
         ensures net { result.1.network ≡ self.world.net }
+        ensures unworn { NoneWorn self.report }
     {
         let Cluster { world, report, .. } = self;
         (report, world.into_net())
@@ -118,6 +144,9 @@ impl Cluster {
         ensures report { report_in result.now self.now.world.net.sent ≡ self.now.report }
         // The nodes and the network are what the run left of which it is the report.
         ensures run { HasRun (length self.now.world.nodes) (acts_in self.now.report) self.now }
+        // Promise: The same of the report of the acts so far, at any time; nodes, disks and network are what a run left of which it
+        // is the report.
+        // Also: run.
         ensures keeps { Headline (length self.now.world.nodes) self.now.world.slots (acts_in self.now.report) self.now.report }
     {
         &self.report
@@ -126,6 +155,9 @@ impl Cluster {
     /// The node of this id.
     pub fn node(&self, id: NodeId) -> &DurableNode<MemDisk>
         requires { id < length self.now.world.nodes }
+        // Promise: The nodes, the network, and how many nodes and slots there are.
+        // Also: Cluster::net, Cluster::count, World::slots, World::into_net.
+        // Refuses: node_is_the_first, none_counted, last_node_shown, one_node_less, four_slots_answered, cut_as_it_is_handed_out.
         ensures { slice_get self.now.world.nodes id ≡ Some result.now }
     {
         self.world.node(id)
@@ -162,8 +194,10 @@ fn advance(
         → IfOk result (λ outcome. GoesOn w act outcome (cluster_with world.old report.old) (cluster_with world.new report.new)) }
     ensures faults { IfOk result (FaultsAt (node_named (length world.old.nodes) world.old.net.sent act) world.old world.new) }
     ensures disk { IfOk result (Operates act world.old world.new) }
+    ensures answers { IfOk result (IsAnsweredBy act world.old) }
+    ensures unworn { IfOk result (λ outcome. outcome ≢ outcomes.Refused (OfNode Worn)) }
     ensures memory { (w : RunWorld) → Reports (cluster_with world.old report.old) w → OnErr result (Reports (cluster_with world.new report.new) w) }
-    ensures untouched { OnErr result (IsUntouched world.old world.new × ((cluster_with world.new report.new).report ≡ (cluster_with world.old report.old).report)) }
+    ensures untouched { OnErr result (IsUntouched (node_named (length world.old.nodes) world.old.net.sent act) world.old world.new × ((cluster_with world.new report.new).report ≡ (cluster_with world.old report.old).report)) }
 {
     let id = node_named(world.count(), world.net(), &act);
     let room = report.reserve(alloc, world.node(id), world.slots())?;
@@ -191,6 +225,10 @@ pub fn run(
     requires most { nodes ≤ NODES }
     requires least_slots { 4 ≤ slots }
     requires most_slots { slots ≤ 4096 }
+    // Promise: Acts that run on a cluster that just opened give a report and the network; some run of just these acts, over disks
+    // of so many slots, has this report, and the headline holds of it, with no premise.
+    // Also: acts.
+    // Refuses: run_of_smaller_disks, run_without_acts, empty_report.
     ensures keeps { IfOk result (λ ran. Headline nodes slots acts.items (report_in ran.0 ran.1.network.sent)) }
     // One moment for each act.
     ensures acts { IfOk result (λ ran. map (λ (m : KeptMoment). m.act) ran.0.moments.items ≡ acts.items) }

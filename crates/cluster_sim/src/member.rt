@@ -1,5 +1,6 @@
 // One node of a cluster, and the network that carries its messages.
-ghost use Rattle.std.specs.Prelude.{◌≡◌, ◌≤◌, length, IfOk, IsSome, OnErr, ℕ, None};
+ghost use Rattle.std.specs.Prelude.{◌≡◌, ◌≤◌, ◌<◌, ◌^◌, length, IfOk, IsSome, OnErr, ℕ, Some, None};
+ghost use Rattle.job_model.specs.Durable.{Durable};
 ghost use Rattle.sector_disk.specs.Memory.{state_of};
 ghost use Rattle.sim_net.specs.Network.{after_all_sent};
 ghost use Rattle.durable_node.specs.Arming.{armed_disk};
@@ -9,7 +10,8 @@ ghost use Rattle.histories.specs.What.{IsOf};
 ghost use Rattle.histories.specs.Fates.{what_of};
 ghost use Rattle.histories.specs.declared.what.What.TheVariants.{Rests, Crashed};
 ghost use Rattle.histories.specs.declared.what.Rest.TheVariants.{Nothing};
-ghost use Rattle.cluster_sim.specs.World.{IsOfSize, IsSame, IsCounted, IsUntouchedNode, Comes, MayHaveForgotten, bare, is_mounting};
+ghost use Rattle.cluster_sim.specs.Answering.{IsAnswered};
+ghost use Rattle.cluster_sim.specs.World.{AreaRises, IsOfSize, IsSame, IsCounted, IsUntouchedNode, Comes, MayHaveForgotten, bare, is_mounting};
 ghost use Rattle.cluster_sim.specs.Operated.{IsCompacted, IsLeftWith, OperatedAs, OperatesNode, operated_at};
 ghost use Rattle.schedule.specs.declared.act.Act.{Act as AnyAct};
 ghost use Rattle.schedule.specs.declared.act.Act.TheVariants as acts;
@@ -42,7 +44,12 @@ pub(crate) fn handle(
     ensures memory { OnErr result ((s : NodeState) → Stands state_of node.old s → IsUntouchedNode node.old node.new) }
     ensures unsent { OnErr result (net.new.network ≡ net.old.network) }
     ensures counted { IfOk result (λ deed. IsCounted node.old.disk node.new.disk deed.outcome) }
+    ensures answers { (s : NodeState) → Stands state_of node.old s → IfOk result (λ deed. IsAnswered node.old event.now deed.outcome) }
+    ensures areas { (s : NodeState) → Stands state_of node.old s → IfOk result (λ deed. AreaRises node.old.disk node.new.disk deed.outcome) }
 {
+    node.is_fallen();
+    node.shows_its_disk();
+    ids_fit(node);
     if net.reserve(node.most()).is_err() {
         return Err(AllocError);
     }
@@ -59,6 +66,15 @@ pub(crate) fn handle(
         acked: came.answer,
         mounted: is_mounting(came.fate),
     })
+}
+
+/// The id of the next job is a number of 64 bits.
+fn ids_fit(node: &DurableNode<MemDisk>)
+    ensures { (d : Durable) → node.now.kept ≡ Some d → d.next < 2 ^ 64 }
+{
+    if let Some((_, table)) = node.durable() {
+        let _ = table.next();
+    }
 }
 
 /// Lets a node's disk forget the moments before, where the event may have written on it: no other event adds to them.
@@ -112,8 +128,9 @@ pub(crate) fn operate(node: &mut DurableNode<MemDisk>, net: &Net, act: &Act) -> 
     requires { IsSome (operated_at act.now) }
     ensures same { IsSame node.old node.new }
     ensures came { (slots : ℕ) (s : NodeState) → Stands state_of node.old s
-        → Comes slots node.old.id node.old.nodes act.now (OperatedAs act.now) s (bare result) node.new net.now.network net.now.network }
+        → Comes slots node.old.id node.old.nodes act.now (OperatedAs act.now s) s (bare result) node.new net.now.network net.now.network }
     ensures counted { IsCounted node.old.disk node.new.disk result }
+    ensures areas { AreaRises node.old.disk node.new.disk result }
     ensures disk { OperatesNode act.now node.old node.new result }
 {
     match act {
@@ -130,6 +147,7 @@ fn arm(node: &mut DurableNode<MemDisk>, net: &Net, calls: u64) -> Outcome
     ensures came { (slots n : ℕ) (s : NodeState) → Stands state_of node.old s
         → Comes slots node.old.id node.old.nodes (acts.Arm n calls) (λ what. what ≡ Rests Nothing) s (bare result) node.new net.now.network net.now.network }
     ensures counted { IsCounted node.old.disk node.new.disk result }
+    ensures areas { AreaRises node.old.disk node.new.disk result }
     ensures armed { node.new.disk ≡ armed_disk calls node.old.disk }
 {
     node.arm(calls);
@@ -142,6 +160,7 @@ fn crash(node: &mut DurableNode<MemDisk>, net: &Net, fill: &Fill) -> Outcome
     ensures came { (slots n : ℕ) (s : NodeState) → Stands state_of node.old s
         → Comes slots node.old.id node.old.nodes (acts.Crash n fill.now) (λ what. what ≡ Crashed) s (bare result) node.new net.now.network net.now.network }
     ensures counted { IsCounted node.old.disk node.new.disk result }
+    ensures areas { AreaRises node.old.disk node.new.disk result }
     ensures left { IsLeftWith fill.now node.old.disk node.new.disk }
 {
     node.crash(fill.as_slice());
@@ -152,10 +171,12 @@ fn crash(node: &mut DurableNode<MemDisk>, net: &Net, fill: &Fill) -> Outcome
 fn compact(node: &mut DurableNode<MemDisk>, net: &Net) -> Outcome
     ensures same { IsSame node.old node.new }
     ensures came { (slots n : ℕ) (s : NodeState) → Stands state_of node.old s
-        → Comes slots node.old.id node.old.nodes (acts.Compact n) IsCompaction s (bare result) node.new net.now.network net.now.network }
+        → Comes slots node.old.id node.old.nodes (acts.Compact n) (IsCompaction s) s (bare result) node.new net.now.network net.now.network }
     ensures counted { IsCounted node.old.disk node.new.disk result }
+    ensures areas { AreaRises node.old.disk node.new.disk result }
     ensures compacted { IsCompacted node.old node.new result }
 {
+    node.shows_its_disk();
     let answer = node.compact();
     compaction_outcome(net, answer)
 }

@@ -4,9 +4,13 @@ ghost use Rattle.group_task.specs.declared.node.TheConstants.{NODES};
 ghost use Rattle.histories.specs.What.{brought, AreAddressed, IsOf};
 ghost use Rattle.schedule.specs.declared.act.Act.{Act as AnyAct};
 ghost use Rattle.schedule.specs.declared.act.Act.TheVariants as acts;
+ghost use Rattle.node_core.specs.declared.fault.Refusal.TheVariants.{Worn};
+ghost use Rattle.runs.specs.declared.outcome.Outcome.TheVariants as outcome;
+ghost use Rattle.runs.specs.declared.outcome.Refusal.TheVariants.{Node as OfNode};
 ghost use Rattle.runs.specs.Acts.{At};
 ghost use Rattle.runs.specs.Events.{event_at};
-ghost use Rattle.cluster_sim.specs.World.{AreOpened, IsUntouched, StandsFor, Makes, Performed, FaultsAt, bare};
+ghost use Rattle.cluster_sim.specs.World.{AreasRise, AreasWithin, AreOpened, AreUnarmed, IsUntouched, StandsFor, Makes, Performed, FaultsAt, bare};
+ghost use Rattle.cluster_sim.specs.Answering.{IsAnsweredAt};
 ghost use Rattle.cluster_sim.specs.Operated.{Operates, operated_at};
 ghost use Rattle.cluster_sim.specs.Names.{node_named, node_or_first};
 ghost use Rattle.runs.specs.Run.{IsBrought};
@@ -53,6 +57,8 @@ impl Nodes {
         requires most_slots { slots ≤ 4096 }
         ensures slots { IfOk result (λ members. members.slots ≡ slots) }
         ensures starts { IfOk result (λ members. StandsFor members (start nodes)) }
+        ensures areas { IfOk result (λ members. AreasWithin 2 members.nodes) }
+        ensures unarmed { IfOk result (λ members. AreUnarmed members.nodes) }
     {
         let members = opened(alloc, nodes, slots)?;
         Ok(Nodes {
@@ -108,8 +114,10 @@ impl Nodes {
         ensures acted { (w : World) (number : ℕ) (a : AnyAct) → StandsFor self.old w → IsBrought w number (brought (Some event.now)) → AreAddressed id (brought (Some event.now))
             → IfOk result (λ deed. Makes a (λ step. At (nat_lt id (length w.states)) id number (IsOf event.now) step) w deed self.new) }
         ensures memory { (w : World) → StandsFor self.old w → OnErr result (StandsFor self.new w) }
-        ensures untouched { (w : World) → StandsFor self.old w → OnErr result (IsUntouched self.old self.new) }
+        ensures untouched { (w : World) → StandsFor self.old w → OnErr result (IsUntouched (node_or_first (length self.old.nodes) id) self.old self.new) }
         ensures faults { IfOk result (λ deed. FaultsAt (node_or_first (length self.old.nodes) id) self.old self.new deed.outcome) }
+        ensures answers { (w : World) → StandsFor self.old w → IfOk result (λ deed. IsAnsweredAt self.old.nodes id event.now deed.outcome) }
+        ensures areas { (w : World) → StandsFor self.old w → IfOk result (λ deed. AreasRise self.old self.new deed.outcome) }
     {
         let place = usize::from(id.number());
         if place >= self.nodes.len() {
@@ -128,6 +136,8 @@ impl Nodes {
         ensures slots { self.new.slots ≡ self.old.slots }
         ensures acted { (w : World) → StandsFor self.old w → Performed w (acts.Lose number) (bare result) self.new }
         ensures faults { FaultsAt 0 self.old self.new result }
+        ensures nodes { self.new.nodes ≡ self.old.nodes }
+        ensures own { result ≢ outcome.Refused (OfNode Worn) }
     {
         match self.net.lose(number) {
             Ok(()) => nothing_sent(&self.net),
@@ -140,6 +150,8 @@ impl Nodes {
         ensures slots { self.new.slots ≡ self.old.slots }
         ensures acted { (w : World) → StandsFor self.old w → Performed w (acts.Cut a b) (bare result) self.new }
         ensures faults { FaultsAt 0 self.old self.new result }
+        ensures nodes { self.new.nodes ≡ self.old.nodes }
+        ensures own { result ≢ outcome.Refused (OfNode Worn) }
     {
         if !self.has_both(a, b) {
             return Outcome::Refused(Refusal::Stranger);
@@ -153,6 +165,8 @@ impl Nodes {
         ensures slots { self.new.slots ≡ self.old.slots }
         ensures acted { (w : World) → StandsFor self.old w → Performed w (acts.Mend a b) (bare result) self.new }
         ensures faults { FaultsAt 0 self.old self.new result }
+        ensures nodes { self.new.nodes ≡ self.old.nodes }
+        ensures own { result ≢ outcome.Refused (OfNode Worn) }
     {
         if !self.has_both(a, b) {
             return Outcome::Refused(Refusal::Stranger);
@@ -175,6 +189,7 @@ impl Nodes {
         ensures slots { self.new.slots ≡ self.old.slots }
         ensures acted { (w : World) → StandsFor self.old w → Performed w act.now (bare result) self.new }
         ensures faults { FaultsAt (node_named (length self.old.nodes) self.old.net.sent act.now) self.old self.new result }
+        ensures areas { AreasRise self.old self.new result }
         ensures disk { Operates act.now self.old self.new result }
     {
         let place = usize::from(id.number());
@@ -191,6 +206,7 @@ impl Nodes {
         ensures slots { self.new.slots ≡ self.old.slots }
         ensures acted { (w : World) → StandsFor self.old w → Performed w act.now (bare result) self.new }
         ensures faults { FaultsAt (node_named (length self.old.nodes) self.old.net.sent act.now) self.old self.new result }
+        ensures areas { AreasRise self.old self.new result }
         ensures disk { Operates act.now self.old self.new result }
     {
         match act {

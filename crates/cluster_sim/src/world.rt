@@ -2,7 +2,8 @@
 ghost use Rattle.std.specs.Prelude.{◌≡◌, ◌≤◌, ◌<◌, length, slice_get, Some, IfOk, OnErr};
 ghost use Rattle.group_task.specs.declared.node.TheConstants.{NODES};
 ghost use Rattle.schedule.specs.declared.act.Act.TheVariants as acts;
-ghost use Rattle.cluster_sim.specs.World.{IsUntouched, StandsFor, Acted, Performed, FaultsAt};
+ghost use Rattle.cluster_sim.specs.World.{AreasRise, AreasWithin, AreUnarmed, IsUntouched, StandsFor, Acted, Performed, FaultsAt};
+ghost use Rattle.cluster_sim.specs.Answering.{IsAnsweredBy};
 ghost use Rattle.cluster_sim.specs.Operated.{Operates};
 ghost use Rattle.cluster_sim.specs.Names.{node_named};
 ghost use Rattle.runs.specs.Acts.{receiver_or_first};
@@ -51,7 +52,12 @@ impl World {
         requires least_slots { 4 ≤ slots }
         requires most_slots { slots ≤ 4096 }
         ensures slots { IfOk result (λ world. world.slots ≡ slots) }
+        // Promise: A cluster opens with each node Normal, alone in the group of its first count, on a formatted disk, and nothing
+        // sent.
+        // Refuses: disks_of_four_slots.
         ensures starts { IfOk result (λ world. StandsFor world (start nodes)) }
+        ensures areas { IfOk result (λ world. AreasWithin 2 world.nodes) }
+        ensures unarmed { IfOk result (λ world. AreUnarmed world.nodes) }
     {
         Ok(World {
             nodes: Nodes::open(alloc, nodes, slots)?,
@@ -61,15 +67,24 @@ impl World {
     }
 
     /// One act. It is refused where it names a node outside the cluster, and else as the node or the network refuses it:
-    /// then nothing changed. An error says that there was no memory for it, and nothing changed either, but that a node may not show any more
-    /// what it mounted last.
+    /// then nothing changed. An error says that there was no memory for it, and nothing changed either, but that the act's node may not
+    /// show any more what it mounted last.
     pub fn step(&mut self, act: &Act) -> Result<Outcome, AllocError>
         ensures slots { self.new.slots ≡ self.old.slots }
+        // Promise: Each act is one of the steps that the definitions allow for it, its outcome is that step's, and the cluster then
+        // represents the world after it: its nodes, their disks, all that was sent, lost and cut.
+        // Refuses: messages_kept_back, delivered_as_a_timer, delivered_to_its_sender, timer_that_checks, timer_of_the_act_before,
+        // refusal_answered_as_fault, refused_compaction_answered_as_done, first_from_zero, cut_from_itself, mended_by_cut,
+        // crash_arms, first_message_lost, armed_at_node_0.
         ensures acted { (w : RunWorld) → StandsFor self.old w → IfOk result (λ outcome. Acted w act.now outcome self.new) }
+        // Promise: Want of memory leaves the cluster as it was.
         ensures memory { (w : RunWorld) → StandsFor self.old w → OnErr result (StandsFor self.new w) }
-        ensures untouched { (w : RunWorld) → StandsFor self.old w → OnErr result (IsUntouched self.old self.new) }
+        ensures untouched { (w : RunWorld) → StandsFor self.old w → OnErr result (IsUntouched (node_named (length self.old.nodes) self.old.net.sent act.now) self.old self.new) }
         ensures faults { IfOk result (FaultsAt (node_named (length self.old.nodes) self.old.net.sent act.now) self.old self.new) }
         ensures disk { IfOk result (Operates act.now self.old self.new) }
+        ensures answers { (w : RunWorld) → StandsFor self.old w → IfOk result (IsAnsweredBy act.now self.old) }
+        // No act is refused because areas are used up, where each of their numbers can be raised once more.
+        ensures areas { (w : RunWorld) → StandsFor self.old w → IfOk result (AreasRise self.old self.new) }
     {
         match self.perform(act) {
             Ok(deed) => Ok(deed.outcome),
@@ -82,9 +97,11 @@ impl World {
         ensures slots { self.new.slots ≡ self.old.slots }
         ensures acted { (w : RunWorld) → StandsFor self.old w → IfOk result (λ deed. Performed w act.now deed self.new) }
         ensures memory { (w : RunWorld) → StandsFor self.old w → OnErr result (StandsFor self.new w) }
-        ensures untouched { (w : RunWorld) → StandsFor self.old w → OnErr result (IsUntouched self.old self.new) }
+        ensures untouched { (w : RunWorld) → StandsFor self.old w → OnErr result (IsUntouched (node_named (length self.old.nodes) self.old.net.sent act.now) self.old self.new) }
         ensures faults { IfOk result (λ deed. FaultsAt (node_named (length self.old.nodes) self.old.net.sent act.now) self.old self.new deed.outcome) }
         ensures disk { IfOk result (λ deed. Operates act.now self.old self.new deed.outcome) }
+        ensures answers { (w : RunWorld) → StandsFor self.old w → IfOk result (λ deed. IsAnsweredBy act.now self.old deed.outcome) }
+        ensures areas { (w : RunWorld) → StandsFor self.old w → IfOk result (λ deed. AreasRise self.old self.new deed.outcome) }
     {
         if let Act::Deliver(number) = act {
             return self.deliver(*number);
@@ -145,8 +162,10 @@ impl World {
         ensures slots { self.new.slots ≡ self.old.slots }
         ensures acted { (w : RunWorld) → StandsFor self.old w → IfOk result (λ deed. Performed w (acts.Deliver number) deed self.new) }
         ensures memory { (w : RunWorld) → StandsFor self.old w → OnErr result (StandsFor self.new w) }
-        ensures untouched { (w : RunWorld) → StandsFor self.old w → OnErr result (IsUntouched self.old self.new) }
+        ensures untouched { (w : RunWorld) → StandsFor self.old w → OnErr result (IsUntouched (receiver_or_first (length self.old.nodes) (slice_get self.old.net.sent number)) self.old self.new) }
         ensures faults { IfOk result (λ deed. FaultsAt (receiver_or_first (length self.old.nodes) (slice_get self.old.net.sent number)) self.old self.new deed.outcome) }
+        ensures answers { (w : RunWorld) → StandsFor self.old w → IfOk result (λ deed. IsAnsweredBy (acts.Deliver number) self.old deed.outcome) }
+        ensures areas { (w : RunWorld) → StandsFor self.old w → IfOk result (λ deed. AreasRise self.old self.new deed.outcome) }
     {
         match read_delivery(self.nodes.net(), number, &mut self.delivery) {
             Ok(receiver) => self.nodes.take(receiver, &self.delivery),

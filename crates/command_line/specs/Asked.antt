@@ -1,10 +1,12 @@
 -- What the words of a command line ask for.
-use Rattle.std.specs.Prelude.{ℕ, List, nat_le, nat_lt, Bool, false, bytes_eq, codes, if◌then◌else◌, option_map, Option, Some, None, string_bytes}
+use Rattle.std.specs.Prelude.{ℕ, List, ◌==◌, nat_le, nat_lt, Bool, false, bytes_eq, codes, if◌then◌else◌, option_map, Option, Some, None, string_bytes}
 use Rattle.group_task.specs.declared.node.TheConstants.{NODES}
 use Rattle.node_console.specs.declared.making.TheConstants.{LEAST_SLOTS, MOST_SLOTS}
 use Rattle.line_words.specs.Words.{number_of}
+use Rattle.command_line.specs.declared.task.TheConstants.{MOST_ROUND_TRIP, ROUND_TRIP}
 use Rattle.command_line.specs.declared.task.Place.{Place}
 use Rattle.command_line.specs.declared.task.Making.{Making}
+use Rattle.command_line.specs.declared.task.Sealing.{Sealing}
 use Rattle.command_line.specs.declared.task.Batch.{Batch}
 use Rattle.command_line.specs.declared.task.Batch.TheVariants.{Answer, Show, Sim, Store, Trace, Record, Threads, Draw}
 use Rattle.command_line.specs.declared.task.Task.{Task}
@@ -16,6 +18,11 @@ pub record Made : Type 0 where
   pub slots : ℕ
   pub first : ℕ
 
+-- the path of a file of keys, and the name of a cluster
+pub record Sealed : Type 0 where
+  pub key : List ℕ
+  pub cluster : List ℕ
+
 -- a command with its arguments; paths are texts
 pub data Asked : Type 0 where
   answers : ℕ × ℕ → Asked
@@ -26,14 +33,19 @@ pub data Asked : Type 0 where
   records : Asked
   runs_threads : Asked
   draws : Asked
-  makes : List ℕ → Made → Asked
-  serves : List ℕ → ℕ × ℕ → Asked
+  makes : List ℕ → Made → Option (List ℕ) → Asked
+  serves : List ℕ → ℕ × ℕ → ℕ → Option Sealed → Asked
+  inspects : List ℕ → Asked
+  exports : List ℕ → Asked
 
 abbrev pub placed : Place → ℕ × ℕ
 placed place = (place.id, place.nodes)
 
 abbrev pub made : Making → Made
 made making = record { place = placed making.place; slots = making.slots; first = making.first }
+
+abbrev pub sealed : Sealing → Sealed
+sealed sealing = record { key = string_bytes sealing.key; cluster = string_bytes sealing.cluster }
 
 abbrev pub asked_batch : Batch → Asked
 asked_batch (Answer place) = answers (placed place)
@@ -47,8 +59,10 @@ asked_batch Draw = draws
 
 abbrev pub asked : Task → Asked
 asked (task.Batch batch) = asked_batch batch
-asked (task.Format path making) = makes (string_bytes path) (made making)
-asked (task.Node path place) = serves (string_bytes path) (placed place)
+asked (task.Format path making jobs) = makes (string_bytes path) (made making) (option_map string_bytes jobs)
+asked (task.Node path place round_trip sealing) = serves (string_bytes path) (placed place) round_trip (option_map sealed sealing)
+asked (task.Inspect path) = inspects (string_bytes path)
+asked (task.Export path) = exports (string_bytes path)
 
 -- ---- arguments, by their names
 
@@ -88,16 +102,38 @@ making_by (Some place) (Some slots) (Some first) =
 abbrev pub making_of : Arguments → Option Made
 making_of arguments = making_by (place_of arguments) (number_in (arguments (codes "SLOTS"))) (first_of (arguments (codes "FIRST")))
 
-abbrev pub format_by : Option (List ℕ) → Option Made → Option Asked
-format_by None made = None
-format_by (Some path) made = option_map (makes path) made
+abbrev pub format_by : Option (List ℕ) → Option Made → Option (List ℕ) → Option Asked
+format_by None made jobs = None
+format_by (Some path) made jobs = option_map (λ m. makes path m jobs) made
 
 abbrev pub format_of : Arguments → Option Asked
-format_of arguments = format_by (arguments (codes "FILE")) (making_of arguments)
+format_of arguments = format_by (arguments (codes "FILE")) (making_of arguments) (arguments (codes "jobs"))
 
-abbrev pub serves_by : Option (List ℕ) → Option (ℕ × ℕ) → Option Asked
-serves_by None place = None
-serves_by (Some path) place = option_map (serves path) place
+abbrev pub round_trip_in : Option ℕ → Option ℕ
+round_trip_in None = None
+round_trip_in (Some ms) = if ms == 0 then None else if nat_lt MOST_ROUND_TRIP ms then None else Some ms
+
+-- what a round trip takes, in milliseconds
+abbrev pub round_trip_of : Option (List ℕ) → Option ℕ
+round_trip_of None = Some ROUND_TRIP
+round_trip_of (Some word) = round_trip_in (number_of word)
+
+-- a key and a name, or neither
+abbrev pub sealed_by : Option (List ℕ) → Option (List ℕ) → Option (Option Sealed)
+sealed_by None None = Some None
+sealed_by None (Some cluster) = None
+sealed_by (Some key) None = None
+sealed_by (Some key) (Some cluster) = Some (Some (record { key = key; cluster = cluster }))
+
+abbrev pub serves_by : Option (List ℕ) → Option (ℕ × ℕ) → Option ℕ → Option (Option Sealed) → Option Asked
+serves_by None place round_trip sealing = None
+serves_by (Some path) None round_trip sealing = None
+serves_by (Some path) (Some place) None sealing = None
+serves_by (Some path) (Some place) (Some ms) sealing = option_map (serves path place ms) sealing
+
+abbrev pub node_of : Arguments → Option Asked
+node_of arguments = serves_by (arguments (codes "FILE")) (place_of arguments) (round_trip_of (arguments (codes "ROUND_TRIP_MS")))
+    (sealed_by (arguments (codes "key")) (arguments (codes "cluster")))
 
 -- what the command of a name asks for; nothing, where a number is out of its range
 abbrev pub asked_by : List ℕ → Arguments → Option Asked
@@ -111,4 +147,6 @@ asked_by name arguments =
     if bytes_eq name (codes "threads") then Some runs_threads else
     if bytes_eq name (codes "draw") then Some draws else
     if bytes_eq name (codes "format") then format_of arguments else
-    if bytes_eq name (codes "node") then serves_by (arguments (codes "FILE")) (place_of arguments) else None
+    if bytes_eq name (codes "node") then node_of arguments else
+    if bytes_eq name (codes "inspect") then option_map inspects (arguments (codes "FILE")) else
+    if bytes_eq name (codes "export") then option_map exports (arguments (codes "FILE")) else None

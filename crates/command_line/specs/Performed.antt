@@ -9,6 +9,7 @@ use Rattle.invite_console.specs.Reasons.{answer_flaw, schedule_flaw, show_flaw}
 use Rattle.store_console.specs.Session.{IsSession}
 use Rattle.store_console.specs.Reasons.{session_flaw}
 use Rattle.trace_console.specs.Judged.{IsJudged}
+use Rattle.trace_console.specs.Reported.{IsTold}
 use Rattle.invite_console.specs.Recording.{IsRecording}
 use Rattle.threads_console.specs.Printed.{IsThreading}
 use Rattle.threads_console.specs.Reasons.{plans_flaw}
@@ -27,13 +28,13 @@ IsOutcomeOf Record = IsRecording
 IsOutcomeOf Threads = IsThreading
 IsOutcomeOf Draw = IsDrawn
 
--- this is what is wrong with the input; what is wrong with a trace is printed, and not said again
+-- this is what is wrong with the input, or why its entries are no run; what is wrong with a text that is no trace is printed, and not said again
 abbrev pub IsWhyOf : Batch → Option (List ℕ) → Ending → List ℕ → Type 0
 IsWhyOf (Answer place) = IsWhy (answer_flaw place.id place.nodes)
 IsWhyOf Show = IsWhy show_flaw
 IsWhyOf (Sim details) = IsWhy schedule_flaw
 IsWhyOf (Store path) = IsWhy session_flaw
-IsWhyOf Trace = λ input ending why. why ≡ []
+IsWhyOf Trace = IsTold
 IsWhyOf Record = IsWhy schedule_flaw
 IsWhyOf Threads = IsWhy plans_flaw
 IsWhyOf Draw = λ input ending why. why ≡ []

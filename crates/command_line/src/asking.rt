@@ -1,9 +1,9 @@
 // From the words of the command line to what they ask for.
-ghost use Rattle.std.specs.Prelude.{◌≡◌, IfOk, bytes_eq, codes, option_map};
+ghost use Rattle.std.specs.Prelude.{◌≡◌, IfOk, bytes_eq, codes, option_map, string_bytes};
 ghost use Rattle.clap.specs.Words.{first_value, found_of};
-ghost use Rattle.command_line.specs.Asked.{answers, asked, asked_by, format_of, is_set, made, making_of, placed, place_of, serves_by, stores};
+ghost use Rattle.command_line.specs.Asked.{answers, asked, asked_by, exports, format_of, inspects, is_set, made, making_of, node_of, placed, place_of, round_trip_of, sealed, sealed_by, stores};
 
-use crate::task::{Batch, Making, Place, Task};
+use crate::task::{Batch, MOST_ROUND_TRIP, Making, Place, ROUND_TRIP, Sealing, Task};
 use clap::ArgMatches;
 use group_task::{NODES, NodeId};
 use invite_console::Details;
@@ -13,6 +13,10 @@ use std::alloc::{AllocError, Global};
 
 /// What the command of this name asks for, with these arguments. None where a number is out of its range.
 pub fn task(alloc: Global, name: &str, words: &ArgMatches<'_>) -> Result<Option<Task>, AllocError>
+    // Promise: The command that is run is the one that was named, with its arguments as numbers, and the exit status is that of its
+    // ending.
+    // Also: perform.
+    // Refuses: one_command_for_another, sim_shows, every_status_zero.
     ensures { IfOk result (λ task. option_map asked task ≡ asked_by name.now (λ id. first_value (found_of words.now) id)) }
 {
     if is(name, "answer") {
@@ -35,6 +39,10 @@ pub fn task(alloc: Global, name: &str, words: &ArgMatches<'_>) -> Result<Option<
         format(alloc, words)
     } else if is(name, "node") {
         node(alloc, words)
+    } else if is(name, "inspect") {
+        inspect(alloc, words)
+    } else if is(name, "export") {
+        export(alloc, words)
     } else {
         Ok(None)
     }
@@ -71,16 +79,82 @@ fn format(alloc: Global, words: &ArgMatches<'_>) -> Result<Option<Task>, AllocEr
     let (Some(path), Some(making)) = (words.get_str("FILE"), making(words)) else {
         return Ok(None);
     };
-    Ok(Some(Task::Format(String::from_str(alloc, path)?, making)))
+    let jobs = named(alloc, words, "jobs")?;
+    Ok(Some(Task::Format(String::from_str(alloc, path)?, making, jobs)))
+}
+
+/// The value of an option, where it was given.
+fn named(alloc: Global, words: &ArgMatches<'_>, option: &str) -> Result<Option<String>, AllocError>
+    ensures { IfOk result (λ value. option_map string_bytes value ≡ first_value (found_of words.now) option.now) }
+{
+    match words.get_str(option) {
+        Some(value) => Ok(Some(String::from_str(alloc, value)?)),
+        None => Ok(None),
+    }
 }
 
 fn node(alloc: Global, words: &ArgMatches<'_>) -> Result<Option<Task>, AllocError>
-    ensures { IfOk result (λ task. option_map asked task ≡ serves_by (first_value (found_of words.now) (codes "FILE")) (place_of (λ id. first_value (found_of words.now) id))) }
+    ensures { IfOk result (λ task. option_map asked task ≡ node_of (λ id. first_value (found_of words.now) id)) }
 {
     let (Some(path), Some(place)) = (words.get_str("FILE"), place(words)) else {
         return Ok(None);
     };
-    Ok(Some(Task::Node(String::from_str(alloc, path)?, place)))
+    let Some(round_trip) = round_trip(words) else {
+        return Ok(None);
+    };
+    let Some(sealing) = sealing(alloc, words)? else {
+        return Ok(None);
+    };
+    let path = String::from_str(alloc, path)?;
+    Ok(Some(Task::Node(path, place, round_trip, sealing)))
+}
+
+/// A file of keys and the name of a cluster, or neither; None where one is given without the other.
+fn sealing(alloc: Global, words: &ArgMatches<'_>) -> Result<Option<Option<Sealing>>, AllocError>
+    ensures { IfOk result (λ given. option_map (λ s. option_map sealed s) given
+        ≡ sealed_by (first_value (found_of words.now) (codes "key")) (first_value (found_of words.now) (codes "cluster"))) }
+{
+    match (words.get_str("key"), words.get_str("cluster")) {
+        (None, None) => Ok(Some(None)),
+        (Some(key), Some(cluster)) => {
+            let key = String::from_str(alloc, key)?;
+            let cluster = String::from_str(alloc, cluster)?;
+            Ok(Some(Some(Sealing { key, cluster })))
+        }
+        _ => Ok(None),
+    }
+}
+
+/// What a round trip takes, in milliseconds.
+fn round_trip(words: &ArgMatches<'_>) -> Option<u16>
+    ensures { result ≡ round_trip_of (first_value (found_of words.now) (codes "ROUND_TRIP_MS")) }
+{
+    let Some(word) = words.get_str("ROUND_TRIP_MS") else {
+        return Some(ROUND_TRIP);
+    };
+    let ms = number(word.as_bytes())?;
+    if ms == 0 || u64::from(MOST_ROUND_TRIP) < ms {
+        return None;
+    }
+    Some(ms as u16)
+}
+
+fn inspect(alloc: Global, words: &ArgMatches<'_>) -> Result<Option<Task>, AllocError>
+    ensures { IfOk result (λ task. option_map asked task ≡ option_map inspects (first_value (found_of words.now) (codes "FILE"))) }
+{
+    let Some(path) = words.get_str("FILE") else {
+        return Ok(None);
+    };
+    Ok(Some(Task::Inspect(String::from_str(alloc, path)?)))
+}
+
+fn export(alloc: Global, words: &ArgMatches<'_>) -> Result<Option<Task>, AllocError>
+    ensures { IfOk result (λ task. option_map asked task ≡ option_map exports (first_value (found_of words.now) (codes "FILE"))) }
+{
+    let Some(path) = words.get_str("FILE") else {
+        return Ok(None);
+    };
+    Ok(Some(Task::Export(String::from_str(alloc, path)?)))
 }
 
 /// What FILE is made for, by SLOTS, SELF, NODES and FIRST.

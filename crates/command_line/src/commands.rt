@@ -14,6 +14,10 @@ enum Form {
     MayBeLeftOut,
     /// `--` and its name, without a value.
     Flag,
+    /// `--` and its name, with a value.
+    Valued,
+    /// `--`, its name and a value, which is called so, only beside the other argument.
+    Beside(&'static str, &'static str),
 }
 
 /// An argument of a command.
@@ -51,6 +55,12 @@ const FILE: Argument = Argument {
     help: "The file of the node",
 };
 
+const LOOKED_AT: Argument = Argument {
+    name: "FILE",
+    form: Form::Word,
+    help: "The file of a node or of a store",
+};
+
 const PATH: Argument = Argument {
     name: "PATH",
     form: Form::Word,
@@ -66,7 +76,31 @@ const SLOTS: Argument = Argument {
 const FIRST: Argument = Argument {
     name: "FIRST",
     form: Form::MayBeLeftOut,
-    help: "The count that its group numbers begin behind, 0 if not given",
+    help: "The number that its group numbers and its ids begin behind, 0 if not given",
+};
+
+const JOBS: Argument = Argument {
+    name: "jobs",
+    form: Form::Valued,
+    help: "A file of jobs that it begins with, as export prints them, or - for standard input; their ids are below FIRST",
+};
+
+const KEY: Argument = Argument {
+    name: "key",
+    form: Form::Beside("KEYFILE", "cluster"),
+    help: "Seals the messages by the key in this file: 64 hex digits; a second line has a key that only opens",
+};
+
+const CLUSTER: Argument = Argument {
+    name: "cluster",
+    form: Form::Beside("NAME", "key"),
+    help: "The name of the cluster, which the key is bound to",
+};
+
+const ROUND_TRIP_MS: Argument = Argument {
+    name: "ROUND_TRIP_MS",
+    form: Form::MayBeLeftOut,
+    help: "The milliseconds that a message and its answer take, 20 if not given; all that it waits for counts these",
 };
 
 const NAMES: Argument = Argument {
@@ -82,65 +116,77 @@ const TABLES: Argument = Argument {
 };
 
 /// The commands in the order of the help.
-const COMMANDS: [Described; 10] = [
+const COMMANDS: [Described; 12] = [
     Described {
         name: "answer",
         about: "Reads messages in hex lines, and prints what one node answers",
-        more: "The node begins alone in its group and keeps nothing. A line is one message or several (docs/MESSAGES.md).\n\nExample: echo 010102000000 | invite answer 0 3",
+        more: "The node begins alone in its group and keeps nothing. A line is one message or several (docs/FORMATS.md).\n\nExample: echo 010102000000 | invite answer 0 3",
         arguments: &[SELF, NODES],
     },
     Described {
         name: "show",
         about: "Reads messages in hex lines, and prints them as text",
-        more: "A line is one message or several (docs/MESSAGES.md).\n\nExample: echo 010102000000 | invite show",
+        more: "A line is one message or several (docs/FORMATS.md).\n\nExample: echo 010102000000 | invite show",
         arguments: &[],
     },
     Described {
         name: "sim",
         about: "Reads a schedule, runs it on a simulated cluster, and prints what each act did",
-        more: "The first line is cluster NODES SLOTS, each other one an act, such as check 0, deliver 3, cut 0 1 or crash 2 (docs/SCHEDULES.md). After the last act each node is printed.\n\nExample: invite sim < schedules/partition_heals.txt",
+        more: "The first line is cluster NODES SLOTS, each other one an act, such as check 0, deliver 3, cut 0 1 or crash 2 (docs/SIMULATION.md). After the last act each node is printed.\n\nExample: invite sim < schedules/partition_heals.txt",
         arguments: &[NAMES, TABLES],
     },
     Described {
         name: "store",
         about: "Reads lines that ask something of a store in a file, and prints what each was answered",
-        more: "A store is a counter and a journal of jobs. Its lines are format SLOTS, mount, raise, put, done, compact and list (docs/STORE.md).\n\nExample: printf 'format 4\\nmount\\nraise\\n' | invite store /tmp/store",
+        more: "A store is a counter and a journal of jobs. Its lines are format SLOTS, mount, raise, put, done, compact and list (docs/FORMATS.md).\n\nExample: printf 'format 4\\nmount\\nraise\\n' | invite store /tmp/store",
         arguments: &[PATH],
     },
     Described {
         name: "format",
         about: "Makes the file of a node, where there is none of this name",
-        more: "It reads nothing. A node that lost its file takes FIRST above each count that it gave (docs/NODE.md).\n\nExample: invite format /tmp/node0 64 0 3",
-        arguments: &[FILE, SLOTS, SELF, NODES, FIRST],
+        more: "It reads nothing but the jobs. A node that lost its file takes FIRST above each count and id that it gave (docs/FORMATS.md).\n\nExample: invite format /tmp/node0 64 0 3",
+        arguments: &[FILE, SLOTS, SELF, NODES, FIRST, JOBS],
     },
     Described {
         name: "node",
         about: "Reads lines that ask something of the node over its file, and answers each at once",
-        more: "Its lines are events such as check, deliver HEX, submit, finish, tick MS, and state and jobs (docs/NODE.md).\n\nExample: printf 'state\\n' | invite node /tmp/node0 0 3",
-        arguments: &[FILE, SELF, NODES],
+        more: "Its lines are events such as check, deliver HEX, submit, finish, tick MS, and state and jobs (docs/FORMATS.md).\n\nExample: printf 'state\\n' | invite node /tmp/node0 0 3",
+        arguments: &[FILE, SELF, NODES, ROUND_TRIP_MS, KEY, CLUSTER],
+    },
+    Described {
+        name: "inspect",
+        about: "Prints what the file of a node or of a store holds",
+        more: "A line for each name and its value: whose file it is, the slots, the count of groups, the next id, the jobs by queue, or what is damaged and where (docs/FORMATS.md). It takes no lock and writes nothing.\n\nExample: invite inspect /tmp/node0",
+        arguments: &[LOOKED_AT],
+    },
+    Described {
+        name: "export",
+        about: "Prints the jobs of the file of a node or of a store",
+        more: "A line for each job: job ID QUEUE HEX P, as list of invite store prints it. It takes no lock and writes nothing.\n\nExample: invite export /tmp/node0 > /tmp/jobs",
+        arguments: &[LOOKED_AT],
     },
     Described {
         name: "trace",
         about: "Reads a trace, and prints an order in which its entries can have come, or where none goes on",
-        more: "A trace is the nodes' histories as JSON (docs/TRACES.md).\n\nExample: echo '{\"nodes\":1,\"histories\":[[{\"do\":\"check\",\"sent\":[]}]]}' | invite trace",
+        more: "A trace is the nodes' histories as JSON (docs/SIMULATION.md).\n\nExample: echo '{\"nodes\":1,\"histories\":[[{\"do\":\"check\",\"sent\":[]}]]}' | invite trace",
         arguments: &[],
     },
     Described {
         name: "record",
         about: "Reads a schedule, runs it on a simulated cluster, and prints its trace",
-        more: "The trace is what trace reads: the nodes' histories as JSON, in one line (docs/TRACES.md).\n\nExample: invite record < schedules/partition_heals.txt",
+        more: "The trace is what trace reads: the nodes' histories as JSON, in one line (docs/SIMULATION.md).\n\nExample: invite record < schedules/partition_heals.txt",
         arguments: &[],
     },
     Described {
         name: "threads",
         about: "Reads plans, runs them on nodes in threads, and prints the trace of that run",
-        more: "The first line is cluster NODES SLOTS, the second links CAPACITY, each other one a turn of a worker, such as 0 clock check, 1 intake 0 or 0 operator crash (docs/THREADS.md). The trace is what trace reads, in one line.\n\nExample: invite threads < plans/question.txt",
+        more: "The first line is cluster NODES SLOTS, the second links CAPACITY, each other one a turn of a worker, such as 0 clock check, 1 intake 0 or 0 operator crash (docs/SIMULATION.md). The trace is what trace reads, in one line.\n\nExample: invite threads < plans/question.txt",
         arguments: &[],
     },
     Described {
         name: "draw",
         about: "Reads a trace, and prints a picture of its run",
-        more: "The picture is an SVG: a line for each node, a dot for each entry, an arrow for each message that came (docs/TRACES.md).\n\nExample: echo '{\"nodes\":1,\"histories\":[[{\"do\":\"check\",\"sent\":[]}]]}' | invite draw",
+        more: "The picture is an SVG: a line for each node, a dot for each entry, an arrow for each message that came (docs/SIMULATION.md).\n\nExample: echo '{\"nodes\":1,\"histories\":[[{\"do\":\"check\",\"sent\":[]}]]}' | invite draw",
         arguments: &[],
     },
 ];
@@ -153,7 +199,7 @@ pub fn command<'a>(alloc: Global) -> Result<Command<'a>, AllocError> {
         )
         .version(VERSION)
         .after_help(
-            "Each command but format reads standard input. invite COMMAND --help says what, with an example.",
+            "Each command but format, inspect and export reads standard input. invite COMMAND --help says what, with an example.",
         )
         .subcommand_required(true)
         .disable_help_subcommand(true);
@@ -172,16 +218,21 @@ fn with_command<'a>(
         .about(described.about)
         .after_help(described.more);
     for argument in described.arguments {
-        command = command.arg(made(alloc, argument))?;
+        command = command.arg(made(alloc, argument)?)?;
     }
     whole.subcommand(command)
 }
 
-fn made<'a>(alloc: Global, argument: &Argument) -> Arg<'a> {
+fn made<'a>(alloc: Global, argument: &Argument) -> Result<Arg<'a>, AllocError> {
     let named = Arg::new(alloc, argument.name).help(argument.help);
     match argument.form {
-        Form::Word => named.required(true),
-        Form::MayBeLeftOut => named,
-        Form::Flag => named.long(argument.name).action(ArgAction::SetTrue),
+        Form::Word => Ok(named.required(true)),
+        Form::MayBeLeftOut => Ok(named),
+        Form::Flag => Ok(named.long(argument.name).action(ArgAction::SetTrue)),
+        Form::Valued => Ok(named.long(argument.name)),
+        Form::Beside(value, other) => named
+            .long(argument.name)
+            .value_name(value)
+            .requires_arg(other),
     }
 }

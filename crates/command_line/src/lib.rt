@@ -1,9 +1,11 @@
-//! The command line of the program `invite`. The commands themselves are those of `invite_console`, `store_console`, `node_console`,
-//! `trace_console`, `trace_draw` and `threads_console`, over standard input and output.
+//! The command line of the program `invite`. The commands themselves are those of `invite_console`, `store_console`, `file_console`,
+//! `node_console`, `trace_console`, `trace_draw` and `threads_console`, over standard input and output.
 //!
 //! It stands apart from the program, since a program is proved over the code of all that it reaches, and a library over the interfaces
 //! of what it uses.
 #![tactic(auto)]
+
+ghost use Rattle.std.specs.Prelude.{◌≤◌, ◌+◌, length, IfOk};
 
 mod asking;
 mod commands;
@@ -12,18 +14,20 @@ mod reasons;
 mod task;
 
 use commands::command;
-use console_text::{Sink, Source};
+use console_text::{Ended, Sink, Source, Trouble, read_source};
 use group_task::NODES;
-use node_console::{LEAST_SLOTS, MOST_SLOTS, Status};
-use performing::perform;
+use job_model::JobTable;
+use line_words::LineFault;
+use node_console::{Keys, LEAST_SLOTS, MOST_SLOTS, Status};
+use performing::{Performed, perform};
 use reasons::{Reason, explain, reason_of};
 use std::fs::File;
 use std::io;
-use std::io::ErrorKind;
+use std::io::{ErrorKind, Read};
 use std::process::ExitCode;
 use std::sync::Wait;
 use std::thread::Threads;
-use task::{Batch, Making, Place, Task};
+use task::{Batch, MOST_ROUND_TRIP, Making, Place, Sealing, Task};
 
 /// The exit status of a command line that can't be read, or asks for help.
 const UNREADABLE: u8 = 2;
@@ -56,8 +60,16 @@ fn obey<T: Threads + Wait + Sync>(rt: &HostRuntime, threads: &T) -> io::Result<u
     };
     match task_of(rt, words.as_slice())? {
         Ok(Task::Batch(batch)) => Ok(carry_out(rt, threads, &batch)),
-        Ok(Task::Format(path, making)) => format(rt, path.as_str(), &making),
-        Ok(Task::Node(path, place)) => node(rt, path.as_str(), place),
+        Ok(Task::Format(path, making, jobs)) => format(rt, path.as_str(), &making, &jobs),
+        Ok(Task::Node(path, place, round_trip, sealing)) => node(
+            rt,
+            path.as_str(),
+            place,
+            round_trip,
+            &sealing,
+        ),
+        Ok(Task::Inspect(path)) => look(rt, path.as_str(), Shown::All),
+        Ok(Task::Export(path)) => look(rt, path.as_str(), Shown::Jobs),
         Err(status) => Ok(status),
     }
 }
@@ -94,11 +106,21 @@ fn carry_out<T: Threads + Wait + Sync>(rt: &HostRuntime, threads: &T, batch: &Ba
     status
 }
 
-/// A round trip between nodes, in the milliseconds of the clock that ticks name.
-const ROUND_TRIP: u16 = 20;
-
 /// Serves a node, and answers the exit status.
-fn node(rt: &HostRuntime, path: &str, place: Place) -> io::Result<u8> {
+fn node(
+    rt: &HostRuntime,
+    path: &str,
+    place: Place,
+    round_trip: u16,
+    sealing: &Option<Sealing>,
+) -> io::Result<u8> {
+    let keys = match sealing {
+        Some(sealing) => Some(Keys {
+            path: sealing.key.as_str(),
+            cluster: sealing.cluster.as_str(),
+        }),
+        None => None,
+    };
     let mut input = rt.stdin();
     let mut output = Sink::new(rt.stdout());
     let status = node_console::serve_file(
@@ -107,37 +129,112 @@ fn node(rt: &HostRuntime, path: &str, place: Place) -> io::Result<u8> {
         path,
         place.id,
         place.nodes,
-        ROUND_TRIP,
+        round_trip,
+        keys,
         &mut input,
         &mut output,
     );
-    if status == Status::Failed && output.fault().is_some() {
+    if matches!(status, Status::Failed(_)) && output.fault().is_some() {
         explain(rt, Reason::Unwritten(output.fault()))?;
         return Ok(status.code());
     }
-    explain_status(rt, status)
+    match (status, sealing) {
+        (Status::Key, Some(sealing)) => explain_status(rt, sealing.key.as_str(), status),
+        _ => explain_status(rt, path, status),
+    }
 }
 
-/// Makes the file of a node, and answers the exit status.
-fn format(rt: &HostRuntime, path: &str, making: &Making) -> io::Result<u8> {
+/// Makes the file of a node, with the jobs of the lines of another file where that is named, and answers the exit status.
+fn format(rt: &HostRuntime, path: &str, making: &Making, jobs: &Option<String>) -> io::Result<u8> {
+    let jobs = match jobs {
+        None => file_console::no_jobs(rt.alloc(), making.first),
+        Some(lines) => match listed(rt, lines.as_str(), making)? {
+            Ok(jobs) => jobs,
+            Err(status) => return Ok(status),
+        },
+    };
     let place = making.place;
-    let status = node_console::format_file(
-        rt,
-        path,
-        making.slots,
-        place.id,
-        place.nodes,
-        making.first,
-    );
-    explain_status(rt, status)
+    let status = node_console::format_file(rt, path, making.slots, place.id, place.nodes, &jobs);
+    explain_status(rt, path, status)
 }
 
-/// Where a command of a node didn't end well, says why on standard error. Answers the exit status.
-fn explain_status(rt: &HostRuntime, status: Status) -> io::Result<u8> {
-    if status != Status::Done {
-        rt.eprint("invite: ")?;
-        rt.eprint(status.word())?;
-        rt.eprint("\n")?;
+/// The jobs of the file of this path, or of standard input where the path is a dash. Where they can't be read, says why, and gives the exit
+/// status.
+fn listed(rt: &HostRuntime, path: &str, making: &Making) -> io::Result<Result<JobTable, u8>>
+    ensures { IfOk result (λ jobs. IfOk jobs (λ table. length table.pending + 2 ≤ making.now.slots)) }
+{
+    let read = if path == "-" {
+        bytes_of(rt, Source::new(rt.stdin()))?
+    } else {
+        match node_console::file_to_read(rt, path) {
+            Ok(file) => bytes_of(rt, Source::new(file))?,
+            Err(status) => return Ok(Err(explain_status(rt, path, status)?)),
+        }
+    };
+    let Some(bytes) = read else {
+        return Ok(Err(1));
+    };
+    match file_console::read_jobs(rt.alloc(), making.slots, making.first, &bytes) {
+        Ok(jobs) => Ok(Ok(jobs)),
+        Err(LineFault::NoMemory) => Err(io::Error::from(ErrorKind::OutOfMemory)),
+        Err(LineFault::BadLine(number)) => {
+            eprintln!(rt;
+                "invite: line {number}: not of the form job ID QUEUE HEX [P], its ID not above those before it and below FIRST, or too many jobs for SLOTS"
+            )?;
+            Ok(Err(1))
+        }
+    }
+}
+
+/// All bytes of an input. None, and a word on standard error, where it can't be read.
+fn bytes_of<R: Read + Drop>(rt: &HostRuntime, mut input: Source<R>) -> io::Result<Option<Vec<u8>>> {
+    match read_source(rt.alloc(), &mut input) {
+        Ok(bytes) => Ok(Some(bytes)),
+        Err(Trouble::NoMemory) => Err(io::Error::from(ErrorKind::OutOfMemory)),
+        Err(Trouble::Unread) => {
+            explain(rt, Reason::Unread(input.fault()))?;
+            Ok(None)
+        }
+    }
+}
+
+/// What is printed of a file.
+#[derive(Clone, Copy)]
+enum Shown {
+    All,
+    Jobs,
+}
+
+/// Reads a file and prints what it holds, and answers the exit status.
+fn look(rt: &HostRuntime, path: &str, shown: Shown) -> io::Result<u8> {
+    let file = match node_console::file_to_read(rt, path) {
+        Ok(file) => file,
+        Err(status) => return explain_status(rt, path, status),
+    };
+    let mut input = Source::new(file);
+    let mut output = Sink::new(rt.stdout());
+    let ending = match shown {
+        Shown::All => file_console::inspect(rt.alloc(), &mut input, &mut output),
+        Shown::Jobs => file_console::export(rt.alloc(), &mut input, &mut output),
+    };
+    let status = ending.status();
+    let why = Vec::new(rt.alloc());
+    let performed = Performed {
+        ended: Ended { ending, why },
+        status,
+    };
+    if let Some(reason) = reason_of(performed, input.fault(), output.fault()) {
+        explain(rt, reason)?;
+    }
+    Ok(status)
+}
+
+/// Where a command of a node didn't end well, says why on standard error, in one line. Answers the exit status.
+fn explain_status(rt: &HostRuntime, path: &str, status: Status) -> io::Result<u8> {
+    match status {
+        Status::Done => {}
+        Status::Failed(_) => eprintln!(rt; "invite: {status}")?,
+        _ => eprintln!(rt; "invite: {path}: {status}")?,
     }
     Ok(status.code())
 }
@@ -153,7 +250,7 @@ fn task_of(rt: &HostRuntime, words: &[String]) -> io::Result<Result<Task, u8>> {
             };
             if task.is_none() {
                 println!(rt;
-                    "error: SELF and NODES are decimal numbers, NODES from 1 to {NODES}, and SELF is below NODES; SLOTS is from {LEAST_SLOTS} to {MOST_SLOTS}, and FIRST below 2^64\n\nFor more information, try '--help'."
+                    "error: SELF and NODES are decimal numbers, NODES from 1 to {NODES}, and SELF is below NODES; SLOTS is from {LEAST_SLOTS} to {MOST_SLOTS}, FIRST below 2^64, and ROUND_TRIP_MS from 1 to {MOST_ROUND_TRIP}\n\nFor more information, try '--help'."
                 )?;
             }
             Ok(task.ok_or(UNREADABLE))

@@ -4,7 +4,7 @@ use console_text::{Ended, Ending, MAX_READS};
 use std::io;
 use std::io::Write;
 
-/// Why a command didn't end well. What was wrong with an input is a line that the command wrote itself.
+/// Why a command didn't end well. What was wrong with an input the command wrote itself: a line, and more of them where entries are no run.
 #[derive(Drop)]
 pub enum Reason {
     Input(Vec<u8>),
@@ -14,7 +14,7 @@ pub enum Reason {
     Unwritten(Option<io::Error>),
 }
 
-/// Why the command didn't end well, where it didn't. What is wrong with a trace is printed, and isn't said again.
+/// Why the command didn't end well, where it didn't. What is wrong with a text that is no trace is printed, and isn't said again.
 pub fn reason_of(
     performed: Performed,
     unread: Option<io::Error>,
@@ -32,7 +32,7 @@ pub fn reason_of(
     }
 }
 
-/// Says on standard error why, in one line.
+/// Says on standard error why.
 pub fn explain(rt: &HostRuntime, reason: Reason) -> io::Result<()> {
     match reason {
         Reason::Input(line) => {

@@ -6,15 +6,25 @@ ghost use Rattle.node_console.specs.declared.making.TheConstants.{LEAST_SLOTS, M
 use group_task::NodeId;
 use invite_console::Details;
 
+/// What a round trip between nodes takes where nothing else is said, and at most, in milliseconds of the clock that ticks tell.
+pub const ROUND_TRIP: u16 = 20;
+
+pub const MOST_ROUND_TRIP: u16 = 60_000;
+
 /// What the command line asks for.
 #[derive(Drop)]
 pub enum Task {
     /// A command that reads its whole input first.
     Batch(Batch),
-    /// The file of this path is to be made.
-    Format(String, Making),
-    /// A node is to be served, over the file of this path.
-    Node(String, Place),
+    /// The file of this path is to be made, with the jobs of the lines of another one, where that is named.
+    Format(String, Making, Option<String>),
+    /// A node is to be served, over the file of this path, where a round trip takes so many milliseconds, with its messages sealed where
+    /// there are keys.
+    Node(String, Place, u16, Option<Sealing>),
+    /// What the file of this path holds is to be printed.
+    Inspect(String),
+    /// The jobs of the file of this path are to be printed.
+    Export(String),
 }
 
 /// A command that reads its whole input first.
@@ -39,6 +49,13 @@ pub struct Making {
     pub first: u64,
     ghost least: { LEAST_SLOTS ≤ slots },
     ghost most: { slots ≤ MOST_SLOTS },
+}
+
+/// How a node's messages are sealed: by the keys in the file of this path, for the cluster of this name.
+#[derive(Drop)]
+pub struct Sealing {
+    pub key: String,
+    pub cluster: String,
 }
 
 /// One node of a cluster.

@@ -78,6 +78,8 @@ impl Ending {
 
     /// The exit status of the program.
     pub fn status(self) -> u8
+        // Promise: The exit status is 0 where all was printed and nothing was wrong, else 1.
+        // Refuses: done_with_status_one.
         ensures { result ≡ status_of self }
     {
         match self {

@@ -12,9 +12,13 @@ const PIECE: usize = 65_536;
 
 /// All bytes of an input, by at most `MAX_READS` reads. A read that fails is not made again.
 pub fn read_source<R: Read>(alloc: Global, input: &mut Source<R>) -> Result<Vec<u8>, Trouble>
+    // Promise: At most 16,777,216 reads are made of an input, and an input that was read was read whole.
+    // Refuses: one_read_too_many, half_of_a_read_lost, nothing_read.
     ensures bytes { IfOk result (λ bytes. HoldsAll (R.remaining input.old.reader) bytes.items) }
     ensures bound { input.old.left ≤ input.new.left + 16777216 }
     // It gives up only where a read failed, or where no read is left.
+    // Promise: An input is given up as unread only where a read failed, or where none of its reads is left.
+    // Refuses: given_up_after_100_reads.
     ensures unread { IsErrOf result Unread → IsSome input.new.fault ⊎ (input.new.left ≡ 0) }
 {
     let mut bytes = Vec::new(alloc);

@@ -32,6 +32,10 @@ pub fn new_page(alloc: Global) -> Result<Vec<u8>, AllocError>
 
 /// Prints a page, and empties it.
 pub fn print_page<W: Write>(output: &mut W, page: &mut Vec<u8>) -> Result<(), Unprinted>
+    // Promise: Printed page by page, a text is what is written, wherever pages end: what was printed, with what the page holds,
+    // grows by each part.
+    // Also: print_full, print_part.
+    // Refuses: page_printed_twice, part_in_front_of_its_page.
     ensures printed { OnOk result (Appends (W.contents output.old) (W.contents output.new) page.old.items) }
     ensures empty { OnOk result (page.new.items ≡ []) }
 {

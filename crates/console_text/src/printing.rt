@@ -8,6 +8,9 @@ use std::io::Write;
 
 /// Prints what a command came to, in one write, and nothing else.
 pub fn print<W: Write>(output: &mut W, outcome: Result<Printout, Trouble>) -> Ending
+    // Promise: What a command came to is written, and nothing else: its text, `no memory` where memory ran out, nothing where the
+    // input couldn't be read; how it ended goes with it.
+    // Refuses: refusal_ends_well.
     ensures { PrintsIt outcome (W.contents output.old) (W.contents output.new) result }
 {
     let (text, ending) = match &outcome {

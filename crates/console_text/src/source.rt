@@ -59,6 +59,8 @@ impl<R: Read> Read for Source<R> {
     ghost remaining = { λ a. R.remaining a.reader };
 
     fn read(&mut self, buf: &mut [u8]) -> io::Result<usize>
+        // Promise: Each read of a `Source` takes one of those that are left; with none left it reaches nothing, and fails.
+        // Refuses: reads_not_counted, read_past_the_last.
         ensures bound { ReadsAtMost result buf.new }
         ensures bytes { ReadConsumes (R.remaining self.old.reader) (R.remaining self.new.reader) result buf.new }
         ensures most { self.old.left ≤ MAX_READS }
@@ -67,6 +69,9 @@ impl<R: Read> Read for Source<R> {
         ensures spent { self.old.left ≡ 0 → IsErr result × (self.new ≡ self.old) }
 
         // A read that fails leaves its error, and one that doesn't leaves what was there.
+        // Promise: A read of a `Source` that failed leaves its error, which `fault` answers.
+        // Also: Source::fault.
+        // Refuses: failed_read_keeps_no_error.
         ensures failed { 0 < self.old.left → IfErr result (λ error. self.new.fault ≡ Some error) }
         ensures read { IsOk result → self.new.fault ≡ self.old.fault }
     {

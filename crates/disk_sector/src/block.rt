@@ -8,6 +8,9 @@ pub type Sector = [u8; 512];
 /// Whether all bytes from there on are zero.
 pub fn is_blank(sector: &Sector, from: usize) -> bool
     requires { from ≤ 512 }
+    // Promise: Bytes are blank exactly where all of them are zero.
+    // Also: is_zero_block.
+    // Refuses: one_other_byte_is_blank, first_byte_not_looked_at.
     ensures { result ≡ is_blank (drop from sector.now) }
 {
     is_zero_block(&sector[from..])

@@ -12,6 +12,9 @@ pub const MOST_SLOTS: u64 = 4096;
 /// How many sectors a store takes whose areas have so many slots.
 pub fn sectors_for(slots: u64) -> u64
     requires { slots ≤ MOST_SLOTS }
+    // Promise: An area of a journal has 4 to 4,096 slots, and a store whose areas have n slots takes 8 + 4 n sectors.
+    // Also: limits.
+    // Refuses: one_area_left_out.
     ensures { result ≡ sectors_for slots }
 {
     8 + 4 * slots

@@ -4,7 +4,7 @@ use Rattle.sector_disk.specs.Disk.{Image, IsImage}
 use Rattle.sector_disk.specs.Memory.{Memory, all_synced, state_of}
 use Rattle.sector_disk.proofs.PublicLaws.{only_image}
 use Rattle.job_model.specs.Durable.{Durable}
-use Rattle.job_journal.specs.Journal.{IsSound}
+use Rattle.job_journal.specs.Journal.{AllWithin, IsSound}
 use Rattle.node_core.specs.declared.wanted.Wanted.{Wanted}
 use Rattle.node_core.specs.Core.{Core}
 use Rattle.node_core.specs.Start.{down}
@@ -26,6 +26,10 @@ the_image now failures image anew im = only_image now.contents failures image (s
 
 pub sound_left : (was now : Memory) → IsImage (state_of was) now.contents → now ≡ all_synced now.contents was.failures → IsSound (slots_for (length was.contents)) (state_of was) → IsSound (slots_for (length now.contents)) (state_of now)
 sound_left was now left anew sound honest image im = rw (the_image now was.failures image anew im, left.size) (sound refl now.contents left)
+
+-- the number of its area is one that it might have had
+pub number_left : (was now : Memory) (bound : ℕ) → IsImage (state_of was) now.contents → now ≡ all_synced now.contents was.failures → AllWithin bound (state_of was) → AllWithin bound (state_of now)
+number_left was now bound left anew within image number im at = within now.contents number left (rw (the_image now was.failures image anew im) at at)
 
 settled_still : (id nodes : ℕ) (kept : Bool) (s : NodeState) → settled kept s ≡ settled kept (after id nodes s Crashed)
 settled_still id nodes true s = refl

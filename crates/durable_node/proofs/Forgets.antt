@@ -2,6 +2,7 @@
 use Rattle.std.proofs.Common.{◌≡◌, Option, Some, None, [], ap, refl, Result, IsErrOf}
 use Rattle.sector_disk.specs.Disk.{Counts}
 use Rattle.sector_disk.specs.Memory.{Memory, state_of}
+use Rattle.job_journal.specs.Journal.{RisesByOne}
 use Rattle.node_core.specs.declared.event.Event.{Event}
 use Rattle.histories.specs.NodeState.{NodeState}
 use Rattle.histories.specs.After.{after}
@@ -28,6 +29,7 @@ counts_forgotten old (Some disk) result counts = record {
   was_there = counts.was_there;
   is_there = counts.is_there;
   counts = λ was now e f. at_some (λ (m : Memory). Counts (state_of was) (state_of m) (IsErrOf result node.Device) (IsErrOf result node.Device → ⊥)) (record disk { spans = [] }) now f (assumption (counts.counts was disk e refl));
+  rises = λ was now e f. at_some (λ (m : Memory). RisesByOne (state_of was) (state_of m)) (record disk { spans = [] }) now f (assumption (counts.rises was disk e refl));
 }
 
 -- a step after which the disk forgets is still one

@@ -2,6 +2,7 @@ mod Parts
 mod Mounts
 mod Turned
 mod Serves
+mod AreaLaws
 mod Ignores
 mod Settling
 mod Remounts

@@ -5,7 +5,7 @@ use Rattle.sector_disk.specs.Run.{Run, Each}
 use Rattle.safe_cell.specs.Cell.{cell_at}
 use Rattle.job_model.specs.declared.node_command.NodeCommand.{NodeCommand as Command}
 use Rattle.job_model.specs.Durable.{Durable}
-use Rattle.job_journal.specs.Journal.{jobs_by, jobs_in, IsSound, ImagesSince}
+use Rattle.job_journal.specs.Journal.{AllWithin, RisesByOne, jobs_by, jobs_in, IsSound, ImagesSince}
 use Rattle.job_journal.proofs.PublicLaws.{SameFrom, cell_same_from, replay_same_from}
 use Rattle.node_store.specs.Store.{StoreState, durable_by, durable_of, stands_for, slots_for, AllStandFor, Lasts, BeforeOrAfter as StoreBeforeOrAfter}
 use Rattle.node_store.proofs.PublicLaws.{sound_kept}
@@ -23,6 +23,19 @@ pub stands_same : (slots : ℕ) (d c : Image) → SameBut nothing d c → stands
 stands_same slots d c same =
     ap (λ (v : Option ℕ). durable_by v (jobs_in slots c)) (cell_same_from 0 d c (quiet_same 0 4 d c same))
     ∙ ap (λ f. durable_by (cell_at d 0) (jobs_by f)) (replay_same_from slots d c (quiet_same 4 (4 + 4 * slots) d c same))
+
+-- calls that wrote nothing leave the number of the area
+pub quiet_within : (old new : DiskState) → Run nothing old new → (bound : ℕ) → AllWithin bound old → AllWithin bound new
+quiet_within old new run bound within image number is at =
+    let from = run.follows image (run.ends image is) in
+    within from.0 number from.1 (sym (cell_same_from 4 from.0 image (quiet_same 4 4 from.0 image from.2)) ∙ at)
+
+pub quiet_rises : (old new : DiskState) → (IsTrue old.honest → Run nothing old new) → RisesByOne old new
+quiet_rises old new run honest bound within image number is at = omega (arith, quiet_within old new (run honest) bound within image number is at)
+
+-- and then a call of a store
+pub rises_behind : (old mid new : DiskState) → mid.honest ≡ old.honest → (IsTrue old.honest → Run nothing old mid) → RisesByOne mid new → RisesByOne old new
+rises_behind old mid new same run rises honest bound within = rises (same ∙ honest) bound (quiet_within old mid (run honest) bound within)
 
 -- a store that wasn't called
 pub unwritten : {Disk : Type 0} (disks : Disk → DiskState) (store : StoreState Disk) (wants : Option Command) (done : Type 0)

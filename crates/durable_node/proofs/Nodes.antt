@@ -1,7 +1,7 @@
 -- What is true of every node stays true.
 use Rattle.std.proofs.Common.{◌≡◌, ◌⊎◌, arith, inl, inr, ⊎_elim, ℕ, true, false, Bool, Option, Some, None, Result, Ok, Err, ◌∙◌, ap, refl, IsFalse, IfOk, IfErr, IsErrOf, IsSome}
 use Rattle.sector_disk.specs.Disk.{DiskState, Counts}
-use Rattle.job_journal.specs.Journal.{IsSound}
+use Rattle.job_journal.specs.Journal.{IsSound, RisesByOne}
 use Rattle.node_core.specs.declared.wanted.Wanted.{Wanted}
 use Rattle.node_core.specs.declared.event.Event.{Event}
 use Rattle.node_core.specs.declared.fault.CoreFault.TheVariants.{NoMemory}
@@ -102,15 +102,17 @@ module _ {Disk : Type 0} (id nodes : ℕ) (core core' : Core) (store store' : St
 
 -- what is counted of a disk that is there
 pub counts_of : {Disk A : Type 0} (disks : Disk → DiskState) (was now : Disk) (result : Result A NodeFault)
-    → Counts (disks was) (disks now) (IsErrOf result node.Device) (IsErrOf result node.Device → ⊥) → CountsOf disks (Some was) (Some now) result
-counts_of {Disk} {A} disks was now result counts = record {
+    → Counts (disks was) (disks now) (IsErrOf result node.Device) (IsErrOf result node.Device → ⊥) → RisesByOne (disks was) (disks now) → CountsOf disks (Some was) (Some now) result
+counts_of {Disk} {A} disks was now result counts rises = record {
   was_there = refl;
   is_there = refl;
   counts = at_both (λ (x y : Disk). Counts (disks x) (disks y) (IsErrOf result node.Device) (IsErrOf result node.Device → ⊥)) was now counts;
+  rises = at_both (λ (x y : Disk). RisesByOne (disks x) (disks y)) was now rises;
 }
 
 -- a disk that isn't called
 pub counts_still : {Disk A : Type 0} (disks : Disk → DiskState) (disk : Option Disk) (result : Result A NodeFault) → IsSome disk → (IsErrOf result node.Device → ⊥) → CountsOf disks disk disk result
 counts_still disks (Some disk) result there not_device =
     counts_of disks disk disk result (record { sectors = refl; honest = refl; later = omega arith; unchanged = λ _. refl; cause = λ device. absurd (not_device device) })
+    (λ honest bound within image number is at. omega (arith, within image number is at))
 counts_still disks None result there not_device = absurd cc

@@ -48,6 +48,7 @@ copy_fresh disk fresh =
       enough = fresh.enough;
       unfailed = fresh.unfailed;
       formatted = λ image is. rw (only_image disk.contents disk.failures image is) (fresh.formatted disk.contents held);
+      number = λ image number is at. fresh.number disk.contents number held (rw (only_image disk.contents disk.failures image is) at at);
       sound = λ honest image is. rw (only_image disk.contents disk.failures image is) (fresh.sound honest disk.contents held);
     }
 

@@ -6,11 +6,12 @@ use Rattle.job_model.specs.Answer.{answer_of}
 use Rattle.job_model.specs.declared.node_command.NodeCommand.{NodeCommand as Command}
 use Rattle.job_model.specs.Durable.{Durable}
 use Rattle.job_model.specs.Fold.{after_wanted}
-use Rattle.job_journal.specs.Journal.{IsSound}
+use Rattle.job_journal.specs.Journal.{IsSound, RisesByOne}
 use Rattle.node_core.specs.declared.fault.Refusal.{Refusal}
 use Rattle.node_core.specs.NodeStep.{CantTake, IsSpent, IsFull}
 use Rattle.node_store.specs.Store.{StoreState, durable_of, stands_for, AllStandFor, InStore}
 use Rattle.histories.specs.Possible.{FitsSlots}
+use Rattle.durable_node.specs.Area.{area_of, area_after}
 use Rattle.durable_node.specs.declared.fault.NodeFault.{NodeFault}
 use Rattle.durable_node.specs.Faults.{shown}
 
@@ -20,12 +21,13 @@ pub record IsReady {Disk : Type 0} (disks : Disk → DiskState) (store : StoreSt
   pub sound : IsSound store.journal.slots (disks store.disk)
 
 -- What any call leaves of a store and its disk: as many slots, and a disk that is sound and was written in the store's sectors alone.
--- A device that failed is counted.
+-- A device that failed is counted, and the number of the area rises by one at most.
 pub record KeepsSound {Disk : Type 0} (disks : Disk → DiskState) (old new : StoreState Disk) (failed : Type 0) : Type 0 where
   pub counts : Counts (disks old.disk) (disks new.disk) failed (failed → ⊥)
   pub slots : new.journal.slots ≡ old.journal.slots
   pub sound : IsSound old.journal.slots (disks new.disk)
   pub run : IsTrue (disks old.disk).honest → Run (InStore old.journal.slots) (disks old.disk) (disks new.disk)
+  pub rises : IsFalse old.broken → RisesByOne (disks old.disk) (disks new.disk)
 
 -- an image stands for what was kept before the wanted command, or for what is kept after it
 abbrev pub BeforeOrAfter : ℕ → Durable → Option Command → Image → Type 0
@@ -49,6 +51,7 @@ pub record Carried {Disk : Type 0} (old new : StoreState Disk) (wants : Option C
   pub may : MayTake old.journal.slots (durable_of old) wants
   pub answer : given ≡ option_map (answer_of (durable_of old)) wants
   pub kept : durable_of new ≡ after_wanted (durable_of old) wants
+  pub area : area_of new ≡ area_after (durable_of old) (area_of old) wants
   pub whole : IsFalse new.broken
 
 -- the device failed in a command that the store took, and what the store shows is from before it

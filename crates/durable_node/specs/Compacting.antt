@@ -1,5 +1,5 @@
 -- What a compaction of a node's journal does, and how it is answered.
-use Rattle.std.specs.Prelude.{ℕ, ◌≡◌, ◌+◌, length, IsTrue, IsOk, Some, None, Result, Err}
+use Rattle.std.specs.Prelude.{ℕ, ◌≡◌, IsTrue, IsOk, Some, None, Result, Err}
 use Rattle.sector_disk.specs.Disk.{DiskState, Image}
 use Rattle.sector_disk.specs.Run.{Each}
 use Rattle.job_model.specs.Durable.{Durable}
@@ -16,6 +16,7 @@ use Rattle.histories.specs.declared.what.Rest.{Rest}
 use Rattle.histories.specs.declared.what.Rest.TheVariants.{Nothing, Compacted, CompactDown, CompactWorn}
 use Rattle.histories.specs.After.{after}
 use Rattle.histories.specs.Possible.{IsPossible}
+pub use Rattle.durable_node.specs.Area.{moved}
 use Rattle.durable_node.specs.Node.{Node, Area, IsCoreOf, Stands}
 
 -- what a compaction that rests answers
@@ -43,10 +44,6 @@ abbrev pub Compacts : {Disk A : Type 0} → (Disk → DiskState) → Node Disk �
 Compacts {Disk} disks old new result =
     (disk : Disk) (s : NodeState) → old.disk ≡ Some disk → Stands disks old s →
     (what : What) × CompactionAnswers what result × IsPossible old.id old.nodes s what × Stands disks new (after old.id old.nodes s what)
-
--- the other area, which holds a Base and the pending jobs alone
-abbrev pub moved : Durable → Area → Area
-moved d area = record { number = area.number + 1; slots = area.slots; used = length d.pending + 1 }
 
 -- in each image since the compaction began the disk of a node that was up stands for what it kept
 abbrev pub StaysKept : {Disk : Type 0} → (Disk → DiskState) → Node Disk → Node Disk → Type 0

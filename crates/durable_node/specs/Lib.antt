@@ -1,3 +1,4 @@
+pub mod Area
 pub mod Faults
 pub mod Carrying
 pub mod Node

@@ -14,6 +14,7 @@ use Rattle.job_journal.specs.Journal.{IsSound}
 use Rattle.node_store.specs.Store.{StoreState, durable_of, slots_for, stands_for}
 use Rattle.histories.specs.NodeState.{NodeState, settled}
 use Rattle.histories.specs.Possible.{IsSettling}
+pub use Rattle.durable_node.specs.Area.{Area, area_of}
 use Rattle.durable_node.specs.Carrying.{IsReady}
 use Rattle.durable_node.specs.declared.node_disk.NodeDisk.{NodeDisk}
 use Rattle.durable_node.specs.declared.node_disk.NodeDisk.TheVariants.{Bare, Mounted, Taken}
@@ -24,13 +25,6 @@ shown_doubt d None = None
 shown_doubt d (Some Raise) = Some (wanted.Raise, d.counter)
 shown_doubt d (Some (Put work)) = Some (wanted.Put work, d.next)
 shown_doubt d (Some (Done id)) = Some (wanted.Done id, d.next)
-
--- the area of the journal that a node writes in: the number of its cell, how many slots it has, and how many of them hold
--- a record
-pub record Area : Type 0 where
-  pub number : ℕ
-  pub slots : ℕ
-  pub used : ℕ
 
 pub record Node (Disk : Type 0) : Type 0 where
   pub id : ℕ
@@ -63,9 +57,6 @@ abbrev pub kept_in : {Disk : Type 0} → Bool → Option (StoreState Disk) → O
 kept_in true store = None
 kept_in false None = None
 kept_in false (Some store) = Some (durable_of store)
-
-abbrev pub area_of : {Disk : Type 0} → StoreState Disk → Area
-area_of store = record { number = store.journal.area.value; slots = store.journal.slots; used = store.journal.used }
 
 abbrev pub area_in : {Disk : Type 0} → Bool → Option (StoreState Disk) → Option Area
 area_in true store = None

@@ -1,6 +1,7 @@
 -- What a call of a node does, and how it is answered.
 use Rattle.std.specs.Prelude.{ℕ, ◌≡◌, ◌+◌, Bool, true, false, if◌then◌else◌, IsTrue, IsFalse, IsSome, IsErrOf, [], Option, Some, None, option_map, Result}
 use Rattle.sector_disk.specs.Disk.{DiskState, Counts}
+use Rattle.job_journal.specs.Journal.{RisesByOne}
 use Rattle.job_model.specs.Answer.{answer_of}
 use Rattle.job_model.specs.Durable.{Durable}
 use Rattle.node_core.specs.declared.wanted.Wanted.{Wanted}
@@ -32,6 +33,7 @@ use Rattle.job_model.specs.declared.node_command.NodeCommand.{NodeCommand as Com
 use Rattle.job_model.specs.declared.node_command.NodeCommand.TheVariants.{Raise}
 use Rattle.node_core.specs.declared.fault.CoreFault.{CoreFault}
 use Rattle.node_core.specs.declared.fault.CoreFault.TheVariants.{NoMemory}
+use Rattle.durable_node.specs.Area.{Area, LeavesArea}
 use Rattle.durable_node.specs.Node.{Node, Stands, shown_doubt}
 
 -- the event Recover
@@ -149,12 +151,18 @@ Stuck disks old new event node.NotFormatted = IsUnmountable disks old new event
 Stuck disks old new event (node.Damaged sector) = IsUnmountable disks old new event
 Stuck disks old new event node.TooSmall = IsUnmountable disks old new event
 
+-- what becomes of the area of a node that is up: its command is one record more, behind a compaction where no slot was free
+abbrev pub AreaGoesOn : {Disk : Type 0} → Node Disk → Node Disk → Event → Result Came NodeFault → Type 0
+AreaGoesOn old new event result = (d : Durable) (area : Area) → old.kept ≡ Some d → old.area ≡ Some area →
+    LeavesArea d area (wants_of old.id d.pending event old.state) result new.area
+
 -- The disk before a call and after it is there, and so is its count of failures: every answer but `Device` leaves that as it is, and
--- `Device` is answered only where it rose, or stands at its greatest value.
+-- `Device` is answered only where it rose, or stands at its greatest value. The number of its area rises by one at most.
 pub record CountsOf {Disk A : Type 0} (disks : Disk → DiskState) (old new : Option Disk) (result : Result A NodeFault) : Type 0 where
   pub was_there : IsSome old
   pub is_there : IsSome new
   pub counts : (was now : Disk) → old ≡ Some was → new ≡ Some now → Counts (disks was) (disks now) (IsErrOf result node.Device) (IsErrOf result node.Device → ⊥)
+  pub rises : (was now : Disk) → old ≡ Some was → new ≡ Some now → RisesByOne (disks was) (disks now)
 
 -- how many messages a call may hand out at most: none where the node is down
 abbrev pub most_by : ℕ → Option Durable → ℕ

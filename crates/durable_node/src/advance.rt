@@ -6,7 +6,7 @@ ghost use Rattle.durable_node.specs.Node.{disk_in, store_in, kept_in, mounted_in
 ghost use Rattle.durable_node.specs.Refusing.{Answers};
 ghost use Rattle.durable_node.specs.Reading.{ReadsDisk};
 ghost use Rattle.durable_node.specs.Remounting.{IsMountedBy, Remounted};
-ghost use Rattle.durable_node.specs.Stepping.{CountsOf, Steps, Stuck, most_by};
+ghost use Rattle.durable_node.specs.Stepping.{AreaGoesOn, CountsOf, Steps, Stuck, most_by};
 
 use crate::came::Came;
 use crate::fault::NodeFault;
@@ -36,10 +36,11 @@ pub(crate) fn advance<D: SectorDisk + Drop>(
     ensures stuck { IfErr result (Stuck D.state (node_with id nodes core.old disk.old doubt.old mounted.old) (node_with id nodes core.new disk.new doubt.new mounted.new) event.now) }
     ensures answers { Answers (node_with id nodes core.old disk.old doubt.old mounted.old) event.now (answered result) }
     ensures counts { CountsOf D.state (disk_in disk.old) (disk_in disk.new) (answered result) }
+    ensures area { AreaGoesOn (node_with id nodes core.old disk.old doubt.old mounted.old) (node_with id nodes core.new disk.new doubt.new mounted.new) event.now (answered result) }
     ensures mounting { is_down core.old.state.phase ≡ true → event.now ≡ Event.Recover
         → Remounted (node_with id nodes core.old disk.old doubt.old mounted.old) (node_with id nodes core.new disk.new doubt.new mounted.new) (answered result) (mounted_in mounted.new (store_in disk.new)) }
-    ensures kept { is_down core.old.state.phase ≡ true → event.now ≡ Event.Recover → IfOk result (λ came. IsMountedBy doubt.old came.fate (mounted_in mounted.new (store_in disk.new))) }
-    ensures reads { is_down core.old.state.phase ≡ true → event.now ≡ Event.Recover → ReadsDisk D.state (disk_in disk.old) (disk_in disk.new) (answered result) (mounted_in mounted.new (store_in disk.new)) }
+    ensures mounted { is_down core.old.state.phase ≡ true → event.now ≡ Event.Recover
+        → IfOk result (λ came. IsMountedBy doubt.old came.fate (mounted_in mounted.new (store_in disk.new))) × ReadsDisk D.state (disk_in disk.old) (disk_in disk.new) (answered result) (mounted_in mounted.new (store_in disk.new)) }
     ensures few { IfOk result (λ came. length came.sent.items ≤ most_by nodes (kept_in (is_down core.old.state.phase) (store_in disk.old))) }
 {
     match disk {
@@ -69,6 +70,7 @@ fn while_down<D: SectorDisk + Drop>(
     ensures stuck { IfErr result (Stuck D.state (node_with id nodes core.old disk.old doubt.old mounted.old) (node_with id nodes core.new disk.new doubt.new mounted.new) event.now) }
     ensures answers { Answers (node_with id nodes core.old disk.old doubt.old mounted.old) event.now (answered result) }
     ensures counts { CountsOf D.state (disk_in disk.old) (disk_in disk.new) (answered result) }
+    ensures area { AreaGoesOn (node_with id nodes core.old disk.old doubt.old mounted.old) (node_with id nodes core.new disk.new doubt.new mounted.new) event.now (answered result) }
     ensures mounting { event.now ≡ Event.Recover
         → Remounted (node_with id nodes core.old disk.old doubt.old mounted.old) (node_with id nodes core.new disk.new doubt.new mounted.new) (answered result) (mounted_in mounted.new (store_in disk.new)) }
     ensures mounted { event.now ≡ Event.Recover

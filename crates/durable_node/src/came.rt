@@ -42,6 +42,7 @@ impl Came {
 
     /// Why the event wasn't done: it was refused, or the device failed. None where it was done.
     pub fn fault(&self) -> Option<NodeFault>
+        // Promise: Why an event wasn't done is read off what came of it.
         ensures { result ≡ fault_of self.now.fate }
     {
         match self.fate {

@@ -36,6 +36,7 @@ pub(crate) fn carry<D: SectorDisk>(
 
 /// The same for a command that is written.
 #[inline(never)]
+#[tactic(auto, using(crate::proofs::AreaLaws::put_area, crate::proofs::AreaLaws::done_area, crate::proofs::AreaLaws::raise_area))]
 fn write<D: SectorDisk>(
     store: &mut NodeStore<D>,
     wants: &WantedRef<'_>,

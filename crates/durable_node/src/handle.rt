@@ -9,6 +9,7 @@ ghost use Rattle.node_core.specs.Refusals.{refusal_of};
 ghost use Rattle.node_core.specs.Wants.{wants_of};
 ghost use Rattle.node_store.specs.Store.{durable_of};
 ghost use Rattle.histories.specs.Fates.{attempt_of};
+ghost use Rattle.durable_node.specs.Area.{LeavesArea};
 ghost use Rattle.durable_node.specs.Carrying.{CantCarry, KeepsSound, Writes};
 ghost use Rattle.durable_node.specs.Faults.{answered};
 ghost use Rattle.durable_node.specs.Node.{IsCoreOf, IsOver, area_of, shown_doubt};
@@ -48,6 +49,7 @@ pub(crate) fn handle<D: SectorDisk>(
     ensures spares { IfErr result (λ _. takes_memory id event.now core.old.state ≡ true) }
     ensures answers { AnswersEvent (refusal_of nodes id event.now core.old.state)
         (disk_refusal (durable_of store.old) (area_of store.old) (wants_of id (durable_of store.old).pending event.now core.old.state)) (answered result) }
+    ensures area { LeavesArea (durable_of store.old) (area_of store.old) (wants_of id (durable_of store.old).pending event.now core.old.state) (answered result) (Some (area_of store.new)) }
     ensures store { KeepsSound D.state store.old store.new (IsErrOf (answered result) NodeFault.Device) }
     ensures disk { Writes D.state store.old store.new (wants_of id (durable_of store.old).pending event.now core.old.state) (IsOk (answered result)) }
 {

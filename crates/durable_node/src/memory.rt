@@ -1,7 +1,8 @@
 // A node over a disk in memory: how it opens, and how it crashes.
-ghost use Rattle.std.specs.Prelude.{◌≡◌, ◌≤◌, ◌<◌, ◌+◌, ◌*◌, IfOk, IsSome, Some, None};
+ghost use Rattle.std.specs.Prelude.{◌≡◌, ◌≤◌, ◌<◌, ◌+◌, ◌*◌, ℕ, IfOk, IsSome, Some, None};
 ghost use Rattle.disk_sector.specs.Layout.{sectors_for};
 ghost use Rattle.disk_sector.specs.declared.layout.TheConstants.{LEAST_SLOTS, MOST_SLOTS};
+ghost use Rattle.job_journal.specs.Journal.{AllWithin};
 ghost use Rattle.group_task.specs.declared.node.TheConstants.{NODES};
 ghost use Rattle.sector_disk.specs.Memory.{Memory, state_of, all_synced};
 ghost use Rattle.sector_disk.specs.Crash.{IsCrashed};
@@ -43,8 +44,14 @@ impl DurableNode<MemDisk> {
         ensures sectors { IfOk result (λ node. (disk : Memory) → node.disk ≡ Some disk → (state_of disk).sectors ≡ sectors_for slots) }
         // No call of its disk failed, and it isn't armed.
         ensures failures { IfOk result (λ node. (disk : Memory) → node.disk ≡ Some disk → disk.failures ≡ 0) }
+        // Promise: Opened over a disk in memory, a node is Normal in the group of its first count, with no job, and every image of
+        // its disk stands for that; no call of the disk failed, and it isn't armed.
+        // Also: DurableNode::open_copy, formatted_disk.
+        // Refuses: opened_on_a_blank_copy, opening_stays_down, opened_after_a_failure, opened_on_an_armed_disk.
         ensures disarmed { IfOk result (λ node. (disk : Memory) → node.disk ≡ Some disk → disk.left ≡ None) }
         ensures mounted { IfOk result (λ node. node.mounted ≡ None) }
+        // It was formatted with the area's number 1, and recovered once.
+        ensures number { IfOk result (λ node. (held : Memory) → node.disk ≡ Some held → AllWithin 2 (state_of held)) }
     {
         let disk = formatted_disk(alloc, slots)?;
         DurableNode::open_on(alloc, id, nodes, disk)
@@ -69,6 +76,8 @@ impl DurableNode<MemDisk> {
         ensures failures { IfOk result (λ node. (held : Memory) → node.disk ≡ Some held → held.failures ≡ 0) }
         ensures disarmed { IfOk result (λ node. (held : Memory) → node.disk ≡ Some held → held.left ≡ None) }
         ensures mounted { IfOk result (λ node. node.mounted ≡ None) }
+        // It was formatted with the area's number 1, and recovered once.
+        ensures number { IfOk result (λ node. (held : Memory) → node.disk ≡ Some held → AllWithin 2 (state_of held)) }
     {
         let copy = disk.copy(alloc)?;
         DurableNode::open_on(alloc, id, nodes, copy)
@@ -92,6 +101,8 @@ impl DurableNode<MemDisk> {
         ensures failures { IfOk result (λ node. (held : Memory) → node.disk ≡ Some held → held.failures ≡ 0) }
         ensures disarmed { IfOk result (λ node. (held : Memory) → node.disk ≡ Some held → held.left ≡ None) }
         ensures mounted { IfOk result (λ node. node.mounted ≡ None) }
+        // It was formatted with the area's number 1, and recovered once.
+        ensures number { IfOk result (λ node. (held : Memory) → node.disk ≡ Some held → AllWithin 2 (state_of held)) }
     {
         let mut node = DurableNode::down(alloc, id, nodes, disk);
         let Ok(came) = node.recover() else {
@@ -106,6 +117,9 @@ impl DurableNode<MemDisk> {
 
     /// Lets so many more calls of the disk pass, and fails all later ones, until it is armed anew or crashes.
     pub fn arm(&mut self, calls: u64)
+        // Promise: Arming and disarming change nothing but how many calls pass.
+        // Also: node_store::NodeStore::arm, node_store::NodeStore::disarm.
+        // Refuses: armed_for_one_more.
         ensures armed { self.new ≡ record self.old { disk = armed_disk calls self.old.disk; mounted = None } }
         ensures stands { (s : NodeState) → Stands state_of self.old s → Stands state_of self.new s }
     {
@@ -124,6 +138,8 @@ impl DurableNode<MemDisk> {
 
     /// Lets the disk forget the moments before this one, as [`MemDisk::forget`] does. What the last call mounted is shown still.
     pub fn forget(&mut self)
+        // Promise: Where its disk forgets the earlier moments, nothing else of the node changes, and it stands for what it stood
+        // for.
         ensures forgot { self.new ≡ record self.old { disk = forgotten_disk self.old.disk } }
         ensures stands { (s : NodeState) → Stands state_of self.old s → Stands state_of self.new s }
     {
@@ -133,10 +149,14 @@ impl DurableNode<MemDisk> {
     /// Stops the node here. It is Down, and its disk has the bytes of `fill` in the sectors that weren't synced, as
     /// [`MemDisk::crash`] says. What is in doubt stays in doubt.
     pub fn crash(&mut self, fill: &[u8])
+        // Promise: A crash leaves the node, which has its disk, Down and the disk as `MemDisk::crash` says; the node stands for
+        // what it stood for, doubt included.
+        // Refuses: crash_forgets_its_fill, doubt_dropped_by_a_crash.
         ensures there { IsSome self.old.disk }
         ensures down { self.new ≡ record self.old { state = down self.old.id; disk = self.new.disk; kept = None; area = None; mounted = None } }
         ensures disk { (was now : Memory) → self.old.disk ≡ Some was → self.new.disk ≡ Some now
             → IsCrashed was fill.now now.contents × (now ≡ all_synced now.contents was.failures) }
+        ensures number { (was now : Memory) (bound : ℕ) → self.old.disk ≡ Some was → self.new.disk ≡ Some now → AllWithin bound (state_of was) → AllWithin bound (state_of now) }
         ensures stands { (s : NodeState) → Stands state_of self.old s → Stands state_of self.new (after self.old.id self.old.nodes s Crashed) }
     {
         let mut disk = self.disk.take();

@@ -1,17 +1,18 @@
 // A node over its disk.
-ghost use Rattle.std.specs.Prelude.{◌≡◌, ◌≢◌, ◌≤◌, ◌<◌, IsOk, IfOk, IfErr, IsErrOf, IfSome, IsNone, Some, None, Err, length, true};
+ghost use Rattle.std.specs.Prelude.{◌≡◌, ◌≢◌, ◌≤◌, ◌<◌, IsOk, IfOk, IfErr, IsErrOf, IfSome, IsNone, IsSome, IsTrue, Some, None, Err, length, true, false};
 ghost use Rattle.group_task.specs.declared.node.TheConstants.{NODES};
 ghost use Rattle.job_model.specs.Table.{durable_of};
-ghost use Rattle.job_journal.specs.Journal.{IsSound};
+ghost use Rattle.job_journal.specs.Journal.{AllNumbered, IsSound};
 ghost use Rattle.node_core.specs.Start.{down};
 ghost use Rattle.node_core.specs.State.{state_of, is_down};
 ghost use Rattle.node_store.specs.Store.{slots_for};
+ghost use Rattle.durable_node.specs.Area.{Area};
 ghost use Rattle.durable_node.specs.Compacting.{Compacts, StaysKept, IsMovedNode, IsFallenNode};
 ghost use Rattle.durable_node.specs.Faults.{answered};
 ghost use Rattle.durable_node.specs.Reading.{ReadsDisk};
 ghost use Rattle.durable_node.specs.Refusing.{Answers, AnswersTo, compaction_refusal};
 ghost use Rattle.durable_node.specs.Remounting.{IsMountedBy, Remounted};
-ghost use Rattle.durable_node.specs.Stepping.{CountsOf, Steps, Stuck, most_by};
+ghost use Rattle.durable_node.specs.Stepping.{AreaGoesOn, CountsOf, Steps, Stuck, most_by};
 
 use crate::advance::{advance, is_down};
 use crate::came::Came;
@@ -63,6 +64,9 @@ impl<D: SectorDisk> DurableNode<D> {
         requires within { id < nodes }
         requires most { nodes ≤ NODES }
         requires sound { IsSound (slots_for (D.state disk).sectors) (D.state disk) }
+        // Promise: A node begins Down over a disk; what is shown of it is its state.
+        // Also: DurableNode::vector, DurableNode::durable, DurableNode::into_disk.
+        // Refuses: up_without_mounting, durable_where_down.
         ensures { result ≡ record { id = id; nodes = nodes; state = down id; disk = Some disk; kept = None; area = None; doubt = None; mounted = None } }
     {
         DurableNode {
@@ -78,9 +82,23 @@ impl<D: SectorDisk> DurableNode<D> {
 
     /// A node that is Down is in the one state of a node that is down.
     pub fn is_fallen(&self)
+        // Promise: A node that is Down is in one state.
         ensures { is_down self.now.state.phase ≡ true → self.now.state ≡ down self.now.id }
     {
         let _ = &self.core;
+    }
+
+    /// A node that is Down shows nothing of what its disk keeps. One that is up shows it, and the number of its area stands in each image that a
+    /// crash now may leave.
+    pub fn shows_its_disk(&self)
+        ensures down { is_down self.now.state.phase ≡ true → (self.now.kept ≡ None) × (self.now.area ≡ None) }
+        ensures up { is_down self.now.state.phase ≡ false → IsSome self.now.kept × IsSome self.now.area }
+        ensures number { (disk : D) (area : Area) → self.now.disk ≡ Some disk → self.now.area ≡ Some area → IsTrue (D.state disk).honest
+            → AllNumbered area.number (D.state disk) }
+    {
+        if let NodeDisk::Mounted(store) = &self.disk {
+            store.is_numbered();
+        }
     }
 
     /// What the node knows.
@@ -107,6 +125,10 @@ impl<D: SectorDisk> DurableNode<D> {
     /// What the last call that could change the node mounted: the counter from before the raise, and the jobs. It is shown
     /// also where that raise was refused or failed. None where that call mounted nothing.
     pub fn mounted(&self) -> Option<(u64, &JobTable)>
+        // Promise: `mounted` is what the last call that may change the node mounted, with the counter from before the raise, also
+        // where that raise failed or was refused; None exactly where it mounted nothing.
+        // Also: DurableNode::step.
+        // Refuses: mounted_is_never_none.
         ensures some { IfSome result (λ shown. self.now.mounted ≡ Some (durable_of shown.0 shown.1.now)) }
         ensures none { IsNone result → self.now.mounted ≡ None }
     {
@@ -130,6 +152,10 @@ impl<D: SectorDisk> DurableNode<D> {
     /// The command in which the device failed, with the count, or for a job the next id, from before it. It is kept until a
     /// recovery settles it; one that is refused, or whose mounting fails, doesn't.
     pub fn doubt(&self) -> Option<(Wanted, u64)>
+        // Promise: `doubt` is the command in which the device failed, with the count, or for a job the next id, from before it; it
+        // is kept until a recovery settles it.
+        // Also: DurableNode::step.
+        // Refuses: doubt_never_shown, doubt_dropped_by_a_crash, doubt_not_noted, doubt_settled_twice.
         ensures { result ≡ self.now.doubt }
     {
         self.doubt
@@ -148,17 +174,75 @@ impl<D: SectorDisk + Drop> DurableNode<D> {
     /// An error is no entry of the node's history, and leaves the node as it was: there is no memory, or the disk can't be
     /// mounted, which is `NotFormatted`, `Damaged` or `TooSmall`.
     pub fn step(&mut self, event: &Event) -> Result<Came, NodeFault>
+        // Promise: Messages are handed out only where the event was done, and then the command is on the disk: every image that a
+        // crash may leave stands for the state with it.
+        // Refuses: messages_before_the_store.
+        // Promise: A device that failed leaves the node Down, and every image stands for the state with the command or without it;
+        // a refusal leaves the node as it was.
+        // Refuses: device_fault_leaves_it_up.
+        // Promise: A node that is Down mounts its disk at the event Recover, raises the counter that it mounted, and is alone in
+        // the group of the new count; at any other event it stays as it is.
+        // Also: DurableNode::recover.
+        // Refuses: recovery_without_a_raise, mounting_skipped.
+        // Promise: What is answered names the event and its work, and doesn't hold them: with the event it is the whole entry of
+        // the history, and the whole command that was tried.
+        // Also: DurableNode::recover.
+        // Refuses: done_answered_as_faulted, failed_command_unanswered.
         ensures id { self.new.id ≡ self.old.id }
         ensures nodes { self.new.nodes ≡ self.old.nodes }
         // What came of it, the command that was tried with its answer, and the messages.
+        // Promise: What the call answers is one of the things that may come of the event (`histories`, `specs/Possible`), and node,
+        // disk and doubt then stand as `specs/After` says; so do the command that was tried, its answer, the messages and what was
+        // mounted.
+        // Also: DurableNode::recover.
+        // Refuses: another_event_done, recover_only_checks, counter_kept_in_memory, done_answered_as_faulted,
+        // failed_command_unanswered, kept_flag_turned.
         ensures step { IfOk result (Steps D.state self.old self.new event.now) }
+        // Promise: An error is no entry of a history: want of memory, which leaves the node as it was, or a disk that can't be
+        // mounted, which no history leaves, and that leaves all but the disk.
+        // Also: DurableNode::recover.
+        // Refuses: no_memory_brings_it_down.
+        // Promise: Want of memory brings an event to nothing only where it takes memory: at a node that is up by the table
+        // `takes_memory`, so never a ReadyTimer; at a node that is Down a recovery alone.
+        // Also: DurableNode::recover.
+        // Refuses: ready_timer_wants_memory, down_node_wants_memory.
         ensures stuck { IfErr result (Stuck D.state self.old self.new event.now) }
+        // Promise: A node that is up refuses an event exactly where the core's table does, with that very refusal, over any disk.
+        // Also: DurableNode::recover.
+        // Refuses: refusal_answered_as_no_memory.
+        // Promise: Want of memory aside, it refuses besides exactly where the disk can't take the command: `Exhausted` at the
+        // greatest counter or id, `Full` for a new job without room, `Exhausted` at the greatest number of the area, in this order;
+        // a finished job is never `Full`.
+        // Also: DurableNode::recover.
+        // Refuses: full_at_will, done_refused_full.
         ensures answers { Answers self.old event.now (answered result) }
+        // Promise: Over any disk the node has its disk before and after the call; `Device` comes only where the disk's count of
+        // failures rose or is the greatest, every other answer leaves it; size and honesty of the disk stay.
+        // Also: DurableNode::recover, DurableNode::compact.
+        // Refuses: device_answered_without_a_failure.
         ensures counts { CountsOf D.state self.old.disk self.new.disk (answered result) }
+        ensures area { AreaGoesOn self.old self.new event.now (answered result) }
         // Over any disk, honest or not.
+        // Promise: Over any disk, a recovery of a node that is Down mounts nothing, is refused for it and leaves the node; or it
+        // mounts a counter and jobs, and then is alone in the next group, or Down where the raise failed or no count is left.
+        // Also: DurableNode::recover.
+        // Refuses: recovery_without_a_raise.
         ensures mounting { is_down self.old.state.phase ≡ true → event.now ≡ Event.Recover → Remounted self.old self.new (answered result) self.new.mounted }
-        ensures kept { is_down self.old.state.phase ≡ true → event.now ≡ Event.Recover → IfOk result (λ came. IsMountedBy self.old.doubt came.fate self.new.mounted) }
-        ensures reads { is_down self.old.state.phase ≡ true → event.now ≡ Event.Recover → ReadsDisk D.state self.old.disk self.new.disk (answered result) self.new.mounted }
+        // Promise: Over any disk, a mounting answers whether the command that was in doubt counted: the count or the next id went
+        // on, or the job is gone.
+        // Also: DurableNode::recover.
+        // Refuses: kept_flag_turned.
+        // Promise: Over any disk, such a recovery answers `TooSmall` exactly where the disk has fewer than 24 sectors, without a
+        // call; an honest disk is answered as `NotFormatted` or `Damaged` only for what it reads first of all that isn't allowed.
+        // Also: DurableNode::recover.
+        // Refuses: unformatted_answered_as_too_small.
+        // Promise: What is mounted is what the disk reads; and where nothing is mounted nothing was written.
+        // Also: DurableNode::recover.
+        ensures mounted { is_down self.old.state.phase ≡ true → event.now ≡ Event.Recover → IfOk result (λ came. IsMountedBy self.old.doubt came.fate self.new.mounted) × ReadsDisk D.state self.old.disk self.new.disk (answered result) self.new.mounted }
+        // Promise: No call hands out more messages than there are other nodes or pending jobs, and a node that is Down hands out
+        // none; `most` answers that number.
+        // Also: DurableNode::most.
+        // Refuses: message_sent_twice, most_leaves_out_the_jobs.
         ensures few { IfOk result (λ came. length came.sent.items ≤ most_by self.old.nodes self.old.kept) }
     {
         advance(
@@ -182,9 +266,9 @@ impl<D: SectorDisk + Drop> DurableNode<D> {
         ensures stuck { IfErr result (Stuck D.state self.old self.new Event.Recover) }
         ensures answers { Answers self.old Event.Recover (answered result) }
         ensures counts { CountsOf D.state self.old.disk self.new.disk (answered result) }
+        ensures area { AreaGoesOn self.old self.new Event.Recover (answered result) }
         ensures mounting { is_down self.old.state.phase ≡ true → Remounted self.old self.new (answered result) self.new.mounted }
-        ensures kept { is_down self.old.state.phase ≡ true → IfOk result (λ came. IsMountedBy self.old.doubt came.fate self.new.mounted) }
-        ensures reads { is_down self.old.state.phase ≡ true → ReadsDisk D.state self.old.disk self.new.disk (answered result) self.new.mounted }
+        ensures mounted { is_down self.old.state.phase ≡ true → IfOk result (λ came. IsMountedBy self.old.doubt came.fate self.new.mounted) × ReadsDisk D.state self.old.disk self.new.disk (answered result) self.new.mounted }
         ensures few { IfOk result (λ came. length came.sent.items ≤ most_by self.old.nodes self.old.kept) }
     {
         self.step(&Event::Recover)
@@ -198,8 +282,19 @@ impl<D: SectorDisk + Drop> DurableNode<D> {
     pub fn compact(&mut self) -> Result<(), NodeFault>
         ensures id { self.new.id ≡ self.old.id }
         ensures nodes { self.new.nodes ≡ self.old.nodes }
+        // Promise: A compaction is refused in the order `Core(Down)`, `Exhausted` (the number of the area is the greatest),
+        // `Device`, and exactly so; refused, it changes nothing; after `Device` the node is Down with the doubt as it was.
+        // Also: refused, fallen.
+        // Refuses: failed_compaction_leaves_it_up, compacted_while_down.
         ensures answers { AnswersTo (compaction_refusal self.old.area) result }
+        // Promise: Of each state that the node stood for came one of the entries that a history has for a compaction: it rests,
+        // done or refused, or it stands as a crash; the node stands for the state after it.
+        // Refuses: failed_compaction_leaves_it_up.
         ensures step { Compacts D.state self.old self.new result }
+        // Promise: Done, a compaction moves the jobs into the other area and changes nothing else that the node shows; in every
+        // image since its start the disk stands for what the node kept.
+        // Also: images.
+        // Refuses: compaction_only_promised, compaction_forgets_jobs.
         ensures moved { IsOk result → IsMovedNode self.old self.new }
         ensures fallen { IsErrOf result NodeFault.Device → IsFallenNode self.old self.new }
         ensures refused { IfErr result (λ fault. fault ≢ NodeFault.Device → self.new ≡ record self.old { mounted = None }) }

@@ -1,7 +1,8 @@
 // The label of a file, behind its last sector.
-ghost use Rattle.std.specs.Prelude.{◌≡◌, IsOk, IsErrOf, IsOkUnless, true};
+ghost use Rattle.std.specs.Prelude.{◌≡◌, ◌↔◌, IsOk, IsErrOf, IsOkUnless, IsTrue, true};
 ghost use Rattle.sector_disk.specs.Memory.{risen};
 ghost use Rattle.sector_disk.specs.declared.fault.DiskFault.TheVariants.{Device};
+ghost use Rattle.file_disk.specs.Label.{IsOfANode};
 
 use crate::disk::FileDisk;
 use crate::places::{read_at, write_at};
@@ -11,6 +12,19 @@ use std::io;
 
 /// How many bytes a label has. They are fewer than a sector's, so the file has as many sectors with it as without.
 pub const LABEL: usize = 16;
+
+/// What the label of a node's file begins with.
+pub const NAME: [u8; 8] = *b"dumgerok";
+
+/// Whether a label, or none, is that of a node's file.
+pub fn is_of_a_node(label: Option<[u8; LABEL]>) -> bool
+    ensures { IsTrue result ↔ IsOfANode label }
+{
+    match label {
+        Some(label) => label[..8] == NAME[..],
+        None => false,
+    }
+}
 
 impl FileDisk {
     /// Writes the label behind the last sector, and syncs the file with its new length.
@@ -23,6 +37,9 @@ impl FileDisk {
             return self.fail();
         }
         let done = write_label(&self.file, self.end(), label);
+        if done.is_ok() {
+            self.length = self.end().saturating_add(LABEL as u64);
+        }
         self.answer(done)
     }
 

@@ -6,10 +6,13 @@ mod fault;
 mod label;
 mod making;
 mod places;
+mod reading;
 mod stride;
 mod zeros;
 
 pub use disk::FileDisk;
 pub use fault::OpenFault;
-pub use label::LABEL;
+pub use label::{LABEL, NAME, is_of_a_node};
+pub use making::put_in_place;
+pub use reading::open_to_read;
 pub use stride::Stride;

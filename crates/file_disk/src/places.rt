@@ -2,7 +2,7 @@
 use std::fs::File;
 use std::io;
 use std::io::{ErrorKind, Seek, SeekFrom};
-use std::os::unix::fs::FileExt;
+use std::os::unix::fs::{FileExt, MetadataExt};
 
 // Fills the piece from this place on: a read that gives less is followed by another, an interrupted one is made again, and the end of the
 // file is an error.
@@ -20,7 +20,23 @@ pub fn write_at<F: FileExt>(file: &F, place: u64, piece: &[u8]) -> io::Result<()
 // at the next write (Linux from 6.13 on), for which the next sync pays.
 pub fn overwrite(mut file: &File, length: u64, place: u64, piece: &[u8]) -> io::Result<()> {
     if file.seek(SeekFrom::End(0))? < length {
-        return Err(io::Error::from(ErrorKind::UnexpectedEof));
+        return Err(shorter());
     }
     write_at(file, place, piece)
+}
+
+// Refuses a file that no name leads to any more, or that has fewer bytes.
+pub fn expect_whole(file: &File, length: u64) -> io::Result<()> {
+    let about = file.metadata()?;
+    if about.nlink() == 0 {
+        return Err(io::Error::new(ErrorKind::NotFound, "the file was removed"));
+    }
+    if about.len() < length {
+        return Err(shorter());
+    }
+    Ok(())
+}
+
+fn shorter() -> io::Error {
+    io::Error::new(ErrorKind::UnexpectedEof, "the file became shorter")
 }

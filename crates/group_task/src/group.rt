@@ -32,6 +32,9 @@ impl GroupNo {
     /// The group's number, from input whose count may be 0, which no group has.
     #[inline]
     pub fn new(creator: NodeId, count: u64) -> Option<GroupNo>
+        // Promise: A group's number is its creator and a count of at least 1.
+        // Also: GroupNo::numbered, GroupNo::creator, GroupNo::count, GroupNo::is.
+        // Refuses: count_0_taken, first_group_refused, every_group_is_the_first, another_creator, count_one_less, is_another_group.
         ensures value { IfSome result (λ g. g ≡ record { creator = creator; count = count }) }
         ensures none { IsNone result ↔ (count ≡ 0) }
     {

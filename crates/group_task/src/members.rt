@@ -36,6 +36,14 @@ impl Members {
     #[tactic(auto, unfolding(crate::specs::Bits::ids_of))]
     #[inline]
     pub fn new() -> Members
+        // Promise: A set of nodes is a rising list of ids below 128, whatever the word of bits behind it.
+        // Also: Members::below, Members::len, Members::is_empty, Members::contains, Members::first, Members::get, Members::iter,
+        // job_model::JobTable::next, Members::insert, Members::remove, Members::pop_first, Members::with, Members::without,
+        // Members::or, Members::are_below.
+        // Refuses: node_0_in_the_empty_set, node_0_left_out, absent_nodes_counted, one_node_counted_as_none, absent_for_present,
+        // greatest_for_first, owner_by_wrong_bit_of_the_upper_word, place_before, nothing_gone_over, same_node_again_and_again,
+        // member_added_twice_is_out, all_others_removed, least_member_stays, with_takes_out, without_puts_in, both_for_either,
+        // other_sets_are_equal.
         ensures { result ≡ [] }
     {
         Members { word: 0 }

@@ -32,6 +32,9 @@ impl NodeId {
     /// The identifier of this number, from input that may hold any byte.
     #[inline]
     pub fn new(number: u8) -> Option<NodeId>
+        // Promise: The nodes are the numbers 0 to 127.
+        // Also: NodeId::numbered, NodeId::number, NodeId::is.
+        // Refuses: greatest_node_refused, node_past_limit_taken, every_node_is_node_0, number_halved, is_another_node.
         ensures value { IfSome result (λ id. id ≡ number) }
         ensures none { IsNone result ↔ (NODES ≤ number) }
     {

@@ -3,6 +3,8 @@ ghost use Rattle.group_task.specs.Shares.{OneOwner, IsEven};
 /// Of the members of a group exactly one owns each queue, the one that [`owner`](crate::owner)
 /// names. This function is the law, and does nothing.
 pub fn one_owner()
+    // Promise: Of the members of a group exactly one owns each queue.
+    // Also: node_core::Vector::members.
     ensures { OneOwner }
 {}
 
@@ -10,5 +12,6 @@ pub fn one_owner()
 /// nothing.
 #[tactic(auto, using(crate::proofs::ShareLaws::even_shares))]
 pub fn even_shares()
+    // Promise: No member owns two queues more than another.
     ensures { IsEven }
 {}

@@ -61,6 +61,9 @@ impl Task {
 #[inline]
 pub fn share(group: GroupNo, members: Members) -> Task
     requires { has members group.creator ≡ true }
+    // Promise: A task is its group and its members, a set with the creator in it.
+    // Also: Task::group, Task::members.
+    // Refuses: task_of_the_first_group, group_of_another_count, creator_is_the_only_member.
     ensures { result ≡ record { group = group; members = members } }
 {
     Task { group, members }
@@ -70,6 +73,8 @@ pub fn share(group: GroupNo, members: Members) -> Task
 ///
 /// [`one_owner`](crate::one_owner) and [`even_shares`](crate::even_shares) say what comes of it.
 pub fn owner(task: &Task, queue: Queue) -> NodeId
+    // Promise: The owner of queue q is the member at place q mod count, and is a member.
+    // Refuses: owner_off_by_one.
     ensures value { result ≡ owner_of task.now.members queue }
     ensures set { IsSet task.now.members }
     ensures member { has task.now.members result ≡ true }

@@ -1,5 +1,5 @@
 -- What is kept of a run, one act further.
-use Rattle.std.proofs.Common.{◌≡◌, ℕ, zero, suc, ◌+◌, ◌-◌, ◌<◌, ◌≤◌, Bool, true, false, List, [], ◌∷◌, ◌++◌, length, take, drop, Option, Some, None, Result, Ok, Err, OnOk, codes, slice_get, refl, sym, ap, subst, ◌∙◌, append_assoc, append-nil, arith, inl, inr, ◌⊎◌}
+use Rattle.std.proofs.Common.{◌≡◌, ℕ, zero, suc, ◌+◌, ◌-◌, ◌<◌, ◌≤◌, ◌^◌, Bool, true, false, List, [], ◌∷◌, ◌++◌, length, take, drop, Option, Some, None, Result, Ok, Err, OnOk, codes, slice_get, refl, sym, ap, subst, ◌∙◌, append_assoc, append-nil, arith, inl, inr, ◌⊎◌}
 use Rattle.std.proofs.lemmas.List.{length-append, length-drop, drop-append-le, take-append-le, take_rest}
 use Rattle.std.proofs.lemmas.Option.{slice_get_within}
 use Rattle.std.proofs.Math.Seq.{drop-append_seam}
@@ -9,7 +9,9 @@ use Rattle.node_core.specs.State.{is_down}
 use Rattle.histories.specs.NodeState.{NodeState}
 use Rattle.schedule.specs.declared.act.Act.{Act}
 use Rattle.runs.specs.declared.outcome.Outcome.{Outcome}
-use Rattle.cluster_sim.specs.World.{WorldView, Acted, StandsFor}
+use Rattle.cluster_sim.specs.Names.{node_named}
+use Rattle.cluster_sim.specs.Operated.{Operates}
+use Rattle.cluster_sim.specs.World.{AreasRise, AreasWithin, AreUnarmed, FaultsAt, WorldView, Acted, StandsFor}
 use Rattle.runs.proofs.PublicLaws.{step_adds}
 use Rattle.runs.specs.World.{World, start}
 use Rattle.runs.specs.Step.{step_sent}
@@ -189,10 +191,10 @@ sent_grows old new w a outcome stands acted =
 
 -- an act was done, and what came of it was kept
 pub act_kept : RunsGrow → (details : Details) (nodes slots : ℕ) (old new : WorldView) (before : List Act) (a : Act) (outcome : Outcome) (kept kept' : List Kept) (k : Kept) (text shown text' : List ℕ)
-    → ((w : World) → StandsFor old w → Acted w a outcome new) → new.slots ≡ old.slots → ((w : World) → StandsFor old w → AddsNodes details.nodes w.states text shown)
+    → ((w : World) → StandsFor old w → Acted w a outcome new) → Operates a old new outcome → FaultsAt (node_named (length old.nodes) old.net.sent a) old new outcome → ((w : World) → StandsFor old w → AreasRise old new outcome) → length before + 3 < 2 ^ 64 → new.slots ≡ old.slots → ((w : World) → StandsFor old w → AddsNodes details.nodes w.states text shown)
     → text' ≡ shown ++ act_head (length kept) a outcome → k.sent ≡ length new.net.sent → k.written ≡ length text' → kept' ≡ kept ++ k ∷ []
     → IsKeptSoFar details nodes slots old before kept text → IsKeptSoFar details nodes slots new (before ++ a ∷ []) kept' text'
-act_kept grow details nodes slots old new before a outcome kept kept' k text shown text' acted same rows head is_sent is_written is_more so =
+act_kept grow details nodes slots old new before a outcome kept kept' k text shown text' acted operates faults rises short same rows head is_sent is_written is_more so =
     let w = so.so.world in
     let stands = so.so.stands in
     let did = acted w stands in
@@ -225,7 +227,7 @@ act_kept grow details nodes slots old new before a outcome kept kept' k text sho
       all_sent = subst (λ (i : ℕ). sent_at (kept ++ k ∷ []) i ≡ length new.net.sent) more (ap sent_by seam ∙ is_sent);
       all_written = subst (λ (i : ℕ). written_at (kept ++ k ∷ []) i ≡ length text') more (ap written_by seam ∙ is_written);
       so = subst (λ (i : ℕ). IsSoFar details nodes slots new (before ++ a ∷ []) (lines details.names (kept ++ k ∷ []) text' new.net.sent i)) more
-          (further grow details nodes slots old new before a outcome written (written ++ t) (lines details.names (kept ++ k ∷ []) text' new.net.sent (suc n)) so.so acted same
+          (further grow details nodes slots old new before a outcome written (written ++ t) (lines details.names (kept ++ k ∷ []) text' new.net.sent (suc n)) so.so acted operates faults rises short same
           (λ w' st. behind_any (AddsNodes details.nodes w'.states) text shown written (nodes_by details.nodes w'.states text shown (rows w' st))) line);
     })
 
@@ -236,13 +238,13 @@ on_ok (Err e) a b both = tt
 -- ---- the beginning, and the end
 
 -- a cluster that was opened has kept nothing
-pub begins_kept : RunsOpen → (details : Details) (nodes slots : ℕ) (view : WorldView) → view.slots ≡ slots → StandsFor view (start nodes) → IsKeptSoFar details nodes slots view [] [] []
-begins_kept opens details nodes slots view same stands = record {
+pub begins_kept : RunsOpen → (details : Details) (nodes slots : ℕ) (view : WorldView) → view.slots ≡ slots → StandsFor view (start nodes) → AreUnarmed view.nodes → AreasWithin 2 view.nodes → IsKeptSoFar details nodes slots view [] [] []
+begins_kept opens details nodes slots view same stands unarmed areas = record {
   count = refl;
   are = λ i k at_i. absurd cc;
   all_sent = sym (ap (λ (net : Network). length net.sent) stands.net);
   all_written = refl;
-  so = begins opens details nodes slots view same stands;
+  so = begins opens details nodes slots view same stands unarmed areas;
 }
 
 -- all acts were done, and the nodes were added

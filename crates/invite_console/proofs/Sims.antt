@@ -1,6 +1,6 @@
 -- A run printed one act further.
-use Rattle.std.proofs.Common.{◌≡◌, ℕ, zero, suc, ◌+◌, Bool, true, false, List, [], ◌∷◌, ◌++◌, ◌<◌, length, map, drop, Option, Some, None, codes, decimal, slice_get, refl, sym, ap, subst, ◌∙◌, append_assoc, add-one, arith}
-use Rattle.std.proofs.lemmas.List.{drop_all, map-append, length-map}
+use Rattle.std.proofs.Common.{◌≡◌, ◌≢◌, ◌^◌, ℕ, zero, suc, ◌+◌, Bool, true, false, List, [], ◌∷◌, ◌++◌, ◌<◌, length, map, drop, Option, Some, None, codes, decimal, slice_get, refl, sym, ap, subst, ◌∙◌, append_assoc, add-one, arith}
+use Rattle.std.proofs.lemmas.List.{drop_all, length-append, map-append, length-map}
 use Rattle.std.proofs.Math.Seq.{drop-append_seam}
 use Rattle.wire_msg.specs.Envelope.{Envelope}
 use Rattle.sim_net.specs.Network.{Network}
@@ -16,14 +16,19 @@ use Rattle.runs.specs.declared.outcome.Outcome.{Outcome}
 use Rattle.runs.specs.declared.outcome.Outcome.TheVariants as outcome
 use Rattle.runs.specs.declared.outcome.Outcome.TheVariants.{Done}
 use Rattle.runs.specs.World.{World, node_in, start}
-use Rattle.runs.proofs.PublicLaws.{step_adds, step_length, length_openings}
+use Rattle.node_core.specs.declared.fault.Refusal.TheVariants.{Worn}
+use Rattle.runs.specs.declared.outcome.Outcome.TheVariants.{Refused}
+use Rattle.runs.specs.declared.outcome.Refusal.TheVariants.{Node as OfNode}
+use Rattle.runs.proofs.PublicLaws.{all_more, step_adds, step_length, length_openings}
 use Rattle.runs.specs.Step.{Step, Takes, Changes, Denies, step_sent, world_after}
 use Rattle.runs.specs.Acts.{what_outcome, act_outcome}
 use Rattle.runs.specs.Run.{IsAllowed}
 use Rattle.histories.specs.After.{sent_at}
 use Rattle.runs.specs.Reporting.{Moment, grown, moment_of, report_of}
 use Rattle.runs.specs.Growth.{IsNext, RunsGrow, RunsOpen}
-use Rattle.cluster_sim.specs.World.{WorldView, Acted, StandsFor}
+use Rattle.cluster_sim.specs.Names.{node_named}
+use Rattle.cluster_sim.specs.Operated.{Operates}
+use Rattle.cluster_sim.specs.World.{AreasRise, AreasWithin, AreUnarmed, FaultsAt, WorldView, Acted, StandsFor}
 use Rattle.invite_console.specs.declared.details.Details.{Details}
 use Rattle.invite_console.specs.Acts.{act_line, answer_text, moment_line, sent_text}
 use Rattle.invite_console.specs.Kept.{act_head}
@@ -84,17 +89,21 @@ line_further names nodes w ms old new acts a outcome step headed behind allowed 
 
 -- the acts so far, one act further
 pub further : RunsGrow → (details : Details) (nodes slots : ℕ) (old new : WorldView) (acts : List Act) (a : Act) (outcome : Outcome) (text headed behind : List ℕ)
-    → IsSoFar details nodes slots old acts text → ((w : World) → StandsFor old w → Acted w a outcome new) → new.slots ≡ old.slots
+    → IsSoFar details nodes slots old acts text → ((w : World) → StandsFor old w → Acted w a outcome new) → Operates a old new outcome → FaultsAt (node_named (length old.nodes) old.net.sent a) old new outcome → ((w : World) → StandsFor old w → AreasRise old new outcome) → length acts + 3 < 2 ^ 64 → new.slots ≡ old.slots
     → ((w : World) → StandsFor old w → AddsNodes details.nodes w.states text headed)
     → behind ≡ headed ++ act_line details.names (length acts) a outcome (drop (length old.net.sent) new.net.sent)
     → IsSoFar details nodes slots new (acts ++ a ∷ []) behind
-further grow details nodes slots old new acts a outcome text headed behind so acted same rows added =
+further grow details nodes slots old new acts a outcome text headed behind so acted operates faults rises short same rows added =
     let w = so.world in
     let act = acted w so.stands in
     let next : IsNext nodes slots w a act.step =
     subst (λ (n : ℕ). IsNext n slots w a act.step) so.count (subst (λ (k : ℕ). IsNext (length w.states) k w a act.step) (same ∙ so.slots_are) act.next) in
     let stands : StandsFor new (world_after nodes w act.step) = subst (λ (n : ℕ). StandsFor new (world_after n w act.step)) so.count act.stands in
     let outcome_is : outcome ≡ act_outcome nodes w a act.step = act.outcome_is ∙ ap (λ (n : ℕ). act_outcome n w a act.step) so.count in
+    let ms = so.report.moments in
+    let risen = rises w so.stands (length ms + 2) so.areas in
+    let other : act_outcome nodes w a act.step ≢ Refused (OfNode Worn) =
+    subst (λ (o : Outcome). o ≢ Refused (OfNode Worn)) outcome_is (risen.1 (omega (arith, short, numbered acts ms so.acts_are))) in
     record {
       world = world_after nodes w act.step;
       report = grown nodes w a act.step so.report;
@@ -102,8 +111,16 @@ further grow details nodes slots old new acts a outcome text headed behind so ac
       count = step_length nodes w act.step ∙ so.count;
       slots_are = same ∙ so.slots_are;
       stands = stands;
+      areas = subst (λ (k : ℕ). AreasWithin k new.nodes) (omega (arith, length-append ms (moment_of nodes w a act.step ∷ []))) risen.0;
+      unworn = all_more (λ (k : ℕ) (m : Moment). m.outcome ≢ Refused (OfNode Worn)) ms (moment_of nodes w a act.step) so.unworn other;
       acts_are = map-append (λ (m : Moment). m.act) so.report.moments (moment_of nodes w a act.step ∷ []) ∙ ap (λ (xs : List Act). xs ++ a ∷ []) so.acts_are;
-      printed = one_more w so.report a act.step text headed behind so.printed next (rows w so.stands)
+      printed = one_more old new w so.report a act.step text headed behind so.printed next
+          (record {
+            stands = stands;
+            operates = subst (λ (o : Outcome). Operates a old new o) outcome_is operates;
+            faults = subst (λ (o : Outcome). FaultsAt (node_named (length old.nodes) old.net.sent a) old new o) outcome_is faults;
+          })
+          (rows w so.stands)
           (line_further details.names nodes w so.report.moments old new acts a outcome act.step headed behind next.allowed so.acts_are so.stands.net outcome_is stands added);
     }
 
@@ -138,26 +155,30 @@ line_is names number old new w a outcome stands acted =
 -- ---- the beginning, and the end
 
 -- of a cluster that was opened nothing is printed
-pub begins : RunsOpen → (details : Details) (nodes slots : ℕ) (view : WorldView) → view.slots ≡ slots → StandsFor view (start nodes) → IsSoFar details nodes slots view [] []
-begins opens details nodes slots view same stands = record {
+pub begins : RunsOpen → (details : Details) (nodes slots : ℕ) (view : WorldView) → view.slots ≡ slots → StandsFor view (start nodes) → AreUnarmed view.nodes → AreasWithin 2 view.nodes → IsSoFar details nodes slots view [] []
+begins opens details nodes slots view same stands unarmed areas = record {
   world = start nodes;
   report = report_of nodes [] [];
   left = opens nodes slots;
   count = length_openings 0 nodes;
   slots_are = same;
   stands = stands;
+  areas = areas;
+  unworn = λ k m at. absurd cc;
   acts_are = refl;
-  printed = nothing;
+  printed = nothing view stands unarmed;
 }
 
 -- all acts were printed, and then the nodes
 pub ends : (details : Details) (nodes slots : ℕ) (view : WorldView) (acts : List Act) (text all : List ℕ) → IsSoFar details nodes slots view acts text
     → ((w : World) → StandsFor view w → AddsRows 0 w.states text all) → PrintsRun details nodes slots acts all
 ends details nodes slots view acts text all so rows = record {
+  view = view;
   world = so.world;
   report = so.report;
   left = so.left;
   acts_are = so.acts_are;
+  unworn = so.unworn;
   front = text;
   printed = so.printed;
   ended = rows so.world so.stands;

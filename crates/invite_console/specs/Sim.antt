@@ -7,8 +7,10 @@ use Rattle.schedule.specs.Text.{Plan, plan_of}
 use Rattle.runs.specs.World.{World, start}
 use Rattle.runs.specs.Step.{Step, world_after}
 use Rattle.runs.specs.Reporting.{Report, grown, moment_of, report_of}
+use Rattle.runs.specs.Headline.{NoneWorn}
 use Rattle.runs.specs.Growth.{IsLeft, IsNext, acts_in}
-use Rattle.cluster_sim.specs.World.{WorldView, StandsFor}
+use Rattle.cluster_sim.specs.Acting.{IsActed}
+use Rattle.cluster_sim.specs.World.{AreasWithin, AreUnarmed, WorldView, StandsFor}
 use Rattle.console_text.specs.Ends.{Outcome, line, refused}
 use Rattle.invite_console.specs.declared.details.Details.{Details}
 use Rattle.invite_console.specs.Acts.{moment_line}
@@ -37,23 +39,27 @@ AddsNodes true states old new = AddsRows 0 states old new
 -- ---- the whole text
 
 -- A run and its report, with its text so far: in front of the line of each act, where they are asked for, the nodes as they
--- are before it.
-pub data PrintsSoFar (details : Details) (nodes slots : ℕ) : World → Report → List ℕ → Type 0 where
-  nothing : PrintsSoFar details nodes slots (start nodes) (report_of nodes [] []) []
-  one_more : (w : World) (r : Report) (a : Act) (step : Step) (text headed behind : List ℕ) → PrintsSoFar details nodes slots w r text
-      → IsNext nodes slots w a step → AddsNodes details.nodes w.states text headed
+-- are before it. The nodes open over disks that aren't armed, and each act finds them as the act before it left them.
+pub data PrintsSoFar (details : Details) (nodes slots : ℕ) : WorldView → World → Report → List ℕ → Type 0 where
+  nothing : (view : WorldView) → StandsFor view (start nodes) → AreUnarmed view.nodes
+      → PrintsSoFar details nodes slots view (start nodes) (report_of nodes [] []) []
+  one_more : (view view' : WorldView) (w : World) (r : Report) (a : Act) (step : Step) (text headed behind : List ℕ)
+      → PrintsSoFar details nodes slots view w r text → IsNext nodes slots w a step → IsActed nodes view view' w a step
+      → AddsNodes details.nodes w.states text headed
       → behind ≡ headed ++ moment_line details.names (length r.moments) (moment_of nodes w a step)
-      → PrintsSoFar details nodes slots (world_after nodes w step) (grown nodes w a step r) behind
+      → PrintsSoFar details nodes slots view' (world_after nodes w step) (grown nodes w a step r) behind
 
 -- Some run of these acts is printed act by act, and then the nodes as it leaves them. Whatever is promised of every run of a
--- schedule is promised of this one.
+-- schedule is promised of this one, and none of its acts is refused because the areas of a disk are used up.
 pub record PrintsRun (details : Details) (nodes slots : ℕ) (acts : List Act) (text : List ℕ) : Type 0 where
+  pub view : WorldView
   pub world : World
   pub report : Report
   pub left : IsLeft nodes slots world report
   pub acts_are : acts_in report ≡ acts
+  pub unworn : NoneWorn report
   pub front : List ℕ
-  pub printed : PrintsSoFar details nodes slots world report front
+  pub printed : PrintsSoFar details nodes slots view world report front
   pub ended : AddsRows 0 world.states front text
 
 abbrev pub PrintsPlan : Details → Result Plan ℕ → Outcome → Type 0
@@ -74,8 +80,11 @@ pub record IsSoFar (details : Details) (nodes slots : ℕ) (view : WorldView) (a
   pub count : length world.states ≡ nodes
   pub slots_are : view.slots ≡ slots
   pub stands : StandsFor view world
+  -- each act raises the number of an area by one at most
+  pub areas : AreasWithin (length report.moments + 2) view.nodes
+  pub unworn : NoneWorn report
   pub acts_are : acts_in report ≡ acts
-  pub printed : PrintsSoFar details nodes slots world report text
+  pub printed : PrintsSoFar details nodes slots view world report text
 
 -- the cluster stands for some world
 abbrev pub HasWorld : WorldView → Type 0

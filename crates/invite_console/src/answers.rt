@@ -29,8 +29,23 @@ pub fn answer<R: Read, W: Write>(
 ) -> Ended
     requires within { id < nodes }
     requires limit { nodes ≤ NODES }
+    // Promise: What `answer` writes is the stated text of the bytes that were read: a line of hex for each message that the node
+    // sends, in the order of the stream; at a stranger's message `refused Stranger`, and nothing after it.
+    // Refuses: answer_without_its_input, stranger_is_answered, answers_said_again.
+    // Promise: `malformed` stands behind the answers before a bad frame, nothing for an unfinished frame; `bad line N` alone for
+    // the first line that can't be read; `no memory` alone; the status goes with it.
+    // Refuses: malformed_is_not_printed, unfinished_frame_refused, last_line_dropped, lines_are_miscounted.
     ensures prints { Prints (IsFixed (answer_text id nodes)) (R.remaining input.old.reader) (W.contents output.old) (W.contents output.new) result.ending }
+    // Promise: What is said to be wrong with an input is said of its first line that can't be read, by the number of that line; of
+    // a stream, of what its last line says.
+    // Also: show, sim, record, store_console::store, threads_console::threads.
+    // Refuses: reason_of_another_line, store_console::form_of_another_request, console_text::why_is_lost, line_words::line_before,
+    // threads_console::reason_of_the_whole_text, threads_console::reason_without_its_worker,
+    // threads_console::form_of_another_order.
     ensures why { IsWhy (answer_flaw id nodes) (R.remaining input.old.reader) result.ending result.why.items }
+    // Promise: At most 16,777,216 reads are made of an input.
+    // Also: show, sim, record, command_line::store.
+    // Refuses: sim_reads_once_more, answer_reads_once_more, show_reads_once_more, store_console::store_reads_once_more.
     ensures reads { input.old.left ≤ input.new.left + 16777216 }
 {
     let outcome = match read_source(alloc, input) {
@@ -98,5 +113,6 @@ fn answers_to(
 
 /// No message needs the disk, whatever messages the node took before: so no new group starts here, and no job is made or done.
 pub fn needs_no_disk()
+    // Promise: No message needs the disk in `answer`: no new group starts, no job is made or done.
     ensures { (id nodes : ℕ) (before : List Envelope) (m : Envelope) → wants_of id [] (Deliver m) (state_after nodes id before (alone id first_count)) ≡ None }
 {}

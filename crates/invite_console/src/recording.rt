@@ -17,6 +17,7 @@ use trace_text::write;
 
 /// Reads a schedule, runs it on a simulated cluster, and prints the trace of the run as one line of JSON.
 pub fn record<R: Read, W: Write>(alloc: Global, input: &mut Source<R>, output: &mut W) -> Ended
+    // Promise: What `record` writes is the text of such a trace, or the first bad line.
     ensures prints { Prints IsRecording (R.remaining input.old.reader) (W.contents output.old) (W.contents output.new) result.ending }
     ensures why { IsWhy schedule_flaw (R.remaining input.old.reader) result.ending result.why.items }
     ensures reads { input.old.left ≤ input.new.left + 16777216 }

@@ -21,6 +21,9 @@ use wire_msg::{Body, Message, decode_front};
 /// Reads a stream of messages in hex lines, and prints them, a line of text for each. Bytes of an unfinished frame are counted
 /// behind the last.
 pub fn show<R: Read, W: Write>(alloc: Global, input: &mut Source<R>, output: &mut W) -> Ended
+    // Promise: What `show` writes is the stated text of the bytes that were read: a line for each message, `rest N` behind the
+    // last, `malformed` in place of what follows a bad frame; bad lines and memory as above.
+    // Refuses: show_without_its_input, wrong_word_shown, yes_for_no, short_rest_not_shown.
     ensures prints { Prints (IsFixed show_text) (R.remaining input.old.reader) (W.contents output.old) (W.contents output.new) result.ending }
     ensures why { IsWhy show_flaw (R.remaining input.old.reader) result.ending result.why.items }
     ensures reads { input.old.left ≤ input.new.left + 16777216 }

@@ -31,6 +31,13 @@ pub fn sim<R: Read, W: Write>(
     input: &mut Source<R>,
     output: &mut W,
 ) -> Ended
+    // Promise: What `sim` writes is the text of some run of the acts that were read: a line for each act, in order, and then the
+    // nodes; the laws of every run of a schedule (`runs::every_schedule`) hold of this run.
+    // Refuses: sim_without_its_input, acts_counted_from_one, lines_run_together, message_misnumbered, neighbour_printed,
+    // nodes_left_out, refusal_answered_as_done, hand_in_its_own_order, count_of_a_job_for_its_id.
+    // Promise: With `--names` each message is printed by name, and with `--nodes` the nodes as they are before each act, of the
+    // same run; for a text with a line that can't be read, `bad line N` alone.
+    // Refuses: nodes_not_asked_for.
     ensures prints { Prints (IsSimOutcome details) (R.remaining input.old.reader) (W.contents output.old) (W.contents output.new) result.ending }
     ensures why { IsWhy schedule_flaw (R.remaining input.old.reader) result.ending result.why.items }
     ensures reads { input.old.left ≤ input.new.left + 16777216 }

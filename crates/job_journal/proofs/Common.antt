@@ -23,7 +23,7 @@ pub use Rattle.job_journal.specs.Appending.{Admitted, BeforeOrAfter, appended, r
 pub use Rattle.job_journal.specs.Areas.{slots_from, sealed_prefix, AllUnsealed, IsPrefix, first_of, area_of}
 pub use Rattle.job_journal.specs.Compacting.{with_slot, KeepsJobs, HasAppended, IsWritten, records_for, other_sector}
 pub use Rattle.job_journal.specs.Jobs.{no_jobs, jobs_of, jobs_after, with_jobs, id_of, Jobs, is_unknown, is_out_of_ids}
-pub use Rattle.job_journal.specs.Journal.{jobs_in, IsFormatted, IsSoundImage, InJournal, IsSound, ImagesSince, replay_from, damage_of, cell_damage, replay_by, replay_in, jobs_by, IsSoundArea}
+pub use Rattle.job_journal.specs.Journal.{jobs_in, IsFormatted, IsSoundImage, InJournal, IsSound, ImagesSince, replay_from, damage_of, cell_damage, replay_by, replay_in, jobs_by, IsSoundArea, IsNumbered, AllWithin, RisesByOne}
 pub use Rattle.job_journal.specs.Mounted.{JournalState, Holds, AllHold, IsJournal, first_sector, next_slot}
 pub use Rattle.job_journal.specs.Readings.{Replay, Reads, fresh, then_slot, replayed, taken, replay_at, Reading, is_above, fitting, Damage}
 pub use Rattle.job_journal.specs.declared.fault.JournalFault.{JournalFault}

@@ -1,5 +1,5 @@
 -- What an image stands for as a journal of jobs.
-use Rattle.std.specs.Prelude.{◌≡◌, ◌<◌, ◌≤◌, ℕ, ◌+◌, ◌*◌, Bool, false, List, Option, Some, None, is_none, if◌then◌else◌, IsTrue}
+use Rattle.std.specs.Prelude.{◌≡◌, ◌⊎◌, ◌<◌, ◌≤◌, ℕ, ◌+◌, ◌*◌, Bool, false, List, Option, Some, None, is_none, if◌then◌else◌, IsTrue}
 use Rattle.disk_sector.specs.Layout.{sectors_for}
 use Rattle.sector_disk.specs.Disk.{Image, DiskState, IsImage}
 use Rattle.sector_disk.specs.Run.{Each}
@@ -64,6 +64,22 @@ pub record ImagesSince (slots : ℕ) (old new : DiskState) (Stands : Image → T
 -- the sectors of the area cell and of both areas
 abbrev pub InJournal : ℕ → ℕ → Type 0
 InJournal slots at = (4 ≤ at) × (at < sectors_for slots)
+
+-- the area cell of an image has this number, or the next one
+abbrev pub IsNumbered : ℕ → Image → Type 0
+IsNumbered number image = (cell_at image 4 ≡ Some number) ⊎ (cell_at image 4 ≡ Some (number + 1))
+
+-- in each image that a crash now may leave, the area cell has at most this number
+abbrev pub AllWithin : ℕ → DiskState → Type 0
+AllWithin bound disk = (image : Image) (number : ℕ) → IsImage disk image → cell_at image 4 ≡ Some number → number ≤ bound
+
+-- in each of them it has this number
+abbrev pub AllNumbered : ℕ → DiskState → Type 0
+AllNumbered number disk = (image : Image) → IsImage disk image → cell_at image 4 ≡ Some number
+
+-- the number of an honest disk's area rises by one at most
+abbrev pub RisesByOne : DiskState → DiskState → Type 0
+RisesByOne old new = IsTrue old.honest → (bound : ℕ) → AllWithin bound old → AllWithin (bound + 1) new
 
 -- the journal of an image is as a format leaves it: the area cell has the value 1, and no gate of either area is sealed
 pub record IsFormatted (slots : ℕ) (image : Image) : Type 0 where

@@ -64,7 +64,7 @@ fn erase<D: SectorDisk>(disk: &mut D, first: u64, slots: u64) -> Result<(), Jour
 }
 
 // Fills the records of the jobs into slots that are unsealed.
-fn fill_area<D: SectorDisk>(
+pub(crate) fn fill_area<D: SectorDisk>(
     disk: &mut D,
     first: u64,
     slots: u64,
@@ -82,6 +82,9 @@ fn fill_area<D: SectorDisk>(
         → IsWritten first slots (records_for (jobs_of table.now)) 0 0 (D.state disk.old).contents
         → IsWritten first slots (records_for (jobs_of table.now)) (length table.now.pending + 1)
         0 (D.state disk.new).contents }
+    // Promise: The bodies of the other area are synced before a gate is sealed over them.
+    // Also: seal_area.
+    // Refuses: sync_skipped_before_the_seal.
     ensures synced { IsTrue (D.state disk.old).honest → IsOk result
         → AllSynced (D.state disk.new) }
 {
@@ -95,7 +98,7 @@ fn fill_area<D: SectorDisk>(
 }
 
 // Seals the slots that were filled, over bodies that are synced.
-fn seal_area<D: SectorDisk>(
+pub(crate) fn seal_area<D: SectorDisk>(
     disk: &mut D,
     first: u64,
     slots: u64,
@@ -117,6 +120,7 @@ fn seal_area<D: SectorDisk>(
         (length table.now.pending + 1) (D.state disk.new).contents }
     ensures synced { IsTrue (D.state disk.old).honest → IsOk result
         → AllSynced (D.state disk.new) }
+    ensures in_order { IsInOrder table.now.pending table.now.next }
 {
     for sealed in 0..record_count(table) {
         let Ok(()) = seal(disk, first + 2 * sealed) else {

@@ -3,12 +3,12 @@ ghost use Rattle.std.specs.Prelude.{◌≡◌, ◌≢◌, ◌⊎◌, ◌<◌, �
 ghost use Rattle.disk_sector.specs.Layout.{sectors_for};
 ghost use Rattle.disk_sector.specs.declared.layout.TheConstants.{MOST_SLOTS};
 ghost use Rattle.sector_disk.specs.Disk.{Counts};
-ghost use Rattle.sector_disk.specs.Run.{Run};
+ghost use Rattle.sector_disk.specs.Run.{Run, Each};
 ghost use Rattle.job_journal.specs.Appending.{Answers};
 ghost use Rattle.job_journal.specs.Areas.{first_of};
 ghost use Rattle.job_journal.specs.Compacting.{compaction_refusal, compacted, with_slot, KeepsJobs, IsGivenUp};
 ghost use Rattle.job_journal.specs.Jobs.{jobs_of};
-ghost use Rattle.job_journal.specs.Journal.{jobs_in, ImagesSince, InJournal};
+ghost use Rattle.job_journal.specs.Journal.{jobs_in, ImagesSince, InJournal, IsNumbered};
 ghost use Rattle.job_journal.specs.Mounted.{AllHold, Lasts, IsJournal};
 
 use crate::area::{record_count, write_area};
@@ -29,10 +29,18 @@ impl JobJournal {
             (IsErrOf result JournalFault.Device) (IsErrOf result JournalFault.Device → ⊥) }
 
         // Which answer comes when, and what it leaves.
+        // Promise: It is refused in the order Broken, Exhausted, and these change neither disk nor journal; else it answers Ok or
+        // Device.
+        // Also: refused, device, JobJournal::refuse_compaction.
+        // Refuses: compaction_does_nothing.
         ensures answers { Answers (compaction_refusal self.old) result }
         ensures refused { IsSome (compaction_refusal self.old)
             → (disk.new ≡ disk.old) × (self.new ≡ self.old) }
         ensures device { IsErrOf result JournalFault.Device → IsGivenUp self.old self.new }
+        // Promise: After its Ok every image has the other area, with a Base and one Keep for each job and no sealed slot behind
+        // them; nothing is unsynced.
+        // Also: after.
+        // Refuses: last_keep_not_sealed, compaction_does_nothing.
         ensures ok { IsOk result → self.new ≡ compacted self.old }
         ensures kept { KeepsJobs self.old self.new }
 
@@ -41,9 +49,19 @@ impl JobJournal {
             → Run (InJournal self.old.slots) (D.state disk.old) (D.state disk.new) }
 
         // Each image since the start stands for the jobs of before, and on a sound disk it is sound.
+        // Promise: A compaction on an honest disk, sound or not: every image since its start stands for the jobs from before it.
+        // Refuses: area_raised_before_last_keep, written_into_the_present_area, keep_left_out, base_of_zero, last_keep_not_sealed,
+        // next_id_not_kept.
+        // Promise: It keeps a sound disk sound in every image, and changes no sector outside the journal.
+        // Also: run.
+        // Refuses: old_area_left_unsealed.
         ensures images { IsTrue (D.state disk.old).honest → AllHold self.old (D.state disk.old)
             → ImagesSince self.old.slots (D.state disk.old) (D.state disk.new)
             (λ image. jobs_in self.old.slots image ≡ Some (jobs_of self.old.table)) }
+
+        // In each image since the start the area cell has the number of before, or the next one.
+        ensures numbered { IsTrue (D.state disk.old).honest → AllHold self.old (D.state disk.old)
+            → Each (D.state disk.old) (D.state disk.new) (IsNumbered self.old.area.value) }
 
         // After `Ok` each image has the new area, and nothing is unsynced.
         ensures after { IsTrue (D.state disk.old).honest → IsOk result
@@ -79,6 +97,8 @@ impl JobJournal {
         ensures images { IsTrue (D.state disk.old).honest → AllHold self.old (D.state disk.old)
             → ImagesSince self.old.slots (D.state disk.old) (D.state disk.new)
             (λ image. jobs_in self.old.slots image ≡ Some (jobs_of self.old.table)) }
+        ensures numbered { IsTrue (D.state disk.old).honest → AllHold self.old (D.state disk.old)
+            → Each (D.state disk.old) (D.state disk.new) (IsNumbered self.old.area.value) }
         ensures after { IsTrue (D.state disk.old).honest → AllHold self.old (D.state disk.old) → IsOk result
             → AllHold self.new (D.state disk.new) }
     {

@@ -27,6 +27,10 @@ pub fn format<D: SectorDisk>(disk: &mut D, slots: u64) -> Result<(), JournalFaul
 
     // After `Ok` each image has the area cell's 1 and no sealed slot in either area, so it stands for no jobs; the disk
     // is sound, and nothing is unsynced.
+    // Promise: After a format every image has the area cell's 1 and no sealed gate in either area, so it stands for no jobs; the
+    // disk is sound.
+    // Also: empty, sound.
+    // Refuses: format_does_nothing, second_area_left_sealed, area_cell_of_another_number.
     ensures formatted { IsTrue (D.state disk.old).honest → IsOk result
         → (image : Image) → IsImage (D.state disk.new) image → IsFormatted slots image }
     ensures empty { IsTrue (D.state disk.old).honest → IsOk result

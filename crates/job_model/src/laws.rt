@@ -8,6 +8,8 @@ use crate::work::Work;
 
 /// There are 16 queues, a payload has at most 400 bytes, and a priority is at most 255.
 pub fn limits(work: Work)
+    // Promise: There are 16 queues, a payload has at most 400 bytes, and a priority is at most 255.
+    // Refuses: queues_off_by_one, payload_off_by_one.
     ensures queues { QUEUES ≡ 16 }
     ensures payload { PAYLOAD_CAPACITY ≡ 400 }
     ensures priority { work.priority ≤ 255 }

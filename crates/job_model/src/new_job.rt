@@ -32,6 +32,10 @@ impl Model for NewJob {
 impl NewJob {
     /// A job with a payload of these bytes, which input may have made too many.
     pub fn new(queue: Queue, priority: u8, payload: Vec<u8>) -> Option<NewJob>
+        // Promise: A new job has the queue, the priority and the bytes that it was made of, and is none exactly where there are
+        // more than 400; it is cloned as it is, and compared by what it asks for.
+        // Also: NewJob::work, NewJob::try_clone, NewJob::is_same.
+        // Refuses: payload_not_kept, payload_of_any_length, priority_not_compared.
         ensures value { IfSome result (λ job. job ≡ record { queue = queue; priority = priority; payload = payload.items }) }
         ensures none { IsNone result ↔ (PAYLOAD_CAPACITY < length payload.items) }
     {

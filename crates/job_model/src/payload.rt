@@ -36,6 +36,8 @@ impl Payload {
     /// A payload of these bytes, which input may have made too many.
     #[inline]
     pub fn new(bytes: &[u8]) -> Option<Payload>
+        // Promise: A payload is made of any 0 to 400 bytes and of no more; it is those bytes.
+        // Refuses: longest_payload_refused, payload_dropped.
         ensures value { IfSome result (λ payload. payload ≡ bytes.now) }
         ensures none { IsNone result ↔ (PAYLOAD_CAPACITY < length bytes.now) }
     {
@@ -68,6 +70,9 @@ impl Payload {
     /// Its bytes, without the zeros that are kept behind them.
     #[inline]
     pub fn as_slice(&self) -> &[u8]
+        // Promise: The bytes, their number, and whether there are any, without the zeros that are kept behind them.
+        // Also: Payload::len, Payload::is_empty.
+        // Refuses: zeros_shown, zeros_counted, empty_for_full.
         ensures value { result.now ≡ self.now }
         ensures fits { length self.now ≤ PAYLOAD_CAPACITY }
     {
@@ -97,6 +102,8 @@ impl PartialEq for Payload {
     ghost laws = { partial_equiv_from_equiv nat_list_eq_equiv };
 
     #[inline]
+    // Promise: Two payloads are equal exactly where their bytes are.
+    // Refuses: equal_by_length.
     fn eq(&self, other: &Payload) -> bool {
         self.as_slice() == other.as_slice()
     }

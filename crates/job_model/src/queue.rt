@@ -29,6 +29,9 @@ impl Queue {
     /// The queue of this number, from input that may hold any byte.
     #[inline]
     pub fn new(number: u8) -> Option<Queue>
+        // Promise: The queues are the numbers 0 to 15.
+        // Also: Queue::number.
+        // Refuses: last_queue_refused, queue_past_limit_taken, number_halved.
         ensures value { IfSome result (λ queue. queue ≡ number) }
         ensures none { IsNone result ↔ (QUEUES ≤ number) }
     {

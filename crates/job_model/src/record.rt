@@ -37,6 +37,9 @@ impl Record {
     /// The sector of a record: its kind in one byte, numbers with the greatest byte first, and zeros to the end.
     #[tactic(auto, unfolding(crate::specs::Records::record_of))]
     pub fn to_sector(&self) -> Sector
+        // Promise: A record's sector is the bytes of the table of records, and reads back as that record.
+        // Also: read_back.
+        // Refuses: wrong_length_written, base_written_as_done, id_of_seven_bytes.
         ensures bytes { result ≡ bytes_of self.now }
         ensures read_back { record_of result ≡ Some self.now }
     {
@@ -54,6 +57,8 @@ impl Record {
     /// they are read, and never written.
     #[tactic(auto, unfolding(crate::specs::Records::record_of))]
     pub fn from_sector(sector: &Sector) -> Option<Record>
+        // Promise: A sector is at most one record: reading it gives exactly what `record_of` says.
+        // Refuses: keep_read_as_put, bytes_behind_number_taken.
         ensures { result ≡ record_of sector.now }
     {
         match sector[0] {
@@ -71,6 +76,10 @@ impl Record {
 /// A sector that reads as a record is the one that [`Record::to_sector`] writes for it, or an old one, which isn't
 /// written any more and whose job has priority 0: of each record there is one sector of each age.
 pub fn one_sector()
+    // Promise: A record is one sector, or an old one whose job has priority 0; no old one is written, and each job of priority 0 is
+    // read from its old ones.
+    // Also: old_records.
+    // Refuses: old_record_with_priority_1.
     ensures one { (sector : List ℕ) (r : Record) → length sector ≡ 512 → AllBytes sector
         → record_of sector ≡ Some r → (sector ≡ bytes_of r) ⊎ IsOldOf sector r }
     ensures not_written { (written : Record) → IsOld (bytes_of written) → ⊥ }

@@ -42,6 +42,8 @@ impl Model for JobTable {
 impl JobTable {
     /// An empty table with room for so many pending jobs.
     pub fn with_room(alloc: Global, room: usize) -> Result<JobTable, AllocError>
+        // Promise: A new table has no job, begins with id 0, and has the room that was asked for.
+        // Refuses: ids_from_1_on, no_room_made.
         ensures { IfOk result (λ table. table ≡ record { next = 0; pending = []; room = room }) }
     {
         let Some(places) = room.checked_mul(2) else {
@@ -80,6 +82,9 @@ impl JobTable {
     /// The jobs that are pending, in order of id.
     #[inline]
     pub fn pending(&self) -> &[Job]
+        // Promise: The jobs that are pending stand in order of id, each id once and below the next one; the next id is shown.
+        // Also: JobTable::next.
+        // Refuses: last_jobs_hidden, next_halved.
         ensures value { result.now ≡ self.now.pending }
         ensures in_order { IsInOrder self.now.pending self.now.next }
     {
@@ -88,6 +93,8 @@ impl JobTable {
 
     /// Whether a job of this id is pending.
     pub fn contains(&self, id: u64) -> bool
+        // Promise: A job of an id is pending.
+        // Refuses: later_id_contained.
         ensures { result ≡ is_pending self.now.pending id }
     {
         place_of(self.pending(), self.next, id).is_some()
@@ -95,6 +102,9 @@ impl JobTable {
 
     /// Whether [`JobTable::apply`] takes the command: a job finds room and an id, or is pending.
     pub fn can_apply(&self, command: &Command) -> bool
+        // Promise: A command can be applied: a job finds room and an id (the greatest is 18446744073709551614), or is pending.
+        // Also: JobTable::has_room.
+        // Refuses: put_without_room.
         ensures { IsTrue result ↔ CanApply self.now command.now }
     {
         match command {
@@ -115,6 +125,9 @@ impl JobTable {
     /// The count of groups, which is kept beside the jobs, stays whatever it is.
     pub fn apply(&mut self, command: Command) -> u64
         requires { CanApply self.old command }
+        // Promise: Applying a command is one step of the fold of commands, beside any count of groups; its answer is the id; the
+        // room stays; no memory is taken.
+        // Refuses: put_dropped, another_id_given, another_job_done, done_dropped, later_jobs_done_too, id_given_again.
         ensures answer { (counter : ℕ) → result ≡ answer_of (durable_of counter self.old) (command_of command) }
         ensures step { (counter : ℕ) → durable_of counter self.new ≡ after_command (durable_of counter self.old) (command_of command) }
         ensures room { self.new.room ≡ self.old.room }
@@ -132,6 +145,10 @@ impl JobTable {
     ///
     /// Compaction writes the next id first: reading it back is this call.
     pub fn restart(&mut self, next: u64)
+        // Promise: After a compaction the table begins anew with the next id that was written, and takes the kept jobs over, in
+        // order of id and under their ids.
+        // Also: JobTable::can_keep, JobTable::keep.
+        // Refuses: jobs_outlive_restart, restart_keeps_ids, kept_past_next, kept_twice, kept_job_dropped.
         ensures { self.new ≡ record { next = next; pending = []; room = self.old.room } }
     {
         self.places.clear();

@@ -26,6 +26,9 @@ impl From<AllocError> for LineFault {
 
 /// The first line and what stands behind its line feed, if there is one.
 pub fn cut_line(text: &[u8]) -> Option<(&[u8], &[u8])>
+    // Promise: The first line ends before the first line feed, and what stands behind that has the further lines; without a line
+    // feed the text is one line.
+    // Refuses: line_feed_kept.
     ensures { MatchOption result (lines_of text.now ≡ text.now ∷ []) (λ cut. CutsLine text.now cut.0.now cut.1.now) }
 {
     let end = memchr(b'\n', text)?;
@@ -54,6 +57,10 @@ pub fn line_numbered(text: &[u8], number: u64) -> &[u8]
 /// The bytes that a word spells: hex digits of either case, or a dash for no bytes.
 #[tactic(auto, using(crate::proofs::Read::is_read, crate::proofs::Read::not_read))]
 pub fn bytes(alloc: Global, word: &[u8]) -> Result<Option<Vec<u8>>, AllocError>
+    // Promise: A word spells bytes in hex digits of either case, or none by a dash; None where it spells none; its only fault is
+    // want of memory.
+    // Also: push_bytes.
+    // Refuses: dash_is_a_bad_line, capital_digit_refused, letters_are_worth_one_less.
     ensures { IfOk result (λ bytes. option_map (λ bytes. bytes.items) bytes ≡ bytes_of word.now) }
 {
     let mut bytes = Vec::new(alloc);

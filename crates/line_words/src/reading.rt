@@ -11,6 +11,9 @@ const SAFE_DIGITS: usize = 19;
 /// a second one, has an empty word beside it.
 #[inline]
 pub fn cut_word(line: &[u8]) -> Option<(&[u8], &[u8])>
+    // Promise: The first word of a line ends before the first space, and the further words stand behind it; a second space, or one
+    // at an end, has an empty word beside it; without a space a line is one word.
+    // Refuses: tabs_part_words, space_kept.
     ensures { MatchOption result (words_of line.now ≡ line.now ∷ []) (λ cut. CutsWord line.now cut.0.now cut.1.now) }
 {
     let end = first_place(b' ', line)?;
@@ -29,6 +32,9 @@ pub fn first_word(line: &[u8]) -> &[u8]
 
 /// The number that a word spells in decimal, with no sign and no zero in front of other digits.
 pub fn number(word: &[u8]) -> Option<u64>
+    // Promise: A word is a number exactly where it is decimal digits alone, without a zero in front of others, of a value below
+    // 2^64; it is that value.
+    // Refuses: leading_zero_taken.
     ensures { result ≡ number_of word.now }
 {
     match word {
@@ -92,6 +98,8 @@ fn unit(digit: u8) -> Option<u64>
 /// Whether a word is this name.
 #[inline]
 pub fn is_word(word: &[u8], name: &str) -> bool
+    // Promise: A word is a name exactly where its bytes are the name's.
+    // Refuses: first_letter_ignored.
     ensures { result ≡ bytes_eq word.now name.now }
 {
     let name = name.as_bytes();

@@ -27,7 +27,13 @@ pub struct Unpaired;
 /// What went through a link, by its two ends, which are given up either way. An end doesn't know which ring it belongs to, so
 /// this compares what the ends tell: their nodes, and what went through them. What is still in the ring was put and not taken.
 pub fn gather(put_end: PutEnd, take_end: TakeEnd) -> Result<LinkEnd, Unpaired>
+    // Promise: Two ends are gathered exactly where they have the same sender and receiver and what was taken is the front of what
+    // was put; else they are Unpaired.
+    // Refuses: always_unpaired, never_unpaired, paired_whoever_takes, messages_counted_only, first_message_not_compared.
     ensures paired { IsOk result ↔ Paired put_end take_end }
+    // Promise: What is gathered are the two nodes, all that was put and all that was taken.
+    // Also: messages.
+    // Refuses: put_and_taken_swapped, gathered_turned_round.
     ensures nodes { IfOk result (λ link. (link.sender ≡ put_end.sender) × (link.receiver ≡ put_end.receiver)) }
     ensures messages { IfOk result (λ link. (link.put.messages ≡ put_end.messages) × (link.taken.messages ≡ take_end.messages)) }
 {

@@ -16,6 +16,11 @@ pub fn link(
     receiver: NodeId,
     capacity: usize,
 ) -> Result<(PutEnd, TakeEnd), AllocError>
+    // Promise: A link begins with nothing put and nothing taken; both ends answer its two nodes, and contracts see how many slots
+    // its ring has.
+    // Also: PutEnd::sender, PutEnd::receiver, TakeEnd::sender, TakeEnd::receiver.
+    // Refuses: link_of_fewer_slots, link_turned_round, receiver_for_sender_of_puts, sender_for_receiver_of_puts,
+    // receiver_for_sender_of_takes, sender_for_receiver_of_takes.
     ensures { IfOk result (λ ends. (ends.0 ≡ unused sender receiver capacity) × (ends.1 ≡ unused sender receiver capacity)) }
 {
     let (producer, consumer) = RingBuffer::new(alloc, capacity)?;

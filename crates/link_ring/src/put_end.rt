@@ -73,6 +73,8 @@ impl PutEnd {
 
     /// All that was put, in order.
     pub fn messages(&self) -> &MessageList
+        // Promise: Each end shows the list of what went through it.
+        // Also: TakeEnd::messages.
         ensures { result.now.messages ≡ self.now.messages }
     {
         &self.put
@@ -81,6 +83,10 @@ impl PutEnd {
     /// Makes room for so many more messages, whatever they say. It is room in the list of what was put, not in the ring.
     #[inline]
     pub fn reserve(&mut self, more: usize) -> Result<(), AllocError>
+        // Promise: `reserve(n)` makes room for n more messages whatever they say. It is refused only where there isn't that much
+        // room yet, and then nothing is changed. Puts and takes in that room take no memory.
+        // Also: TakeEnd::reserve.
+        // Refuses: half_the_room_to_put, half_the_room_to_take.
         ensures reserved { OnOk result (self.new ≡ with_room self.old (max self.old.room more)) }
         ensures refused { OnErr result ((self.old.room < more) × (self.new ≡ self.old)) }
     {
@@ -91,8 +97,15 @@ impl PutEnd {
     /// receiver has taken some. It takes no memory and waits for nobody.
     pub fn put(&mut self, message: Message) -> Option<Message>
         requires { 0 < self.old.room }
+        // Promise: A put that answers none adds its message behind all that was put; one that hands a message back hands back that
+        // very message, and changes nothing.
+        // Also: full, PutEnd::offer.
+        // Refuses: loss_told_as_put, offer_not_listed, long_body_left_out, answer_turned_round, lost_offer_answered_as_put.
         ensures put { IfNone result (self.new ≡ with_message self.old message) }
         ensures full { IfSome result (λ back. (back ≡ message) × (self.new ≡ self.old)) }
+        // Promise: No put is handed back before as many messages went through the end as the ring has slots.
+        // Also: PutEnd::offer.
+        // Refuses: put_dropped.
         ensures first { length self.old.messages < self.old.capacity → IsNone result }
     {
         if !self.offer(&message) {

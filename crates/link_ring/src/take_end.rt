@@ -91,6 +91,13 @@ impl TakeEnd {
     /// look saw one that wasn't taken since. It takes no memory and waits for nobody.
     pub fn take(&mut self) -> Option<Message>
         requires { 0 < self.old.room }
+        // Promise: A take that answers a message adds it behind all that was taken; one that answers none changes nothing.
+        // Also: TakeEnd::take_into.
+        // Refuses: taken_kept_back, first_seen_not_listed, place_left_empty.
+        // Promise: While a message that was seen in the ring is left, a take answers the first of these, and none only where none
+        // is left; a Ready or a Work is seen where its slot and its body are (`specs/Parts`, `whole`).
+        // Also: empty, TakeEnd::take_into.
+        // Refuses: take_that_never_looks, first_look_finds_none.
         ensures taken { IfSome result (λ message. TookNext message self.old self.new) }
         ensures empty { IfNone result ((self.old.seen ≡ []) × (self.new ≡ self.old)) }
     {

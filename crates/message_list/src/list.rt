@@ -45,6 +45,8 @@ impl Model for MessageList {
 impl MessageList {
     /// An empty list. It takes no memory before its first message.
     pub fn new(alloc: Global) -> MessageList
+        // Promise: A list begins empty and with no room.
+        // Refuses: room_from_the_start.
         ensures { result ≡ record { messages = []; room = 0 } }
     {
         MessageList {
@@ -58,6 +60,8 @@ impl MessageList {
 
     /// How many messages there are.
     pub fn len(&self) -> usize
+        // Promise: How many messages there are.
+        // Refuses: tasks_counted.
         ensures { result ≡ length self.now.messages }
     {
         self.letters.len()
@@ -66,6 +70,9 @@ impl MessageList {
     /// Makes room for so many more messages, whatever they say.
     #[inline(always)]
     pub fn reserve(&mut self, more: usize) -> Result<(), AllocError>
+        // Promise: `reserve(n)` makes room for n more messages whatever they say. It is refused only where there isn't that much
+        // room yet, and then nothing is changed.
+        // Refuses: room_for_empty_payloads.
         ensures messages { self.new.messages ≡ self.old.messages }
         ensures room { OnOk result (self.new.room ≡ max self.old.room more) }
         ensures refused { OnErr result (self.old.room < more) }
@@ -99,6 +106,9 @@ impl MessageList {
     /// Adds a message in the room that is there.
     pub fn push(&mut self, message: &Message)
         requires { 0 < self.old.room }
+        // Promise: A message that is put in comes last, the others stay, and one place of the room is used up. In the room that is
+        // there it can't be refused.
+        // Refuses: payload_of_the_first_work, room_not_used_up.
         ensures { self.new ≡ record { messages = self.old.messages ++ message.now ∷ []; room = self.old.room - 1 } }
     {
         let body = message.body();
@@ -112,6 +122,11 @@ impl MessageList {
 
     /// The message at a place, counted from 0.
     pub fn get(&self, place: usize) -> Option<Message>
+        // Promise: Each message that was put in is given back, at its place; past the last there is none. `read` gives it in the
+        // place of another message, which stays where there is none.
+        // Also: MessageList::read.
+        // Refuses: sender_and_receiver_swapped, read_past_the_last, wire_msg::accept_said_as_invitation,
+        // wire_msg::accept_kept_as_invitation.
         ensures { result ≡ slice_get self.now.messages place }
     {
         let mut message = Message::blank();
@@ -136,6 +151,8 @@ impl MessageList {
 
     /// Whether the message at a place, counted from 0, is this one. None is made for it.
     pub fn holds(&self, place: usize, message: &Message) -> bool
+        // Promise: Whether the message at a place is a given one is answered without it being made; past the last it is none.
+        // Refuses: held_at_its_neighbour, task_of_the_first_ready_held.
         ensures { IsTrue result ↔ (slice_get self.now.messages place ≡ Some message.now) }
     {
         match self.letters.get(place) {
@@ -146,6 +163,9 @@ impl MessageList {
 
     /// The message at a place, counted from 0, lent as it is kept.
     pub fn lend(&self, place: usize) -> Option<LentMessage<'_>>
+        // Promise: The message at a place is lent without it being made; past the last there is none. Two that are lent, also by
+        // two lists, are equal just where they are one message, and then hash alike.
+        // Refuses: mark_without_count, lent_at_its_neighbour, lent_tasks_not_compared, mark_of_what_is_not_said.
         ensures { result ≡ slice_get self.now.messages place }
     {
         if place < self.letters.len() {
@@ -171,6 +191,8 @@ impl MessageList {
 
     /// The sender and the receiver of the message at a place, counted from 0.
     pub fn ends(&self, place: usize) -> Option<(NodeId, NodeId)>
+        // Promise: The two ends of a message are answered without it being made.
+        // Refuses: ends_swapped.
         ensures { result ≡ option_map ends_of (slice_get self.now.messages place) }
     {
         let letter = self.letters.get(place)?;
@@ -181,6 +203,9 @@ impl MessageList {
     /// again takes memory for the longest spelling alone.
     pub fn spell(&self, place: usize, bytes: &mut Vec<u8>) -> Result<(), AllocError>
         requires { place < length self.now.messages }
+        // Promise: The spelling of a message is written from what is kept of it: the one spelling of the message at that place, of
+        // every kind; refused for want of memory, the bytes are empty.
+        // Refuses: spelled_from_its_neighbour, refused_spelling_stays, wire_msg::accept_numbered_as_invitation.
         ensures spelled { IfSome (slice_get self.now.messages place) (λ message. OnOk result (bytes.new.items ≡ spelling message)) }
         ensures message { IfSome (slice_get self.now.messages place) (λ message. OnOk result (IsMessage message)) }
         ensures refused { OnErr result (bytes.new.items ≡ []) }

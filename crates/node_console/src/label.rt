@@ -1,40 +1,65 @@
-ghost use Rattle.std.specs.Prelude.{◌≡◌, ◌↔◌, IsTrue, Some};
-ghost use Rattle.node_console.specs.Label.{label_of};
+ghost use Rattle.std.specs.Prelude.{◌≡◌, ◌≢◌, ◌↔◌, ℕ, IsTrue, Some};
+ghost use Rattle.node_console.specs.Label.{IsOfVersion, label_of};
 
-use file_disk::LABEL;
+use file_disk::{LABEL, is_of_a_node};
 use group_task::NodeId;
+
+/// The version of the format of files that are made and read here.
+const VERSION: u8 = 1;
+
+/// Whose a file is, by its label.
+#[derive(Clone, Copy, Debug, PartialEq, Eq)]
+pub enum Owner {
+    /// It is no node's: it wasn't formatted to its end, or its end was cut off.
+    Nobody,
+    /// It is a node's, in a format of this version, which isn't read here.
+    Unread(u8),
+    /// It is that of a node of so many.
+    Node { id: u8, nodes: u8 },
+}
 
 /// What stands behind the last sector of a node's file: whose it is. It is written last, so a file that wasn't formatted to its
 /// end has none.
 pub(crate) fn label_of(id: NodeId, nodes: u8) -> [u8; LABEL]
     ensures { result ≡ label_of id nodes }
 {
+    spelled(id.number(), nodes)
+}
+
+fn spelled(id: u8, nodes: u8) -> [u8; LABEL]
+    ensures { result ≡ label_of id nodes }
+{
     [
-        b'd',
-        b'u',
-        b'm',
-        b'g',
-        b'e',
-        b'r',
-        b'o',
-        b'k',
-        1,
-        id.number(),
-        nodes,
-        0,
-        0,
-        0,
-        0,
-        0,
+        b'd', b'u', b'm', b'g', b'e', b'r', b'o', b'k', VERSION, id, nodes, 0, 0, 0, 0, 0,
     ]
 }
 
 /// Whether a file with this label, or with none, is that node's.
 pub(crate) fn is_own(label: Option<[u8; LABEL]>, id: NodeId, nodes: u8) -> bool
+    // Promise: A file is a node's where its label says so.
+    // Refuses: another_nodes_file_taken.
     ensures { IsTrue result ↔ (label ≡ Some (label_of id nodes)) }
 {
     match label {
         Some(label) => label == label_of(id, nodes),
         None => false,
+    }
+}
+
+/// Whose a file with this label is, or one with none.
+pub fn owner_of(label: Option<[u8; LABEL]>) -> Owner
+    ensures node { (id nodes : ℕ) → (result ≡ Owner.Node id nodes) ↔ (label ≡ Some (label_of id nodes)) }
+    ensures unread { (version : ℕ) → (result ≡ Owner.Unread version) ↔ (version ≢ 1) × IsOfVersion label version }
+{
+    let Some(bytes) = label else {
+        return Owner::Nobody;
+    };
+    let (version, id, nodes) = (bytes[8], bytes[9], bytes[10]);
+    if bytes == spelled(id, nodes) {
+        Owner::Node { id, nodes }
+    } else if version != VERSION && is_of_a_node(label) {
+        Owner::Unread(version)
+    } else {
+        Owner::Nobody
     }
 }

@@ -1,10 +1,11 @@
-ghost use Rattle.std.specs.Prelude.{◌<◌, ◌≤◌, ◌≡◌};
+ghost use Rattle.std.specs.Prelude.{◌≤◌, ◌+◌, length};
 
 use crate::label::label_of;
-use crate::status::{Status, status_of};
-use file_disk::{FileDisk, Stride};
+use crate::status::Status;
+use file_disk::{FileDisk, OpenFault, Stride};
 use group_task::NodeId;
-use sector_disk::SectorDisk;
+use job_model::JobTable;
+use std::fs;
 use std::fs::{File, Files};
 use std::path::AsPath;
 
@@ -14,39 +15,31 @@ pub const LEAST_SLOTS: u64 = 4;
 /// How many slots an area of the journal has at most.
 pub const MOST_SLOTS: u64 = 4096;
 
-/// Makes the file of a node with no job, whose counter is `first`. It is refused where there is something of its name. A file
-/// that wasn't made to its end is no node's: it has to be removed by hand.
+/// Makes the file of a node with these jobs. The next id is what its counter begins with, too: so it gives no number of a group and no id
+/// below it. It is refused where there is something of its name. Where it fails, what it made is removed.
 pub fn format_file<P: AsPath>(
     rt: &impl Files<File = File>,
     path: P,
     slots: u64,
     id: NodeId,
     nodes: u8,
-    first: u64,
+    jobs: &JobTable,
 ) -> Status
     requires least { LEAST_SLOTS ≤ slots }
     requires most { slots ≤ MOST_SLOTS }
+    requires room { length jobs.now.pending + 2 ≤ slots }
 {
-    let mut disk = match FileDisk::create_new(rt, path, 8 + 4 * slots, Stride::Packed) {
+    let mut disk = match FileDisk::create_new(rt, &path, 8 + 4 * slots, Stride::Packed) {
         Ok(disk) => disk,
-        Err(fault) => return status_of(fault),
+        Err(fault) => return Status::File(fault),
     };
-    if node_store::format(&mut disk).is_err() {
-        return Status::Device;
+    let begun = node_store::begin(&mut disk, jobs.next(), jobs).is_ok();
+    if begun && disk.set_label(&label_of(id, nodes)).is_ok() {
+        return Status::Done;
     }
-    if first > 0 && begin_at(&mut disk, first).is_none() {
-        return Status::Device;
+    let _ = fs::remove_file(rt, &path);
+    match disk.why() {
+        Some(error) => Status::File(OpenFault::from(error)),
+        None => Status::Device(None),
     }
-    match disk.set_label(&label_of(id, nodes)) {
-        Ok(()) => Status::Done,
-        Err(_) => Status::Device,
-    }
-}
-
-/// Gives the counter of an empty store this value.
-fn begin_at<D: SectorDisk>(disk: &mut D, first: u64) -> Option<()> {
-    if disk.sectors() < 4 {
-        return None;
-    }
-    safe_cell::format(disk, 0, first).ok()
 }

@@ -2,25 +2,26 @@
 ghost use Rattle.std.specs.Prelude.{◌<◌, ◌≤◌, ◌≡◌};
 ghost use Rattle.group_task.specs.declared.node.TheConstants.{NODES};
 
-use crate::label::is_own;
-use crate::status::{Status, status_of};
+use crate::keys::{Keys, read_seal};
+use crate::label::{Owner, is_own, owner_of};
+use crate::status::{Status, stopped};
 use file_disk::FileDisk;
 use group_task::NodeId;
 use memchr::memchr;
-use node_session::Session;
+use node_session::{Seal, Session};
 use pace::Setting;
 use sector_disk::SectorDisk;
 use std::alloc::Global;
 use std::fs::{File, Files};
 use std::io;
-use std::io::{Read, Write};
+use std::io::{ErrorKind, Read, Write};
 use std::path::AsPath;
 use std::time::{Clock, Instant};
 
 /// How many bytes one read may give.
 const PIECE: usize = 65_536;
 
-/// Serves a node over its file until the input ends. A round trip between nodes takes so many milliseconds of the clock that ticks tell.
+/// Serves a node over its file until the input ends, with its messages sealed where there are keys. A round trip between nodes takes so many milliseconds of the clock that ticks tell.
 pub fn serve_file<P: AsPath, R: Read, W: Write>(
     rt: &(impl Files<File = File> + Clock),
     alloc: Global,
@@ -28,40 +29,67 @@ pub fn serve_file<P: AsPath, R: Read, W: Write>(
     id: NodeId,
     nodes: u8,
     round_trip: u16,
+    keys: Option<Keys<'_>>,
     input: &mut R,
     output: &mut W,
 ) -> Status
     requires within { id < nodes }
     requires most { nodes ≤ NODES }
 {
+    let seal = match seal_of(rt, alloc, keys, nodes) {
+        Ok(seal) => seal,
+        Err(status) => return status,
+    };
     let disk = match FileDisk::open(rt, path) {
         Ok(disk) => disk,
-        Err(fault) => return status_of(fault),
+        Err(fault) => return Status::File(fault),
     };
     match disk.label() {
         Ok(label) if is_own(label, id, nodes) => {}
-        Ok(_) => return Status::Foreign,
-        Err(_) => return Status::Device,
+        Ok(label) => return Status::Foreign(owner_of(label)),
+        Err(error) => return Status::Device(Some(error)),
     }
     if disk.sectors() < 24 {
-        return Status::Foreign;
+        return Status::Foreign(Owner::Nobody);
     }
     let setting = Setting::measured(round_trip);
     let mut session = Session::new(alloc, id, nodes, disk, setting, u64::from(id.number()));
+    if let Some(seal) = seal {
+        session.seal(seal);
+    }
     match serve(rt, &mut session, input, output) {
-        Ok(status) => status,
-        Err(_) => Status::Failed,
+        Ok(true) => Status::Done,
+        Ok(false) => stopped(session.into_disk().why()),
+        Err(error) => Status::Failed(error),
+    }
+}
+
+/// What seals the messages, if there are keys.
+fn seal_of(
+    rt: &impl Files<File = File>,
+    alloc: Global,
+    keys: Option<Keys<'_>>,
+    nodes: u8,
+) -> Result<Option<Seal>, Status> {
+    let Some(keys) = keys else {
+        return Ok(None);
+    };
+    match read_seal(rt, alloc, keys, nodes) {
+        Ok(Some(seal)) => Ok(Some(seal)),
+        Ok(None) => Err(Status::Key),
+        Err(error) if error.kind() == ErrorKind::OutOfMemory => Err(Status::Failed(error)),
+        Err(_) => Err(Status::Key),
     }
 }
 
 /// Feeds what each read gives, and writes what is answered to it in one go, but at once behind a command. It ends where the
-/// input does, or where the device failed; a last line that isn't whole is not answered.
+/// input does, or where the device failed, and tells whether it was the input; a last line that isn't whole is not answered.
 pub fn serve<D: SectorDisk + Drop, R: Read, W: Write>(
     clock: &impl Clock,
     session: &mut Session<D>,
     input: &mut R,
     output: &mut W,
-) -> io::Result<Status> {
+) -> io::Result<bool> {
     let mut piece = [0u8; PIECE];
     for _read in 0..u64::MAX {
         let count = input.read(&mut piece)?;
@@ -71,10 +99,10 @@ pub fn serve<D: SectorDisk + Drop, R: Read, W: Write>(
         answer(clock, session, &piece[..count], output)?;
         write_out(session, output)?;
         if session.has_stopped() {
-            return Ok(Status::Device);
+            return Ok(false);
         }
     }
-    Ok(Status::Done)
+    Ok(true)
 }
 
 /// Feeds a piece line by line, and says how long each command took: a line in which what the file keeps changed, or a compaction.

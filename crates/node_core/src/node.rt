@@ -62,6 +62,8 @@ impl Model for NodeCore {
 
     ghost view = { λ a. record { id = a.id; nodes = a.nodes; state = state_of a.vector; room = a.vector.hand.room } };
 
+    // Promise: The sets of a node hold other nodes of its cluster, its members, its coordinator and the keepers of its jobs are
+    // nodes of the cluster; a node that is Normal has a task.
     ghost invariant = { λ a. (1 ≤ a.nodes) × (a.nodes ≤ NODES) × (a.id < a.nodes) × IsConsistent a.nodes a.id (state_of a.vector) };
 }
 
@@ -72,6 +74,9 @@ impl NodeCore {
         requires within { id < nodes }
         requires nodes { nodes ≤ NODES }
         requires count { 1 ≤ count }
+        // Promise: A new node is Normal, alone in its own group of the count; a Down node has one fixed state.
+        // Also: NodeCore::down, Vector::down.
+        // Refuses: every_group_is_the_first, down_node_is_normal, down_vector_is_normal.
         ensures id { result.id ≡ id }
         ensures nodes { result.nodes ≡ nodes }
         ensures state { result.state ≡ alone id count }
@@ -112,6 +117,9 @@ impl NodeCore {
 
     /// What the node knows.
     pub fn vector(&self) -> &Vector
+        // Promise: What contracts see is the vector.
+        // Also: NodeCore::id.
+        // Refuses: every_node_is_node_0.
         ensures { state_of result.now ≡ self.now.state }
     {
         &self.vector
@@ -120,6 +128,8 @@ impl NodeCore {
     /// How many messages a step may send at most: to each other node, or for each pending job. A caller that makes room for
     /// so many before a step needs no more.
     pub fn most(&self, table: &JobTable) -> usize
+        // Promise: `most` is the greater of the number of other nodes and of pending jobs.
+        // Refuses: most_forgets_the_jobs.
         ensures { result ≡ most_of self.now.nodes table.now.pending }
     {
         usize::from(self.nodes - 1).max(table.pending().len())
@@ -128,6 +138,9 @@ impl NodeCore {
     /// How long a coordinator that found others waits before it merges, in units that the driver chooses: the lower its
     /// number, the longer, so that it is rare for two to invite each other. None where it found none.
     pub fn merge_wait(&self) -> Option<u64>
+        // Promise: `merge_wait` is None where no coordinator was found, else by how much the greatest found is above the node (0
+        // where it is below).
+        // Refuses: merge_wait_swapped.
         ensures none { IsNone result ↔ (self.now.state.found ≡ []) }
         ensures wait { IfSome result (IsMergeWait self.now.id self.now.state.found) }
     {
@@ -143,13 +156,28 @@ impl NodeCore {
     /// Nothing but room changes. NoMemory comes after all other refusals, and only of an event that takes memory; the same call
     /// may be made again.
     pub fn plan_step(&mut self, event: &Event, table: &JobTable) -> Result<Plan, CoreFault>
+        // Promise: Planning changes nothing but room; a refused plan changes nothing at all.
+        // Also: unchanged.
+        // Refuses: room_for_fewer.
         ensures kept { self.new ≡ record self.old { room = self.new.room } }
+        // Promise: A plan is that of the event: its command, its effect for every answer, its number of messages, and all memory
+        // that its commit needs.
+        // Refuses: no_room_for_the_gain, room_for_half_of_the_gain, done_job_forgotten.
         ensures plan { IfOk result (IsPlanFor self.new table.now.pending event.now) }
         ensures done { IfOk result (λ _. refusal_of self.old.nodes self.old.id event.now self.old.state ≡ None) }
+        // Promise: A planned event is refused exactly where the table says, in its order; a refusal of the table comes before want
+        // of memory.
+        // Also: memory, done.
+        // Refuses: message_for_another_taken, member_outside_the_cluster, coordinator_takes_no_job.
         ensures refused { IfSome (refusal_of self.old.nodes self.old.id event.now self.old.state)
             (λ fault. result ≡ Err fault) }
         ensures memory { IfErr result (λ fault. fault ≢ CoreFault.NoMemory
             → refusal_of self.old.nodes self.old.id event.now self.old.state ≡ Some fault) }
+        // Promise: Want of memory refuses only an event that takes memory by the table `takes_memory`: never ReadyTimer, Recover,
+        // Coordinator, Accept, ReadyAck, Done, a Here that says no, a probe without an answer, or an event whose guard doesn't
+        // hold.
+        // Also: NodeCore::plan_delivery.
+        // Refuses: ready_timer_refused.
         ensures spares { result ≡ Err CoreFault.NoMemory → takes_memory self.old.id event.now self.old.state ≡ true }
         ensures unchanged { OnErr result (self.new ≡ self.old) }
     {
@@ -167,6 +195,9 @@ impl NodeCore {
         room: Vec<Message>,
     ) -> Result<Plan, CoreFault>
         requires { room.items ≡ [] }
+        // Promise: A message that stays where it is is planned as the event that delivers it is; the caller's list, where it is
+        // empty, takes the answers.
+        // Refuses: strangers_alone_heard, delivery_in_the_greatest_cluster, all_to_the_first, reply_lost.
         ensures kept { self.new ≡ record self.old { room = self.new.room } }
         ensures plan { IfOk result (IsPlanFor self.new table.now.pending (Deliver message.now)) }
         ensures done { IfOk result (λ _. refusal_of self.old.nodes self.old.id (Deliver message.now) self.old.state ≡ None) }
@@ -213,9 +244,17 @@ impl NodeCore {
     pub fn commit_step(&mut self, plan: Plan, answer: u64) -> Vec<Message>
         requires last { CanCarry self.old plan }
         requires count { plan_wants plan ≡ Some Raise → 1 ≤ answer }
+        // Promise: A commit makes the table's new state and messages for the answer handed in; it takes no memory (it has no error,
+        // and calls nothing that has one but an append within its room).
+        // Also: kept.
+        // Refuses: deaf_node, applied_without_its_task, invitations_dropped, job_for_its_owner_dropped,
+        // recovered_node_is_not_normal.
         ensures step { (pending : List Job) (event : Event) → IsPlanFor self.old pending event plan
             → effect_of self.old.nodes self.old.id pending event answer self.old.state
             ≡ record { state = self.new.state; sent = result.items } }
+        // Promise: No step sends more messages than `most`.
+        // Also: NodeCore::most.
+        // Refuses: most_forgets_the_jobs.
         ensures few { (pending : List Job) (event : Event) → IsPlanFor self.old pending event plan
             → length result.items ≤ most_of self.old.nodes pending }
         ensures kept { self.new ≡ record self.old { state = self.new.state; room = self.new.room } }

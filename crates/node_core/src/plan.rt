@@ -53,6 +53,7 @@ pub enum Act {
 ///
 /// Its messages come out by [`NodeCore::commit_step`](crate::NodeCore::commit_step) alone, so a caller can't send them before that.
 #[derive(Drop)]
+// Promise: A plan's messages come out by its commit alone: the fields of a `Plan` can't be named outside of the crate.
 pub struct Plan {
     pub(crate) act: Act,
     pub(crate) messages: Vec<Message>,
@@ -61,6 +62,8 @@ pub struct Plan {
 impl Plan {
     /// The command that is to be carried out on the disk before the plan is committed.
     pub fn wants(&self) -> Wanted
+        // Promise: The command that a plan wants is the table's.
+        // Refuses: raise_is_not_wanted, done_when_work_is_sent, finished_job_stays_pending, done_of_no_pending_job.
         ensures { wanted_by result ≡ plan_wants self.now }
     {
         match &self.act {
@@ -74,6 +77,8 @@ impl Plan {
 
     /// The same command, with the job where the plan has it.
     pub fn wanted(&self) -> WantedRef<'_>
+        // Promise: The same command is lent, its job where the plan has it; `DurableNode` carries it out from there.
+        // Refuses: raise_lent_for_a_job.
         ensures { lent_by result ≡ plan_wants self.now }
     {
         match &self.act {

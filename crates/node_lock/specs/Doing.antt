@@ -22,7 +22,7 @@ use Rattle.durable_node.specs.Forgetting.{forgotten_disk}
 use Rattle.durable_node.specs.Reading.{ReadsDisk}
 use Rattle.durable_node.specs.Refusing.{Answers}
 use Rattle.durable_node.specs.Remounting.{IsMountedBy, Remounted}
-use Rattle.durable_node.specs.Stepping.{CountsOf, Steps, most_by}
+use Rattle.durable_node.specs.Stepping.{AreaGoesOn, CountsOf, Steps, most_by}
 use Rattle.node_lock.specs.Asking.{Asked, Hand, Rest, Arm, Crash}
 
 -- there is a state that the node and its disk stand for
@@ -42,6 +42,7 @@ pub record Did (old : Node Memory) (event : Event) (w : What) (sent : List Envel
   pub steps : Steps state_of old left event came
   pub answers : Answers old event (answered (Ok came))
   pub counts : CountsOf state_of old.disk left.disk (answered (Ok came))
+  pub area : AreaGoesOn old left event (answered (Ok came))
   pub mounting : is_down old.state.phase ≡ true → event ≡ Recover → Remounted old left (answered (Ok came)) left.mounted
   pub kept : is_down old.state.phase ≡ true → event ≡ Recover → IsMountedBy old.doubt came.fate left.mounted
   pub reads : is_down old.state.phase ≡ true → event ≡ Recover → ReadsDisk state_of old.disk left.disk (answered (Ok came)) left.mounted

@@ -128,8 +128,10 @@ pub record Turned (by : Worker) (answer : Result Bool TurnFault) (old new : Held
   pub full : answer ≡ Err HistoryFull → (MOST_ENTRIES ≤ length old.history) × (new ≡ old)
   pub memory : answer ≡ Err NoMemory → Unserved old new
 
--- and so it did to what the lock then held
+-- and so it did to what the lock then held, of which all holds that is true of a locked node, before the turn and after it
 pub record TurnedSome (by : Worker) (answer : Result Bool TurnFault) : Type 0 where
   pub old : HeldView
   pub new : HeldView
+  pub was : Kept old
+  pub is : Kept new
   pub turned : Turned by answer old new

@@ -54,6 +54,21 @@ impl Model for Held {
 
     ghost view = { λ h. record { node = h.node; run = h.run; puts = h.puts.items; takes = h.takes.items; plans = h.plans; turns = h.turns; history = h.history.turns; waiting = h.waiting; room = h.history.room; sends = h.history.sends; events = h.history.events } };
 
+    // Promise: The history is one of a node that has just opened, and the node stands for the state that it replays to; of a node
+    // that is Down each disk image does, with or without the command in doubt.
+    // Refuses: entry_dropped, event_answered_as_rest, outcome_invented.
+    // Promise: The disk is as large as the run's slots ask for, and no entry is one that a journal of so many slots doesn't allow.
+    // Refuses: disks_of_four_slots.
+    // Promise: Each worker's entries are a front of its plan, and so many.
+    // Refuses: plan_index_repeated.
+    // Promise: What was put on a link is in order some of what the history sent to its receiver, none of it lost before as many
+    // were put as the link has slots.
+    // Refuses: put_dropped, message_put_on_the_next_link.
+    // Promise: What was taken from a link is what the history polled from it, and the message that waits.
+    // Refuses: waiting_message_lost.
+    // Promise: A history has at most 65,536 turns.
+    // Also: limits.
+    // Refuses: limit_off_by_one.
     ghost invariant = { λ h. Kept (record { node = h.node; run = h.run; puts = h.puts.items; takes = h.takes.items; plans = h.plans; turns = h.turns; history = h.history.turns; waiting = h.waiting; room = h.history.room; sends = h.history.sends; events = h.history.events }) };
 }
 
@@ -107,9 +122,23 @@ impl Held {
 
     /// Takes the worker's next turn. False where its plan is used up.
     pub fn next(&mut self, worker: Worker) -> Result<bool, HeldFault>
+        // Promise: Run and plans never change.
         ensures plans { SameRun self.old self.new }
+        // Promise: A turn is none, and changes nothing, exactly where the plan is used up; it is refused, and changes nothing,
+        // exactly at 65,536 entries; want of memory changes nothing but room, what was mounted, and that a taken message waits.
+        // Also: unchanged, full, room, memory, Held::is_used_up.
+        // Refuses: clock_runs_out_a_turn_late, one_turn_too_many.
         ensures used_up { result ≡ Ok false ↔ (plan_len self.old.plans worker ≤ turns_of self.old.turns worker) }
         ensures unchanged { result ≡ Ok false → self.new ≡ self.old }
+        // Promise: A turn adds exactly the worker's next entry: what the node answered to the very event of the plan, with the
+        // messages that it sent; an empty poll, an arming and a crash are kept as such.
+        // Refuses: entry_changed, outcome_invented, refusal_invented, doubt_told_wrong.
+        // Promise: All that is said of `DurableNode::step` holds of the event's step: which refusal comes first, that it faulted
+        // only where its disk failed, what a mounting read and gave, how much it sent.
+        // Refuses: submit_refused_as_worn, disk_armed_by_nobody.
+        // Promise: A poll hands on the message that waits, else the first of those that were seen in its link's ring; it finds
+        // nothing only where none waits and none was seen.
+        // Refuses: poll_that_never_looks, message_waits_on.
         ensures taken { result ≡ Ok true → (t : Turn) × Takes self.old worker t self.new }
         ensures full { result ≡ Err HistoryFull → (MOST_ENTRIES ≤ length self.old.history) × (self.new ≡ self.old) }
         ensures room { MOST_ENTRIES ≤ length self.old.history → turns_of self.old.turns worker < plan_len self.old.plans worker → result ≡ Err HistoryFull }
@@ -214,6 +243,13 @@ impl Held {
             Worker::Clock => self.turns.clock,
             Worker::Operator => self.turns.operator,
         }
+    }
+
+    /// What is true of a node whenever its lock is free.
+    pub fn is_kept(&self)
+        ensures { Kept self.now }
+    {
+        let _ = &self.plans;
     }
 
     /// Which node of which run.

@@ -125,6 +125,9 @@ impl History {
     /// What came of the turn at this place, where no event was handed to its node: none only where one was, or no turn stands
     /// there. Most turns are such, and it is small, which an [`Entry`] isn't.
     pub fn quiet(&self, place: usize) -> Option<Quiet>
+        // Promise: A turn is answered as quiet exactly where it sent nothing and a rest or a crash came of it: no event was handed
+        // to its node.
+        // Refuses: event_answered_as_quiet, never_quiet.
         ensures some { IfSome result (λ quiet. IsQuietAt place quiet self.now.turns) }
         ensures none { IsNone result → (quiet : Quiet) → IsQuietAt place quiet self.now.turns → ⊥ }
     {
@@ -138,6 +141,9 @@ impl History {
     /// What the turn at this place sent, where an event was handled in it: then `event` is that event. None only where none was,
     /// or no turn stands there. It copies the event once; an [`Entry`] is copied whole, again and again.
     pub fn handled(&self, place: usize, event: &mut Event) -> Option<Sent<'_>>
+        // Promise: The event of a turn is answered, with what it sent, exactly where it was handled.
+        // Also: EventList::read.
+        // Refuses: event_not_answered, handled_answered_as_none, event_read_as_recovery.
         ensures some { IfSome result (λ sent. IsHandledAt place event.new sent self.now.turns) }
         ensures none { IsNone result → (event : Event) → (sent : List Envelope) → IsHandledAt place event sent self.now.turns → ⊥ }
     {
@@ -263,6 +269,8 @@ impl<'a> Sent<'a> {
     #[tactic(auto, using(crate::proofs::Lines::part_length))]
     pub fn spell(&self, place: usize, bytes: &mut Vec<u8>) -> Result<(), AllocError>
         requires { place < length self.now }
+        // Promise: The spelling of a message that a turn sent is written in place of what stood there.
+        // Refuses: spelled_from_an_earlier_turn.
         ensures spelled { IfSome (slice_get self.now place) (λ message. OnOk result (Spells message bytes.new.items)) }
         ensures refused { OnErr result (bytes.new.items ≡ []) }
     {

@@ -1,6 +1,6 @@
 // The lock round a node.
 ghost use Rattle.std.specs.Prelude.{◌≡◌, ◌↔◌, ◌≤◌, ℕ, Bool, IsTrue, true, false, length, Ok, Err};
-ghost use Rattle.node_lock.specs.HeldView.{Takes, TurnedSome, Unserved};
+ghost use Rattle.node_lock.specs.HeldView.{Kept, Takes, Turned, TurnedSome, Unserved};
 ghost use Rattle.node_lock.specs.History.{Turn};
 ghost use Rattle.node_lock.specs.Planned.{plan_len, turns_of};
 ghost use Rattle.node_lock.specs.declared.held.TheConstants.{MOST_ENTRIES};
@@ -11,6 +11,24 @@ use crate::held::{Held, HeldFault};
 use crate::worker::Worker;
 use group_task::NodeId;
 use std::sync::{Mutex, Wait};
+
+/// The worker's next turn at a node whose lock is held, with what is true of the node before it and after it.
+fn turn_kept<G: Gate>(
+    held: &mut Held,
+    node: NodeId,
+    worker: Worker,
+    gate: &G,
+) -> Result<bool, TurnFault>
+    ensures shut { result ≡ Err GateShut → IsTrue (G.may_shut node worker) }
+    ensures turned { Turned worker result held.old held.new }
+    ensures was { Kept held.old }
+    ensures is { Kept held.new }
+{
+    held.is_kept();
+    let answer = turn_held(held, node, worker, gate);
+    held.is_kept();
+    answer
+}
 
 /// The worker's next turn at a node whose lock is held, once the gate lets it pass.
 fn turn_held<G: Gate>(
@@ -85,18 +103,26 @@ impl NodeLock {
 
     /// Takes the worker's next turn, once the gate lets it pass. False where its plan is used up.
     ///
-    /// What the lock holds is known while it is held and no longer, so the contract says that some such state was there, and what the turn made of it.
+    /// What the lock holds is known while it is held and no longer, so the contract says that some state of a locked node was there, and
+    /// which one the turn made of it.
     pub fn turn<R: Wait, G: Gate>(
         &self,
         rt: &R,
         worker: Worker,
         gate: &G,
     ) -> Result<bool, TurnFault>
+        // Promise: A worker is stopped by the gate only where the gate may shut for this worker of this node, which each gate says
+        // (`may_shut`; any, if it says nothing).
+        // Refuses: shut_by_an_open_gate.
         ensures shut { result ≡ Err GateShut → IsTrue (G.may_shut self.now.node worker) }
+        // Promise: A worker's turn under the lock does what `Held::next` says, and where the gate refuses it nothing: some state
+        // was there of which the turn made what was answered.
+        // Also: turn_held.
+        // Refuses: turn_said_and_not_taken, full_answered_as_shut.
         ensures turned { TurnedSome worker result }
     {
         let mut guard = self.held.lock(rt);
-        turn_held(&mut *guard, self.node, worker, gate)
+        turn_kept(&mut *guard, self.node, worker, gate)
     }
 
     /// What the lock holds.

@@ -26,6 +26,10 @@ pub(crate) fn perform(
     ensures nodes { node.new.nodes ≡ node.old.nodes }
     ensures did { IfOk result (λ r. Did node.old event.now (what_of event.now r.0) r.1.items node.new) }
     ensures few { IfOk result (λ r. length r.1.items ≤ most_by node.old.nodes node.old.kept) }
+    // Promise: A turn makes room on each link for what its event can send to one node: for a dispatch one message for each pending
+    // job, for any other event one.
+    // Also: most_to.
+    // Refuses: dispatch_has_room_for_one.
     ensures each { IfOk result (λ r. (j : ℕ) → length (addressed_to j r.1.items) ≤ most_to event.now (most_by node.old.nodes node.old.kept)) }
     ensures memory { IfErr result (λ fault. (fault ≡ NoMemory) × (node.new ≡ record node.old { mounted = None })) }
 {

@@ -57,6 +57,9 @@ impl Plans {
     }
     /// The same plans once more.
     pub fn try_clone(&self, alloc: Global) -> Result<Plans, AllocError>
+        // Promise: Plans that are cloned are the same, and two plans are compared by what they say.
+        // Also: Plans::is_same, Order::try_clone, Order::is_same, Fill::try_clone.
+        // Refuses: intake_plan_not_copied, copy_arms_at_once, fill_copied_empty, timers_not_compared, origin_not_compared.
         ensures { IfOk result (λ plans. plans ≡ self.now) }
     {
         let intake = Vec::from_slice(alloc, &self.intake)?;

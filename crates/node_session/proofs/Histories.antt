@@ -10,12 +10,13 @@ use Rattle.histories.specs.History.{Follows, FollowsSlots, replay}
 use Rattle.node_core.specs.declared.event.Event.{Event}
 use Rattle.node_session.specs.declared.asked.Asked.{Asked}
 use Rattle.node_session.specs.declared.asked.Asked.TheVariants as ask
-use Rattle.node_session.specs.Asked.{asked_of}
+use Rattle.node_session.specs.Seals.{asked_under}
 use Rattle.node_session.specs.Turns.{Turn, Goes, Unmounted, Begins, begun, after_begun, MayComeOf, MayCompact}
-use Rattle.node_session.specs.Chains.{At, Outcome, AreGoing, AllGoing, AreOf, AreTimely, Comes, IsNone, IsOne, MayCome, after_by, after_line, after_lines, after_turns, entries_of, entries_in, one_turn}
+use Rattle.node_session.specs.Chains.{Outcome, AreGoing, AllGoing, AreTimely, IsNone, IsOne, MayCome, after_turns, entries_of, entries_in, one_turn}
+use Rattle.node_session.specs.Lines.{At, AreOf, Comes, after_by, after_line, after_lines}
 
 -- each turn by which a history went on was possible there
-abbrev ArePossible : ℕ → ℕ → ℕ → NodeState → List Turn → Type 0
+abbrev pub ArePossible : ℕ → ℕ → ℕ → NodeState → List Turn → Type 0
 ArePossible self nodes slots s [] = Unit {0}
 ArePossible self nodes slots s (Goes what ∷ turns) = IsPossible self nodes s what × IsOfSlots slots self nodes s what × ArePossible self nodes slots (after self nodes s what) turns
 ArePossible self nodes slots s (Unmounted fault ∷ turns) = ⊥
@@ -45,7 +46,7 @@ none_possible : (self nodes slots : ℕ) (s : NodeState) (turns : List Turn) →
 none_possible self nodes slots s [] may = tt
 none_possible self nodes slots s (t ∷ turns) may = absurd may
 
-asked_possible : (self nodes slots : ℕ) (s : NodeState) (a : Asked) (turns : List Turn) → MayCome self nodes slots s a turns → AreGoing turns → ArePossible self nodes slots s turns
+pub asked_possible : (self nodes slots : ℕ) (s : NodeState) (a : Asked) (turns : List Turn) → MayCome self nodes slots s a turns → AreGoing turns → ArePossible self nodes slots s turns
 asked_possible self nodes slots s ask.Nothing turns may going = none_possible self nodes slots s turns may
 asked_possible self nodes slots s (ask.Event event) turns may going = one_possible self nodes slots s event turns may going
 asked_possible self nodes slots s ask.Compact turns may going = compact_possible self nodes slots s turns may
@@ -54,6 +55,7 @@ asked_possible self nodes slots s (ask.Lost id) turns may going = timely_possibl
 asked_possible self nodes slots s ask.State turns may going = none_possible self nodes slots s turns may
 asked_possible self nodes slots s ask.Jobs turns may going = none_possible self nodes slots s turns may
 asked_possible self nodes slots s ask.Bad turns may going = none_possible self nodes slots s turns may
+asked_possible self nodes slots s (ask.Refused why) turns may going = none_possible self nodes slots s turns may
 
 -- entries in front of others that follow
 abbrev IsHistory : ℕ → ℕ → ℕ → NodeState → List Entry → NodeState → Type 0
@@ -69,11 +71,13 @@ in_front self nodes slots s (Unmounted fault ∷ turns) later t possible follows
 in_front self nodes slots s (Begins mounted what ∷ turns) later t possible follows = absurd possible
 
 -- a line that isn't answered leaves all as it is
-line_possible : (self nodes slots : ℕ) (b : Bool) (a : At) (q : Asked) (turns : List Turn) (due : Option ℕ) → Comes self nodes slots b a.state q (record { turns = turns; due = due }) → AreGoing turns
-    → ArePossible self nodes slots a.state turns × (after_turns self nodes a.state turns ≡ (after_by self nodes b a q turns).state)
-line_possible self nodes slots true a q [] due comes going = (tt, refl)
-line_possible self nodes slots true a q (t ∷ turns) due comes going = absurd comes
-line_possible self nodes slots false a q turns due comes going = (asked_possible self nodes slots a.state q turns comes.0 going, refl)
+line_possible : (self nodes slots : ℕ) (b : Bool) (a : At) (l : List ℕ) (came : Outcome) → Comes self nodes slots b a.state (asked_under a.seal l) came → AreGoing came.turns
+    → ArePossible self nodes slots a.state came.turns × (after_turns self nodes a.state came.turns ≡ (after_by self nodes b a l came).state)
+line_possible self nodes slots true a l came comes going = none_came came.turns comes where
+  none_came : (turns : List Turn) → IsNone turns → ArePossible self nodes slots a.state turns × (after_turns self nodes a.state turns ≡ a.state)
+  none_came [] none = (tt, refl)
+  none_came (t ∷ turns) none = absurd none
+line_possible self nodes slots false a l came comes going = (asked_possible self nodes slots a.state (asked_under a.seal l) came.turns comes.0 going, refl)
 
 pub one : (self nodes slots : ℕ) (a : At) (ls : List (List ℕ)) (all : List Outcome) → AreOf self nodes slots a ls all → AllGoing all
     → IsHistory self nodes slots a.state (entries_in self nodes a.state all) (after_lines self nodes a ls all).state
@@ -81,8 +85,8 @@ one self nodes slots a [] [] of going = (tt, tt, refl)
 one self nodes slots a [] (c ∷ all) of going = absurd of
 one self nodes slots a (l ∷ ls) [] of going = absurd of
 one self nodes slots a (l ∷ ls) (came ∷ all) of going =
-    let next = after_line self nodes a (asked_of l) came.turns in
-    let here = line_possible self nodes slots a.stopped a (asked_of l) came.turns came.due of.0 going.0 in
+    let next = after_line self nodes a l came in
+    let here = line_possible self nodes slots a.stopped a l came of.0 going.0 in
     let later : IsHistory self nodes slots next.state (entries_in self nodes next.state all) (after_lines self nodes next ls all).state = one self nodes slots next ls all of.1 going.1 in
     in_front self nodes slots a.state came.turns (entries_in self nodes (after_turns self nodes a.state came.turns) all) (after_lines self nodes next ls all).state here.0
     (subst (λ (t : NodeState). IsHistory self nodes slots t (entries_in self nodes t all) (after_lines self nodes next ls all).state) (sym here.1) later)
@@ -101,19 +105,20 @@ begun_possible self nodes slots s (ask.Lost id) mounted what may = timely_begun 
 begun_possible self nodes slots s ask.State mounted what may = absurd may
 begun_possible self nodes slots s ask.Jobs mounted what may = absurd may
 begun_possible self nodes slots s ask.Bad mounted what may = absurd may
+begun_possible self nodes slots s (ask.Refused why) mounted what may = absurd may
 
-line_begun : (self nodes slots : ℕ) (b : Bool) (a : At) (q : Asked) (mounted : Durable) (what : What) (due : Option ℕ) → Comes self nodes slots b a.state q (one_turn (Begins mounted what) due)
-    → IsPossible self nodes (begun self mounted) what × ((after_by self nodes b a q (Begins mounted what ∷ [])).state ≡ after_begun self nodes a.state mounted what)
-line_begun self nodes slots true a q mounted what due comes = absurd comes
-line_begun self nodes slots false a q mounted what due comes = (begun_possible self nodes slots a.state q mounted what comes.0, refl)
+line_begun : (self nodes slots : ℕ) (b : Bool) (a : At) (l : List ℕ) (mounted : Durable) (what : What) (due : Option ℕ) → Comes self nodes slots b a.state (asked_under a.seal l) (one_turn (Begins mounted what) due)
+    → IsPossible self nodes (begun self mounted) what × ((after_by self nodes b a l (one_turn (Begins mounted what) due)).state ≡ after_begun self nodes a.state mounted what)
+line_begun self nodes slots true a l mounted what due comes = absurd comes
+line_begun self nodes slots false a l mounted what due comes = (begun_possible self nodes slots a.state (asked_under a.seal l) mounted what comes.0, refl)
 
 pub begun_one : (self nodes slots : ℕ) (a : At) (l : List ℕ) (ls : List (List ℕ)) (mounted : Durable) (what : What) (due : Option ℕ) (all : List Outcome) → AreOf self nodes slots a (l ∷ ls) (one_turn (Begins mounted what) due ∷ all)
     → AllGoing all → after_begun self nodes a.state mounted what ≡ after self nodes (begun self mounted) what
     → Follows self nodes (begun self mounted) (entries_in self nodes (begun self mounted) (one_turn (Goes what) due ∷ all))
     × (replay self nodes (begun self mounted) (entries_in self nodes (begun self mounted) (one_turn (Goes what) due ∷ all)) ≡ (after_lines self nodes a (l ∷ ls) (one_turn (Begins mounted what) due ∷ all)).state)
 begun_one self nodes slots a l ls mounted what due all of going same =
-    let next = after_line self nodes a (asked_of l) (Begins mounted what ∷ []) in
-    let here = line_begun self nodes slots a.stopped a (asked_of l) mounted what due of.0 in
+    let next = after_line self nodes a l (one_turn (Begins mounted what) due) in
+    let here = line_begun self nodes slots a.stopped a l mounted what due of.0 in
     let later : IsHistory self nodes slots next.state (entries_in self nodes next.state all) (after_lines self nodes next ls all).state = one self nodes slots next ls all of.1 going in
     let behind = subst (λ (t : NodeState). IsHistory self nodes slots t (entries_in self nodes t all) (after_lines self nodes next ls all).state) (here.1 ∙ same) later in
     ((here.0, refl, behind.0), behind.2)

@@ -3,7 +3,10 @@ mod Reading
 mod Lines
 mod Calls
 mod Servings
+mod Sealings
 mod Happens
 mod Histories
+mod Climbing
+mod Taking
 mod Cutting
 mod Pieces

@@ -1,22 +1,21 @@
 -- What came of several lines, one behind another.
 use Rattle.std.proofs.Common.{◌≡◌, ℕ, List, [], ◌∷◌, ◌++◌, refl, sym, ap, ◌∙◌, append_assoc}
-use Rattle.node_session.specs.Asked.{asked_of}
-use Rattle.node_session.specs.Chains.{At, Outcome, AreOf, AllGoing, after_line, after_lines}
-use Rattle.node_session.specs.Text.{answer_at, answers}
+use Rattle.node_session.specs.Chains.{Outcome, AllGoing}
+use Rattle.node_session.specs.Lines.{At, AreOf, after_line, after_lines, answer_at, answers}
 
 pub of_both : (self nodes slots : ℕ) (a : At) (ls ms : List (List ℕ)) (cs ds : List Outcome) → AreOf self nodes slots a ls cs → AreOf self nodes slots (after_lines self nodes a ls cs) ms ds
     → AreOf self nodes slots a (ls ++ ms) (cs ++ ds)
 of_both self nodes slots a [] ms [] ds first second = second
 of_both self nodes slots a [] ms (c ∷ cs) ds first second = absurd first
 of_both self nodes slots a (l ∷ ls) ms [] ds first second = absurd first
-of_both self nodes slots a (l ∷ ls) ms (c ∷ cs) ds first second = (first.0, of_both self nodes slots (after_line self nodes a (asked_of l) c.turns) ls ms cs ds first.1 second)
+of_both self nodes slots a (l ∷ ls) ms (c ∷ cs) ds first second = (first.0, of_both self nodes slots (after_line self nodes a l c) ls ms cs ds first.1 second)
 
 pub after_both : (self nodes slots : ℕ) (a : At) (ls ms : List (List ℕ)) (cs ds : List Outcome) → AreOf self nodes slots a ls cs
     → after_lines self nodes a (ls ++ ms) (cs ++ ds) ≡ after_lines self nodes (after_lines self nodes a ls cs) ms ds
 after_both self nodes slots a [] ms [] ds first = refl
 after_both self nodes slots a [] ms (c ∷ cs) ds first = absurd first
 after_both self nodes slots a (l ∷ ls) ms [] ds first = absurd first
-after_both self nodes slots a (l ∷ ls) ms (c ∷ cs) ds first = after_both self nodes slots (after_line self nodes a (asked_of l) c.turns) ls ms cs ds first.1
+after_both self nodes slots a (l ∷ ls) ms (c ∷ cs) ds first = after_both self nodes slots (after_line self nodes a l c) ls ms cs ds first.1
 
 pub going_both : (cs ds : List Outcome) → AllGoing cs → AllGoing ds → AllGoing (cs ++ ds)
 going_both [] ds first second = second
@@ -28,6 +27,6 @@ answers_both self nodes slots a [] ms [] ds first = refl
 answers_both self nodes slots a [] ms (c ∷ cs) ds first = absurd first
 answers_both self nodes slots a (l ∷ ls) ms [] ds first = absurd first
 answers_both self nodes slots a (l ∷ ls) ms (c ∷ cs) ds first =
-    let b = after_line self nodes a (asked_of l) c.turns in
-    ap (λ (t : List ℕ). answer_at self nodes a.stopped a (asked_of l) c ++ t) (answers_both self nodes slots b ls ms cs ds first.1)
-    ∙ sym (append_assoc (answer_at self nodes a.stopped a (asked_of l) c) (answers self nodes b ls cs) _)
+    let b = after_line self nodes a l c in
+    ap (λ (t : List ℕ). answer_at self nodes a l c ++ t) (answers_both self nodes slots b ls ms cs ds first.1)
+    ∙ sym (append_assoc (answer_at self nodes a l c) (answers self nodes b ls cs) _)

@@ -1,5 +1,6 @@
 -- Lines that are answered, one after another.
-use Rattle.std.proofs.Common.{◌≡◌, ℕ, List, [], ◌∷◌, ◌++◌, Bool, true, false, refl, sym, ap, ◌∙◌, subst, append_assoc, append-nil, ◌+◌, Some, None, Option, Result, Ok, Err}
+use Rattle.std.proofs.Common.{◌≡◌, ℕ, List, [], ◌∷◌, ◌++◌, Bool, true, false, refl, sym, ap, ◌∙◌, subst, append_assoc, append-nil, length, take, drop, ◌+◌, Some, None, Option, Result, Ok, Err}
+use Rattle.std.proofs.Math.Seq.{take-append_seam, drop-append_seam}
 use Rattle.std.specs.Prelude.{IsTrue, OnOk}
 use Rattle.sector_disk.specs.Disk.{DiskState}
 use Rattle.node_store.specs.Store.{slots_for}
@@ -7,16 +8,18 @@ use Rattle.durable_node.specs.Node.{Stands}
 use Rattle.histories.specs.NodeState.{NodeState}
 use Rattle.node_session.specs.declared.asked.Asked.{Asked}
 use Rattle.node_session.specs.declared.asked.Asked.TheVariants as ask
+use Rattle.node_session.specs.declared.asked.Unsealed.{Unsealed}
 use Rattle.node_session.specs.declared.ended.Ended.{Ended}
 use Rattle.node_session.specs.declared.ended.Ended.TheVariants as end
-use Rattle.node_session.specs.Asked.{asked_of}
+use Rattle.node_session.specs.Seals.{Seals, asked_under, life_of, sealed_behind, taken_under, written}
 use Rattle.node_core.specs.declared.event.Event.{Event}
 use Rattle.node_core.specs.State.{State, is_down}
 use Rattle.node_session.specs.Turns.{Turn, MayComeOf, MayCompact}
 use Rattle.pace.specs.Waiting.{Waits, sent_again, waits_on}
-use Rattle.node_session.specs.Chains.{At, Outcome, AreGoing, AreTimely, Comes, MayCome, IsTold, IsToldBy, AreOf, after_by, after_lines, after_turns, is_failed, line_end, next, waits_begun, waits_turns}
-use Rattle.node_session.specs.Text.{answer, answer_at, answers, bad_line, closing, event_closing, fired_news, jobs_lines, keeps_news, next_line, ok_line, send_lines, state_line, turns_text, no_news}
-use Rattle.node_session.specs.Serving.{Progress, Serves, Calls, Turns, IsNodeOf, at_of}
+use Rattle.node_session.specs.Chains.{Outcome, AreGoing, AreTimely, MayCome, IsTold, IsToldBy, after_turns, is_failed, line_end, next, waits_begun, waits_turns}
+use Rattle.node_session.specs.Lines.{At, AreOf, Comes, after_by, after_asked, after_lines, answer_by, answers, plain_answer, written_answer}
+use Rattle.node_session.specs.Text.{answer, bad_line, closing, event_closing, fired_news, jobs_lines, keeps_news, next_line, ok_line, refused_line, send_lines, state_line, turns_text, no_news}
+use Rattle.node_session.specs.Serving.{Progress, Replied, Replies, Serves, Calls, Turns, IsNodeOf, at_of}
 use Rattle.node_session.proofs.Calls.{node_refl, node_then, one_call}
 use Rattle.node_session.proofs.Lines.{of_both, after_both, going_both, answers_both}
 
@@ -68,61 +71,83 @@ serves_none disks p = record {
 pub stopped_line : {Disk : Type 0} (disks : Disk → DiskState) (p : Progress Disk) (line : List ℕ) → p.stopped ≡ true → Serves disks p p (line ∷ [])
 stopped_line disks p line stopped = record {
   node = node_refl disks p.node;
-  served = λ was s is stands. record {
-    all = record { turns = []; due = None } ∷ [];
-    came = (subst (λ (b : Bool). Comes p.node.id p.node.nodes (slots_for (disks was).sectors) b s (asked_of line) (record { turns = []; due = None })) (sym stopped) tt, tt);
-    honest = λ honest. (tt, tt);
-    state = s;
-    stands = stands;
-    left = subst (λ (b : Bool). at_of p s ≡ after_by p.node.id p.node.nodes b (at_of p s) (asked_of line) []) (sym stopped) refl;
-    text = subst (λ (b : Bool). p.text ≡ p.text ++ (answer_at p.node.id p.node.nodes b (at_of p s) (asked_of line) (record { turns = []; due = None }) ++ [])) (sym stopped) (sym (append-nil p.text));
-  };
+  served = λ was s is stands. (let none : Outcome = record { turns = []; due = None } in
+      record {
+        all = none ∷ [];
+        came = (subst (λ (b : Bool). Comes p.node.id p.node.nodes (slots_for (disks was).sectors) b s (asked_under p.seal line) none) (sym stopped) tt, tt);
+        honest = λ honest. (tt, tt);
+        state = s;
+        stands = stands;
+        left = subst (λ (b : Bool). at_of p s ≡ after_by p.node.id p.node.nodes b (at_of p s) line none) (sym stopped) refl;
+        text = subst (λ (b : Bool). p.text ≡ p.text ++ (answer_by p.node.id p.node.nodes b (at_of p s) line none ++ [])) (sym stopped) (sym (append-nil p.text));
+      });
 }
 
--- ---- a line that is answered, by what it asks
+-- ---- a line that is answered, once its messages are sealed
 
--- where it left a session, and its answer
-pub record IsAnswered {Disk : Type 0} (disks : Disk → DiskState) (old new : Progress Disk) (a : Asked) (was : Disk) (s : NodeState) : Type 0 where
-  pub turns : List Turn
-  pub due : Option ℕ
-  pub told : IsTold a (after_turns old.node.id old.node.nodes s turns) due
-  pub may : MayCome old.node.id old.node.nodes (slots_for (disks was).sectors) s a turns
-  pub honest : IsTrue (disks was).honest → AreGoing turns
-  pub stands : Stands disks new.node (after_turns old.node.id old.node.nodes s turns)
-  pub stopped : new.stopped ≡ is_failed (line_end old.node.id old.node.nodes s turns)
-  pub count : new.count ≡ next old.count a
-  pub text : new.text ≡ old.text ++ answer old.node.id old.node.nodes (next old.count a) s old.waits a (record { turns = turns; due = due })
-  pub waits : new.waits ≡ waits_turns old.node.id old.node.nodes s turns (waits_begun a old.waits)
+-- the state that the replies left, by their parts
+at_so : {Disk : Type 0} (new : Progress Disk) (t : NodeState) (stopped : Bool) (count : ℕ) (waits : Waits) (seal : Option Seals) → new.stopped ≡ stopped → new.count ≡ count → new.waits ≡ waits → new.seal ≡ seal
+    → at_of new t ≡ record { stopped = stopped; count = count; state = t; waits = waits; seal = seal }
+at_so new t stopped count waits seal a b c d =
+    ap (λ (x : Bool). record { stopped = x; count = new.count; state = t; waits = new.waits; seal = new.seal }) a
+    ∙ (ap (λ (x : ℕ). record { stopped = stopped; count = x; state = t; waits = new.waits; seal = new.seal }) b
+    ∙ (ap (λ (x : Waits). record { stopped = stopped; count = count; state = t; waits = x; seal = new.seal }) c
+    ∙ ap (λ (x : Option Seals). record { stopped = stopped; count = count; state = t; waits = waits; seal = x }) d))
 
-pub answered_line : {Disk : Type 0} (disks : Disk → DiskState) (old new : Progress Disk) (line : List ℕ) (a : Asked) → old.stopped ≡ false → asked_of line ≡ a → IsNodeOf disks old.node new.node
-    → ((was : Disk) (s : NodeState) → old.node.disk ≡ Some was → Stands disks old.node s → IsAnswered disks old new a was s) → Serves disks old new (line ∷ [])
-answered_line {Disk} disks old new line a runs asks same answered = record {
-  node = same;
-  served = λ was s is stands. (let x = answered was s is stands in
+-- an answer behind a text is sealed from that text's end on
+tail_written : (front plain text : List ℕ) (start : ℕ) (seal seal' : Option Seals) (life : Option ℕ) → start ≡ length front → text ≡ front ++ plain → seal' ≡ seal
+    → (take start text ++ written seal' life (drop start text) ≡ front ++ written seal life plain) × (sealed_behind seal' life (drop start text) ≡ sealed_behind seal life plain)
+tail_written front plain text start seal seal' life starts is same =
+    let before : take start text ≡ front = ap (λ (n : ℕ). take n text) starts ∙ (ap (λ (x : List ℕ). take (length front) x) is ∙ take-append_seam front plain) in
+    let behind : drop start text ≡ plain = ap (λ (n : ℕ). drop n text) starts ∙ (ap (λ (x : List ℕ). drop (length front) x) is ∙ drop-append_seam front plain) in (
+      ap (λ (x : List ℕ). x ++ written seal' life (drop start text)) before
+          ∙ (ap (λ (x : List ℕ). front ++ written seal' life x) behind ∙ ap (λ (q : Option Seals). front ++ written q life plain) same),
+      ap (λ (x : List ℕ). sealed_behind seal' life x) behind ∙ ap (λ (q : Option Seals). sealed_behind q life plain) same,
+    )
+
+-- the text was sealed from this place on
+pub record IsSealed {Disk : Type 0} (disks : Disk → DiskState) (start : ℕ) (mid new : Progress Disk) : Type 0 where
+  pub same : new ≡ record mid { text = new.text; seal = new.seal }
+  pub text : (t : NodeState) → Stands disks mid.node t → new.text ≡ take start mid.text ++ written mid.seal (life_of t) (drop start mid.text)
+  pub seal : (t : NodeState) → Stands disks mid.node t → new.seal ≡ sealed_behind mid.seal (life_of t) (drop start mid.text)
+
+sealed_so : {Disk : Type 0} (disks : Disk → DiskState) (old mid new : Progress Disk) (line : List ℕ) (start : ℕ) → old.stopped ≡ false → start ≡ length old.text
+    → Replies disks (record old { seal = taken_under old.seal line }) mid (asked_under old.seal line) → IsSealed disks start mid new → Serves disks old new (line ∷ [])
+sealed_so {Disk} disks old mid new line start runs starts replies sealing = record {
+  node = subst (λ n. IsNodeOf disks old.node n) (sym (ap (λ p. p.node) sealing.same)) replies.node;
+  served = λ was s is stands. (let x = replies.replied was s is stands in
       let id = old.node.id in
       let nodes = old.node.nodes in
       let slots = slots_for (disks was).sectors in
+      let a = at_of old s in
+      let asked = asked_under old.seal line in
+      let taken = taken_under old.seal line in
+      let came : Outcome = record { turns = x.turns; due = x.due } in
       let t = after_turns id nodes s x.turns in
-      let waits = waits_turns id nodes s x.turns (waits_begun a old.waits) in
-      let outcome : Outcome = record { turns = x.turns; due = x.due } in
-      let left : at_of new t ≡ record { stopped = is_failed (line_end id nodes s x.turns); count = next old.count a; state = t; waits = waits } =
-      ap (λ (b : Bool). record { stopped = b; count = new.count; state = t; waits = new.waits }) x.stopped
-      ∙ (ap (λ (n : ℕ). record { stopped = is_failed (line_end id nodes s x.turns); count = n; state = t; waits = new.waits }) x.count
-      ∙ ap (λ (w : Waits). record { stopped = is_failed (line_end id nodes s x.turns); count = next old.count a; state = t; waits = w }) x.waits) in
-      let text : new.text ≡ old.text ++ (answer id nodes (next old.count a) s old.waits a outcome ++ []) =
-      x.text ∙ ap (λ (u : List ℕ). old.text ++ u) (sym (append-nil (answer id nodes (next old.count a) s old.waits a outcome))) in
+      let plain = plain_answer id nodes a asked came in
+      let tail = tail_written old.text plain mid.text start taken mid.seal (life_of t) starts x.text replies.seal in
+      let left : at_of new t ≡ after_asked id nodes a asked taken came =
+      at_so new t (is_failed (line_end id nodes s x.turns)) (next old.count asked) (waits_turns id nodes s x.turns (waits_begun asked old.waits)) (sealed_behind taken (life_of t) plain)
+      (ap (λ p. p.stopped) sealing.same ∙ x.stopped) (ap (λ p. p.count) sealing.same ∙ x.count) (ap (λ p. p.waits) sealing.same ∙ x.waits) (sealing.seal t x.stands ∙ tail.1) in
+      let text : new.text ≡ old.text ++ (written_answer id nodes a asked taken came ++ []) =
+      sealing.text t x.stands ∙ (tail.0 ∙ ap (λ (u : List ℕ). old.text ++ u) (sym (append-nil (written_answer id nodes a asked taken came)))) in
       record {
-        all = outcome ∷ [];
-        came = (subst (λ (b : Bool). Comes id nodes slots b s (asked_of line) outcome) (sym runs) (subst (λ (q : Asked). MayCome id nodes slots s q x.turns × IsTold q t x.due) (sym asks) (x.may, x.told)), tt);
+        all = came ∷ [];
+        came = (subst (λ (b : Bool). Comes id nodes slots b s asked came) (sym runs) (x.may, x.told), tt);
         honest = λ honest. (x.honest honest, tt);
         state = t;
-        stands = x.stands;
-        left = subst (λ (b : Bool). at_of new t ≡ after_by id nodes b (at_of old s) (asked_of line) x.turns) (sym runs)
-            (subst (λ (q : Asked). at_of new t ≡ after_by id nodes false (at_of old s) q x.turns) (sym asks) left);
-        text = subst (λ (b : Bool). new.text ≡ old.text ++ (answer_at id nodes b (at_of old s) (asked_of line) outcome ++ [])) (sym runs)
-            (subst (λ (q : Asked). new.text ≡ old.text ++ (answer_at id nodes false (at_of old s) q outcome ++ [])) (sym asks) text);
+        stands = subst (λ n. Stands disks n t) (sym (ap (λ p. p.node) sealing.same)) x.stands;
+        left = subst (λ (b : Bool). at_of new t ≡ after_by id nodes b a line came) (sym runs) left;
+        text = subst (λ (b : Bool). new.text ≡ old.text ++ (answer_by id nodes b a line came ++ [])) (sym runs) text;
       });
 }
+
+-- as the code does it: the line is read, answered, and the answer sealed
+pub sealed_line : {Disk : Type 0} (disks : Disk → DiskState) (old read mid new : Progress Disk) (line : List ℕ) (asked : Asked) (start : ℕ) → old.stopped ≡ false → asked ≡ asked_under old.seal line
+    → read ≡ record old { seal = taken_under old.seal line } → start ≡ length read.text → Replies disks read mid asked → IsSealed disks start mid new → Serves disks old new (line ∷ [])
+sealed_line {Disk} disks old read mid new line asked start runs asks reads starts replies sealing =
+    sealed_so disks old mid new line start runs (starts ∙ ap (λ (p : Progress Disk). length p.text) reads)
+    (subst (λ (a : Asked). Replies disks (record old { seal = taken_under old.seal line }) mid a) asks (subst (λ (p : Progress Disk). Replies disks p mid asked) reads replies)) sealing
 
 -- how the answer to calls ends, at a node that stands for this, and what the answer is then
 abbrev IsClosed : {Disk : Type 0} (disks : Disk → DiskState) (mid : Progress Disk) (close : NodeState → List ℕ) (text : List ℕ) → Type 0
@@ -143,114 +168,118 @@ pub tells : {Disk : Type 0} (disks : Disk → DiskState) (mid seen : Progress Di
 tells disks mid seen now due is told = λ t stands. subst (λ (s : State). IsToldBy (is_down s.phase) due) (sym (ap (λ p. p.node.state) is) ∙ stands.state) told
 
 -- a line of which calls came, behind what was sent again
-called_line : {Disk : Type 0} (disks : Disk → DiskState) (old here mid : Progress Disk) (heading : Turn → List ℕ) (line : List ℕ) (a : Asked) (number : ℕ) (again : List ℕ) (ended : Ended) (due : Option ℕ) (close : NodeState → List ℕ) (begun text : List ℕ)
-    → old.stopped ≡ false → asked_of line ≡ a → next old.count a ≡ old.count + 1 → number ≡ old.count + 1
+called_line : {Disk : Type 0} (disks : Disk → DiskState) (old here mid : Progress Disk) (heading : Turn → List ℕ) (a : Asked) (number : ℕ) (again : List ℕ) (ended : Ended) (due : Option ℕ) (close : NodeState → List ℕ) (begun text : List ℕ)
+    → next old.count a ≡ old.count + 1 → number ≡ old.count + 1
     → begun ≡ old.text ++ again → here ≡ record old { count = number; text = begun; waits = waits_begun a old.waits }
     → Calls disks here mid heading (λ slots s turns. MayCome here.node.id here.node.nodes slots s a turns) (end.Done None) ended
     → IsClosed disks mid close text → Tells disks mid a due → Answers heading number old.waits a again ended due close
-    → Serves disks old (record mid { stopped = is_failed ended; text = text }) (line ∷ [])
-called_line {Disk} disks old here mid heading line a number again ended due close begun text runs asks one counts begins is calls said told closes =
+    → Replies disks old (record mid { stopped = is_failed ended; text = text }) a
+called_line {Disk} disks old here mid heading a number again ended due close begun text one counts begins is calls said told closes =
     let same : here.node ≡ old.node = ap (λ p. p.node) is in
     let counted : mid.count ≡ old.count + 1 = ap (λ (p : Progress Disk). p.count) calls.same ∙ (ap (λ p. p.count) is ∙ counts) in
-    answered_line disks old (record mid { stopped = is_failed ended; text = text }) line a runs asks
-    (subst (λ n. IsNodeOf disks n mid.node) same calls.node)
-    (λ was s at stands. (let x = calls.called was s (ap (λ n. n.disk) same ∙ at) (subst (λ n. Stands disks n s) (sym same) stands) in
-    let id : here.node.id ≡ old.node.id = ap (λ n. n.id) same in
-    let nodes : here.node.nodes ≡ old.node.nodes = ap (λ n. n.nodes) same in
-    let t = after_turns old.node.id old.node.nodes s x.turns in
-    let turns_said = turns_text heading old.node.id old.node.nodes s x.turns in
-    let ended_so : ended ≡ line_end old.node.id old.node.nodes s x.turns =
-    x.ended_so ∙ (ap (λ (n : ℕ). line_end n here.node.nodes s x.turns) id ∙ ap (λ (n : ℕ). line_end old.node.id n s x.turns) nodes) in
-    let mid_text : mid.text ≡ begun ++ turns_said =
-    x.text ∙ (ap (λ p. p.text ++ turns_text heading here.node.id here.node.nodes s x.turns) is
-    ∙ (ap (λ (n : ℕ). begun ++ turns_text heading n here.node.nodes s x.turns) id ∙ ap (λ (n : ℕ). begun ++ turns_text heading old.node.id n s x.turns) nodes)) in
-    let left : Stands disks mid.node t =
-    subst (λ (n : ℕ). Stands disks mid.node (after_turns old.node.id n s x.turns)) nodes
-    (subst (λ (n : ℕ). Stands disks mid.node (after_turns n here.node.nodes s x.turns)) id x.stands) in
     record {
-      turns = x.turns;
-      due = due;
-      told = told t left;
-      may = subst (λ (n : ℕ). MayCome old.node.id n (slots_for (disks was).sectors) s a x.turns) nodes
-          (subst (λ (n : ℕ). MayCome n here.node.nodes (slots_for (disks was).sectors) s a x.turns) id x.may);
-      honest = x.honest;
-      stands = left;
-      stopped = ap is_failed ended_so;
-      count = counted ∙ sym one;
-      text = both_texts old.text begun text again (turns_said ++ close t) begins (both_texts begun mid.text text turns_said (close t) mid_text (said t left))
-          ∙ ap (λ (u : List ℕ). old.text ++ u) (sym (ap (λ (n : ℕ). answer old.node.id old.node.nodes n s old.waits a (record { turns = x.turns; due = due })) (one ∙ sym counts) ∙ closes old.node.id old.node.nodes s x.turns ended_so));
-      waits = x.waits ∙ (ap (λ p. waits_turns here.node.id here.node.nodes s x.turns p.waits) is
-          ∙ (ap (λ (n : ℕ). waits_turns n here.node.nodes s x.turns (waits_begun a old.waits)) id ∙ ap (λ (n : ℕ). waits_turns old.node.id n s x.turns (waits_begun a old.waits)) nodes));
-    }))
+      node = subst (λ n. IsNodeOf disks n mid.node) same calls.node;
+      seal = ap (λ (p : Progress Disk). p.seal) calls.same ∙ ap (λ p. p.seal) is;
+      replied = λ was s at stands. (let x = calls.called was s (ap (λ n. n.disk) same ∙ at) (subst (λ n. Stands disks n s) (sym same) stands) in
+          let id : here.node.id ≡ old.node.id = ap (λ n. n.id) same in
+          let nodes : here.node.nodes ≡ old.node.nodes = ap (λ n. n.nodes) same in
+          let t = after_turns old.node.id old.node.nodes s x.turns in
+          let turns_said = turns_text heading old.node.id old.node.nodes s x.turns in
+          let ended_so : ended ≡ line_end old.node.id old.node.nodes s x.turns =
+          x.ended_so ∙ (ap (λ (n : ℕ). line_end n here.node.nodes s x.turns) id ∙ ap (λ (n : ℕ). line_end old.node.id n s x.turns) nodes) in
+          let mid_text : mid.text ≡ begun ++ turns_said =
+          x.text ∙ (ap (λ p. p.text ++ turns_text heading here.node.id here.node.nodes s x.turns) is
+          ∙ (ap (λ (n : ℕ). begun ++ turns_text heading n here.node.nodes s x.turns) id ∙ ap (λ (n : ℕ). begun ++ turns_text heading old.node.id n s x.turns) nodes)) in
+          let left : Stands disks mid.node t =
+          subst (λ (n : ℕ). Stands disks mid.node (after_turns old.node.id n s x.turns)) nodes
+          (subst (λ (n : ℕ). Stands disks mid.node (after_turns n here.node.nodes s x.turns)) id x.stands) in
+          record {
+            turns = x.turns;
+            due = due;
+            told = told t left;
+            may = subst (λ (n : ℕ). MayCome old.node.id n (slots_for (disks was).sectors) s a x.turns) nodes
+                (subst (λ (n : ℕ). MayCome n here.node.nodes (slots_for (disks was).sectors) s a x.turns) id x.may);
+            honest = x.honest;
+            stands = left;
+            stopped = ap is_failed ended_so;
+            count = counted ∙ sym one;
+            text = both_texts old.text begun text again (turns_said ++ close t) begins (both_texts begun mid.text text turns_said (close t) mid_text (said t left))
+                ∙ ap (λ (u : List ℕ). old.text ++ u) (sym (ap (λ (n : ℕ). answer old.node.id old.node.nodes n s old.waits a (record { turns = x.turns; due = due })) (one ∙ sym counts) ∙ closes old.node.id old.node.nodes s x.turns ended_so));
+            waits = x.waits ∙ (ap (λ p. waits_turns here.node.id here.node.nodes s x.turns p.waits) is
+                ∙ (ap (λ (n : ℕ). waits_turns n here.node.nodes s x.turns (waits_begun a old.waits)) id ∙ ap (λ (n : ℕ). waits_turns old.node.id n s x.turns (waits_begun a old.waits)) nodes));
+          });
+    }
 
 -- as the code does it: the call, the mark of a device that failed, and the closing line
-called_so : {Disk : Type 0} (disks : Disk → DiskState) (old here mid stop : Progress Disk) (heading : Turn → List ℕ) (line : List ℕ) (a : Asked) (number : ℕ) (again : List ℕ) (ended : Ended) (due : Option ℕ) (close : NodeState → List ℕ) (begun text : List ℕ)
-    → old.stopped ≡ false → asked_of line ≡ a → next old.count a ≡ old.count + 1 → number ≡ old.count + 1
+called_so : {Disk : Type 0} (disks : Disk → DiskState) (old here mid stop : Progress Disk) (heading : Turn → List ℕ) (a : Asked) (number : ℕ) (again : List ℕ) (ended : Ended) (due : Option ℕ) (close : NodeState → List ℕ) (begun text : List ℕ)
+    → next old.count a ≡ old.count + 1 → number ≡ old.count + 1
     → begun ≡ old.text ++ again → here ≡ record old { count = number; text = begun; waits = waits_begun a old.waits }
     → Calls disks here mid heading (λ slots s turns. MayCome here.node.id here.node.nodes slots s a turns) (end.Done None) ended
     → stop ≡ record mid { stopped = is_failed ended } → IsClosed disks stop close text → Tells disks stop a due → Answers heading number old.waits a again ended due close
-    → Serves disks old (record stop { text = text }) (line ∷ [])
-called_so {Disk} disks old here mid stop heading line a number again ended due close begun text runs asks one counts begins is calls marked said told closes =
-    subst (λ (p : Progress Disk). Serves disks old (record p { text = text }) (line ∷ [])) (sym marked)
-    (called_line disks old here mid heading line a number again ended due close begun text runs asks one counts begins is calls
+    → Replies disks old (record stop { text = text }) a
+called_so {Disk} disks old here mid stop heading a number again ended due close begun text one counts begins is calls marked said told closes =
+    subst (λ (p : Progress Disk). Replies disks old (record p { text = text }) a) (sym marked)
+    (called_line disks old here mid heading a number again ended due close begun text one counts begins is calls
     (subst (λ (p : Progress Disk). IsClosed disks p close text) marked said) (subst (λ (p : Progress Disk). Tells disks p a due) marked told) closes)
 
-pub event_line : {Disk : Type 0} (disks : Disk → DiskState) (old here mid stop : Progress Disk) (line : List ℕ) (event : Event) (number : ℕ) (ended : Ended) (kept text : List ℕ)
-    → old.stopped ≡ false → asked_of line ≡ ask.Event event → number ≡ old.count + 1 → here ≡ record old { count = number } → Turns disks here mid (MayComeOf here.node.id here.node.nodes event) ended
+pub event_line : {Disk : Type 0} (disks : Disk → DiskState) (old here mid stop : Progress Disk) (event : Event) (number : ℕ) (ended : Ended) (kept text : List ℕ)
+    → number ≡ old.count + 1 → here ≡ record old { count = number } → Turns disks here mid (MayComeOf here.node.id here.node.nodes event) ended
     → stop ≡ record mid { stopped = is_failed ended } → ((t : NodeState) → Stands disks stop.node t → kept ≡ stop.text ++ keeps_news event ended t)
-    → text ≡ kept ++ event_closing number event ended → Serves disks old (record stop { text = text }) (line ∷ [])
-event_line disks old here mid stop line event number ended kept text runs asks counts is turns marked keeps said =
-    called_so disks old here mid stop no_news line (ask.Event event) number [] ended None (λ t. keeps_news event ended t ++ event_closing number event ended) old.text text runs asks refl counts (sym (append-nil old.text)) is
+    → text ≡ kept ++ event_closing number event ended → Replies disks old (record stop { text = text }) (ask.Event event)
+event_line disks old here mid stop event number ended kept text counts is turns marked keeps said =
+    called_so disks old here mid stop no_news (ask.Event event) number [] ended None (λ t. keeps_news event ended t ++ event_closing number event ended) old.text text refl counts (sym (append-nil old.text)) is
     (one_call disks here mid (MayComeOf here.node.id here.node.nodes event) (end.Done None) ended turns) marked
     (λ t stands. both_texts stop.text kept text (keeps_news event ended t) (event_closing number event ended) (keeps t stands) said) (λ t stands. refl)
     (λ self nodes s turns so. ap (λ (e : Ended). turns_text no_news self nodes s turns ++ (keeps_news event e (after_turns self nodes s turns) ++ event_closing number event e)) (sym so))
 
-pub compact_line : {Disk : Type 0} (disks : Disk → DiskState) (old here mid stop : Progress Disk) (line : List ℕ) (number : ℕ) (ended : Ended) (text : List ℕ)
-    → old.stopped ≡ false → asked_of line ≡ ask.Compact → number ≡ old.count + 1 → here ≡ record old { count = number } → Turns disks here mid (MayCompact here.node.id here.node.nodes) ended
-    → stop ≡ record mid { stopped = is_failed ended } → text ≡ stop.text ++ closing number ended → Serves disks old (record stop { text = text }) (line ∷ [])
-compact_line disks old here mid stop line number ended text runs asks counts is turns marked said =
-    called_so disks old here mid stop no_news line ask.Compact number [] ended None (λ t. closing number ended) old.text text runs asks refl counts (sym (append-nil old.text)) is
+pub compact_line : {Disk : Type 0} (disks : Disk → DiskState) (old here mid stop : Progress Disk) (number : ℕ) (ended : Ended) (text : List ℕ)
+    → number ≡ old.count + 1 → here ≡ record old { count = number } → Turns disks here mid (MayCompact here.node.id here.node.nodes) ended
+    → stop ≡ record mid { stopped = is_failed ended } → text ≡ stop.text ++ closing number ended → Replies disks old (record stop { text = text }) ask.Compact
+compact_line disks old here mid stop number ended text counts is turns marked said =
+    called_so disks old here mid stop no_news ask.Compact number [] ended None (λ t. closing number ended) old.text text refl counts (sym (append-nil old.text)) is
     (one_call disks here mid (MayCompact here.node.id here.node.nodes) (end.Done None) ended turns) marked (λ t stands. said) (λ t stands. refl)
     (λ self nodes s turns so. ap (λ (e : Ended). turns_text no_news self nodes s turns ++ closing number e) (sym so))
 
-pub tick_line : {Disk : Type 0} (disks : Disk → DiskState) (old first here mid stop : Progress Disk) (line : List ℕ) (now number : ℕ) (ended : Ended) (due : Option ℕ) (told text : List ℕ)
-    → old.stopped ≡ false → asked_of line ≡ ask.Tick now → number ≡ old.count + 1 → first ≡ record old { count = number }
+pub tick_line : {Disk : Type 0} (disks : Disk → DiskState) (old first here mid stop : Progress Disk) (now number : ℕ) (ended : Ended) (due : Option ℕ) (told text : List ℕ)
+    → number ≡ old.count + 1 → first ≡ record old { count = number }
     → here ≡ record first { text = first.text ++ send_lines (sent_again now first.waits); waits = waits_on now first.waits }
     → Calls disks here mid fired_news (AreTimely here.node.id here.node.nodes) (end.Done None) ended
     → stop ≡ record mid { stopped = is_failed ended } → Tells disks stop (ask.Tick now) due → told ≡ stop.text ++ next_line due → text ≡ told ++ closing number ended
-    → Serves disks old (record stop { text = text }) (line ∷ [])
-tick_line {Disk} disks old first here mid stop line now number ended due told text runs asks counts is sends calls marked tells names said =
-    called_so disks old here mid stop fired_news line (ask.Tick now) number (send_lines (sent_again now old.waits)) ended due (λ t. next_line due ++ closing number ended) (old.text ++ send_lines (sent_again now old.waits)) text runs asks refl counts refl
+    → Replies disks old (record stop { text = text }) (ask.Tick now)
+tick_line {Disk} disks old first here mid stop now number ended due told text counts is sends calls marked tells names said =
+    called_so disks old here mid stop fired_news (ask.Tick now) number (send_lines (sent_again now old.waits)) ended due (λ t. next_line due ++ closing number ended) (old.text ++ send_lines (sent_again now old.waits)) text refl counts refl
     (sends ∙ ap (λ (p : Progress Disk). record p { text = p.text ++ send_lines (sent_again now p.waits); waits = waits_on now p.waits }) is) calls marked (λ t stands. both_texts stop.text told text (next_line due) (closing number ended) names said) tells
     (λ self nodes s turns so. ap (λ (e : Ended). send_lines (sent_again now old.waits) ++ (turns_text fired_news self nodes s turns ++ (next_line due ++ closing number e))) (sym so))
 
-pub loss_line : {Disk : Type 0} (disks : Disk → DiskState) (old here mid stop : Progress Disk) (line : List ℕ) (node number : ℕ) (ended : Ended) (text : List ℕ)
-    → old.stopped ≡ false → asked_of line ≡ ask.Lost node → number ≡ old.count + 1 → here ≡ record old { count = number } → Calls disks here mid fired_news (AreTimely here.node.id here.node.nodes) (end.Done None) ended
-    → stop ≡ record mid { stopped = is_failed ended } → text ≡ stop.text ++ closing number ended → Serves disks old (record stop { text = text }) (line ∷ [])
-loss_line disks old here mid stop line node number ended text runs asks counts is calls marked said =
-    called_so disks old here mid stop fired_news line (ask.Lost node) number [] ended None (λ t. closing number ended) old.text text runs asks refl counts (sym (append-nil old.text)) is calls marked (λ t stands. said) (λ t stands. refl)
+pub loss_line : {Disk : Type 0} (disks : Disk → DiskState) (old here mid stop : Progress Disk) (node number : ℕ) (ended : Ended) (text : List ℕ)
+    → number ≡ old.count + 1 → here ≡ record old { count = number } → Calls disks here mid fired_news (AreTimely here.node.id here.node.nodes) (end.Done None) ended
+    → stop ≡ record mid { stopped = is_failed ended } → text ≡ stop.text ++ closing number ended → Replies disks old (record stop { text = text }) (ask.Lost node)
+loss_line disks old here mid stop node number ended text counts is calls marked said =
+    called_so disks old here mid stop fired_news (ask.Lost node) number [] ended None (λ t. closing number ended) old.text text refl counts (sym (append-nil old.text)) is calls marked (λ t stands. said) (λ t stands. refl)
     (λ self nodes s turns so. ap (λ (e : Ended). turns_text fired_news self nodes s turns ++ closing number e) (sym so))
 
 -- a line that asks nothing of the node but what it knows
-pub quiet_line : {Disk : Type 0} (disks : Disk → DiskState) (old new : Progress Disk) (line : List ℕ) (a : Asked) → old.stopped ≡ false → asked_of line ≡ a
+pub quiet_line : {Disk : Type 0} (disks : Disk → DiskState) (old new : Progress Disk) (a : Asked) → old.stopped ≡ false
     → ((self nodes slots : ℕ) (s : NodeState) → MayCome self nodes slots s a [] × IsTold a s None)
-    → new.node ≡ old.node → new.stopped ≡ false → new.count ≡ next old.count a → new.waits ≡ waits_begun a old.waits
+    → new.node ≡ old.node → new.stopped ≡ false → new.count ≡ next old.count a → new.waits ≡ waits_begun a old.waits → new.seal ≡ old.seal
     → ((s : NodeState) → Stands disks old.node s → new.text ≡ old.text ++ answer old.node.id old.node.nodes (next old.count a) s old.waits a (record { turns = []; due = None }))
-    → Serves disks old new (line ∷ [])
-quiet_line {Disk} disks old new line a runs asks may same goes count waits text =
-    answered_line disks old new line a runs asks (subst (λ n. IsNodeOf disks old.node n) (sym same) (node_refl disks old.node))
-    (λ was s at stands. record {
-      turns = [];
-      due = None;
-      told = (may old.node.id old.node.nodes (slots_for (disks was).sectors) s).1;
-      may = (may old.node.id old.node.nodes (slots_for (disks was).sectors) s).0;
-      honest = λ honest. tt;
-      stands = subst (λ n. Stands disks n s) (sym same) stands;
-      stopped = goes;
-      count = count;
-      text = text s stands;
-      waits = waits;
-    })
+    → Replies disks old new a
+quiet_line {Disk} disks old new a runs may same goes count waits seal text = record {
+  node = subst (λ n. IsNodeOf disks old.node n) (sym same) (node_refl disks old.node);
+  seal = seal;
+  replied = λ was s at stands. record {
+    turns = [];
+    due = None;
+    told = (may old.node.id old.node.nodes (slots_for (disks was).sectors) s).1;
+    may = (may old.node.id old.node.nodes (slots_for (disks was).sectors) s).0;
+    honest = λ honest. tt;
+    stands = subst (λ n. Stands disks n s) (sym same) stands;
+    stopped = goes;
+    count = count;
+    text = text s stands;
+    waits = waits;
+  };
+}
 
 -- ---- as the code does it, behind the counting of the request
 
@@ -259,32 +288,45 @@ on_ok (Ok x) f h = f h
 on_ok (Err e) f h = tt
 
 -- a request that can't be read
-pub line_is_bad : {Disk : Type 0} (disks : Disk → DiskState) (old here : Progress Disk) (line : List ℕ) (number : ℕ) (text : List ℕ) → old.stopped ≡ false → asked_of line ≡ ask.Bad → number ≡ old.count + 1
-    → here ≡ record old { count = number } → text ≡ here.text ++ bad_line number → Serves disks old (record here { text = text }) (line ∷ [])
-line_is_bad disks old here line number text runs asks counts is said =
-    quiet_line disks old (record here { text = text }) line ask.Bad runs asks (λ self nodes slots s. (tt, refl)) (ap (λ p. p.node) is) (ap (λ p. p.stopped) is ∙ runs) (ap (λ p. p.count) is ∙ counts) (ap (λ p. p.waits) is)
+pub line_is_bad : {Disk : Type 0} (disks : Disk → DiskState) (old here : Progress Disk) (number : ℕ) (text : List ℕ) → old.stopped ≡ false → number ≡ old.count + 1
+    → here ≡ record old { count = number } → text ≡ here.text ++ bad_line number → Replies disks old (record here { text = text }) ask.Bad
+line_is_bad disks old here number text runs counts is said =
+    quiet_line disks old (record here { text = text }) ask.Bad runs (λ self nodes slots s. (tt, refl)) (ap (λ p. p.node) is) (ap (λ p. p.stopped) is ∙ runs) (ap (λ p. p.count) is ∙ counts) (ap (λ p. p.waits) is) (ap (λ p. p.seal) is)
     (λ s stands. said ∙ (ap (λ p. p.text ++ bad_line number) is ∙ ap (λ (n : ℕ). old.text ++ bad_line n) counts))
 
 -- the state
-pub state_answered : {Disk : Type 0} (disks : Disk → DiskState) (old here : Progress Disk) (line : List ℕ) (number : ℕ) (mid text : List ℕ) → old.stopped ≡ false → asked_of line ≡ ask.State → number ≡ old.count + 1
+pub state_answered : {Disk : Type 0} (disks : Disk → DiskState) (old here : Progress Disk) (number : ℕ) (mid text : List ℕ) → old.stopped ≡ false → number ≡ old.count + 1
     → here ≡ record old { count = number } → ((s : NodeState) → Stands disks here.node s → mid ≡ here.text ++ state_line s) → text ≡ mid ++ ok_line number []
-    → Serves disks old (record here { text = text }) (line ∷ [])
-state_answered disks old here line number mid text runs asks counts is said ended =
-    quiet_line disks old (record here { text = text }) line ask.State runs asks (λ self nodes slots s. (tt, refl)) (ap (λ p. p.node) is) (ap (λ p. p.stopped) is ∙ runs) (ap (λ p. p.count) is ∙ counts) (ap (λ p. p.waits) is)
+    → Replies disks old (record here { text = text }) ask.State
+state_answered disks old here number mid text runs counts is said ended =
+    quiet_line disks old (record here { text = text }) ask.State runs (λ self nodes slots s. (tt, refl)) (ap (λ p. p.node) is) (ap (λ p. p.stopped) is ∙ runs) (ap (λ p. p.count) is ∙ counts) (ap (λ p. p.waits) is) (ap (λ p. p.seal) is)
     (λ s stands. both_texts old.text mid text (state_line s) (ok_line (old.count + 1) [])
     (said s (subst (λ n. Stands disks n s) (sym (ap (λ p. p.node) is)) stands) ∙ ap (λ p. p.text ++ state_line s) is)
     (ended ∙ ap (λ (n : ℕ). mid ++ ok_line n []) counts))
 
 -- the jobs
-pub jobs_answered : {Disk : Type 0} (disks : Disk → DiskState) (old here : Progress Disk) (line : List ℕ) (number : ℕ) (mid text : List ℕ) → old.stopped ≡ false → asked_of line ≡ ask.Jobs → number ≡ old.count + 1
+pub jobs_answered : {Disk : Type 0} (disks : Disk → DiskState) (old here : Progress Disk) (number : ℕ) (mid text : List ℕ) → old.stopped ≡ false → number ≡ old.count + 1
     → here ≡ record old { count = number } → ((s : NodeState) → Stands disks here.node s → mid ≡ here.text ++ jobs_lines s) → text ≡ mid ++ ok_line number []
-    → Serves disks old (record here { text = text }) (line ∷ [])
-jobs_answered disks old here line number mid text runs asks counts is said ended =
-    quiet_line disks old (record here { text = text }) line ask.Jobs runs asks (λ self nodes slots s. (tt, refl)) (ap (λ p. p.node) is) (ap (λ p. p.stopped) is ∙ runs) (ap (λ p. p.count) is ∙ counts) (ap (λ p. p.waits) is)
+    → Replies disks old (record here { text = text }) ask.Jobs
+jobs_answered disks old here number mid text runs counts is said ended =
+    quiet_line disks old (record here { text = text }) ask.Jobs runs (λ self nodes slots s. (tt, refl)) (ap (λ p. p.node) is) (ap (λ p. p.stopped) is ∙ runs) (ap (λ p. p.count) is ∙ counts) (ap (λ p. p.waits) is) (ap (λ p. p.seal) is)
     (λ s stands. both_texts old.text mid text (jobs_lines s) (ok_line (old.count + 1) [])
     (said s (subst (λ n. Stands disks n s) (sym (ap (λ p. p.node) is)) stands) ∙ ap (λ p. p.text ++ jobs_lines s) is)
     (ended ∙ ap (λ (n : ℕ). mid ++ ok_line n []) counts))
 
+-- a message that isn't taken
+pub line_is_refused : {Disk : Type 0} (disks : Disk → DiskState) (old here : Progress Disk) (number : ℕ) (why : Unsealed) (text : List ℕ) → old.stopped ≡ false → number ≡ old.count + 1
+    → here ≡ record old { count = number } → text ≡ here.text ++ refused_line number why → Replies disks old (record here { text = text }) (ask.Refused why)
+line_is_refused disks old here number why text runs counts is said =
+    quiet_line disks old (record here { text = text }) (ask.Refused why) runs (λ self nodes slots s. (tt, refl)) (ap (λ p. p.node) is) (ap (λ p. p.stopped) is ∙ runs) (ap (λ p. p.count) is ∙ counts) (ap (λ p. p.waits) is) (ap (λ p. p.seal) is)
+    (λ s stands. said ∙ (ap (λ p. p.text ++ refused_line number why) is ∙ ap (λ (n : ℕ). old.text ++ refused_line n why) counts))
+
 -- an empty line
-pub nothing_line : {Disk : Type 0} (disks : Disk → DiskState) (old : Progress Disk) (line : List ℕ) → old.stopped ≡ false → asked_of line ≡ ask.Nothing → Serves disks old old (line ∷ [])
-nothing_line disks old line runs asks = quiet_line disks old old line ask.Nothing runs asks (λ self nodes slots s. (tt, refl)) refl runs refl refl (λ s stands. sym (append-nil old.text))
+pub nothing_line : {Disk : Type 0} (disks : Disk → DiskState) (old : Progress Disk) → old.stopped ≡ false → Replies disks old old ask.Nothing
+nothing_line disks old runs = quiet_line disks old old ask.Nothing runs (λ self nodes slots s. (tt, refl)) refl runs refl refl refl (λ s stands. sym (append-nil old.text))
+
+pub sealed_ok : {Disk T E Q : Type 0} (disks : Disk → DiskState) (start : ℕ) (mid new : Progress Disk) (r : Result T E) → new ≡ record mid { text = new.text; seal = new.seal }
+    → ((t : NodeState) → Stands disks mid.node t → OnOk r (new.text ≡ take start mid.text ++ written mid.seal (life_of t) (drop start mid.text)))
+    → ((t : NodeState) → Stands disks mid.node t → OnOk r (new.seal ≡ sealed_behind mid.seal (life_of t) (drop start mid.text))) → (IsSealed disks start mid new → Q) → OnOk r Q
+sealed_ok disks start mid new (Ok x) same text seal so = so (record { same = same; text = text; seal = seal })
+sealed_ok disks start mid new (Err e) same text seal so = tt

@@ -11,7 +11,6 @@ use Rattle.node_session.specs.declared.asked.Asked.{Asked}
 use Rattle.node_session.specs.declared.asked.Asked.TheVariants as ask
 use Rattle.node_session.specs.declared.ended.Ended.{Ended}
 use Rattle.node_session.specs.declared.ended.Ended.TheVariants as end
-use Rattle.node_session.specs.Asked.{asked_of}
 use Rattle.node_session.specs.Turns.{Turn, Goes, Unmounted, Begins, after_turn, cause, end_of, sent_in, MayComeOf, MayCompact, IsTimely, IsGoing}
 
 -- what came of a line: the calls of the node, and what a tick tells, when something is due next
@@ -75,6 +74,7 @@ MayCome self nodes slots s (ask.Lost id) turns = AreTimely self nodes slots s tu
 MayCome self nodes slots s ask.State turns = IsNone turns
 MayCome self nodes slots s ask.Jobs turns = IsNone turns
 MayCome self nodes slots s ask.Bad turns = IsNone turns
+MayCome self nodes slots s (ask.Refused why) turns = IsNone turns
 
 -- a node that is down waits for nothing
 abbrev pub IsToldBy : Bool → Option ℕ → Type 0
@@ -91,18 +91,9 @@ IsTold (ask.Lost id) s due = due ≡ None
 IsTold ask.State s due = due ≡ None
 IsTold ask.Jobs s due = due ≡ None
 IsTold ask.Bad s due = due ≡ None
+IsTold (ask.Refused why) s due = due ≡ None
 
--- ---- the lines
-
--- where a session is
-pub record At : Type 0 where
-  -- the device failed: no line is answered any more
-  pub stopped : Bool
-  -- how many requests there were
-  pub count : ℕ
-  pub state : NodeState
-  -- the messages that it waits for
-  pub waits : Waits
+-- ---- the numbers of requests
 
 abbrev pub is_device : NodeFault → Bool
 is_device node.Device = true
@@ -122,38 +113,7 @@ next n (ask.Lost id) = n + 1
 next n ask.State = n + 1
 next n ask.Jobs = n + 1
 next n ask.Bad = n + 1
-
-abbrev pub after_by : ℕ → ℕ → Bool → At → Asked → List Turn → At
-after_by self nodes true a asked turns = a
-after_by self nodes false a asked turns = record {
-  stopped = is_failed (line_end self nodes a.state turns);
-  count = next a.count asked;
-  state = after_turns self nodes a.state turns;
-  waits = waits_turns self nodes a.state turns (waits_begun asked a.waits);
-}
-
--- behind a line that asks this, of which these came
-abbrev pub after_line : ℕ → ℕ → At → Asked → List Turn → At
-after_line self nodes a asked turns = after_by self nodes a.stopped a asked turns
-
--- behind several lines
-abbrev pub after_lines : ℕ → ℕ → At → List (List ℕ) → List Outcome → At
-after_lines self nodes a [] all = a
-after_lines self nodes a (line ∷ lines) [] = a
-after_lines self nodes a (line ∷ lines) (came ∷ all) = after_lines self nodes (after_line self nodes a (asked_of line) came.turns) lines all
-
--- nothing comes of a line once the device failed
-abbrev pub Comes : ℕ → ℕ → ℕ → Bool → NodeState → Asked → Outcome → Type 0
-Comes self nodes slots true s asked came = IsNone came.turns
-Comes self nodes slots false s asked came = MayCome self nodes slots s asked came.turns × IsTold asked (after_turns self nodes s came.turns) came.due
-
--- these came of these lines, one for each
-abbrev pub AreOf : ℕ → ℕ → ℕ → At → List (List ℕ) → List Outcome → Type 0
-AreOf self nodes slots a [] [] = Unit {0}
-AreOf self nodes slots a [] (came ∷ all) = ⊥
-AreOf self nodes slots a (line ∷ lines) [] = ⊥
-AreOf self nodes slots a (line ∷ lines) (came ∷ all) =
-    Comes self nodes slots a.stopped a.state (asked_of line) came × AreOf self nodes slots (after_line self nodes a (asked_of line) came.turns) lines all
+next n (ask.Refused why) = n + 1
 
 -- ---- one history
 

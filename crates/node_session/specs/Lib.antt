@@ -4,4 +4,7 @@ pub mod Turns
 pub mod Chains
 pub mod Changes
 pub mod Text
+pub mod Seals
+pub mod Lines
+pub mod Stamping
 pub mod Serving

@@ -12,8 +12,11 @@ use Rattle.histories.specs.After.{after}
 use Rattle.histories.specs.History.{Follows, FollowsSlots, replay}
 use Rattle.line_words.specs.Lines.{lines_of}
 use Rattle.node_session.specs.Turns.{Turn, Goes, Begins, begun, after_begun, after_turn, end_of, IsGoing}
-use Rattle.node_session.specs.Chains.{At, Outcome, AreOf, AllGoing, AreGoing, after_lines, after_turns, entries_in, last_end, one_turn, waits_turn, waits_turns}
-use Rattle.node_session.specs.Text.{answers, turn_text, turns_text}
+use Rattle.node_session.specs.Chains.{Outcome, AllGoing, AreGoing, IsTold, MayCome, after_turns, entries_in, is_failed, last_end, line_end, next, one_turn, waits_begun, waits_turn, waits_turns}
+use Rattle.node_session.specs.Lines.{At, AreOf, after_lines, answers}
+use Rattle.node_session.specs.Seals.{Seals}
+use Rattle.node_session.specs.Text.{answer, turn_text, turns_text}
+use Rattle.node_session.specs.declared.asked.Asked.{Asked}
 use Rattle.node_session.specs.declared.ended.Ended.{Ended}
 
 pub record Progress (Disk : Type 0) : Type 0 where
@@ -28,9 +31,11 @@ pub record Progress (Disk : Type 0) : Type 0 where
   pub rest : List ℕ
   -- the messages that are waited for
   pub waits : Waits
+  -- what is kept under a key
+  pub seal : Option Seals
 
 abbrev pub at_of : {Disk : Type 0} → Progress Disk → NodeState → At
-at_of p s = record { stopped = p.stopped; count = p.count; state = s; waits = p.waits }
+at_of p s = record { stopped = p.stopped; count = p.count; state = s; waits = p.waits; seal = p.seal }
 
 -- These lines were answered, at a node that stood for this state over this disk.
 pub record Served {Disk : Type 0} (disks : Disk → DiskState) (old new : Progress Disk) (lines : List (List ℕ)) (was : Disk) (s : NodeState) : Type 0 where
@@ -106,6 +111,27 @@ pub record Calls {Disk : Type 0} (disks : Disk → DiskState) (old new : Progres
   pub same : new ≡ record old { node = new.node; text = new.text; waits = new.waits }
   pub called : (was : Disk) (s : NodeState) → old.node.disk ≡ Some was → Stands disks old.node s → Called disks old new heading May before ended was s
 
+-- ---- one request, before its messages are sealed
+
+-- where it left a session, and its answer
+pub record Replied {Disk : Type 0} (disks : Disk → DiskState) (old new : Progress Disk) (a : Asked) (was : Disk) (s : NodeState) : Type 0 where
+  pub turns : List Turn
+  pub due : Option ℕ
+  pub told : IsTold a (after_turns old.node.id old.node.nodes s turns) due
+  pub may : MayCome old.node.id old.node.nodes (slots_for (disks was).sectors) s a turns
+  pub honest : IsTrue (disks was).honest → AreGoing turns
+  pub stands : Stands disks new.node (after_turns old.node.id old.node.nodes s turns)
+  pub stopped : new.stopped ≡ is_failed (line_end old.node.id old.node.nodes s turns)
+  pub count : new.count ≡ next old.count a
+  pub text : new.text ≡ old.text ++ answer old.node.id old.node.nodes (next old.count a) s old.waits a (record { turns = turns; due = due })
+  pub waits : new.waits ≡ waits_turns old.node.id old.node.nodes s turns (waits_begun a old.waits)
+
+-- whatever state the node stood for
+pub record Replies {Disk : Type 0} (disks : Disk → DiskState) (old new : Progress Disk) (a : Asked) : Type 0 where
+  pub node : IsNodeOf disks old.node new.node
+  pub seal : new.seal ≡ old.seal
+  pub replied : (was : Disk) (s : NodeState) → old.node.disk ≡ Some was → Stands disks old.node s → Replied disks old new a was s
+
 -- ---- laws
 
 -- two pieces, one after the other, are one
@@ -144,6 +170,7 @@ opened id nodes unit disk = record {
   text = [];
   rest = [];
   waits = none_waited unit;
+  seal = None;
 }
 
 -- over a disk of which nothing is known, a new session stands for any jobs and counter

@@ -20,12 +20,13 @@ use Rattle.pace.specs.Waiting.{Waits, sent_again}
 use Rattle.histories.specs.NodeState.{NodeState}
 use Rattle.node_session.specs.declared.asked.Asked.{Asked}
 use Rattle.node_session.specs.declared.asked.Asked.TheVariants as ask
+use Rattle.node_session.specs.declared.asked.Unsealed.{Unsealed}
+use Rattle.node_session.specs.declared.asked.Unsealed.TheVariants.{Forged, Stale}
 use Rattle.node_session.specs.declared.ended.Ended.{Ended}
 use Rattle.node_session.specs.declared.ended.Ended.TheVariants as end
-use Rattle.node_session.specs.Asked.{asked_of}
 use Rattle.node_session.specs.Words.{event_word, group_text, ids_text, phase_text, truth_text}
 use Rattle.node_session.specs.Turns.{Turn, after_turn, cause, end_of, sent_in}
-use Rattle.node_session.specs.Chains.{At, Outcome, after_line, after_turns, line_end, next}
+use Rattle.node_session.specs.Chains.{Outcome, after_turns, line_end}
 use Rattle.node_session.specs.Changes.{changes, gone_news, held_text, is_finish}
 
 -- ---- words
@@ -127,6 +128,15 @@ denial_line n fault = denial_word fault ++ decimal n ++ codes " " ++ fault_name 
 abbrev pub bad_line : ℕ → List ℕ
 bad_line n = codes "bad " ++ decimal n ++ codes "\n"
 
+-- why a message isn't taken
+abbrev pub unsealed_name : Unsealed → List ℕ
+unsealed_name Forged = codes "Forged"
+unsealed_name Stale = codes "Stale"
+
+-- request n brings such a message
+abbrev pub refused_line : ℕ → Unsealed → List ℕ
+refused_line n why = codes "refused " ++ decimal n ++ codes " " ++ unsealed_name why ++ codes "\n"
+
 abbrev pub id_text : Option ℕ → List ℕ
 id_text None = []
 id_text (Some id) = codes " id " ++ decimal id
@@ -204,14 +214,4 @@ answer self nodes n s w (ask.Lost id) came = turns_text fired_news self nodes s 
 answer self nodes n s w ask.State came = state_line s ++ ok_line n []
 answer self nodes n s w ask.Jobs came = jobs_lines s ++ ok_line n []
 answer self nodes n s w ask.Bad came = bad_line n
-
--- no line is answered once the device failed
-abbrev pub answer_at : ℕ → ℕ → Bool → At → Asked → Outcome → List ℕ
-answer_at self nodes true a asked came = []
-answer_at self nodes false a asked came = answer self nodes (next a.count asked) a.state a.waits asked came
-
-abbrev pub answers : ℕ → ℕ → At → List (List ℕ) → List Outcome → List ℕ
-answers self nodes a [] all = []
-answers self nodes a (line ∷ lines) [] = []
-answers self nodes a (line ∷ lines) (came ∷ all) =
-    answer_at self nodes a.stopped a (asked_of line) came ++ answers self nodes (after_line self nodes a (asked_of line) came.turns) lines all
+answer self nodes n s w (ask.Refused why) came = refused_line n why

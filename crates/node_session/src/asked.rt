@@ -31,10 +31,23 @@ pub enum Asked {
     Jobs,
     /// The line can't be read.
     Bad,
+    /// The line brings a message that isn't taken.
+    Refused(Unsealed),
+}
+
+/// Why a message isn't taken under a key.
+#[derive(Clone, Copy, Debug, PartialEq, Eq)]
+pub enum Unsealed {
+    /// No member of the cluster sealed it.
+    Forged,
+    /// As late or later a message of its sender was taken.
+    Stale,
 }
 
 /// What a line asks for.
 pub fn read_line(alloc: Global, line: &[u8]) -> Result<Asked, AllocError>
+    // Promise: What a line asks is a function of its bytes.
+    // Refuses: merge_checks.
     ensures { IfOk result (λ asked. asked ≡ asked_of line.now) }
 {
     match line {
@@ -63,7 +76,7 @@ fn words(alloc: Global, line: &[u8]) -> Result<Asked, AllocError>
 }
 
 /// Whether a word is this name.
-fn is(word: &[u8], name: &str) -> bool
+pub(crate) fn is(word: &[u8], name: &str) -> bool
     ensures { result ≡ bytes_eq word.now name.now }
 {
     word == name.as_bytes()

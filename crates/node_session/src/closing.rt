@@ -1,7 +1,8 @@
 // The line that closes the answer to a request.
 ghost use Rattle.std.specs.Prelude.{◌≡◌, ◌++◌, [], OnOk, decimal};
-ghost use Rattle.node_session.specs.Text.{answer_text, bad_line, closing, core_name, denial_line, denial_word, event_closing, fault_name, ok_line};
+ghost use Rattle.node_session.specs.Text.{answer_text, bad_line, closing, core_name, denial_line, denial_word, event_closing, fault_name, ok_line, refused_line, unsealed_name};
 
+use crate::asked::Unsealed;
 use crate::ended::Ended;
 use console_text::{push_number, push_text};
 use durable_node::NodeFault;
@@ -54,6 +55,26 @@ pub(crate) fn push_bad(text: &mut Vec<u8>, number: u64) -> Result<(), AllocError
     push_text(text, "bad ")?;
     push_number(text, number)?;
     push_text(text, "\n")
+}
+
+/// Adds that request `number` brings a message that isn't taken.
+pub(crate) fn push_refused(text: &mut Vec<u8>, number: u64, why: Unsealed) -> Result<(), AllocError>
+    ensures { OnOk result (text.new.items ≡ text.old.items ++ refused_line number why) }
+{
+    push_text(text, "refused ")?;
+    push_number(text, number)?;
+    push_text(text, " ")?;
+    push_text(text, unsealed_name(why))?;
+    push_text(text, "\n")
+}
+
+fn unsealed_name(why: Unsealed) -> &'static str
+    ensures { result.now ≡ unsealed_name why }
+{
+    match why {
+        Unsealed::Forged => "Forged",
+        Unsealed::Stale => "Stale",
+    }
 }
 
 /// Adds the id of a submitted job.

@@ -13,6 +13,9 @@ use std::alloc::AllocError;
 /// When a timer fires or a message is sent again next, at a node that stays as it is seen, where it is so late now and the clock doesn't fall back. Before
 /// that time nothing is; at it a timer fires, or what is waited for is looked through.
 pub(crate) fn next_due(pace: &Pace, waiting: &Waiting, sight: &Sight, now: u64) -> u64
+    // Promise: A tick tells when something is due next, unless the node is Down then, and nothing else does; before that time no
+    // timer fires and nothing is sent again, where nothing comes, whatever time is told.
+    // Refuses: later_of_the_two_told, nothing_told, pace::due_too_late, pace::due_too_early.
     ensures quiet { (later : ℕ) → later < result → (event : Event) → MayFire (passed later pace.now) sight.now event → ⊥ }
     ensures silent { (later : ℕ) → now ≤ later → later < result → sent_again later waiting.now ≡ [] }
     ensures fires { (d : Deadline) → Runs pace.now sight.now d → is_some pace.now.told ≡ true → result < 2 ^ 64 - 1

@@ -1,4 +1,5 @@
 // Laws of sessions: the contracts of functions that do nothing.
+ghost use Rattle.node_session.specs.Stamping.{NoStampTwice, OpenedAlone, TakenRises};
 ghost use Rattle.node_session.specs.Serving.{AnyClearing, AnyCutting, BeginsAnywhere, BegunHistory, OneHistory};
 
 use sector_disk::SectorDisk;
@@ -15,6 +16,8 @@ pub fn any_clearing<D: SectorDisk>()
 
 /// Over an honest disk, what came of the lines is one history of the node.
 pub fn one_history()
+    // Promise: Over an honest disk it is one history; over any other each mounting begins one, from what was mounted.
+    // Also: begun_history, begins_anywhere.
     ensures { OneHistory }
 {}
 
@@ -26,4 +29,27 @@ pub fn begins_anywhere<D: SectorDisk>()
 /// A mounting begins a history of the node, whatever the disk gave.
 pub fn begun_history()
     ensures { BegunHistory }
+{}
+
+/// Over an honest disk no stamp is sealed twice, in all lives of a node.
+pub fn no_stamp_twice()
+    // Promise: No stamp is sealed twice over all lives of a node, each begun at any moment of the last one, over an honest disk: each is
+    // above the one before it.
+    // Refuses: stamp_used_twice.
+    ensures { NoStampTwice }
+{}
+
+/// Under a key a node is delivered what a key of the session opened, above all that was taken of its sender.
+pub fn opened_alone()
+    // Promise: Under a key each message that a node is delivered was opened under a key of its session, and its stamp is above all that
+    // was taken of its sender.
+    // Refuses: stale_message_taken, unsealed_message_taken.
+    ensures { OpenedAlone }
+{}
+
+/// The stamps of what is taken of one node rise.
+pub fn taken_rises()
+    // Promise: The stamps of what is taken of one sender rise.
+    // Refuses: stale_message_taken, old_stamp_kept.
+    ensures { TakenRises }
 {}

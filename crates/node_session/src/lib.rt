@@ -8,6 +8,7 @@ mod due;
 mod ended;
 mod fired;
 mod laws;
+mod seals;
 mod seen;
 mod sending;
 mod session;
@@ -15,7 +16,11 @@ mod showing;
 mod unread;
 mod words;
 
-pub use asked::{Asked, read_line};
+pub use asked::{Asked, Unsealed, read_line};
 pub use ended::Ended;
-pub use laws::{any_clearing, any_cutting, begins_anywhere, begun_history, one_history};
+pub use laws::{
+    any_clearing, any_cutting, begins_anywhere, begun_history, no_stamp_twice, one_history,
+    opened_alone, taken_rises,
+};
+pub use seals::Seal;
 pub use session::Session;

@@ -1,5 +1,5 @@
 // A node that is fed with lines, and what it answers.
-ghost use Rattle.std.specs.Prelude.{◌≡◌, ◌<◌, ◌≤◌, ◌+◌, ◌++◌, ◌∷◌, ◌↔◌, List, ℕ, [], IfOk, IfSome, IsNone, OnOk, IsTrue, Err, None, Some, false, length};
+ghost use Rattle.std.specs.Prelude.{◌≡◌, ◌<◌, ◌≤◌, ◌+◌, ◌++◌, ◌∷◌, ◌↔◌, List, ℕ, [], IfOk, IfSome, IsNone, OnOk, IsTrue, Err, None, Some, false, take, drop, length};
 ghost use Rattle.group_task.specs.declared.node.TheConstants.{NODES};
 ghost use Rattle.job_journal.specs.Journal.{IsSound};
 ghost use Rattle.job_model.specs.Durable.{Durable};
@@ -8,20 +8,23 @@ ghost use Rattle.node_core.specs.declared.fault.CoreFault.TheVariants.{NoMemory}
 ghost use Rattle.line_words.specs.Lines.{lines_of};
 ghost use Rattle.node_session.specs.declared.asked.Asked.TheVariants as ask;
 ghost use Rattle.node_session.specs.declared.ended.Ended.TheVariants as end;
-ghost use Rattle.node_session.specs.Asked.{asked_of};
-ghost use Rattle.node_session.specs.Chains.{AreTimely, IsToldBy, MayCome, is_failed};
-ghost use Rattle.node_session.specs.Serving.{opened, Calls, Fed, Serves, Turns};
+ghost use Rattle.node_session.specs.Seals.{asked_under, life_of, sealed_behind, taken_under, written};
+ghost use Rattle.node_session.specs.Chains.{AreTimely, IsToldBy, is_failed};
+ghost use Rattle.node_session.specs.Serving.{opened, Calls, Fed, Replies, Serves, Turns};
 ghost use Rattle.durable_node.specs.Faults.{answered};
+ghost use Rattle.durable_node.specs.Node.{Stands};
+ghost use Rattle.histories.specs.NodeState.{NodeState};
 ghost use Rattle.node_core.specs.State.{is_down, state_of};
 ghost use Rattle.pace.specs.Waiting.{sent_again, waits_behind, waits_on};
 ghost use Rattle.node_session.specs.Text.{fired_line, fired_news, send_lines};
 ghost use Rattle.node_session.specs.Turns.{compaction_end, ended_by, sent_by, IsFired, IsTimely, MayComeOf, MayCompact};
 
-use crate::asked::{Asked, read_line};
-use crate::closing::{push_bad, push_closing, push_event_closing, push_ok};
+use crate::asked::{Asked, Unsealed, read_line};
+use crate::closing::{push_bad, push_closing, push_event_closing, push_ok, push_refused};
 use crate::due::{next_due, push_next};
 use crate::ended::Ended;
 use crate::fired::push_fired;
+use crate::seals::Seal;
 use crate::seen::{Seen, is_finish, push_gone};
 use crate::sending::push_messages;
 use crate::showing::{push_all_jobs, push_keeps_news, push_state};
@@ -34,6 +37,7 @@ use pace::{Pace, Setting, Sight, Waiting};
 use sector_disk::SectorDisk;
 use std::alloc::{AllocError, Global};
 use std::marker::Model;
+use wire_msg::Body;
 
 /// At most so many timers fire in one tick; what is due beyond that fires in the next.
 const MOST_FIRED: u32 = 16;
@@ -56,6 +60,7 @@ pub struct Session<D: SectorDisk> {
     // room for the spelling of a message, and for what the node was before a call
     bytes: Vec<u8>,
     seen: Seen,
+    seal: Option<Seal>,
 }
 
 impl<D: SectorDisk> Model for Session<D> {
@@ -63,7 +68,7 @@ impl<D: SectorDisk> Model for Session<D> {
 
     ghost Value = { Progress D };
 
-    ghost view = { λ a. record { node = a.node; stopped = a.stopped; count = a.count; text = a.text.items; rest = a.unread; waits = a.waiting } };
+    ghost view = { λ a. record { node = a.node; stopped = a.stopped; count = a.count; text = a.text.items; rest = a.unread; waits = a.waiting; seal = a.seal } };
 }
 
 impl<D: SectorDisk> Session<D> {
@@ -95,7 +100,15 @@ impl<D: SectorDisk> Session<D> {
             unread: Unread::new(alloc),
             bytes: Vec::new(alloc),
             seen: Seen::new(alloc),
+            seal: None,
         }
+    }
+
+    /// From now on messages are sealed, and taken sealed alone.
+    pub fn seal(&mut self, seal: Seal)
+        ensures { self.new ≡ record self.old { seal = Some seal } }
+    {
+        self.seal = Some(seal);
     }
 
     /// What was answered since the last clearing.
@@ -146,9 +159,30 @@ impl<D: SectorDisk> Session<D> {
 }
 
 impl<D: SectorDisk + Drop> Session<D> {
+    /// The disk alone, as it is.
+    pub fn into_disk(self) -> D
+        ensures { self.node.disk ≡ Some result }
+    {
+        let Session { node, .. } = self;
+        node.into_disk()
+    }
+
     /// Takes a piece of the input, and answers each line that is whole now. Where memory runs out, it says so, and
     /// nothing more is to be written.
     pub fn feed(&mut self, piece: &[u8]) -> Result<(), AllocError>
+        // Promise: Over any disk the node does, for each whole line, one of the things that the definitions allow for it, and the text
+        // says so: the messages, what changed, and one closing line.
+        // Refuses: answered_before_the_disk, line_answered_twice, bad_line_ends_serving, sent_to_the_sender, drops_unwritten,
+        // takes_what_was_held, gone_before_it_is_done, no_memory_goes_on.
+        // Promise: A tick or a loss names each event that it makes; a recovery writes what is kept; a tick sends again what the
+        // node sent and still waits for, once a round trip.
+        // Refuses: fired_as_another, sent_again_without_end, pace::sent_again_at_once.
+        // Promise: Behind the line that says that the device failed nothing is answered.
+        // Refuses: device_goes_on.
+        // Promise: What was fed decides the text, however it was cut, and what was written of it may be cleared; what isn't a whole
+        // line is kept.
+        // Also: any_cutting, any_clearing.
+        // Refuses: rest_is_dropped.
         ensures { OnOk result (Fed D.state self.old piece.now self.new) }
     {
         let Some(_) = cut_line(piece) else {
@@ -182,22 +216,75 @@ impl<D: SectorDisk + Drop> Session<D> {
         if self.stopped {
             return Ok(());
         }
-        match read_line(self.alloc, line)? {
+        let asked = self.read(line)?;
+        let start = self.text().len();
+        self.answer(&asked)?;
+        self.seal_from(start)
+    }
+
+    /// What a line asks for. Under a key, the stamp of a message that is taken is kept.
+    fn read(&mut self, line: &[u8]) -> Result<Asked, AllocError>
+        ensures rest { self.new.rest ≡ self.old.rest }
+        ensures asked { IfOk result (λ asked. asked ≡ asked_under self.old.seal line.now) }
+        ensures taken { OnOk result (self.new ≡ record self.old { seal = taken_under self.old.seal line.now }) }
+    {
+        match &mut self.seal {
+            None => read_line(self.alloc, line),
+            Some(seal) => seal.read(self.alloc, line),
+        }
+    }
+
+    /// Seals the messages of an answer, which begins at this place.
+    fn seal_from(&mut self, start: usize) -> Result<(), AllocError>
+        ensures same { self.new ≡ record self.old { text = self.new.text; seal = self.new.seal } }
+        ensures text { (s : NodeState) → Stands D.state self.old.node s
+            → OnOk result (self.new.text ≡ take start self.old.text ++ written self.old.seal (life_of s) (drop start self.old.text)) }
+        ensures seal { (s : NodeState) → Stands D.state self.old.node s
+            → OnOk result (self.new.seal ≡ sealed_behind self.old.seal (life_of s) (drop start self.old.text)) }
+    {
+        let life = self.life();
+        match &mut self.seal {
+            Some(seal) if start <= self.text.len() => {
+                seal.seal_from(&mut self.text, start, life)
+            }
+            _ => Ok(()),
+        }
+    }
+
+    /// The count that the node keeps. One that is Down has none.
+    fn life(&self) -> Option<u64>
+        ensures { (s : NodeState) → Stands D.state self.now.node s → result ≡ life_of s }
+    {
+        match self.node.durable() {
+            Some((count, _table)) if !matches!(self.node.vector().standing.phase, Phase::Down) => {
+                Some(count)
+            }
+            _ => None,
+        }
+    }
+
+    fn answer(&mut self, asked: &Asked) -> Result<(), AllocError>
+        requires { self.old.stopped ≡ false }
+        ensures rest { self.new.rest ≡ self.old.rest }
+        ensures replies { OnOk result (Replies D.state self.old self.new asked.now) }
+    {
+        match asked {
             Asked::Nothing => Ok(()),
-            Asked::Event(event) => self.answer_event(&event),
+            Asked::Event(event) => self.answer_event(event),
             Asked::Compact => self.answer_compaction(),
-            Asked::Tick(now) => self.answer_tick(now),
-            Asked::Lost(node) => self.answer_loss(node),
+            Asked::Tick(now) => self.answer_tick(*now),
+            Asked::Lost(node) => self.answer_loss(*node),
             Asked::State => self.answer_state(),
             Asked::Jobs => self.answer_jobs(),
             Asked::Bad => self.answer_bad(),
+            Asked::Refused(why) => self.answer_refused(*why),
         }
     }
 
     fn answer_event(&mut self, event: &Event) -> Result<(), AllocError>
         requires { self.old.stopped ≡ false }
         ensures rest { self.new.rest ≡ self.old.rest }
-        ensures line { (line : List ℕ) → asked_of line ≡ ask.Event event.now → OnOk result (Serves D.state self.old self.new (line ∷ [])) }
+        ensures replies { OnOk result (Replies D.state self.old self.new (ask.Event event.now)) }
     {
         let number = self.next_number()?;
         self.hear(event);
@@ -210,7 +297,7 @@ impl<D: SectorDisk + Drop> Session<D> {
     fn answer_compaction(&mut self) -> Result<(), AllocError>
         requires { self.old.stopped ≡ false }
         ensures rest { self.new.rest ≡ self.old.rest }
-        ensures line { (line : List ℕ) → asked_of line ≡ ask.Compact → OnOk result (Serves D.state self.old self.new (line ∷ [])) }
+        ensures replies { OnOk result (Replies D.state self.old self.new ask.Compact) }
     {
         let number = self.next_number()?;
         let ended = self.compact()?;
@@ -221,7 +308,7 @@ impl<D: SectorDisk + Drop> Session<D> {
     fn answer_tick(&mut self, now: u64) -> Result<(), AllocError>
         requires { self.old.stopped ≡ false }
         ensures rest { self.new.rest ≡ self.old.rest }
-        ensures line { (line : List ℕ) → asked_of line ≡ ask.Tick now → OnOk result (Serves D.state self.old self.new (line ∷ [])) }
+        ensures replies { OnOk result (Replies D.state self.old self.new (ask.Tick now)) }
     {
         let number = self.next_number()?;
         self.tell(now);
@@ -236,7 +323,7 @@ impl<D: SectorDisk + Drop> Session<D> {
     fn answer_loss(&mut self, node: NodeId) -> Result<(), AllocError>
         requires { self.old.stopped ≡ false }
         ensures rest { self.new.rest ≡ self.old.rest }
-        ensures line { (line : List ℕ) → asked_of line ≡ ask.Lost node → OnOk result (Serves D.state self.old self.new (line ∷ [])) }
+        ensures replies { OnOk result (Replies D.state self.old self.new (ask.Lost node)) }
     {
         let number = self.next_number()?;
         let ended = self.give_up(node)?;
@@ -247,7 +334,7 @@ impl<D: SectorDisk + Drop> Session<D> {
     fn answer_state(&mut self) -> Result<(), AllocError>
         requires { self.old.stopped ≡ false }
         ensures rest { self.new.rest ≡ self.old.rest }
-        ensures line { (line : List ℕ) → asked_of line ≡ ask.State → OnOk result (Serves D.state self.old self.new (line ∷ [])) }
+        ensures replies { OnOk result (Replies D.state self.old self.new ask.State) }
     {
         let number = self.next_number()?;
         push_state(&mut self.text, &self.node)?;
@@ -257,7 +344,7 @@ impl<D: SectorDisk + Drop> Session<D> {
     fn answer_jobs(&mut self) -> Result<(), AllocError>
         requires { self.old.stopped ≡ false }
         ensures rest { self.new.rest ≡ self.old.rest }
-        ensures line { (line : List ℕ) → asked_of line ≡ ask.Jobs → OnOk result (Serves D.state self.old self.new (line ∷ [])) }
+        ensures replies { OnOk result (Replies D.state self.old self.new ask.Jobs) }
     {
         let number = self.next_number()?;
         push_all_jobs(&mut self.text, &self.node)?;
@@ -267,10 +354,19 @@ impl<D: SectorDisk + Drop> Session<D> {
     fn answer_bad(&mut self) -> Result<(), AllocError>
         requires { self.old.stopped ≡ false }
         ensures rest { self.new.rest ≡ self.old.rest }
-        ensures line { (line : List ℕ) → asked_of line ≡ ask.Bad → OnOk result (Serves D.state self.old self.new (line ∷ [])) }
+        ensures replies { OnOk result (Replies D.state self.old self.new ask.Bad) }
     {
         let number = self.next_number()?;
         push_bad(&mut self.text, number)
+    }
+
+    fn answer_refused(&mut self, why: Unsealed) -> Result<(), AllocError>
+        requires { self.old.stopped ≡ false }
+        ensures rest { self.new.rest ≡ self.old.rest }
+        ensures replies { OnOk result (Replies D.state self.old self.new (ask.Refused why)) }
+    {
+        let number = self.next_number()?;
+        push_refused(&mut self.text, number, why)
     }
 
     /// Counts one request more. No program lives to count 2^64 of them.
@@ -398,6 +494,9 @@ impl<D: SectorDisk + Drop> Session<D> {
     {
         if let Event::Deliver(message) = event {
             self.pace.heard(message.sender());
+            if matches!(message.body(), Body::AreYouCoordinator) {
+                self.pace.asked(message.sender());
+            }
         }
     }
 }

@@ -13,7 +13,7 @@ use Rattle.job_model.specs.Fold.{after_command}
 use Rattle.job_model.specs.declared.command.Command.{Command as Change}
 use Rattle.job_journal.specs.declared.fault.JournalFault.{JournalFault}
 use Rattle.job_journal.specs.Jobs.{Jobs, jobs_of, kept}
-use Rattle.job_journal.specs.Journal.{jobs_in, IsFormatted, IsSound}
+use Rattle.job_journal.specs.Journal.{jobs_in, IsFormatted, IsSound, RisesByOne}
 use Rattle.job_journal.specs.Mounted.{JournalState, AllHold}
 use Rattle.job_journal.specs.Appending.{refusal}
 use Rattle.job_journal.specs.Compacting as Journal
@@ -111,10 +111,12 @@ pub record HasFailed {Disk : Type 0} (old new : StoreState Disk) : Type 0 where
   pub broken : IsTrue new.broken
   pub kept : durable_of new ≡ durable_of old
 
--- The areas of a store stay, whatever a call answers: they have as many slots, and a sound disk is still sound.
+-- The areas of a store stay, whatever a call answers: they have as many slots, a sound disk is still sound, and the number of the
+-- present one rises by one at most.
 pub record KeepsAreas {Disk : Type 0} (state : Disk → DiskState) (old new : StoreState Disk) : Type 0 where
   pub slots : new.journal.slots ≡ old.journal.slots
   pub sound : IsSound old.journal.slots (state old.disk) → IsSound new.journal.slots (state new.disk)
+  pub rises : IsFalse old.broken → RisesByOne (state old.disk) (state new.disk)
 
 -- the sectors of a store
 abbrev pub InStore : ℕ → ℕ → Type 0

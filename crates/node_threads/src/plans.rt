@@ -8,6 +8,8 @@ use node_lock::Plans;
 
 /// Whether each intake polls other nodes of the cluster alone, whose nodes these plans are, by their numbers.
 pub fn poll_others(plans: &[Plans]) -> bool
+    // Promise: Whether plans poll other nodes of the cluster alone.
+    // Refuses: poll_of_itself.
     ensures { IsTrue result ↔ PollOthers plans.now }
 {
     for node in 0..plans.len() {

@@ -43,8 +43,31 @@ pub fn run_threads<R: Threads + Wait + Sync, G: Gate + Send>(
     requires nodes { (length plans.now ≡ size.nodes) × (size.nodes ≤ NODES) }
     requires slots { (4 ≤ size.slots) × (size.slots ≤ 4096) }
     requires polls { PollOthers plans.now }
+    // Promise: There is one history for each node, and each worker's turns in it are its whole plan, in its order.
+    // Refuses: unfinished_gathered, other_plans_gathered.
+    // Promise: There is one link for each ordered pair of different nodes, by sender and then receiver.
+    // Refuses: links_swapped.
+    // Promise: What was put on a link is, in order, some of what the sender's history sent to the receiver, none lost before as
+    // many were put as the link has slots.
+    // Refuses: links_swapped, job_model::put_dropped.
+    // Promise: What was taken from a link is a front of what was put; it is what the receiver's polls of this link took, and all
+    // that its history was brought from this sender.
+    // Promise: The histories are a bundle, each node's counts rise, and one book agrees with all moments: in a group there is one
+    // coordinator and one task.
+    // Promise: No entry is one that a journal of the run's slots doesn't allow.
+    // Refuses: cluster_sim::disks_of_four_slots.
+    // Promise: Each job that a node takes out of its journal was finished by a node that had it in hand and owned its queue then;
+    // nodes in one group that have jobs of one queue in hand are one.
+    // Refuses: last_history_left_out.
     ensures whole { IfOk result (λ run. IsWhole size plans.now run.histories.items run.links.items) }
+    // Promise: Only plans of at most 65,536 turns at each node are gathered.
+    // Refuses: unfinished_gathered.
     ensures fits { IfOk result (λ _. FirstFit (length plans.now) plans.now) }
+    // Promise: `Unfinished` names the first node whose plans have more turns than that, and a worker of it with turns to take.
+    // Refuses: unfinished_invented, first_reason_passed_over.
+    // Promise: `GateShut` comes only where the gate may shut for a worker of some node, and the nodes before that one have plans
+    // that fit.
+    // Refuses: gate_shut_invented, first_reason_passed_over.
     ensures reason { IfErr result (λ fault. IsReason G.may_shut plans.now fault) }
 {
     let ends = wire(alloc, size.nodes, size.capacity)?;

@@ -1,2 +1,3 @@
 mod Work
 mod Due
+mod Units

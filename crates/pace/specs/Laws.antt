@@ -1,12 +1,12 @@
 -- What follows of a policy.
-use Rattle.std.specs.Prelude.{ℕ, ◌≡◌, ◌≤◌, Some}
+use Rattle.std.specs.Prelude.{ℕ, ◌≡◌, ◌≤◌, ◌*◌, min, Some}
 use Rattle.group_task.specs.Group.{Group}
 use Rattle.node_core.specs.declared.event.Event.TheVariants as on
 use Rattle.node_core.specs.declared.timer.Timer.TheVariants as timer
 use Rattle.pace.specs.declared.wait.Wait.{Wait}
 use Rattle.pace.specs.declared.deadline.Deadline.{Deadline}
 use Rattle.pace.specs.declared.sight.Sight.{Sight}
-use Rattle.pace.specs.Timers.{IsSet}
+use Rattle.pace.specs.Timers.{IsSet, first_pause, jitter_of, later, least_of, measured, most_pause, put_off, raise_of}
 use Rattle.pace.specs.Policy.{Policy, HasCome, IsWorkDue, Dispatches, IsWithin, passed}
 
 -- a deadline that is set now has not come, whatever is seen
@@ -25,3 +25,19 @@ TimeStands = (p : Policy) (now : ℕ) → passed now (passed now p) ≡ passed n
 -- a clock that falls back to any time moves what is waited for: nothing is nearer or further than it was
 abbrev pub FallsBack : Type 0
 FallsBack = (p : Policy) (told now : ℕ) → IsWithin p → p.told ≡ Some told → now ≤ told → passed now p ≡ record p { told = Some now }
+
+-- a merge that was put off isn't put off again, however much of it is over
+abbrev pub PutOffOnce : Type 0
+PutOffOnce = (d : Deadline) (waited : ℕ) → put_off (later waited (put_off d)) ≡ later waited (put_off d)
+
+-- with a round trip of so many milliseconds each wait is so many times what it is with one of a millisecond
+pub record Scales (unit : ℕ) : Type 0 where
+  pub least : (wait : Wait) → least_of (measured unit) wait ≡ unit * least_of (measured 1) wait
+  pub jitter : (wait : Wait) → jitter_of (measured unit) wait ≡ unit * jitter_of (measured 1) wait
+  pub turn : (measured unit).turn * (measured unit).unit ≡ unit * (measured 1).turn
+  pub raise : (ms : ℕ) → raise_of (measured unit) ms ≡ min ms (unit * (measured 1).raise_most)
+  pub first : (jobs : ℕ) → first_pause (measured unit) (20 * jobs) ≡ unit * first_pause (measured 1) (20 * jobs)
+  pub most : most_pause (measured unit) ≡ unit * most_pause (measured 1)
+
+abbrev pub WaitsScale : Type 0
+WaitsScale = (unit : ℕ) → 1 ≤ unit → Scales unit

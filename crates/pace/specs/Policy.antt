@@ -1,5 +1,5 @@
 -- What a policy keeps, and what it fires.
-use Rattle.std.specs.Prelude.{ℕ, ◌≡◌, ◌≢◌, ◌⊎◌, ◌+◌, ◌-◌, ◌≤◌, ◌<◌, ◌^◌, min, Bool, false, not, ◌&&◌, ◌||◌, ◌==◌, nat_le, if◌then◌else◌, List, slice_index, slice_set, replicate, Option, Some, None, is_some}
+use Rattle.std.specs.Prelude.{ℕ, ◌≡◌, ◌≢◌, ◌⊎◌, ◌+◌, ◌-◌, ◌≤◌, ◌<◌, ◌^◌, min, Bool, false, not, ◌&&◌, ◌||◌, ◌==◌, nat_le, nat_lt, if◌then◌else◌, List, slice_index, slice_set, replicate, Option, Some, None, is_some}
 use Rattle.std.specs.List.{list_any}
 use Rattle.group_task.specs.declared.node.TheConstants.{NODES}
 use Rattle.node_core.specs.declared.event.Event.{Event}
@@ -11,7 +11,7 @@ use Rattle.pace.specs.declared.wait.Wait.{Wait}
 use Rattle.pace.specs.declared.wait.Wait.TheVariants.{Check}
 use Rattle.pace.specs.declared.deadline.Deadline.{Deadline}
 use Rattle.pace.specs.declared.sight.Sight.{Sight}
-use Rattle.pace.specs.Timers.{wait_of, timer_of, first_pause, lasts, later, longer_pause}
+use Rattle.pace.specs.Timers.{wait_of, timer_of, first_pause, lasts, later, longer_pause, put_off}
 
 -- the policy of a node: the time that was told last, how much of what comes isn't waited for, the deadline that is set, how many checks were
 -- fired and how many of them before each node was last heard, the oldest job that was seen, how long work rests and for how long it has to before it is
@@ -67,6 +67,14 @@ spent ms p = record p { skip = min (p.skip + ms) (2 ^ 64 - 1) }
 
 abbrev pub heard_from : ℕ → Policy → Policy
 heard_from id p = record p { heard = slice_set p.heard id p.checks }
+
+abbrev pub put_off_deadline : Option Deadline → Option Deadline
+put_off_deadline None = None
+put_off_deadline (Some d) = Some (put_off d)
+
+-- this node looks for other coordinators: a greater one is to merge first
+abbrev pub asked_by : ℕ → Policy → Policy
+asked_by from p = if nat_lt p.id from then record p { deadline = put_off_deadline p.deadline } else p
 
 -- its times are numbers of 64 bits
 abbrev pub IsWithinDeadline : Option Deadline → Type 0

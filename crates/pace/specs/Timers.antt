@@ -1,5 +1,5 @@
 -- What a node waits for, for how long, and the timer that fires then.
-use Rattle.std.specs.Prelude.{ℕ, ◌≡◌, ◌+◌, ◌-◌, ◌*◌, ◌/◌, ◌^◌, ◌≤◌, max, min, Bool, if◌then◌else◌, Option, Some, None}
+use Rattle.std.specs.Prelude.{ℕ, ◌≡◌, ◌+◌, ◌-◌, ◌*◌, ◌/◌, ◌^◌, ◌≤◌, max, min, Bool, true, false, not, ◌&&◌, if◌then◌else◌, Option, Some, None}
 use Rattle.group_task.specs.Group.{Group}
 use Rattle.node_core.specs.declared.phase.Phase.{Phase}
 use Rattle.node_core.specs.declared.phase.Phase.TheVariants.{Down, Election, Reorganization, Normal}
@@ -64,10 +64,18 @@ lasts s raise merge_wait d = min (d.length + steps d.wait merge_wait * (s.turn *
 abbrev pub later : ℕ → Deadline → Deadline
 later waited d = record d { waited = min (d.waited + waited) (2 ^ 64 - 1) }
 
+abbrev pub is_merge : Wait → Bool
+is_merge Merge = true
+is_merge wait = false
+
+-- a merge begins to wait anew, once
+abbrev pub put_off : Deadline → Deadline
+put_off d = if is_merge d.wait && not d.put_off then record d { waited = 0; put_off = true } else d
+
 -- who is asked may be in a raise, and answers behind it
 abbrev pub patience : Wait → ℕ → ℕ
+patience Merge raise = raise
 patience Ready raise = raise
-patience Task raise = raise
 patience Answer raise = raise
 patience wait raise = 0
 
@@ -76,6 +84,7 @@ pub record IsSet (s : Setting) (raise : ℕ) (wait : Wait) (group : Group) (d : 
   pub its_wait : d.wait ≡ wait
   pub its_group : d.group ≡ group
   pub from_now : d.waited ≡ 0
+  pub in_time : d.put_off ≡ false
   pub least : least_of s wait + patience wait raise ≤ d.length
   pub most : d.length ≤ least_of s wait + jitter_of s wait + patience wait raise
 
@@ -87,9 +96,9 @@ raise_of s ms = min ms (s.raise_most * s.unit)
 abbrev pub most_pause : Setting → ℕ
 most_pause s = max (s.dispatch_most * s.unit) 1
 
--- at first so long: the longer the more of it there is
+-- at first so long: a twentieth of a round trip longer for each job
 abbrev pub first_pause : Setting → ℕ → ℕ
-first_pause s pending = min (max (s.dispatch * s.unit + pending) 1) (most_pause s)
+first_pause s pending = min (max (s.dispatch * s.unit + pending * s.unit / 20) 1) (most_pause s)
 
 -- and after each dispatch a quarter longer than before it
 abbrev pub longer_pause : Setting → ℕ → ℕ

@@ -1,5 +1,5 @@
 ghost use Rattle.std.specs.Prelude.{◌≡◌, ◌↔◌, ◌≤◌, ◌<◌, ◌-◌, ◌+◌, ◌*◌, ◌^◌, min, IsTrue};
-ghost use Rattle.pace.specs.Timers.{lasts, later};
+ghost use Rattle.pace.specs.Timers.{lasts, later, put_off};
 
 use crate::setting::Setting;
 use crate::wait::Wait;
@@ -14,6 +14,8 @@ pub struct Deadline {
     pub length: u64,
     /// How much of it is over, in milliseconds.
     pub waited: u64,
+    /// Whether it was begun anew, for another node's turn.
+    pub put_off: bool,
 }
 
 impl Deadline {
@@ -31,6 +33,20 @@ impl Deadline {
         Deadline {
             waited: self.waited.saturating_add(waited),
             ..self
+        }
+    }
+
+    /// A merge begins to wait anew, once.
+    pub fn put_off(self) -> Deadline
+        ensures { result ≡ put_off self }
+    {
+        match self.wait {
+            Wait::Merge if !self.put_off => Deadline {
+                waited: 0,
+                put_off: true,
+                ..self
+            },
+            _ => self,
         }
     }
 
@@ -73,7 +89,7 @@ fn longer(length: u64, turns: u64, turn: u64) -> u64
     u64::try_from(u128::from(length) + more).unwrap_or(u64::MAX)
 }
 
-fn product(times: u64, length: u64) -> u128
+pub(crate) fn product(times: u64, length: u64) -> u128
     requires { length < 2 ^ 40 }
     ensures value { result ≡ times * length }
     ensures fits { result < 2 ^ 104 }

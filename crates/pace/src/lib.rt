@@ -13,7 +13,7 @@ mod wait;
 mod waiting;
 
 pub use deadline::Deadline;
-pub use laws::{falls_back, fires_once};
+pub use laws::{falls_back, fires_once, put_off_once, scales};
 pub use pace::Pace;
 pub use setting::Setting;
 pub use sight::Sight;

@@ -5,7 +5,7 @@ ghost use Rattle.node_core.specs.declared.event.Event.{Event};
 ghost use Rattle.pace.specs.declared.deadline.Deadline.{Deadline};
 ghost use Rattle.pace.specs.declared.wait.Wait.{Wait};
 ghost use Rattle.pace.specs.Timers.{wait_of, lasts, raise_of, IsSet};
-ghost use Rattle.pace.specs.Policy.{aged, fresh, heard_from, is_silent, has_silent, event_at, looked_at, may_dispatch, passed, rests, since, spent, work_left, Runs, HasCome, IsDue, IsWorkDue, MayFire, Counts, Dispatches};
+ghost use Rattle.pace.specs.Policy.{aged, asked_by, fresh, heard_from, is_silent, has_silent, event_at, looked_at, may_dispatch, passed, rests, since, spent, work_left, Runs, HasCome, IsDue, IsWorkDue, MayFire, Counts, Dispatches};
 
 use crate::deadline::Deadline;
 use crate::setting::Setting;
@@ -82,13 +82,29 @@ impl Pace {
 
     /// A message came from this node, whatever it says.
     pub fn heard(&mut self, from: NodeId)
+        // Promise: A message from a node ends that node's silence, and moves no deadline.
+        // Refuses: probe_put_off_by_hearing.
         ensures { self.new ≡ heard_from from self.old }
     {
         self.heard[usize::from(from.number())] = self.checks;
     }
 
+    /// This node looks for other coordinators. Where it is greater, it is to merge first: a merge that waits for its turn begins to wait anew, once.
+    pub fn asked(&mut self, from: NodeId)
+        ensures { self.new ≡ asked_by from self.old }
+    {
+        if from.number() <= self.id.number() {
+            return;
+        }
+        if let Some(deadline) = self.deadline {
+            self.deadline = Some(deadline.put_off());
+        }
+    }
+
     /// The node is in another group than before: the jobs that it keeps are due at once.
     pub fn regrouped(&mut self)
+        // Promise: In a new group the jobs that the node keeps are due at once.
+        // Refuses: new_group_waits_for_work.
         ensures { self.new ≡ record self.old { rested = 0; pause = 0 } }
     {
         self.rested = 0;
@@ -98,6 +114,10 @@ impl Pace {
     /// It is so late now. What is waited for is nearer by the time that went by since it was told last, less what the node spent itself; where
     /// the clock fell back, by nothing.
     pub fn pass(&mut self, now: u64)
+        // Promise: A wait advances by the time between two times that are told, less what the node spent itself; by nothing where
+        // the clock fell back. It stops at 2^64 - 1.
+        // Also: Pace::spend.
+        // Refuses: own_sync_waited_for.
         ensures { self.new ≡ passed now self.old }
     {
         let since = self.since(now);
@@ -123,15 +143,30 @@ impl Pace {
     /// What is due now. It is one event at most: the caller makes it, looks at the node again, and asks again until nothing
     /// is due.
     pub fn tick(&mut self, sight: &Sight) -> Option<Event>
+        // Promise: Where the wait is over, its timer is fired, before any work.
+        // Refuses: tick_fires_nothing, silent_for_one_check_more.
         ensures timer { (d : Deadline) → HasCome self.old sight.now d → result ≡ Some (event_at self.old sight.now.members d.wait) }
         ensures work { IsWorkDue self.old sight.now → is_some result ≡ true }
+        // Promise: Nothing else is fired but work, at a Normal node and when its time has come; where it has come something is
+        // fired.
+        // Also: work.
+        // Refuses: early, merge_after_one_turn, work_dispatched_in_an_election.
         ensures not_early { IfSome result (MayFire self.old sight.now) }
+        // Promise: At a node that is Down nothing is fired and nothing changes.
         ensures down { wait_of sight.now ≡ None → (result ≡ None) × (self.new ≡ self.old) }
+        // Promise: A deadline that has come is removed, any other stays. Where none is set, one is, for its wait's length, at most
+        // its jitter more, and a raise more where others may be in one.
+        // Also: runs_on, set.
+        // Refuses: fires_twice, jitter_above_its_bound, another_groups_deadline_taken, raise_of_others_not_waited_for.
         ensures spent { (d : Deadline) → HasCome self.old sight.now d → self.new.deadline ≡ None }
         ensures runs_on { (d : Deadline) → Runs self.old sight.now d → d.waited < lasts self.old.setting self.old.raise sight.now.merge_wait d
             → self.new.deadline ≡ Some d }
         ensures set { ((d : Deadline) → Runs self.old sight.now d → ⊥) → (wait : Wait) → wait_of sight.now ≡ Some wait
             → (d : Deadline) × (self.new.deadline ≡ Some d) × IsSet self.old.setting self.old.raise wait sight.now.group d }
+        // Promise: Each check is counted; behind a dispatch work rests anew, the longer the longer it did; where the oldest job is
+        // another one than was seen, it begins to; nothing else changes.
+        // Also: dispatches, kept.
+        // Refuses: work_that_moves_dispatched.
         ensures checks { Counts result self.old.checks self.new.checks }
         ensures dispatches { Dispatches result sight.now self.old self.new }
         ensures kept { self.new ≡ record self.old {
@@ -158,6 +193,10 @@ impl Pace {
     /// When something is due next, where the node stays as it is seen and spends no time itself. None where nothing will be: at a node
     /// that is Down, or past the clock's end.
     pub fn due_at(&self, sight: &Sight) -> Option<u64>
+        // Promise: Before the time that is given as the next, nothing may be fired, whatever time is told; at it something is. It
+        // is 0 where no deadline runs yet, and none at a node that is Down.
+        // Also: fires, at_once, never.
+        // Refuses: due_too_late, due_too_early.
         ensures quiet { IfSome result (λ next. (now : ℕ) → now < next → (event : Event) → MayFire (passed now self.now) sight.now event → ⊥) }
         ensures fires { IfSome result (λ next. (d : Deadline) → Runs self.now sight.now d → is_some self.now.told ≡ true → IsDue (passed next self.now) sight.now) }
         ensures at_once { ((d : Deadline) → Runs self.now sight.now d → ⊥) → result ≡ (if is_some (wait_of sight.now) then Some 0 else None) }
@@ -301,6 +340,7 @@ impl Pace {
                 + jitter
                 + u64::from(wait.patience(self.raise)),
             waited: 0,
+            put_off: false,
         });
     }
 

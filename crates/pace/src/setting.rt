@@ -1,6 +1,8 @@
 ghost use Rattle.std.specs.Prelude.{◌≡◌, ◌<◌, ◌^◌};
 ghost use Rattle.pace.specs.Timers.{first_pause, measured, most_pause, longer_pause, raise_of};
 
+use crate::deadline::product;
+
 /// How long a node waits for what, counted in round trips of the link.
 ///
 /// A wait of 0 is one of a millisecond: no deadline comes at the time at which it was set.
@@ -30,7 +32,7 @@ pub struct Setting {
     pub coordinator_jitter: u16,
     /// For the coordinator's answer.
     pub answer: u16,
-    /// So long work rests before it is dispatched, and a millisecond more for each job; a quarter longer after each dispatch.
+    /// So long work rests before it is dispatched, and a twentieth of one more for each job; a quarter longer after each dispatch.
     pub dispatch: u16,
     /// The most that it rests.
     pub dispatch_most: u16,
@@ -82,8 +84,10 @@ impl Setting {
         ensures { result ≡ first_pause self.now pending }
     {
         let first = u32::from(self.dispatch) * u32::from(self.unit);
-        let longer = u64::from(first).saturating_add(pending);
-        longer.max(1).min(self.most_pause())
+        let more = product(pending, u64::from(self.unit)) / 20;
+        let longer = (u128::from(first) + more).max(1);
+        let most = self.most_pause();
+        u64::try_from(longer).unwrap_or(most).min(most)
     }
 
     /// How long, in milliseconds, work rests until the next dispatch after one before which it rested so long.

@@ -27,6 +27,8 @@ pub enum Wait {
 impl Wait {
     /// What a node waits for where this is seen of it. Nothing where it is Down: who restarts a node recovers it.
     pub fn of(sight: &Sight) -> Option<Wait>
+        // Promise: What a node waits for is a function of what is seen of it: its phase, whether it is the coordinator, checks,
+        // waits for an answer.
         ensures { result ≡ wait_of sight.now }
     {
         match sight.phase {
@@ -80,7 +82,7 @@ impl Wait {
         ensures { result ≡ patience self raise }
     {
         match self {
-            Wait::Ready | Wait::Task | Wait::Answer => raise,
+            Wait::Merge | Wait::Ready | Wait::Answer => raise,
             _ => 0,
         }
     }

@@ -48,6 +48,9 @@ impl Waiting {
         sent: &[Message],
         vector: &Vector,
     ) -> Result<(), AllocError>
+        // Promise: Which messages are waited for is a function of the events, of what was sent in each and of the states that they
+        // led to (`specs/Waiting`).
+        // Also: Waiting::forget.
         ensures { OnOk result (self.new ≡ waits_behind (Some event.now) sent.now (state_of vector.now) self.old) }
     {
         self.renew(&answerer(event), sent, vector)
@@ -75,6 +78,10 @@ impl Waiting {
 
     /// What is to be sent again at this time.
     pub fn due(&self, now: u64) -> &[Message]
+        // Promise: They are due again each unit (a round trip), and one that was sent in between from the next time on; where the
+        // next time is more than a unit away, the clock fell back, and they are due.
+        // Also: Waiting::go_on.
+        // Refuses: sent_again_at_once, clock_that_falls_back_silences.
         ensures { result.now ≡ sent_again now self.now }
     {
         if self.has_come(now) { &self.again } else { &[] }
@@ -83,6 +90,7 @@ impl Waiting {
     /// When something is sent again next, or what was sent since the last time is taken along, where it is so late now and the clock doesn't
     /// fall back. None where nothing is waited for.
     pub fn due_at(&self, now: u64) -> Option<u64>
+        // Promise: When they are due next, where the clock doesn't fall back: before it nothing is sent again, and at it it is.
         ensures quiet { IfSome result (λ next. (later : ℕ) → now ≤ later → later < next → (sent_again later self.now ≡ []) × (waits_on later self.now ≡ self.now)) }
         ensures comes { IfSome result (λ next. has_come next self.now ≡ true) }
         ensures never { IsNone result → (later : ℕ) → sent_again later self.now ≡ [] }

@@ -35,12 +35,16 @@ use Rattle.run_trace.specs.declared.deeds.Ended.{Ended}
 use Rattle.run_trace.specs.declared.deeds.Rise.{Rise}
 use Rattle.run_trace.specs.declared.deeds.Rise.TheVariants.{Mounted}
 use Rattle.run_trace.specs.Deeds.{IsRise, ended, deed_by, ActedAs, IsNoted}
-use Rattle.run_trace.specs.Traced.{deed_of, claim_of, trace_in, IsSoFar, HasWorld}
+use Rattle.run_trace.specs.Traced.{AreActed, deed_of, claim_of, trace_in, IsSoFar, HasWorld}
 use Rattle.runs.specs.Growth.{IsNext, StepOfSlots}
 use Rattle.trace_check.specs.Claims.{Claim}
 use Rattle.sector_disk.specs.Memory.{Memory, state_of}
 use Rattle.runs.proofs.PublicLaws.{acts_go_on, step_length, length_openings, at_place, how_many, node_there}
-use Rattle.cluster_sim.specs.World.{WorldView, StandsFor, Shows}
+use Rattle.runs.specs.declared.outcome.Outcome.{Outcome}
+use Rattle.cluster_sim.specs.Acting.{IsActed}
+use Rattle.cluster_sim.specs.Names.{node_named}
+use Rattle.cluster_sim.specs.Operated.{Operates}
+use Rattle.cluster_sim.specs.World.{AreUnarmed, FaultsAt, WorldView, StandsFor, Shows}
 use Rattle.trace_check.specs.Traces.{claim}
 use Rattle.node_core.specs.declared.event.Event.TheVariants as on
 use Rattle.schedule.specs.declared.act.Act.TheVariants as act
@@ -67,13 +71,13 @@ other_same self nodes first s a (Rests resting.CompactDown) none = refl
 other_same self nodes first s a (Rests resting.CompactWorn) none = refl
 other_same self nodes first s a _ none = refl
 
--- The step is one of this node, to which this was brought; another outcome of it would be a step of the act too.
-pub record IsStepAt (steps : Step → Type 0) (a : Act) (n : ℕ) (b : Brought) (step : Step) : Type 0 where
+-- The step is one of this node, in this state, to which this was brought; another outcome of it would be a step of the act too.
+pub record IsStepAt (now : NodeState) (steps : Step → Type 0) (a : Act) (n : ℕ) (b : Brought) (step : Step) : Type 0 where
   pub number : ℕ
   pub what : What
   pub is : step ≡ Takes n number what
-  pub came : CameOf b what
-  pub again : (other : What) → CameOf b other → steps (Takes n number other)
+  pub came : CameOf now b what
+  pub again : (other : What) → CameOf now b other → steps (Takes n number other)
   pub plain : b ≢ Event on.Recover
   pub same_outcome : (self nodes first : ℕ) (s : NodeState) → what_outcome self nodes first s what a ≡ what_outcome self nodes first s what (bringing b)
 
@@ -81,33 +85,33 @@ pub record IsStepAt (steps : Step → Type 0) (a : Act) (n : ℕ) (b : Brought) 
 abbrev if_there : Bool → ℕ × Brought → Option (ℕ × Brought)
 if_there t comes = if t then Some comes else None
 
-comes_at : (a : Act) (t : Bool) (m number : ℕ) (b : Brought) (n : ℕ) (c : Brought) (step : Step) → b ≢ Event on.Recover → ((what : What) (self nodes first : ℕ) (s : NodeState) → what_outcome self nodes first s what a ≡ what_outcome self nodes first s what (bringing b))
-    → if_there t (m, b) ≡ Some (n, c) → At t m number (CameOf b) step → IsStepAt (At t m number (CameOf b)) a n c step
-comes_at a true m number b n c step plain same_outcome is at =
+comes_at : (now : ℕ → NodeState) (a : Act) (t : Bool) (m number : ℕ) (b : Brought) (n : ℕ) (c : Brought) (step : Step) → b ≢ Event on.Recover → ((what : What) (self nodes first : ℕ) (s : NodeState) → what_outcome self nodes first s what a ≡ what_outcome self nodes first s what (bringing b))
+    → if_there t (m, b) ≡ Some (n, c) → At t m number (CameOf (now m) b) step → IsStepAt (now n) (At t m number (CameOf (now m) b)) a n c step
+comes_at now a true m number b n c step plain same_outcome is at =
     let x : ℕ × Brought = (m, b) in
     let y : ℕ × Brought = (n, c) in
     let same : x ≡ y = is_some x y is in
-    subst (λ (p : ℕ × Brought). IsStepAt (At true m number (CameOf b)) a p.0 p.1 step) same
+    subst (λ (p : ℕ × Brought). IsStepAt (now p.0) (At true m number (CameOf (now m) b)) a p.0 p.1 step) same
     (record { number = number; what = at.0; is = at.1; came = at.2; again = λ other came. (other, refl, came); plain = plain; same_outcome = same_outcome at.0 })
-comes_at a false m number b n c step plain same_outcome is at = absurd cc
+comes_at now a false m number b n c step plain same_outcome is at = absurd cc
 
-delivers_at : (nodes : ℕ) (net : Network) (k : ℕ) (r : Result Envelope NetFault) (n : ℕ) (c : Brought) (step : Step)
-    → option_and_then (λ (comes : ℕ × Brought). if nat_lt comes.0 nodes then Some comes else None) (delivered r) ≡ Some (n, c) → Brings nodes net k r step → IsStepAt (Brings nodes net k r) (act.Deliver k) n c step
-delivers_at nodes net k (Ok m) n c step is brings = comes_at (act.Deliver k) (nat_lt m.receiver nodes) m.receiver k (Event (on.Deliver m)) n c step (λ e. cc) (λ what self size first s. other_same self size first s _ what (λ k e. cc)) is brings
-delivers_at nodes net k (Err why) n c step is brings = absurd cc
+delivers_at : (now : ℕ → NodeState) (nodes : ℕ) (net : Network) (k : ℕ) (r : Result Envelope NetFault) (n : ℕ) (c : Brought) (step : Step)
+    → option_and_then (λ (comes : ℕ × Brought). if nat_lt comes.0 nodes then Some comes else None) (delivered r) ≡ Some (n, c) → Brings nodes net k r step → IsStepAt (now n) (Brings nodes net k r) (act.Deliver k) n c step
+delivers_at now nodes net k (Ok m) n c step is brings = comes_at now (act.Deliver k) (nat_lt m.receiver nodes) m.receiver k (Event (on.Deliver m)) n c step (λ e. cc) (λ what self size first s. other_same self size first s _ what (λ k e. cc)) is brings
+delivers_at now nodes net k (Err why) n c step is brings = absurd cc
 
-pub step_at : (nodes : ℕ) (w : World) (a : Act) (n : ℕ) (b : Brought) (step : Step) → brought_by nodes w.net a ≡ Some (n, b) → IsStepOf nodes w a step → IsStepAt (IsStepOf nodes w a) a n b step
-step_at nodes w (act.Timer m timer) n b step is of = comes_at (act.Timer m timer) (nat_lt m nodes) m 0 (Event (on.Timer timer)) n b step (λ e. cc) (λ what self size first s. other_same self size first s _ what (λ k e. cc)) is of
-step_at nodes w (act.Deliver k) n b step is of = delivers_at nodes w.net k (delivery w.net k) n b step is of
+pub step_at : (nodes : ℕ) (w : World) (a : Act) (n : ℕ) (b : Brought) (step : Step) → brought_by nodes w.net a ≡ Some (n, b) → IsStepOf nodes w a step → IsStepAt (node_in w.states n) (IsStepOf nodes w a) a n b step
+step_at nodes w (act.Timer m timer) n b step is of = comes_at (node_in w.states) (act.Timer m timer) (nat_lt m nodes) m 0 (Event (on.Timer timer)) n b step (λ e. cc) (λ what self size first s. other_same self size first s _ what (λ k e. cc)) is of
+step_at nodes w (act.Deliver k) n b step is of = delivers_at (node_in w.states) nodes w.net k (delivery w.net k) n b step is of
 step_at nodes w (act.Lose k) n b step is of = absurd cc
 step_at nodes w (act.Cut x y) n b step is of = absurd cc
 step_at nodes w (act.Mend x y) n b step is of = absurd cc
-step_at nodes w (act.Submit m work) n b step is of = comes_at (act.Submit m work) (nat_lt m nodes) m 0 (Event (on.Submit work)) n b step (λ e. cc) (λ what self size first s. other_same self size first s _ what (λ k e. cc)) is of
-step_at nodes w (act.Finish m origin id) n b step is of = comes_at (act.Finish m origin id) (nat_lt m nodes) m 0 (Event (on.Finish origin id)) n b step (λ e. cc) (λ what self size first s. other_same self size first s _ what (λ k e. cc)) is of
-step_at nodes w (act.Arm m calls) n b step is of = comes_at (act.Arm m calls) (nat_lt m nodes) m 0 Arming n b step (λ e. cc) (λ what self size first s. other_same self size first s _ what (λ k e. cc)) is of
-step_at nodes w (act.Crash m fill) n b step is of = comes_at (act.Crash m fill) (nat_lt m nodes) m 0 Crash n b step (λ e. cc) (λ what self size first s. other_same self size first s _ what (λ k e. cc)) is of
-step_at nodes w (act.Recover m) n b step is of = comes_at (act.Recover m) (nat_lt m nodes) m 0 Recovery n b step (λ e. cc) (λ what self size first s. other_same self size first s _ what (λ k e. cc)) is of
-step_at nodes w (act.Compact m) n b step is of = comes_at (act.Compact m) (nat_lt m nodes) m 0 Compaction n b step (λ e. cc) (λ what self size first s. compaction_same self size first s m 0 what) is of
+step_at nodes w (act.Submit m work) n b step is of = comes_at (node_in w.states) (act.Submit m work) (nat_lt m nodes) m 0 (Event (on.Submit work)) n b step (λ e. cc) (λ what self size first s. other_same self size first s _ what (λ k e. cc)) is of
+step_at nodes w (act.Finish m origin id) n b step is of = comes_at (node_in w.states) (act.Finish m origin id) (nat_lt m nodes) m 0 (Event (on.Finish origin id)) n b step (λ e. cc) (λ what self size first s. other_same self size first s _ what (λ k e. cc)) is of
+step_at nodes w (act.Arm m calls) n b step is of = comes_at (node_in w.states) (act.Arm m calls) (nat_lt m nodes) m 0 Arming n b step (λ e. cc) (λ what self size first s. other_same self size first s _ what (λ k e. cc)) is of
+step_at nodes w (act.Crash m fill) n b step is of = comes_at (node_in w.states) (act.Crash m fill) (nat_lt m nodes) m 0 Crash n b step (λ e. cc) (λ what self size first s. other_same self size first s _ what (λ k e. cc)) is of
+step_at nodes w (act.Recover m) n b step is of = comes_at (node_in w.states) (act.Recover m) (nat_lt m nodes) m 0 Recovery n b step (λ e. cc) (λ what self size first s. other_same self size first s _ what (λ k e. cc)) is of
+step_at nodes w (act.Compact m) n b step is of = comes_at (node_in w.states) (act.Compact m) (nat_lt m nodes) m 0 Compaction n b step (λ e. cc) (λ what self size first s. compaction_same self size first s m 0 what) is of
 
 -- ---- an act that comes to no node adds no entry
 
@@ -128,21 +132,22 @@ entry_elsewhere n m nodes w number what other = rw (ne_eqb n m (λ is. other (sy
 -- It may as well have come, with the same effect, and stands in the trace so. A job that was done and wasn't pending is no other state with it than without.
 pub record IsSameDeed (slots n nodes : ℕ) (s : NodeState) (b : Brought) (what : What) (deed : Deed) : Type 0 where
   pub other : What
-  pub came : CameOf b other
+  pub came : CameOf s b other
   pub possible : IsPossible n nodes s other
   pub of_slots : IsOfSlots slots n nodes s other
   pub brings : brought (event_of other) ≡ brought (event_of what)
   pub leaves : after n nodes s other ≡ after n nodes s what
   pub sends : sent_at n nodes s other ≡ sent_at n nodes s what
   pub same_outcome : deed_of other ≡ deed
+  pub ends : (first : ℕ) (a : Act) → what_outcome n nodes first s other a ≡ what_outcome n nodes first s what a
 
 module _ (slots n nodes first : ℕ) (s : NodeState) (rise : Rise) (doubt : Option (Wanted × ℕ)) (mounted : Option Durable) (in_doubt : doubt ≡ shown_doubt s.durable s.doubt)
     (stood : IsRise (is_down s.state.phase) doubt mounted rise) where
   abbrev SameDeed : Brought → What → Type 0
   SameDeed b what = IsSameDeed slots n nodes s b what (deed_by b rise (ended (what_outcome n nodes first s what (bringing b))))
 
-  as_it_is : (b : Brought) (what : What) → b ≢ Event on.Recover → CameOf b what → IsPossible n nodes s what → IsOfSlots slots n nodes s what → mounted ≡ mounted_at s what → (mounted_at s what ≡ None) ⊎ (deed_of what ≡ Nothing) → SameDeed b what
-  as_it_is b what plain came possible of_slots at none = record { other = what; came = came; possible = possible; of_slots = of_slots; brings = refl; leaves = refl; sends = refl; same_outcome = grind arith }
+  as_it_is : (b : Brought) (what : What) → b ≢ Event on.Recover → CameOf s b what → IsPossible n nodes s what → IsOfSlots slots n nodes s what → mounted ≡ mounted_at s what → (mounted_at s what ≡ None) ⊎ (deed_of what ≡ Nothing) → SameDeed b what
+  as_it_is b what plain came possible of_slots at none = record { other = what; came = came; possible = possible; of_slots = of_slots; brings = refl; leaves = refl; sends = refl; same_outcome = grind arith; ends = λ k a. refl }
 
   -- what was mounted has the command in doubt, or hasn't, as the flag says
   mounted_so : (r : Rise) (kept : Bool) → IsRise (is_down s.state.phase) doubt mounted r → is_down s.state.phase ≡ true → IsSettling kept s.doubt → mounted ≡ Some (settled kept s)
@@ -153,13 +158,13 @@ module _ (slots n nodes first : ℕ) (s : NodeState) (rise : Rise) (doubt : Opti
       (flag, refl, so.0, sym so.1 ∙ mounted_it)
   mounted_so r kept is down settling some = absurd (let bad : true ≡ false = grind arith in cc)
 
-  pub same_deed : (b : Brought) (what : What) → b ≢ Event on.Recover → CameOf b what → IsPossible n nodes s what → IsOfSlots slots n nodes s what → mounted ≡ mounted_at s what → SameDeed b what
+  pub same_deed : (b : Brought) (what : What) → b ≢ Event on.Recover → CameOf s b what → IsPossible n nodes s what → IsOfSlots slots n nodes s what → mounted ≡ mounted_at s what → SameDeed b what
   same_deed b (Recovered kept) plain came possible of_slots at =
       let m = mounted_so rise kept stood possible.0 possible.1 at in
-      record { other = Recovered m.0; came = (grind arith); possible = (possible.0, m.2, rw m.3 possible.2); of_slots = tt; brings = refl; leaves = rw m.3 refl; sends = refl; same_outcome = grind arith }
+      record { other = Recovered m.0; came = (grind arith); possible = (possible.0, m.2, rw m.3 possible.2); of_slots = tt; brings = refl; leaves = rw m.3 refl; sends = refl; same_outcome = grind arith; ends = λ k a. rw m.3 refl }
   same_deed b (RaiseFailed kept) plain came possible of_slots at =
       let m = mounted_so rise kept stood possible.0 possible.1 at in
-      record { other = RaiseFailed m.0; came = (grind arith); possible = (possible.0, m.2, rw m.3 possible.2); of_slots = tt; brings = refl; leaves = rw m.3 refl; sends = refl; same_outcome = grind arith }
+      record { other = RaiseFailed m.0; came = (grind arith); possible = (possible.0, m.2, rw m.3 possible.2); of_slots = tt; brings = refl; leaves = rw m.3 refl; sends = refl; same_outcome = grind arith; ends = λ k a. refl }
   same_deed b (Did e) plain came possible of_slots at = as_it_is b (Did e) plain came possible of_slots at (inl refl)
   same_deed b (Refused e fault) plain came possible of_slots at = as_it_is b (Refused e fault) plain came possible of_slots at (inl refl)
   same_deed b (Faulted e) plain came possible of_slots at = as_it_is b (Faulted e) plain came possible of_slots at (inl refl)
@@ -222,24 +227,42 @@ sent_all out xs all i past is = let none = drop_all i xs past in let alone = app
 
 -- ---- the trace
 
+acted_on : (nodes : ℕ) (acts : List Act) (steps : List Step) (view : WorldView) (w : World) (a : Act) (step : Step) (end new : WorldView) → AreActed nodes view w acts steps end → IsActed nodes end new (world_at nodes w steps) a step
+    → AreActed nodes view w (acts ++ a ∷ []) (steps ++ step ∷ []) new
+acted_on nodes [] [] view w a step end new acted one = (new, subst (λ (v : WorldView). IsActed nodes v new w a step) acted one, refl)
+acted_on nodes [] (x ∷ steps) view w a step end new acted one = absurd acted
+acted_on nodes (b ∷ acts) [] view w a step end new acted one = absurd acted
+acted_on nodes (b ∷ acts) (x ∷ steps) view w a step end new acted one = (acted.0, acted.1, acted_on nodes acts steps acted.0 (world_after nodes w x) a step end new acted.2 one)
+
 -- the run so far goes on by this step, and the trace has it
 goes_on : (nodes slots : ℕ) (before : List Act) (a : Act) (old new : WorldView) (trace trace' : List (List Claim)) (so : IsSoFar nodes slots old before trace) (step : Step) → new.slots ≡ old.slots
     → let w = world_at nodes (start nodes) so.run.steps in IsNext (length w.states) new.slots w a step → trace' ≡ trace_in (histories_of nodes (so.run.steps ++ step ∷ []))
-    → StandsFor new (world_after (length w.states) w step) → IsSoFar nodes slots new (before ++ a ∷ []) trace'
-goes_on nodes slots before a old new trace trace' so step same next of_histories stands =
+    → IsActed (length w.states) old new w a step → IsSoFar nodes slots new (before ++ a ∷ []) trace'
+goes_on nodes slots before a old new trace trace' so step same next of_histories acted =
     let w = world_at nodes (start nodes) so.run.steps in
     let next_there : IsNext nodes slots w a step = subst (λ (k : ℕ). IsNext nodes k w a step) (same ∙ so.slots_are) (subst (λ (k : ℕ). IsNext k new.slots w a step) so.count next) in
+    let acted_there : IsActed nodes old new w a step = subst (λ (k : ℕ). IsActed k old new w a step) so.count acted in
     let world : world_at nodes (start nodes) (so.run.steps ++ step ∷ []) ≡ world_after nodes w step = world_goes_on nodes so.run.steps step (start nodes) in
     record {
-      run = record { steps = so.run.steps ++ step ∷ []; is_run = acts_go_on nodes slots before so.run.steps (start nodes) a step so.run.is_run next_there; of_histories = of_histories };
+      run = record {
+        steps = so.run.steps ++ step ∷ [];
+        is_run = acts_go_on nodes slots before so.run.steps (start nodes) a step so.run.is_run next_there;
+        of_histories = of_histories;
+        first = so.run.first;
+        last = new;
+        opened = so.run.opened;
+        unarmed = so.run.unarmed;
+        acted = acted_on nodes before so.run.steps so.run.first (start nodes) a step so.run.last new so.run.acted (subst (λ (v : WorldView). IsActed nodes v new w a step) (sym so.last_is) acted_there);
+      };
+      last_is = refl;
       slots_are = same ∙ so.slots_are;
       count = ap (λ (x : World). length x.states) world ∙ step_length nodes w step ∙ so.count;
-      stands = subst (λ (x : World). StandsFor new x) (sym world) (subst (λ (k : ℕ). StandsFor new (world_after k w step)) so.count stands);
+      stands = subst (λ (x : World). StandsFor new x) (sym world) acted_there.stands;
     }
 
 -- an act that comes to a node: what stands in the trace may have come of it, and leaves the same world
 pub traced : (nodes slots : ℕ) (before : List Act) (a : Act) (n : ℕ) (b : Brought) (rise : Rise) (e : Ended) (old new : WorldView) (was now : Node Memory) (place : ℕ) (sent : List Envelope) (trace trace' : List (List Claim))
-    → IsSoFar nodes slots old before trace → new.slots ≡ old.slots → ((w : World) → StandsFor old w → ActedAs w a e new) → brought_by (length old.nodes) old.net a ≡ Some (n, b)
+    → IsSoFar nodes slots old before trace → new.slots ≡ old.slots → ((w : World) → StandsFor old w → ActedAs old w a e new) → brought_by (length old.nodes) old.net a ≡ Some (n, b)
     → slice_get old.nodes n ≡ Some was → slice_get new.nodes n ≡ Some now → IsRise (is_down was.state.phase) was.doubt now.mounted rise → place ≡ length old.net.sent → sent ≡ drop place new.net.sent
     → IsNoted n (claim (deed_by b rise e) sent) trace trace' → IsSoFar nodes slots new (before ++ a ∷ []) trace'
 traced nodes slots before a n b rise e old new was now place sent trace trace' so same acts brings old_at new_at stood place_is sent_is noted =
@@ -257,7 +280,7 @@ traced nodes slots before a n b rise e old new was now place sent trace trace' s
     let node : Stands state_of was s = so.stands.each n was s old_at there in
     let mounted = (subst (λ (x : Step). Shows w x new) at.is acted.shows) now s new_at there in
     let stood_s = subst (λ (x : State). IsRise (is_down x.phase) was.doubt now.mounted rise) node.state stood in
-    let r = same_deed new.slots n size (length w.net.sent) s rise was.doubt now.mounted node.doubt stood_s b at.what at.plain at.came allowed.2 fits mounted in
+    let r = same_deed new.slots n size (length w.net.sent) s rise was.doubt now.mounted node.doubt stood_s b at.what at.plain (subst (λ (x : NodeState). CameOf x b at.what) is_s at.came) allowed.2 fits mounted in
     let ended_is : e ≡ ended (what_outcome n size (length w.net.sent) s at.what (bringing b)) =
     (acts w so.stands).2 ∙ ap ended (acted.outcome_is ∙ ap (λ (x : Step). act_outcome size w a x) at.is ∙ at.same_outcome n size (length w.net.sent) (node_in w.states n)
     ∙ ap (λ (x : NodeState). what_outcome n size (length w.net.sent) x at.what (bringing b)) is_s) in
@@ -276,26 +299,37 @@ traced nodes slots before a n b rise e old new was now place sent trace trace' s
     let h = at_place hs n (let within = slice_get_within w.states n s there in let count = so.count in omega (arith, within, count, many)) in
     let grown = histories_grow 0 nodes n n nodes so.run.steps taken entry h.0 (omega arith) (λ m other. entry_elsewhere n m nodes w at.number r.other other) (entry_here n nodes w at.number r.other) h.1 in
     let next : IsNext size new.slots w a taken =
-    record { of_act = at.again r.other r.came; allowed = (s, there, r.possible, rw r.brings allowed.3, rw r.brings allowed.4); of_slots = rw there r.of_slots } in
+    record { of_act = at.again r.other (subst (λ (x : NodeState). CameOf x b r.other) (sym is_s) r.came); allowed = (s, there, r.possible, rw r.brings allowed.3, rw r.brings allowed.4); of_slots = rw there r.of_slots } in
     let of_histories : trace' ≡ trace_in (histories_of nodes (so.run.steps ++ taken ∷ [])) =
     noted h.0 (ap (λ (xs : List (List Claim)). slice_get xs n) so.run.of_histories ∙ h.1) ∙ ap (λ (xs : List (List Claim)). slice_set xs n (h.0 ++ claim (deed_by b rise e) sent ∷ [])) so.run.of_histories
     ∙ ap (λ (c : Claim). slice_set hs n (h.0 ++ c ∷ [])) (sym claim_is) ∙ sym grown in
-    goes_on nodes slots before a old new trace trace' so taken same next of_histories stands
+    let taken_outcome : (acts w so.stands).0 ≡ act_outcome size w a taken =
+    acted.outcome_is ∙ ap (λ (x : Step). act_outcome size w a x) at.is ∙ ap (λ (x : NodeState). what_outcome n size (length w.net.sent) x at.what a) is_s
+    ∙ sym (r.ends (length w.net.sent) a) ∙ ap (λ (x : NodeState). what_outcome n size (length w.net.sent) x r.other a) (sym is_s) in
+    goes_on nodes slots before a old new trace trace' so taken same next of_histories (record {
+      stands = stands;
+      operates = subst (λ (o : Outcome). Operates a old new o) taken_outcome (acts w so.stands).3;
+      faults = subst (λ (o : Outcome). FaultsAt (node_named (length old.nodes) old.net.sent a) old new o) taken_outcome (acts w so.stands).4;
+    })
 
 -- one that comes to no node leaves the trace as it is
 pub none_noted : (nodes slots : ℕ) (before : List Act) (a : Act) (e : Ended) (old new : WorldView) (trace : List (List Claim)) → IsSoFar nodes slots old before trace
-    → new.slots ≡ old.slots → ((w : World) → StandsFor old w → ActedAs w a e new) → brought_by (length old.nodes) old.net a ≡ None → IsSoFar nodes slots new (before ++ a ∷ []) trace
+    → new.slots ≡ old.slots → ((w : World) → StandsFor old w → ActedAs old w a e new) → brought_by (length old.nodes) old.net a ≡ None → IsSoFar nodes slots new (before ++ a ∷ []) trace
 none_noted nodes slots before a e old new trace so same acts none =
     let w = world_at nodes (start nodes) so.run.steps in
     let acted = (acts w so.stands).1 in
     let none_w : brought_by (length w.states) w.net a ≡ None = ap (λ (k : ℕ). brought_by k w.net a) (sym so.stands.count) ∙ ap (λ (net : Network). brought_by (length old.nodes) net a) (sym so.stands.net) ∙ none in
     let quiet = subst (λ (k : ℕ). IsQuiet k w acted.step) so.count (none_comes (length w.states) w a acted.step none_w acted.next.of_act) in
-    goes_on nodes slots before a old new trace trace so acted.step same acted.next (so.run.of_histories ∙ ap trace_in (sym (histories_stay 0 nodes nodes so.run.steps acted.step (λ m more. quiet m)))) acted.stands
+    goes_on nodes slots before a old new trace trace so acted.step same acted.next (so.run.of_histories ∙ ap trace_in (sym (histories_stay 0 nodes nodes so.run.steps acted.step (λ m more. quiet m)))) (record {
+      stands = acted.stands;
+      operates = subst (λ (o : Outcome). Operates a old new o) acted.outcome_is (acts w so.stands).3;
+      faults = subst (λ (o : Outcome). FaultsAt (node_named (length old.nodes) old.net.sent a) old new o) acted.outcome_is (acts w so.stands).4;
+    })
 
 -- ---- the beginning, and what a cluster stays
 
-pub begins : (nodes slots : ℕ) (view : WorldView) (trace : List (List Claim)) → view.slots ≡ slots → StandsFor view (start nodes) → trace ≡ replicate nodes [] → IsSoFar nodes slots view [] trace
-begins nodes slots view trace same stands none = record { run = record { steps = []; is_run = tt; of_histories = none ∙ sym (begun 0 nodes nodes) }; slots_are = same; count = length_openings 0 nodes; stands = stands }
+pub begins : (nodes slots : ℕ) (view : WorldView) (trace : List (List Claim)) → view.slots ≡ slots → StandsFor view (start nodes) → AreUnarmed view.nodes → trace ≡ replicate nodes [] → IsSoFar nodes slots view [] trace
+begins nodes slots view trace same stands unarmed none = record { run = record { steps = []; is_run = tt; of_histories = none ∙ sym (begun 0 nodes nodes); first = view; last = view; opened = stands; unarmed = unarmed; acted = refl }; last_is = refl; slots_are = same; count = length_openings 0 nodes; stands = stands }
 
-pub world_stays : (a : Act) (e : Ended) (old new : WorldView) → HasWorld old → ((w : World) → StandsFor old w → ActedAs w a e new) → HasWorld new
+pub world_stays : (a : Act) (e : Ended) (old new : WorldView) → HasWorld old → ((w : World) → StandsFor old w → ActedAs old w a e new) → HasWorld new
 world_stays a e old new has acts = let acted = (acts has.0 has.1).1 in (world_after (length has.0.states) has.0 acted.step, acted.stands)

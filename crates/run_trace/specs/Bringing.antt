@@ -2,6 +2,7 @@
 use Rattle.std.specs.Prelude.{ℕ, ◌≡◌, nat_lt, if◌then◌else◌, Option, Some, None, option_and_then, Result, Ok, Err}
 use Rattle.wire_msg.specs.Envelope.{Envelope}
 use Rattle.node_core.specs.declared.event.Event.TheVariants as on
+use Rattle.histories.specs.NodeState.{NodeState}
 use Rattle.histories.specs.declared.what.What.{What}
 use Rattle.histories.specs.declared.what.What.TheVariants.{Rests, Crashed}
 use Rattle.histories.specs.declared.what.Rest.TheVariants.{Nothing}
@@ -37,10 +38,10 @@ named_by net (act.Compact n) = Some (n, Compaction)
 abbrev pub brought_by : ℕ → Network → Act → Option (ℕ × Brought)
 brought_by nodes net a = option_and_then (λ (comes : ℕ × Brought). if nat_lt comes.0 nodes then Some comes else None) (named_by net a)
 
--- it came of what was brought
-abbrev pub CameOf : Brought → What → Type 0
-CameOf (Event event) what = IsOf event what
-CameOf Recovery what = IsOf on.Recover what
-CameOf Arming what = what ≡ Rests Nothing
-CameOf Crash what = what ≡ Crashed
-CameOf Compaction what = IsCompaction what
+-- it came of what was brought to a node in this state
+abbrev pub CameOf : NodeState → Brought → What → Type 0
+CameOf s (Event event) what = IsOf event what
+CameOf s Recovery what = IsOf on.Recover what
+CameOf s Arming what = what ≡ Rests Nothing
+CameOf s Crash what = what ≡ Crashed
+CameOf s Compaction what = IsCompaction s what

@@ -1,5 +1,5 @@
 -- How what was seen of an act at a node stands in a trace.
-use Rattle.std.specs.Prelude.{ℕ, ◌≡◌, ◌++◌, [], ◌∷◌, Bool, true, false, List, slice_get, slice_set, Option, Some, None}
+use Rattle.std.specs.Prelude.{ℕ, ◌≡◌, ◌++◌, [], ◌∷◌, Bool, true, false, List, length, slice_get, slice_set, Option, Some, None}
 use Rattle.job_model.specs.Durable.{Durable}
 use Rattle.node_core.specs.declared.wanted.Wanted.{Wanted}
 use Rattle.durable_node.specs.Remounting.{IsKeptIn}
@@ -13,7 +13,9 @@ use Rattle.run_trace.specs.declared.bringing.Brought.{Brought}
 use Rattle.run_trace.specs.declared.bringing.Brought.TheVariants.{Event, Recovery, Arming, Crash, Compaction}
 use Rattle.schedule.specs.declared.act.Act.{Act}
 use Rattle.runs.specs.World.{World}
-use Rattle.cluster_sim.specs.World.{Acted, WorldView}
+use Rattle.cluster_sim.specs.Names.{node_named}
+use Rattle.cluster_sim.specs.Operated.{Operates}
+use Rattle.cluster_sim.specs.World.{Acted, FaultsAt, WorldView}
 use Rattle.run_trace.specs.declared.deeds.Ended.{Ended}
 use Rattle.run_trace.specs.declared.deeds.Ended.TheVariants as end
 use Rattle.run_trace.specs.declared.deeds.Rise.{Rise}
@@ -41,9 +43,9 @@ ended (outcome.Done answer first many) = end.Done
 ended (outcome.Refused why) = end.Refused
 ended outcome.Faulted = end.Faulted
 
--- the act ended so
-abbrev pub ActedAs : World → Act → Ended → WorldView → Type 0
-ActedAs w a e new = (o : Outcome) × Acted w a o new × (e ≡ ended o)
+-- the act ended so, and did to the disk of its node what it does
+abbrev pub ActedAs : WorldView → World → Act → Ended → WorldView → Type 0
+ActedAs old w a e new = (o : Outcome) × Acted w a o new × (e ≡ ended o) × Operates a old new o × FaultsAt (node_named (length old.nodes) old.net.sent a) old new o
 
 -- what was done, by what was brought and how the act ended
 abbrev pub deed_by : Brought → Rise → Ended → Deed

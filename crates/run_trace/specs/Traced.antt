@@ -1,5 +1,5 @@
 -- The trace of a run: each entry of the nodes' histories, as a trace has it.
-use Rattle.std.specs.Prelude.{ℕ, ◌≡◌, false, List, map, length}
+use Rattle.std.specs.Prelude.{ℕ, ◌≡◌, false, List, [], ◌∷◌, map, length}
 use Rattle.node_core.specs.declared.event.Event.{Event}
 use Rattle.node_core.specs.declared.event.Event.TheVariants as on
 use Rattle.histories.specs.declared.what.What.{What}
@@ -11,10 +11,11 @@ use Rattle.trace_check.specs.declared.trace.Deed.TheVariants as deed
 use Rattle.trace_check.specs.declared.trace.RecoverFault.TheVariants as recover
 use Rattle.trace_check.specs.Claims.{Claim}
 use Rattle.runs.specs.World.{World, start}
-use Rattle.runs.specs.Step.{Step}
+use Rattle.runs.specs.Step.{Step, world_after}
 use Rattle.runs.specs.Run.{histories_of, world_at}
 use Rattle.runs.specs.Acts.{IsRunOf}
-use Rattle.cluster_sim.specs.World.{WorldView, StandsFor}
+use Rattle.cluster_sim.specs.Acting.{IsActed}
+use Rattle.cluster_sim.specs.World.{AreUnarmed, WorldView, StandsFor}
 
 -- an event that was handled: a recovery of a node that is up has a name of its own
 abbrev pub done : Event → Deed
@@ -44,11 +45,24 @@ claim_of e = record { deed = deed_of e.what; sent = e.sent }
 abbrev pub trace_in : List (List Entry) → List (List Claim)
 trace_in hs = map (λ (h : List Entry). map claim_of h) hs
 
--- the trace is that of some run of these acts, in a cluster of so many nodes whose disks have so many slots
+-- the acts had these steps at nodes over their disks, each of which found them as the one before it left them
+abbrev pub AreActed : ℕ → WorldView → World → List Act → List Step → WorldView → Type 0
+AreActed nodes view w [] [] end = end ≡ view
+AreActed nodes view w (a ∷ acts) (step ∷ steps) end =
+    (next : WorldView) × IsActed nodes view next w a step × AreActed nodes next (world_after nodes w step) acts steps end
+AreActed nodes view w acts steps end = ⊥
+
+-- the trace is that of some run of these acts, in a cluster of so many nodes whose disks have so many slots: they opened over disks that
+-- aren't armed, and the acts are all that was done to them
 pub record IsTraceOf (nodes slots : ℕ) (acts : List Act) (trace : List (List Claim)) : Type 0 where
   pub steps : List Step
   pub is_run : IsRunOf nodes slots (start nodes) acts steps
   pub of_histories : trace ≡ trace_in (histories_of nodes steps)
+  pub first : WorldView
+  pub last : WorldView
+  pub opened : StandsFor first (start nodes)
+  pub unarmed : AreUnarmed first.nodes
+  pub acted : AreActed nodes first (start nodes) acts steps last
 
 -- and the cluster is as that run left it
 pub record IsSoFar (nodes slots : ℕ) (view : WorldView) (acts : List Act) (trace : List (List Claim)) : Type 0 where
@@ -56,6 +70,7 @@ pub record IsSoFar (nodes slots : ℕ) (view : WorldView) (acts : List Act) (tra
   pub slots_are : view.slots ≡ slots
   pub count : length (world_at nodes (start nodes) run.steps).states ≡ nodes
   pub stands : StandsFor view (world_at nodes (start nodes) run.steps)
+  pub last_is : run.last ≡ view
 
 -- the cluster stands for some world
 abbrev pub HasWorld : WorldView → Type 0

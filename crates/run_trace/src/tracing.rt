@@ -25,8 +25,12 @@ use wire_msg::Message;
 /// The trace of a schedule's run on a simulated cluster.
 pub fn trace_of(alloc: Global, schedule: &Schedule) -> Result<Trace, AllocError>
     requires { IsWithinLimits schedule.now.size schedule.now.acts.items }
+    // Promise: The trace of a schedule is that of some run of its acts: each act that came to a node is an entry of that node's
+    // history, written by what came of it and what it sent.
+    // Refuses: doubt_written_the_wrong_way, fault_answered_as_done, entry_at_node_0, sent_left_out, acts_left_out.
     ensures traced { IfOk result (IsTraceOf schedule.now.size.nodes schedule.now.size.slots schedule.now.acts.items) }
     // Some order of its entries is a run, so the verdict on it is one.
+    // Promise: Some order of that trace is a run, so `check` answers Run.
     ensures run { IfOk result IsRun }
 {
     let size = schedule.size;
@@ -121,7 +125,7 @@ fn trace_at(
 /// Does an act: how it ended. Want of memory is an error, wherever it came.
 fn step(world: &mut World, act: &Act) -> Result<Ended, AllocError>
     ensures slots { world.new.slots ≡ world.old.slots }
-    ensures acted { (w : RunWorld) → StandsFor world.old w → IfOk result (λ ended. ActedAs w act.now ended world.new) }
+    ensures acted { (w : RunWorld) → StandsFor world.old w → IfOk result (λ ended. ActedAs world.old w act.now ended world.new) }
 {
     match world.step(act)? {
         Outcome::Done { .. } => Ok(Ended::Done),

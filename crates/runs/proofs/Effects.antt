@@ -16,6 +16,9 @@ use Rattle.node_core.specs.declared.event.Event.TheVariants as on
 use Rattle.histories.specs.NodeState.{NodeState, opening, wants_at, effect_at}
 use Rattle.histories.specs.declared.what.What.{What}
 use Rattle.histories.specs.declared.what.What.TheVariants.{Did, Refused, Faulted, Rests, Crashed, Recovered, MountFailed, RaiseFailed, RaiseRefused}
+use Rattle.histories.specs.declared.what.Rest.TheVariants.{Nothing, Compacted, CompactDown, CompactWorn}
+use Rattle.node_core.specs.declared.fault.CoreFault.TheVariants.{Down}
+use Rattle.node_core.specs.declared.fault.Refusal.TheVariants.{Core}
 use Rattle.histories.specs.What.{IsOf}
 use Rattle.histories.specs.After.{after, sent_at}
 use Rattle.histories.specs.Possible.{IsPossible}
@@ -26,14 +29,15 @@ use Rattle.sim_net.specs.declared.fault.NetFault.{NetFault}
 use Rattle.sim_net.specs.Network.{Network, delivery}
 use Rattle.runs.specs.declared.outcome.Outcome.TheVariants as outcome
 use Rattle.runs.specs.declared.outcome.Refusal.{Refusal}
+use Rattle.runs.specs.declared.outcome.Refusal.TheVariants.{Node as OfNode}
 use Rattle.runs.specs.declared.tried.TriedAt.{TriedAt}
 use Rattle.runs.specs.World.{World, node_in, start}
 use Rattle.runs.specs.Step.{Step, Takes, Changes, Denies, step_sent, world_after}
 use Rattle.runs.specs.Run.{world_at}
-use Rattle.runs.specs.Acts.{Brings, IsStepOf, IsLawful, IsRunOf, act_outcome, what_outcome}
+use Rattle.runs.specs.Acts.{At, Brings, IsCompaction, IsStepOf, IsLawful, IsRunOf, act_outcome, what_outcome}
 use Rattle.runs.specs.Reporting.{Moment, Report, moment_of, tries, commands_at, group_of, grown, first_report, report_from}
 use Rattle.runs.specs.Headline.{report_within}
-use Rattle.runs.specs.Uses.{last_of, last_state, all_sent, event_in, RefusedChangesNothing, DoneHasItsEffect, NoneIsSpent}
+use Rattle.runs.specs.Uses.{last_of, last_state, all_sent, event_in, RefusedChangesNothing, DoneHasItsEffect, DownRefusesCompaction, NoneIsSpent}
 use Rattle.runs.proofs.Acknowledged.{among_of}
 use Rattle.runs.proofs.Finishing.{taken_there}
 use Rattle.runs.proofs.Fronts.{front_of}
@@ -313,5 +317,40 @@ done_has_its_effect nodes slots acts r h k m answer first many n event s within 
       ap (λ (x : Moment). x.sent) f.is ∙ (done.2 ∙ ap (λ (e : Effect). e.sent) effect),
     )
 
+-- ---- a compaction at a node that is down
+
+compaction_down : (n nodes first m : ℕ) (s : NodeState) (what : What) → IsCompaction s what → IsPossible n nodes s what → is_down s.state.phase ≡ true
+    → what_outcome n nodes first s what (act.Compact m) ≡ outcome.Refused (OfNode (Core Down))
+compaction_down n nodes first m s (Rests Nothing) is may down = absurd is
+compaction_down n nodes first m s (Rests Compacted) is may down = absurd (let both : true ≡ false = sym down ∙ may in cc)
+compaction_down n nodes first m s (Rests CompactDown) is may down = refl
+compaction_down n nodes first m s (Rests CompactWorn) is may down = absurd (let both : true ≡ false = sym down ∙ may in cc)
+compaction_down n nodes first m s Crashed is may down = absurd (let both : true ≡ false = sym down ∙ is in cc)
+compaction_down n nodes first m s _ is may down = absurd is
+
+down_step : (slots nodes n : ℕ) (w : World) (step : Step) (s : NodeState) (known : Bool) → known ≡ true → At known n 0 (IsCompaction (node_in w.states n)) step → IsLawful slots nodes w step
+    → slice_get w.states n ≡ Some s → is_down s.state.phase ≡ true → act_outcome nodes w (act.Compact n) step ≡ outcome.Refused (OfNode (Core Down))
+down_step slots nodes n w step s true is h may at down =
+    let lawful : IsLawful slots nodes w (Takes n 0 h.0) = subst (IsLawful slots nodes w) h.1 may in
+    let same : lawful.0 ≡ s = cc (lawful.1, at) in
+    let here : node_in w.states n ≡ s = node_there w.states n s at in
+    let possible : IsPossible n nodes s h.0 = subst (λ (x : NodeState). IsPossible n nodes x h.0) same lawful.2 in
+    let of : IsCompaction s h.0 = subst (λ (x : NodeState). IsCompaction x h.0) here h.2 in
+    ap (act_outcome nodes w (act.Compact n)) h.1 ∙ ap (λ (x : NodeState). what_outcome n nodes (length w.net.sent) x h.0 (act.Compact n)) here
+    ∙ compaction_down n nodes (length w.net.sent) n s h.0 of possible down
+down_step slots nodes n w step s false is h may at down = absurd cc
+
+pub down_refuses_compaction : DownRefusesCompaction
+down_refuses_compaction nodes slots acts r h k m n s within at is_compact shown down =
+    let f = front_of nodes slots acts r h k m at in
+    let last = within_last slots nodes n k acts h.steps h.is_run within in
+    let here : slice_get f.before.states n ≡ Some last.now = ap (λ (w : World). slice_get w.states n) f.is_world ∙ last.at in
+    let same : last.now.state ≡ s = cc (last.shown, shown) in
+    let of : f.act ≡ act.Compact n = ap (λ (x : Moment). x.act) (sym f.is) ∙ is_compact in
+    let known : nat_lt n nodes ≡ true = grind (arith, nat_tests, within) in
+    ap (λ (x : Moment). x.outcome) f.is ∙ ap (λ (x : Act). act_outcome nodes f.before x f.step) of
+    ∙ down_step slots nodes n f.before f.step last.now (nat_lt n nodes) known (subst (λ (x : Act). IsStepOf nodes f.before x f.step) of f.of_act) f.lawful here
+    (ap (λ (x : State). is_down x.phase) same ∙ down)
+
 pub none_is_spent : NoneIsSpent
-none_is_spent nodes slots acts r h k m at = h.unspent m (among_of r.moments k m at)
+none_is_spent nodes slots acts r h k m at = (h.unspent m (among_of r.moments k m at), h.unworn k m at)

@@ -13,7 +13,7 @@ use Rattle.schedule.specs.declared.act.Act.{Act}
 use Rattle.schedule.specs.declared.act.Act.TheVariants as act
 use Rattle.sim_net.specs.declared.fault.NetFault.{NetFault}
 use Rattle.sim_net.specs.Network.{Network, message_at, delivery, after_lost, after_cut, after_mend}
-use Rattle.runs.specs.World.{World}
+use Rattle.runs.specs.World.{World, node_in}
 use Rattle.runs.specs.declared.outcome.Outcome.TheVariants as outcome
 use Rattle.runs.specs.declared.outcome.Refusal.{Refusal}
 use Rattle.runs.specs.declared.outcome.Refusal.TheVariants.{Net as OfNet, Stranger}
@@ -38,10 +38,10 @@ event_said event (Did e) origin id is i = elim i [ inl same ↦ cc (is, same) | 
 event_said event (Faulted e) origin id is i = elim i [ inl same ↦ cc (is, same) | inr none ↦ absurd none ]
 event_said event _ origin id is i = absurd i
 
-compaction_said : (what : What) (origin id : ℕ) → IsCompaction what → SaysFinished what origin id → ⊥
-compaction_said (Did e) origin id is i = is
-compaction_said (Faulted e) origin id is i = is
-compaction_said _ origin id is i = i
+compaction_said : (s : NodeState) (what : What) (origin id : ℕ) → IsCompaction s what → SaysFinished what origin id → ⊥
+compaction_said s (Did e) origin id is i = is
+compaction_said s (Faulted e) origin id is i = is
+compaction_said s _ origin id is i = i
 
 -- the act of a step that says so is `finish`
 by_event : (a : Act) (known : Bool) (n k : ℕ) (event : Event) (m number : ℕ) (what : What) (origin id : ℕ) → (event ≡ on.Finish origin id → a ≡ act.Finish n origin id)
@@ -85,7 +85,7 @@ finish_act nodes w (act.Arm n calls) m number what o i h says =
 finish_act nodes w (act.Crash n fill) m number what o i h says =
     absurd (at_rest (nat_lt n nodes) n 0 (λ (x : What). x ≡ Crashed) m number what o i (λ is j. subst (λ (x : What). SaysFinished x o i) is j) h says)
 finish_act nodes w (act.Recover n) m number what o i h says = by_event (act.Recover n) (nat_lt n nodes) n 0 on.Recover m number what o i (λ e. absurd cc) h says
-finish_act nodes w (act.Compact n) m number what o i h says = absurd (at_rest (nat_lt n nodes) n 0 IsCompaction m number what o i (compaction_said what o i) h says)
+finish_act nodes w (act.Compact n) m number what o i h says = absurd (at_rest (nat_lt n nodes) n 0 (IsCompaction (node_in w.states n)) m number what o i (compaction_said (node_in w.states n) what o i) h says)
 
 -- what a node didn't refuse isn't reported as refused
 pub acted_outcome : (self nodes first : ℕ) (s : NodeState) (what : What) (a : Act) (event : Event) → IsAmong event (acted what)

@@ -8,7 +8,7 @@ use Rattle.runs.specs.Step.{Step, Takes, Changes, Denies, world_after}
 use Rattle.runs.specs.Run.{world_at}
 use Rattle.runs.specs.Acts.{IsRunOf}
 use Rattle.runs.specs.Reporting.{Moment, Report, moment_of, report_of, first_report, grown, report_from}
-use Rattle.runs.specs.Headline.{Headline}
+use Rattle.runs.specs.Headline.{Headline, NoneWorn}
 use Rattle.runs.specs.Growth.{acts_in, IsNext, RunsOpen, RunsGrow, LeftKeeps}
 use Rattle.runs.proofs.Headlines.{every_schedule}
 use Rattle.runs.proofs.Lawful.{lawful_of}
@@ -64,5 +64,5 @@ runs_grow nodes slots w r a step left next =
     }
 
 pub left_keeps : LeftKeeps
-left_keeps nodes slots w r left short =
-    subst (λ (x : Report). Headline nodes slots (acts_in r) x) (sym left.reported) (every_schedule nodes slots (acts_in r) left.steps short left.is_run)
+left_keeps nodes slots w r left short unworn =
+    subst (λ (x : Report). Headline nodes slots (acts_in r) x) (sym left.reported) (every_schedule nodes slots (acts_in r) left.steps short left.is_run (subst NoneWorn left.reported unworn))

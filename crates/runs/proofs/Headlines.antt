@@ -161,7 +161,7 @@ worker_of_two nodes acts steps run n m s t at_s at_t normal_s normal_t same a b 
 
 -- each part by its law, which may take fewer premises than the part has
 pub every_schedule : EverySchedule
-every_schedule nodes slots acts steps short is_run =
+every_schedule nodes slots acts steps short is_run unworn =
     let run : RunFrom nodes (start nodes) steps = all_acts_run nodes slots (start nodes) acts steps is_run in
     let few : IsShort steps = omega (arith, short, as_many nodes slots acts steps (start nodes) is_run) in
     let the_book : HasBook (report_of nodes acts steps) = its_book nodes acts steps run in
@@ -170,6 +170,7 @@ every_schedule nodes slots acts steps short is_run =
       is_run = search (rules, is_run);
       reported = search rules;
       unspent = search (rules, none_spent nodes slots acts steps short is_run);
+      unworn = search (rules, unworn);
       kept = search (rules, kept_by_report nodes slots acts steps is_run few);
       rising = search (rules, each_rises nodes slots acts steps is_run);
       once = search (rules, given_once nodes slots acts steps is_run);

@@ -15,7 +15,7 @@ use Rattle.schedule.specs.declared.act.Act.TheVariants as act
 use Rattle.sim_net.specs.declared.fault.NetFault.{NetFault}
 use Rattle.sim_net.specs.Network.{Network, message_at, delivery, after_lost, after_cut, after_mend}
 use Rattle.runs.specs.declared.outcome.Refusal.TheVariants.{Net as OfNet, Stranger}
-use Rattle.runs.specs.World.{World}
+use Rattle.runs.specs.World.{World, node_in}
 use Rattle.runs.specs.Step.{Step, Takes, Changes, Denies}
 use Rattle.runs.specs.Run.{IsAllowed, IsBrought}
 use Rattle.runs.specs.Acts.{IsCompaction, At, Brings, IsStepOf, IsLawful}
@@ -48,10 +48,10 @@ taken_at true n k P m number what h =
     (node, of, rw same h.2)
 taken_at false n k P m number what h = absurd cc
 
-rests_there : (w : World) (m number : ℕ) (what : What) → IsCompaction what → Comes w m number (event_of what)
-rests_there w m number (Rests rest) h = (tt, tt)
-rests_there w m number Crashed h = (tt, tt)
-rests_there w m number _ h = absurd h
+rests_there : (w : World) (m number : ℕ) (s : NodeState) (what : What) → IsCompaction s what → Comes w m number (event_of what)
+rests_there w m number s (Rests rest) h = (tt, tt)
+rests_there w m number s Crashed h = (tt, tt)
+rests_there w m number s _ h = absurd h
 
 delivered_there : (nodes : ℕ) (w : World) (k m number : ℕ) (what : What) (d : Result Envelope NetFault) → delivery w.net k ≡ d → Brings nodes w.net k d (Takes m number what) → Comes w m number (event_of what)
 delivered_there nodes w k m number what (Ok x) is h =
@@ -76,7 +76,7 @@ comes_there nodes w (act.Crash n fill) m number what h =
     comes_by w m number None what (ap event_of (taken_at (nat_lt n nodes) n 0 (λ (x : What). x ≡ Crashed) m number what h).2) (tt, tt)
 comes_there nodes w (act.Recover n) m number what h =
     comes_by w m number (Some on.Recover) what (taken_at (nat_lt n nodes) n 0 (IsOf on.Recover) m number what h).2 (tt, tt)
-comes_there nodes w (act.Compact n) m number what h = rests_there w m number what (taken_at (nat_lt n nodes) n 0 IsCompaction m number what h).2
+comes_there nodes w (act.Compact n) m number what h = rests_there w m number (node_in w.states n) what (taken_at (nat_lt n nodes) n 0 (IsCompaction (node_in w.states n)) m number what h).2
 
 pub no_change : (known : Bool) (n k : ℕ) (P : What → Type 0) (net : Network) → At known n k P (Changes net) → ⊥
 no_change true n k P net h = absurd cc (h.1)
@@ -106,7 +106,7 @@ sent_there nodes w (act.Finish n origin id) net h = absurd (no_change (nat_lt n 
 sent_there nodes w (act.Arm n calls) net h = absurd (no_change (nat_lt n nodes) n 0 (λ (x : What). x ≡ Rests Nothing) net h)
 sent_there nodes w (act.Crash n fill) net h = absurd (no_change (nat_lt n nodes) n 0 (λ (x : What). x ≡ Crashed) net h)
 sent_there nodes w (act.Recover n) net h = absurd (no_change (nat_lt n nodes) n 0 (IsOf on.Recover) net h)
-sent_there nodes w (act.Compact n) net h = absurd (no_change (nat_lt n nodes) n 0 IsCompaction net h)
+sent_there nodes w (act.Compact n) net h = absurd (no_change (nat_lt n nodes) n 0 (IsCompaction (node_in w.states n)) net h)
 
 pub allowed_of : (slots nodes : ℕ) (w : World) (a : Act) (step : Step) → IsStepOf nodes w a step → IsLawful slots nodes w step → IsAllowed nodes w step
 allowed_of slots nodes w a (Takes n number what) h may = (let comes = comes_there nodes w a n number what h in (may.0, may.1, may.2, comes.0, comes.1))

@@ -27,7 +27,7 @@ use Rattle.schedule.specs.declared.act.Act.TheVariants as act
 use Rattle.runs.specs.declared.outcome.Outcome.TheVariants as outcome
 use Rattle.runs.specs.declared.outcome.Refusal.{Refusal as ActRefusal}
 use Rattle.runs.specs.declared.outcome.Refusal.TheVariants.{Node, Net as OfNet, Stranger}
-use Rattle.runs.specs.World.{World, start}
+use Rattle.runs.specs.World.{World, node_in, start}
 use Rattle.runs.specs.Step.{Step, Takes, Changes, Denies, world_after}
 use Rattle.runs.specs.Acts.{At, Brings, IsCompaction, IsStepOf, IsLawful, IsRunOf, act_outcome, what_outcome}
 use Rattle.runs.specs.Reporting.{Moment, report_of}
@@ -185,7 +185,7 @@ denied_unspent nodes w (act.Finish n origin id) named why h = at_denied (nat_lt 
 denied_unspent nodes w (act.Arm n calls) named why h = at_denied (nat_lt n nodes) n 0 (λ (x : What). x ≡ Rests Nothing) named why h
 denied_unspent nodes w (act.Crash n fill) named why h = at_denied (nat_lt n nodes) n 0 (λ (x : What). x ≡ Crashed) named why h
 denied_unspent nodes w (act.Recover n) named why h = at_denied (nat_lt n nodes) n 0 (IsOf on.Recover) named why h
-denied_unspent nodes w (act.Compact n) named why h = at_denied (nat_lt n nodes) n 0 IsCompaction named why h
+denied_unspent nodes w (act.Compact n) named why h = at_denied (nat_lt n nodes) n 0 (IsCompaction (node_in w.states n)) named why h
 
 step_unspent : (slots nodes limit : ℕ) (w : World) (a : Act) (step : Step) → IsStepOf nodes w a step → IsLawful slots nodes w step → AllStates (FewGiven limit) w → limit + 1 < 2 ^ 64 → act_outcome nodes w a step ≢ outcome.Refused (Node Exhausted)
 step_unspent slots nodes limit w a (Takes n number what) of may h short is =

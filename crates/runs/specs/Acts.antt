@@ -4,6 +4,7 @@ use Rattle.wire_msg.specs.Envelope.{Envelope}
 use Rattle.node_core.specs.declared.event.Event.TheVariants as on
 use Rattle.node_core.specs.declared.fault.CoreFault.TheVariants.{Down}
 use Rattle.node_core.specs.declared.fault.Refusal.TheVariants.{Core, Exhausted, Worn}
+use Rattle.node_core.specs.State.{is_down}
 use Rattle.histories.specs.NodeState.{NodeState, wants_at, settled}
 use Rattle.histories.specs.What.{IsOf}
 use Rattle.job_model.specs.Answer.{answer_of}
@@ -22,12 +23,13 @@ use Rattle.runs.specs.declared.outcome.Outcome.TheVariants as outcome
 use Rattle.runs.specs.declared.outcome.Refusal.TheVariants.{Node, Net as OfNet, Stranger}
 use Rattle.runs.specs.Step.{Step, Takes, Changes, Denies, world_after}
 
--- it came of a compaction, which is done, is refused, or meets a device that fails: then the node falls as in a crash
-abbrev pub IsCompaction : What → Type 0
-IsCompaction (Rests Nothing) = ⊥
-IsCompaction (Rests rest) = Unit {0}
-IsCompaction Crashed = Unit {0}
-IsCompaction what = ⊥
+-- it came of a compaction at a node in this state, which is done, is refused, or meets a device that fails: then a node that is up falls
+-- as in a crash
+abbrev pub IsCompaction : NodeState → What → Type 0
+IsCompaction s (Rests Nothing) = ⊥
+IsCompaction s (Rests rest) = Unit {0}
+IsCompaction s Crashed = is_down s.state.phase ≡ false
+IsCompaction s what = ⊥
 
 -- what comes at a node, of the message of this number, if any: a node outside the cluster is refused
 abbrev pub At : Bool → ℕ → ℕ → (What → Type 0) → Step → Type 0
@@ -55,7 +57,7 @@ IsStepOf nodes w (act.Finish n origin id) step = At (nat_lt n nodes) n 0 (IsOf (
 IsStepOf nodes w (act.Arm n calls) step = At (nat_lt n nodes) n 0 (λ (what : What). what ≡ Rests Nothing) step
 IsStepOf nodes w (act.Crash n fill) step = At (nat_lt n nodes) n 0 (λ (what : What). what ≡ Crashed) step
 IsStepOf nodes w (act.Recover n) step = At (nat_lt n nodes) n 0 (IsOf on.Recover) step
-IsStepOf nodes w (act.Compact n) step = At (nat_lt n nodes) n 0 IsCompaction step
+IsStepOf nodes w (act.Compact n) step = At (nat_lt n nodes) n 0 (IsCompaction (node_in w.states n)) step
 
 -- what comes at a node may come there, where disks have so many slots
 abbrev pub IsLawful : ℕ → ℕ → World → Step → Type 0

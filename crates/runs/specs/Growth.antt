@@ -7,7 +7,7 @@ use Rattle.runs.specs.Run.{IsAllowed, world_at}
 use Rattle.runs.specs.Acts.{IsStepOf, IsRunOf}
 use Rattle.histories.specs.Possible.{IsOfSlots}
 use Rattle.runs.specs.Reporting.{Moment, Report, grown, report_of}
-use Rattle.runs.specs.Headline.{Headline}
+use Rattle.runs.specs.Headline.{Headline, NoneWorn}
 use Rattle.histories.specs.Counts.{IsShort}
 
 -- the acts so far
@@ -43,4 +43,4 @@ RunsGrow = (nodes slots : ℕ) (w : World) (r : Report) (a : Act) (step : Step) 
 
 -- and what is promised of every schedule holds of its report
 abbrev pub LeftKeeps : Type 0
-LeftKeeps = (nodes slots : ℕ) (w : World) (r : Report) → IsLeft nodes slots w r → IsShort (acts_in r) → Headline nodes slots (acts_in r) r
+LeftKeeps = (nodes slots : ℕ) (w : World) (r : Report) → IsLeft nodes slots w r → IsShort (acts_in r) → NoneWorn r → Headline nodes slots (acts_in r) r

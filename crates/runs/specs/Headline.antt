@@ -5,7 +5,7 @@ use Rattle.group_task.specs.Group.{Group}
 use Rattle.group_task.specs.Assignment.{Assignment}
 use Rattle.node_core.specs.declared.phase.Phase.TheVariants.{Normal}
 use Rattle.node_core.specs.declared.in_hand.InHand.{InHand}
-use Rattle.node_core.specs.declared.fault.Refusal.TheVariants.{Exhausted}
+use Rattle.node_core.specs.declared.fault.Refusal.TheVariants.{Exhausted, Worn}
 use Rattle.node_core.specs.State.{State}
 use Rattle.node_core.specs.Words.{owner}
 use Rattle.histories.specs.Lists.{IsAmong}
@@ -66,14 +66,19 @@ pub record HasBook (r : Report) : Type 0 where
   pub book : List Assignment
   pub agrees : (n : ℕ) (s : State) → IsShown r n s → AgreesAt book n s
 
+-- no act was refused because the areas of its node's disk are used up
+abbrev pub NoneWorn : Report → Type 0
+NoneWorn r = (k : ℕ) (m : Moment) → slice_get r.moments k ≡ Some m → m.outcome ≢ Refused (OfNode Worn)
+
 -- the report is that of a run of the acts, and keeps groups and jobs
 pub record Headline (nodes slots : ℕ) (acts : List Act) (r : Report) : Type 0 where
   -- 1: it is a run
   pub steps : List Step
   pub is_run : IsRunOf nodes slots (start nodes) acts steps
   pub reported : r ≡ report_of nodes acts steps
-  -- no act is refused because a node's counter or its ids are used up
+  -- no act is refused because a node's counter or its ids are used up, or the areas of its disk
   pub unspent : (m : Moment) → IsAmong m r.moments → m.outcome ≢ Refused (OfNode Exhausted)
+  pub unworn : NoneWorn r
   -- 2: each mounting gives the fold of the node's commands, every acknowledged one included
   pub kept : (n : ℕ) → n < nodes → Kept (own_commands n r.commands) (own_mountings n r.mounted)
   -- 3: the counts of each node rise, no group is given twice, and none is named before it is given
@@ -90,6 +95,7 @@ pub record Headline (nodes slots : ℕ) (acts : List Act) (r : Report) : Type 0 
   -- and a job is done only once an owner of its queue finished it: in the first acts, where the command is tried in them
   pub finished : (k : ℕ) (t : TriedAt) (id : ℕ) → IsAmong t (report_within nodes k acts steps).commands → t.node < nodes → t.tried.command ≡ Done id → IsFinished nodes acts steps k t.node id
 
--- whatever run of its acts a schedule has, its report keeps groups and jobs
+-- whatever run of its acts a schedule has, in which the areas of no disk are used up, its report keeps groups and jobs
 abbrev pub EverySchedule : Type 0
-EverySchedule = (nodes slots : ℕ) (acts : List Act) (steps : List Step) → IsShort acts → IsRunOf nodes slots (start nodes) acts steps → Headline nodes slots acts (report_of nodes acts steps)
+EverySchedule = (nodes slots : ℕ) (acts : List Act) (steps : List Step) →
+    IsShort acts → IsRunOf nodes slots (start nodes) acts steps → NoneWorn (report_of nodes acts steps) → Headline nodes slots acts (report_of nodes acts steps)

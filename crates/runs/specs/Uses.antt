@@ -12,7 +12,8 @@ use Rattle.node_core.specs.declared.phase.Phase.TheVariants.{Down, Reorganizatio
 use Rattle.node_core.specs.declared.in_hand.InHand.{InHand}
 use Rattle.node_core.specs.declared.event.Event.{Event}
 use Rattle.node_core.specs.declared.event.Event.TheVariants as on
-use Rattle.node_core.specs.declared.fault.Refusal.TheVariants.{Exhausted}
+use Rattle.node_core.specs.declared.fault.CoreFault.TheVariants.{Down as IsDown}
+use Rattle.node_core.specs.declared.fault.Refusal.TheVariants.{Core, Exhausted, Worn}
 use Rattle.node_core.specs.State.{State, is_down}
 use Rattle.node_core.specs.Effects.{effect_of}
 use Rattle.node_core.specs.Start.{alone}
@@ -76,9 +77,16 @@ DoneHasItsEffect = (nodes slots : ℕ) (acts : List Act) (r : Report) (h : Headl
     × (m.state ≡ (effect_of nodes n (node_in (world_at nodes (start nodes) (take k h.steps)).states n).durable.pending event (unwrap_or answer 0) s).state)
     × (m.sent ≡ (effect_of nodes n (node_in (world_at nodes (start nodes) (take k h.steps)).states n).durable.pending event (unwrap_or answer 0) s).sent)
 
--- no act is refused because its node's counter or its ids are used up
+-- no act is refused because its node's counter or its ids are used up, or the areas of its disk
 abbrev pub NoneIsSpent : Type 0
-NoneIsSpent = (nodes slots : ℕ) (acts : List Act) (r : Report) → Headline nodes slots acts r → (k : ℕ) (m : Moment) → slice_get r.moments k ≡ Some m → m.outcome ≢ outcome.Refused (OfNode Exhausted)
+NoneIsSpent = (nodes slots : ℕ) (acts : List Act) (r : Report) → Headline nodes slots acts r → (k : ℕ) (m : Moment) → slice_get r.moments k ≡ Some m →
+    (m.outcome ≢ outcome.Refused (OfNode Exhausted)) × (m.outcome ≢ outcome.Refused (OfNode Worn))
+
+-- a compaction at a node that was shown Down last is refused as Down: it never meets a device
+abbrev pub DownRefusesCompaction : Type 0
+DownRefusesCompaction = (nodes slots : ℕ) (acts : List Act) (r : Report) (h : Headline nodes slots acts r) (k : ℕ) (m : Moment) (n : ℕ) →
+    (s : State) → n < nodes → slice_get r.moments k ≡ Some m → m.act ≡ act.Compact n →
+    last_state (report_within nodes k acts h.steps) n ≡ Some s → is_down s.phase ≡ true → m.outcome ≡ outcome.Refused (OfNode (Core IsDown))
 
 -- ---- what an act is answered
 

@@ -26,7 +26,7 @@ erase_images at value old new run first second c since =
     }
 
 -- a slot two sectors on isn't touched
-next_same : (d c : Image) (at : ℕ) → SameBut (InSlot at) d c → slot_at c (at + 2) ≡ slot_at d (at + 2)
+pub next_same : (d c : Image) (at : ℕ) → SameBut (InSlot at) d c → slot_at c (at + 2) ≡ slot_at d (at + 2)
 next_same d c at same = slot_same c d (at + 2) (same.same (at + 2 + 1) (omega arith)) (same.same (at + 2) (omega arith))
 
 -- while the gates are opened and then the value is put into the first slot

@@ -4,4 +4,5 @@ mod Values
 mod Raised
 mod Mountings
 mod Formats
+mod Beginnings
 pub mod PublicLaws

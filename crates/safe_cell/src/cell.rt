@@ -76,6 +76,8 @@ impl SafeCell {
     }
 
     pub fn value(&self) -> u64
+        // Promise: The value of a cell is the one that contracts see.
+        // Refuses: value_of_the_slot.
         ensures { result ≡ self.now.value }
     {
         self.value
@@ -91,6 +93,10 @@ impl SafeCell {
             (IsErrOf result CellFault.Device) (IsErrOf result CellFault.Device → ⊥) }
 
         // Which answer comes when, and what it leaves.
+        // Promise: A raise is refused in the order Broken, Exhausted, Device; the first two leave disk and cell as they were, the
+        // third leaves the cell broken.
+        // Also: refused, device.
+        // Refuses: device_fault_without_failure.
         ensures answers { AnswersOr CellFault.Device (raise_refusal self.old) result }
         ensures refused { IsSome (raise_refusal self.old)
             → (disk.new ≡ disk.old) × (self.new ≡ self.old) }
@@ -99,16 +105,23 @@ impl SafeCell {
         ensures ok { IfOk result (λ v. (v ≡ self.old.value + 1) × (self.new ≡ raised self.old)) }
 
         // No sector outside the spare slot changes in any image.
+        // Promise: No sector outside the spare slot changes in any image.
+        // Refuses: sealed_before_body_synced.
         ensures run { IsTrue (D.state disk.old).honest
             → Run (InSlot self.old.spare) (D.state disk.old) (D.state disk.new) }
 
         // Each image since the start has the value from before or the next one.
+        // Promise: A raise leaves for every image since its start the value from before or the next one.
+        // Refuses: sealed_before_body_synced, unsealed_again.
         ensures images { (at : ℕ) → IsTrue (D.state disk.old).honest
             → IsCellAt at self.old → AllStand self.old (D.state disk.old)
             → Each (D.state disk.old) (D.state disk.new) (λ c. (cell_at c at ≡ Some self.old.value)
             ⊎ (cell_at c at ≡ Some (self.old.value + 1))) }
 
         // After `Ok` there is the next one alone, as the cell knows it, and nothing is unsynced.
+        // Promise: After `Ok` every image has the next value, which is the answer, and nothing is unsynced.
+        // Also: synced, ok.
+        // Refuses: raised_before_last_sync.
         ensures after { (at : ℕ) → IsTrue (D.state disk.old).honest
             → IsCellAt at self.old → AllStand self.old (D.state disk.old) → IsOk result
             → AllHave at (self.old.value + 1) (D.state disk.new) × AllStand self.new (D.state disk.new) }

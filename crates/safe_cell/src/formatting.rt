@@ -20,6 +20,10 @@ pub fn format<D: SectorDisk>(disk: &mut D, at: u64, value: u64) -> Result<(), Ce
     requires fits { at + 3 < 2 ^ 64 }
 
     ensures device_alone { IsOk result ⊎ IsErrOf result CellFault.Device }
+    // Promise: `Device` comes only where the count of failures rose or stands at its greatest value, and every other answer leaves
+    // the count, over any disk.
+    // Also: SafeCell::raise.
+    // Refuses: device_fault_without_failure.
     ensures counts { Counts (D.state disk.old) (D.state disk.new)
         (IsErrOf result CellFault.Device) (IsErrOf result CellFault.Device → ⊥) }
     ensures run { IsTrue (D.state disk.old).honest
@@ -33,6 +37,10 @@ pub fn format<D: SectorDisk>(disk: &mut D, at: u64, value: u64) -> Result<(), Ce
         (IsNotTorn at value (D.state disk.old).contents) }
 
     // After `Ok` each image has the value and no other sealed slot, and nothing is unsynced.
+    // Promise: After a formatting answers `Ok` every image has its value, nothing is unsynced; until then no slot is sealed over a
+    // torn body, where both bodies were synced.
+    // Also: formatted, synced, images.
+    // Refuses: format_does_nothing, formatted_gate_before_body.
     ensures value { IsTrue (D.state disk.old).honest → IsOk result
         → AllHave at value (D.state disk.new) }
     ensures formatted { IsTrue (D.state disk.old).honest → IsOk result

@@ -2,12 +2,14 @@
 //! or one greater.
 #![tactic(auto)]
 
+mod beginning;
 mod body;
 mod cell;
 mod fault;
 mod formatting;
 mod mounting;
 
+pub use beginning::begin;
 pub use cell::SafeCell;
 pub use fault::CellFault;
 pub use formatting::format;

@@ -25,10 +25,18 @@ pub fn mount<D: SectorDisk>(disk: &mut D, at: u64) -> Result<SafeCell, CellFault
         → IfOk result (λ cell. Stands cell (D.state disk.old).contents) }
 
     // Device aside, it answers what the disk as it reads stands for.
+    // Promise: A mounting answers what the disk as it reads stands for, and NotFormatted, Damaged(first), Damaged(second) exactly
+    // where it stands for nothing, for that reason; Device aside.
+    // Also: no_other.
+    // Refuses: mounted_at_smaller_value, always_damaged.
+    // Promise: Where slot A has the cell's value it is the present one, also where B has the same.
+    // Refuses: second_slot_before_its_equal.
     ensures answers_for { IsTrue (D.state disk.old).honest → (IsErrOf result CellFault.Device → ⊥)
         → AnswersFor at (D.state disk.old).contents result }
 
     // Where nothing in its sectors is unsynced, each image has what the cell knows.
+    // Promise: Where nothing in the cell's sectors was unsynced, every image has what the mounted cell knows.
+    // Refuses: mounted_at_smaller_value.
     ensures stands { IsTrue (D.state disk.old).honest
         → ((k : ℕ) → InCell at k → (D.state disk.old).synced k)
         → IfOk result (λ cell. AllStand cell (D.state disk.new)) }

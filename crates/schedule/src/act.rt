@@ -24,6 +24,9 @@ impl Model for Fill {
 
 impl Fill {
     pub fn new(alloc: Global, bytes: Vec<u8>) -> Result<Fill, AllocError>
+        // Promise: A crash's fill is the bytes that it was made of, or none.
+        // Also: Fill::as_slice.
+        // Refuses: fill_begins_empty, fill_without_its_bytes.
         ensures { IfOk result (λ fill. fill ≡ bytes.items) }
     {
         Ok(Fill {
@@ -55,6 +58,10 @@ impl Model for Submitted {
 
 impl Submitted {
     pub fn new(alloc: Global, job: NewJob) -> Result<Submitted, AllocError>
+        // Promise: A job that is submitted has the work that it was made of, and the priority that its line names, which is never
+        // 0; 0 where none is named.
+        // Also: Submitted::work, read_schedule.
+        // Refuses: empty_job_submitted, priority_dropped, priority_0_named.
         ensures { IfOk result (λ submitted. submitted ≡ job) }
     {
         Ok(Submitted {

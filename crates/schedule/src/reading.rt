@@ -15,8 +15,15 @@ use std::alloc::{AllocError, Global};
 /// Reads a schedule: its first line that isn't empty names the cluster, each later one an act. The fault names the first line
 /// that can't be read; where no line names a cluster, that is the one behind the last.
 pub fn read_schedule(alloc: Global, input: &[u8]) -> Result<Schedule, LineFault>
+    // Promise: A text is read as the cluster that its first line that isn't empty names and the acts of the later ones, in their
+    // order, empty lines passed over, the last line with or without its line feed.
+    // Refuses: nothing_read, last_line_dropped, cut_for_mend, fill_dropped.
     ensures ok { IfOk result (λ schedule. plan_of input.now ≡ Ok (plan schedule.size schedule.acts.items)) }
+    // Promise: A schedule that was read has 1 to 128 nodes, 4 to 4,096 slots and at most 65,536 acts.
     ensures fits { IfOk result (λ schedule. IsWithinLimits schedule.size schedule.acts.items) }
+    // Promise: A fault that names a line names the first one that can't be read, counted over all lines; where no line names a
+    // cluster, the line behind the last. The only other fault is want of memory.
+    // Refuses: line_before_named, empty_line_is_bad, acts_limit_one_less.
     ensures err { IfErr result (IsLineFault (plan_of input.now)) }
 {
     let mut before = 0u64;

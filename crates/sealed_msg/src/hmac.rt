@@ -34,6 +34,9 @@ impl Model for Key {
 impl Key {
     /// The key of these bytes, of which any number will do; 32 that nobody can guess are right.
     pub fn new(bytes: &[u8]) -> Key
+        // Promise: A tag is the HMAC-SHA256 of RFC 2104, under a key of any length: one longer than a block is hashed first.
+        // Also: Key::tag.
+        // Refuses: inner_digest_as_tag, pads_swapped, long_key_hashed_twice.
         ensures { result ≡ block_of bytes.now }
     {
         let block = block_of(bytes);

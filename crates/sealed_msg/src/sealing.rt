@@ -16,6 +16,10 @@ pub struct Opened<'a> {
 impl Key {
     /// Puts a stamp and the tag of both behind a message.
     pub fn seal(&self, message: &mut Vec<u8>, stamp: Stamp) -> Result<(), AllocError>
+        // Promise: Bytes are opened to a message and a stamp exactly where these are sealed to them under the key; so they are the
+        // sealing of one message at most, with one stamp.
+        // Also: Key::open, opened_as_sealed.
+        // Refuses: forged_message_taken, genuine_message_refused, last_byte_not_compared, stamp_not_sealed, life_written_as_number.
         ensures { OnOk result (message.new.items ≡ sealed self.now message.old.items stamp) }
     {
         message.extend_from_slice(&stamp.bytes())?;

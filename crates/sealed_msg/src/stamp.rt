@@ -20,6 +20,8 @@ impl Stamp {
 
     /// Whether it is later than another of the same sender.
     pub fn is_above(self, other: Stamp) -> bool
+        // Promise: One stamp is above another by its life, and in one life by its number.
+        // Refuses: same_stamp_is_above, number_above_in_any_life.
         ensures { result ≡ is_above self other }
     {
         self.life > other.life || (self.life == other.life && self.number > other.number)

@@ -8,7 +8,7 @@ use crate::sector::Sector;
 
 /// A disk: sectors that are read and written one at a time, and a sync.
 ///
-/// An honest disk keeps to the model of `docs/DISK.md`. Of a disk that isn't honest, as one over a
+/// An honest disk keeps to the model of `docs/FORMATS.md`. Of a disk that isn't honest, as one over a
 /// real file, a contract knows no more than when each fault comes.
 pub trait SectorDisk {
     ghost state: { Self → DiskState };
@@ -23,9 +23,22 @@ pub trait SectorDisk {
 
     /// Reads a sector. After an `Err` nothing is known of `into`.
     fn read(&mut self, at: u64, into: &mut Sector) -> Result<(), DiskFault>
+        // Promise: Over any disk: `Device` comes only where the count of failures rose in that call or stands at 2^64 - 1; an `Ok`
+        // leaves the count; no call changes `sectors`; honesty is kept in both directions.
+        // Also: SectorDisk::write, SectorDisk::sync.
+        // Refuses: device_fault_without_failure.
         ensures counts { Counts (state self.old) (state self.new) (IsErrOf result Device) (IsOk result) }
+        // Promise: Over any disk, honest or not: `OutOfRange` comes exactly where the sector isn't below `sectors`, and then
+        // nothing was done; `sync` never answers it.
+        // Also: unchanged, SectorDisk::write, SectorDisk::sync.
+        // Refuses: last_sector_refused, out_of_range_counted.
         ensures refused { IsErrOf result OutOfRange ↔ ((state self.old).sectors ≤ at) }
         ensures unchanged { IsErrOf result OutOfRange → self.new ≡ self.old }
+        // Promise: Over an honest disk: what reads give, which images a crash now or since an earlier moment may leave, after each
+        // call.
+        // Also: gives, SectorDisk::write, SectorDisk::sync.
+        // Refuses: write_is_not_dirty, zeros_written, written_one_before, first_sector_read, read_dropped,
+        // sync_makes_sure_of_nothing, sync_ends_no_time.
         ensures touches { IsTrue (state self.old).honest → Touches nothing (state self.old) (state self.new) }
         ensures gives { IsTrue (state self.old).honest → IsOk result → into.new ≡ sector_at (state self.old).contents at };
 

@@ -51,6 +51,10 @@ impl Model for MemDisk {
 impl MemDisk {
     /// A disk of zeros, on which nothing is unsynced.
     pub fn new(alloc: Global, sectors: u64) -> Result<MemDisk, AllocError>
+        // Promise: A new disk in memory is all zeros, of the length asked for, synced, with no failure and not armed; a copy holds
+        // what reads of its disk give, synced, not armed, and has failed as often.
+        // Also: MemDisk::copy.
+        // Refuses: ones_for_zeros, half_the_sectors, copy_of_zeros, copy_never_failed.
         ensures { IfOk result (λ disk. disk ≡ blank sectors) }
     {
         let count = sectors as usize;
@@ -88,6 +92,10 @@ impl MemDisk {
     /// Lets so many more calls of `read`, `write` and `sync` pass, and fails all later ones, until
     /// it is armed anew, disarmed or crashes. A call that is out of range isn't counted.
     pub fn arm(&mut self, calls: u64)
+        // Promise: `arm(k)` changes nothing but the number of calls that are left; each read, write and sync in range takes one off
+        // it, and a call with none left fails as `Device`, as does each later one; `armed` answers that number.
+        // Also: MemDisk::armed, MemDisk::read, MemDisk::write, MemDisk::sync.
+        // Refuses: one_call_too_many, armed_call_too_late.
         ensures { self.new ≡ record self.old { left = Some calls } }
     {
         self.left = Some(calls);
@@ -110,6 +118,9 @@ impl MemDisk {
     /// Forgets the moments before this one: no crash takes back a write that was synced, so
     /// its note serves a proof alone. What reads give and what a crash may leave stay.
     pub fn forget(&mut self)
+        // Promise: `forget` changes nothing but that no earlier moment is known, and `shrink_to_fit` nothing at all.
+        // Also: MemDisk::shrink_to_fit, node_store::NodeStore::forget.
+        // Refuses: forget_does_nothing, unsynced_writes_forgotten, notes_shrunk_away.
         ensures { self.new ≡ record self.old { spans = [] } }
     {
         self.notes.forget();
@@ -127,6 +138,11 @@ impl MemDisk {
     /// bytes of `fill`, 512 each; where it ends, what the last sync left stays. Bytes too many
     /// aren't used. It takes no memory.
     pub fn crash(&mut self, fill: &[u8])
+        // Promise: `crash(fill)` leaves exactly the stated image; that image is one of those that a crash might have left; then
+        // nothing is unsynced, it isn't armed, no earlier moment is known, and the count of failures is as before.
+        // Also: left, anew.
+        // Refuses: crash_changes_synced_sector, fill_of_one_sector, fill_ends_in_zeros, crash_keeps_flags,
+        // still_armed_after_a_crash, crash_after_a_failed_write_fills_nothing.
         ensures image { IsCrashed self.old fill.now self.new.contents }
         ensures left { IsImage (state_of self.old) self.new.contents }
         // Nothing is unsynced, no earlier moment is known, and it isn't armed.
@@ -143,10 +159,14 @@ impl MemDisk {
 }
 
 impl SectorDisk for MemDisk {
+    // Promise: `MemDisk` is always honest.
     ghost state = { state_of };
 
     ghost laws = { λ disk honest. laws disk };
 
+    // Promise: `sectors` and `failures` answer what the contracts speak of.
+    // Also: MemDisk::failures.
+    // Refuses: no_sectors_after_a_failure, failures_uncounted.
     fn sectors(&self) -> u64 {
         self.sectors.len() as u64
     }
@@ -158,6 +178,9 @@ impl SectorDisk for MemDisk {
     fn read(&mut self, at: u64, into: &mut Sector) -> Result<(), DiskFault>
         ensures counts { Counts (state_of self.old) (state_of self.new) (IsErrOf result Device) (IsOk result) }
         ensures refused { IsErrOf result OutOfRange ↔ (length self.old.contents ≤ at) }
+        // Promise: A call out of range isn't counted.
+        // Also: MemDisk::write.
+        // Refuses: out_of_range_counted.
         ensures unchanged { IsErrOf result OutOfRange → self.new ≡ self.old }
         ensures touches { IsTrue true → Touches nothing (state_of self.old) (state_of self.new) }
         ensures gives { IsTrue true → IsOk result → into.new ≡ sector_at self.old.contents at }
@@ -165,6 +188,9 @@ impl SectorDisk for MemDisk {
         // Where it is armed, exactly the calls that are left pass.
         ensures armed { at < length self.old.contents → (IsErrOf result Device ↔ IsFalse (passes self.old.left)) }
         ensures ok { IsOk result → self.new ≡ record self.old { left = spent self.old.left } }
+        // Promise: The count of failures rises by one with each `Device` and stays at its greatest value.
+        // Also: MemDisk::write, MemDisk::sync.
+        // Refuses: device_fault_without_failure, failures_start_over.
         ensures failed { IsErrOf result Device
             → self.new ≡ record self.old { failures = risen self.old.failures; left = spent self.old.left } }
     {
@@ -179,6 +205,10 @@ impl SectorDisk for MemDisk {
     }
 
     fn write(&mut self, at: u64, from: &Sector) -> Result<(), DiskFault>
+        // Promise: A write that fails, armed or for want of memory, leaves what reads give and makes its sector unsynced; a sync
+        // that fails changes nothing but the counts.
+        // Also: MemDisk::sync.
+        // Refuses: failed_write_is_forgotten, failed_write_changes_sector, failed_sync_makes_sure.
         ensures counts { Counts (state_of self.old) (state_of self.new) (IsErrOf result Device) (IsOk result) }
         ensures refused { IsErrOf result OutOfRange ↔ (length self.old.contents ≤ at) }
         ensures unchanged { IsErrOf result OutOfRange → self.new ≡ self.old }
@@ -229,6 +259,10 @@ impl SectorDisk for MemDisk {
         ensures armed { IsOk result → IsTrue (passes self.old.left) }
         // Where nothing is unsynced it takes no memory, and exactly the calls that are left pass.
         ensures idle { ((at : ℕ) → IsFalse (is_unsynced self.old at)) → IsTrue (passes self.old.left) → IsOk result }
+        // Promise: With calls left a read passes, and a sync where nothing is unsynced; a write or another sync fails only for want
+        // of memory.
+        // Also: idle, MemDisk::read, MemDisk::write.
+        // Refuses: sync_of_a_great_disk_fails.
         ensures ok { IsOk result → self.new ≡ record self.old {
           synced = self.old.contents;
           unsynced = replicate (length self.old.unsynced) false;

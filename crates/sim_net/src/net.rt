@@ -44,6 +44,7 @@ impl Net {
 
     /// All messages that were ever sent, each at the place of its number; the lost ones too.
     pub fn sent(&self) -> &MessageList
+        // Promise: All that was sent is shown as a list of messages, the lost ones too.
         ensures { result.now.messages ≡ self.now.network.sent }
     {
         &self.sent
@@ -51,6 +52,11 @@ impl Net {
 
     /// Makes room for so many more messages, whatever they say: sending them takes no memory then.
     pub fn reserve(&mut self, more: usize) -> Result<(), NetFault>
+        // Promise: `reserve(n)` makes room for n messages whatever they say; within the room `send` isn't refused, and
+        // `send_reserved` asks for none. `deliver`, `deliver_into`, `lose`, `cut`, `mend` take no memory (they answer no NoMemory:
+        // it isn't among their answers).
+        // Also: Net::send, Net::send_reserved.
+        // Refuses: no_room_made.
         ensures network { self.new.network ≡ self.old.network }
         ensures room { OnOk result (self.new.room ≡ max self.old.room more) }
         ensures fault { IfErr result (λ e. e ≡ NetFault.NoMemory) }
@@ -63,6 +69,10 @@ impl Net {
 
     /// Sends a message, and answers its number, counted from 0.
     pub fn send(&mut self, message: &Message) -> Result<u64, NetFault>
+        // Promise: A message stays: no call takes one away. Sending adds one at the end, not lost, and answers its number.
+        // Also: Net::lose, Net::cut, Net::mend.
+        // Refuses: cut_of_one_direction, cut_cuts_nothing, mend_mends_nothing, cut_from_the_start, loss_undone, lost_when_sent,
+        // number_before.
         ensures number { IfOk result (λ number. number ≡ length self.old.network.sent) }
         ensures sent { OnOk result (self.new.network ≡ after_sent self.old.network message.now) }
         ensures room { self.old.room ≤ self.new.room + 1 }
@@ -86,6 +96,10 @@ impl Net {
 
     /// The message of this number. It stays, and may come again.
     pub fn deliver(&self, number: u64) -> Result<Message, NetFault>
+        // Promise: A delivery is NoSuch exactly where no message has the number, else Lost where it was lost, else Cut where the
+        // last cut or mend of its two nodes is a cut, else the message that was sent under this number.
+        // Also: Net::deliver_into, delivered_by_changes.
+        // Refuses: always_lost, cut_ignored, always_the_first.
         ensures { result ≡ delivery self.now.network number }
     {
         let mut message = Message::blank();
@@ -120,6 +134,7 @@ impl Net {
     /// Loses the message of this number: from now on it never comes.
     pub fn lose(&mut self, number: u64) -> Result<(), NetFault>
         ensures lost { OnOk result (self.new ≡ record { network = after_lost self.old.network number; room = self.old.room }) }
+        // Promise: A refusal changes nothing. `lose` is refused exactly as finding the message is.
         ensures refused { (fault : NetFault) → (result ≡ Err fault) ↔ (message_at self.old.network number ≡ Err fault) }
         ensures unchanged { OnErr result (self.new ≡ self.old) }
     {

@@ -20,6 +20,9 @@ pub fn store<D: SectorDisk>(
     requires on_disk { slot + 1 < (D.state disk.old).sectors }
     requires fits { slot + 1 < 2 ^ 64 }
 
+    // Promise: Storing a body: in every image since the start the slot is as it was, unsealed, or sealed over the whole new body;
+    // after `Ok` sealed over it, nothing unsynced; no sector outside the slot changes in any image.
+    // Refuses: sealed_before_body_synced, unsealed_again, stored_over_a_sealed_slot.
     ensures counts { Counts (D.state disk.old) (D.state disk.new)
         (IsErrOf result DiskFault.Device) (IsOk result) }
     ensures in_range { IsErrOf result DiskFault.OutOfRange → ⊥ }

@@ -13,6 +13,9 @@ pub fn unseal_all<D: SectorDisk>(disk: &mut D, first: u64, slots: u64) -> Result
     requires on_disk { first + 2 * slots ≤ (D.state disk.old).sectors }
     requires fits { first + 2 * slots < 2 ^ 64 }
 
+    // Promise: After unsealing slots together answers `Ok` each is unsealed, synced; no sector outside these slots changes in any
+    // image.
+    // Refuses: job_journal::second_area_left_sealed.
     ensures counts { Counts (D.state disk.old) (D.state disk.new)
         (IsErrOf result DiskFault.Device) (IsOk result) }
     ensures in_range { IsErrOf result DiskFault.OutOfRange → ⊥ }

@@ -15,6 +15,9 @@ pub fn unseal<D: SectorDisk>(disk: &mut D, slot: u64) -> Result<(), DiskFault>
     requires on_disk { slot + 1 < (D.state disk.old).sectors }
     requires fits { slot + 1 < 2 ^ 64 }
 
+    // Promise: After unsealing answers `Ok` the slot is unsealed, synced; until then, over a synced body, unsealed or sealed over
+    // that body; no sector but the gate changes in any image.
+    // Refuses: unseal_that_seals.
     ensures counts { Counts (D.state disk.old) (D.state disk.new)
         (IsErrOf result DiskFault.Device) (IsOk result) }
     ensures in_range { IsErrOf result DiskFault.OutOfRange → ⊥ }
@@ -41,6 +44,13 @@ pub fn fill<D: SectorDisk>(disk: &mut D, slot: u64, body: &Sector) -> Result<(),
     requires on_disk { slot + 1 < (D.state disk.old).sectors }
     requires fits { slot + 1 < 2 ^ 64 }
 
+    // Promise: Filling an unsealed slot leaves it unsealed in every image since the start; after `Ok` the body is the one handed
+    // in, synced; no other sector changes in any image.
+    // Refuses: fill_writes_the_gate.
+    // Promise: `Device` comes only where the disk's count of failures rose in the call or stands at its greatest value, any other
+    // answer leaves the count; no other fault of the disk comes.
+    // Also: seal, unseal, unseal_all, store.
+    // Refuses: device_fault_without_failure.
     ensures counts { Counts (D.state disk.old) (D.state disk.new)
         (IsErrOf result DiskFault.Device) (IsOk result) }
     ensures in_range { IsErrOf result DiskFault.OutOfRange → ⊥ }
@@ -65,6 +75,9 @@ pub fn seal<D: SectorDisk>(disk: &mut D, slot: u64) -> Result<(), DiskFault>
     requires on_disk { slot + 1 < (D.state disk.old).sectors }
     requires fits { slot + 1 < 2 ^ 64 }
 
+    // Promise: Sealing a synced body: in every image since the start unsealed or sealed over that body; after `Ok` sealed over it,
+    // synced; no sector but the gate changes in any image.
+    // Refuses: seal_before_its_sync.
     ensures counts { Counts (D.state disk.old) (D.state disk.new)
         (IsErrOf result DiskFault.Device) (IsOk result) }
     ensures in_range { IsErrOf result DiskFault.OutOfRange → ⊥ }
@@ -92,6 +105,8 @@ pub fn look<D: SectorDisk>(disk: &mut D, slot: u64) -> Result<Option<Sector>, Di
     requires on_disk { slot + 1 < (D.state disk.old).sectors }
     requires fits { slot + 1 < 2 ^ 64 }
 
+    // Promise: Looking at a slot gives what reads give: the body of a sealed slot, else nothing; no image changes.
+    // Refuses: look_takes_any_gate.
     ensures counts { Counts (D.state disk.old) (D.state disk.new)
         (IsErrOf result DiskFault.Device) (IsOk result) }
     ensures in_range { IsErrOf result DiskFault.OutOfRange → ⊥ }

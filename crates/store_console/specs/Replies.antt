@@ -1,11 +1,13 @@
 -- What a request is answered, by what is mounted.
-use Rattle.std.specs.Prelude.{◌≡◌, ◌⊎◌, ℕ, List, [], ◌++◌, flat_map, Option, Some, None, IsTrue, IsFalse, Result, Ok, Err, codes, decimal}
+use Rattle.std.specs.Prelude.{◌≡◌, ◌⊎◌, ℕ, List, [], ◌++◌, flat_map, Bool, true, false, Option, Some, None, IsTrue, IsFalse, Result, Ok, Err, codes, decimal}
 use Rattle.job_model.specs.declared.node_command.NodeCommand.{NodeCommand as Command}
 use Rattle.job_model.specs.declared.node_command.NodeCommand.TheVariants.{Raise, Put, Done}
 use Rattle.job_model.specs.Durable.{Durable}
 use Rattle.job_model.specs.declared.job.Job.{Job}
 use Rattle.job_model.specs.declared.command.Command.TheVariants as change
 use Rattle.file_disk.specs.File.{FileState}
+use Rattle.file_disk.specs.declared.fault.OpenFault.{OpenFault}
+use Rattle.file_disk.specs.declared.fault.OpenFault.TheVariants as fault
 use Rattle.node_store.specs.Store.{StoreState, durable_of, append_refusal, compaction_refusal, raise_refusal, Changed}
 use Rattle.node_store.specs.Mounting.{IsMountFault}
 use Rattle.node_store.specs.declared.fault.StoreFault.{StoreFault}
@@ -15,6 +17,8 @@ use Rattle.store_console.specs.declared.request.Request.{Request}
 use Rattle.store_console.specs.declared.request.Request.TheVariants as request
 use Rattle.store_console.specs.declared.reply.Reply.{Reply}
 use Rattle.store_console.specs.declared.reply.Reply.TheVariants as reply
+use Rattle.store_console.specs.declared.reply.Bar.{Bar}
+use Rattle.store_console.specs.declared.reply.Bar.TheVariants as bar
 
 -- what is mounted, if anything is
 abbrev pub Mounted : Type 0
@@ -42,11 +46,23 @@ Compacted old answered new = (answered ≡ reply.Done) × (durable_of new ≡ du
 
 -- ---- the file
 
+-- what is answered where the file can't be made or opened
+abbrev pub barred : OpenFault → Reply
+barred fault.Locked = reply.Barred bar.Locked
+barred (fault.Exists error) = reply.Barred bar.Unusable
+barred (fault.NotFound error) = reply.Barred bar.NotFound
+barred (fault.Denied error) = reply.Barred bar.Denied
+barred (fault.Folder error) = reply.Barred bar.Folder
+barred fault.NotAFile = reply.Barred bar.NotAFile
+barred (fault.Unusable error) = reply.Barred bar.Unusable
+barred (fault.NoRoom error) = reply.Barred bar.NoRoom
+barred (fault.Device error) = reply.Refused StoreFault.Device
+
 -- what making the file is answered; nothing is mounted then
 abbrev pub IsFormatted : Reply → Type 0
 IsFormatted reply.Done = Unit {0}
 IsFormatted (reply.Refused fault) = fault ≡ StoreFault.Device
-IsFormatted reply.Locked = Unit {0}
+IsFormatted (reply.Barred bar) = Unit {0}
 IsFormatted (reply.Value n) = ⊥
 IsFormatted reply.Listed = ⊥
 
@@ -54,10 +70,10 @@ IsFormatted reply.Listed = ⊥
 abbrev pub IsMounted : Reply → Mounted → Type 0
 IsMounted reply.Done (Some new) = IsFalse new.broken
 IsMounted (reply.Refused fault) None = IsMountFault fault
-IsMounted reply.Locked None = Unit {0}
+IsMounted (reply.Barred bar) None = Unit {0}
 IsMounted reply.Done None = ⊥
 IsMounted (reply.Refused fault) (Some new) = ⊥
-IsMounted reply.Locked (Some new) = ⊥
+IsMounted (reply.Barred bar) (Some new) = ⊥
 IsMounted (reply.Value n) new = ⊥
 IsMounted reply.Listed new = ⊥
 
@@ -89,6 +105,17 @@ Replies (Some old) (request.Done id) answered new =
 Replies (Some old) request.Compact answered new = Tries (Compacted old answered) (compaction_refusal old) old answered new
 Replies (Some old) request.List answered new = (answered ≡ reply.Listed) × (new ≡ Some old)
 
+-- Once the device has failed, what was mounted is given up and nothing is mounted: reads may give what the device doesn't hold.
+abbrev pub RepliesOver : Bool → Mounted → Request → Reply → Mounted → Type 0
+RepliesOver true old request.Mount answered new = (answered ≡ reply.Refused StoreFault.Device) × (new ≡ None)
+RepliesOver failed old request answered new = Replies old request answered new
+
+-- Whether the device has failed, behind a request and its reply: since the file was last made anew.
+abbrev pub fails_after : Bool → Request → Reply → Bool
+fails_after failed (request.Format slots) reply.Done = false
+fails_after failed request (reply.Refused StoreFault.Device) = true
+fails_after failed request answered = failed
+
 -- ---- as text
 
 abbrev pub fault_text : StoreFault → List ℕ
@@ -101,6 +128,16 @@ fault_text StoreFault.Full = codes "Full"
 fault_text StoreFault.NoSuchJob = codes "NoSuchJob"
 fault_text StoreFault.NoMemory = codes "NoMemory"
 fault_text StoreFault.TooSmall = codes "TooSmall"
+
+abbrev pub bar_text : Bar → List ℕ
+bar_text bar.Locked = codes "Locked"
+bar_text bar.NotFound = codes "NotFound"
+bar_text bar.Denied = codes "Denied"
+bar_text bar.Folder = codes "Folder"
+bar_text bar.NotAFile = codes "NotAFile"
+bar_text bar.Unusable = codes "Unusable"
+bar_text bar.NoRoom = codes "NoRoom"
+bar_text bar.Foreign = codes "Foreign"
 
 abbrev pub job_text : Job → List ℕ
 job_text job = codes "job " ++ decimal job.id ++ codes " " ++ work_text job.work.queue job.work.payload job.work.priority
@@ -118,5 +155,5 @@ abbrev pub reply_text : Mounted → Reply → List ℕ
 reply_text mounted reply.Done = line (codes "ok")
 reply_text mounted (reply.Value n) = line (codes "ok " ++ decimal n)
 reply_text mounted (reply.Refused fault) = line (codes "refused " ++ fault_text fault)
-reply_text mounted reply.Locked = line (codes "refused Locked")
+reply_text mounted (reply.Barred bar) = line (codes "refused " ++ bar_text bar)
 reply_text mounted reply.Listed = mounted_text mounted

@@ -1,20 +1,21 @@
 -- The text of the command `store`.
-use Rattle.std.specs.Prelude.{◌≡◌, ℕ, List, [], ◌∷◌, ◌++◌, None, codes, decimal, true, Result, Ok, Err}
+use Rattle.std.specs.Prelude.{◌≡◌, ℕ, List, [], ◌∷◌, ◌++◌, None, codes, decimal, Bool, true, false, Result, Ok, Err}
 use Rattle.console_text.specs.Ends.{Outcome, refused}
 use Rattle.store_console.specs.declared.request.Request.{Request}
 use Rattle.store_console.specs.declared.reply.Reply.{Reply}
 use Rattle.store_console.specs.Requests.{requests_of}
-use Rattle.store_console.specs.Replies.{Mounted, Replies, reply_text}
+use Rattle.store_console.specs.Replies.{Mounted, RepliesOver, fails_after, reply_text}
 
--- The text is what these requests were answered, one after the other, from what is mounted on.
-abbrev pub Answers : Mounted → List Request → List ℕ → Type 0
-Answers mounted [] text = text ≡ []
-Answers mounted (request ∷ requests) text =
-    (reply : Reply) × (new : Mounted) × (rest : List ℕ) × Replies mounted request reply new × Answers new requests rest × (text ≡ reply_text new reply ++ rest)
+-- The text is what these requests were answered, one after the other, from what is mounted on, and from whether the device has failed.
+abbrev pub Answers : Bool → Mounted → List Request → List ℕ → Type 0
+Answers failed mounted [] text = text ≡ []
+Answers failed mounted (request ∷ requests) text =
+    (reply : Reply) × (new : Mounted) × (rest : List ℕ) × RepliesOver failed mounted request reply new
+    × Answers (fails_after failed request reply) new requests rest × (text ≡ reply_text new reply ++ rest)
 
 abbrev pub AnswersRequests : Result (List Request) ℕ → Outcome → Type 0
 AnswersRequests (Err n) outcome = outcome ≡ refused (codes "bad line " ++ decimal n)
-AnswersRequests (Ok requests) outcome = (outcome.good ≡ true) × Answers None requests outcome.text
+AnswersRequests (Ok requests) outcome = (outcome.good ≡ true) × Answers false None requests outcome.text
 
 -- What `store` prints for an input: where a line can't be read, nothing is done. Else each request is answered in turn, and nothing is
 -- mounted at first.
@@ -24,5 +25,5 @@ IsSession input outcome = AnswersRequests (requests_of input) outcome
 -- ---- for the code
 
 -- whatever the requests that are left are answered, behind this text it is what all of them are answered
-abbrev pub GoesOn : List Request → Mounted → List Request → List ℕ → Type 0
-GoesOn requests mounted left text = (rest : List ℕ) → Answers mounted left rest → Answers None requests (text ++ rest)
+abbrev pub GoesOn : List Request → Bool → Mounted → List Request → List ℕ → Type 0
+GoesOn requests failed mounted left text = (rest : List ℕ) → Answers failed mounted left rest → Answers false None requests (text ++ rest)

@@ -1,32 +1,39 @@
 //! What each request does to what is mounted.
 
-ghost use Rattle.std.specs.Prelude.{◌≡◌, ◌≤◌, IfOk, None};
+ghost use Rattle.std.specs.Prelude.{◌≡◌, ◌≤◌, IfOk};
 ghost use Rattle.store_console.specs.declared.request.Request.TheVariants as asked;
-ghost use Rattle.store_console.specs.Replies.{IsFormatted, IsMounted, Replies, valued};
+ghost use Rattle.store_console.specs.Replies.{IsMounted, Replies, RepliesOver, valued};
 
-use crate::reply::Reply;
+use crate::barring::barred;
+use crate::making::make;
+use crate::reply::{Bar, Reply};
 use crate::request::Request;
-use file_disk::{FileDisk, OpenFault};
+use file_disk::{FileDisk, OpenFault, is_of_a_node};
 use job_model::Work;
-use node_store::{NodeStore, StoreFault, format};
+use node_store::{NodeStore, StoreFault};
 use std::alloc::{AllocError, Global};
 use std::fs::{File, Files};
 use std::path::AsPath;
 
-/// Does what a request asks. Nothing but a mounting asks for memory.
+/// Does what a request asks. Nothing but a mounting and a format asks for memory. Once the device has failed, nothing is mounted.
 pub fn reply<P: AsPath>(
     rt: &impl Files<File = File>,
     alloc: Global,
     path: &P,
     mounted: &mut Option<NodeStore<FileDisk>>,
+    has_failed: bool,
     request: &Request,
 ) -> Result<Reply, AllocError>
-    ensures { IfOk result (λ reply. Replies mounted.old request.now reply mounted.new) }
+    ensures { IfOk result (λ reply. RepliesOver has_failed mounted.old request.now reply mounted.new) }
 {
     match request {
         Request::Format(slots) => {
             *mounted = None;
-            Ok(make(rt, path, *slots))
+            make(rt, alloc, path, *slots)
+        }
+        Request::Mount if has_failed => {
+            *mounted = None;
+            Ok(Reply::Refused(StoreFault::Device))
         }
         Request::Mount => mount(rt, alloc, path, mounted),
         Request::Raise => Ok(raise(mounted)),
@@ -34,23 +41,6 @@ pub fn reply<P: AsPath>(
         Request::Done(id) => Ok(done(mounted, *id)),
         Request::Compact => Ok(compact(mounted)),
         Request::List => Ok(list(mounted)),
-    }
-}
-
-/// Makes the file of a store with so many slots in each area, and formats it.
-fn make<P: AsPath>(rt: &impl Files<File = File>, path: &P, slots: u64) -> Reply
-    ensures { IsFormatted result }
-{
-    let Some(sectors) = slots.checked_mul(4).and_then(|areas| areas.checked_add(8)) else {
-        return Reply::Refused(StoreFault::Device);
-    };
-    let mut disk = match FileDisk::create(rt, path, sectors) {
-        Ok(disk) => disk,
-        Err(fault) => return refused(fault),
-    };
-    match format(&mut disk) {
-        Ok(()) => Reply::Done,
-        Err(_) => Reply::Refused(StoreFault::Device),
     }
 }
 
@@ -66,8 +56,13 @@ fn mount<P: AsPath>(
     *mounted = None;
     let disk = match FileDisk::open(rt, path) {
         Ok(disk) => disk,
-        Err(fault) => return Ok(refused(fault)),
+        Err(fault) => return Ok(barred(fault)),
     };
+    match disk.label() {
+        Ok(label) if is_of_a_node(label) => return Ok(Reply::Barred(Bar::Foreign)),
+        Ok(_) => {}
+        Err(error) => return Ok(barred(OpenFault::from(error))),
+    }
     match NodeStore::mount(alloc, disk) {
         Ok(store) => {
             *mounted = Some(store);
@@ -77,17 +72,6 @@ fn mount<P: AsPath>(
             StoreFault::NoMemory => Err(AllocError),
             fault => Ok(Reply::Refused(fault)),
         },
-    }
-}
-
-/// What is answered where the file isn't made or opened.
-fn refused(fault: OpenFault) -> Reply
-    ensures formatted { IsFormatted result }
-    ensures mounted { IsMounted result None }
-{
-    match fault {
-        OpenFault::Locked => Reply::Locked,
-        _ => Reply::Refused(StoreFault::Device),
     }
 }
 

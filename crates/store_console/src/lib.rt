@@ -2,7 +2,9 @@
 #![tactic(auto)]
 
 mod acting;
+mod barring;
 mod fields;
+mod making;
 mod parsing;
 mod reading;
 mod reasons;
@@ -11,4 +13,6 @@ mod request;
 mod running;
 mod text;
 
+pub use fields::{payload, priority, queue};
 pub use running::store;
+pub use text::push_jobs;

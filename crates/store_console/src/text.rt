@@ -3,9 +3,9 @@
 ghost use Rattle.std.specs.Prelude.{◌≡◌, ◌++◌, OnOk, flat_map};
 ghost use Rattle.job_model.specs.Table.{durable_of};
 ghost use Rattle.console_text.specs.Ends.{line};
-ghost use Rattle.store_console.specs.Replies.{fault_text, job_text, list_text, reply_text};
+ghost use Rattle.store_console.specs.Replies.{bar_text, fault_text, job_text, list_text, reply_text};
 
-use crate::reply::Reply;
+use crate::reply::{Bar, Reply};
 use console_text::{push_number, push_text, push_work};
 use file_disk::FileDisk;
 use job_model::{Job, JobTable};
@@ -32,7 +32,11 @@ pub fn push_reply(
             push_fault(text, fault)?;
             push_text(text, "\n")
         }
-        Reply::Locked => push_text(text, "refused Locked\n"),
+        Reply::Barred(bar) => {
+            push_text(text, "refused ")?;
+            push_text(text, bar_name(bar))?;
+            push_text(text, "\n")
+        }
         Reply::Listed => match mounted {
             None => Ok(()),
             Some(store) => push_list(text, store.counter(), store.table()),
@@ -59,6 +63,21 @@ fn push_fault(text: &mut Vec<u8>, fault: StoreFault) -> Result<(), AllocError>
     }
 }
 
+fn bar_name(bar: Bar) -> &'static str
+    ensures { result.now ≡ bar_text bar }
+{
+    match bar {
+        Bar::Locked => "Locked",
+        Bar::NotFound => "NotFound",
+        Bar::Denied => "Denied",
+        Bar::Folder => "Folder",
+        Bar::NotAFile => "NotAFile",
+        Bar::Unusable => "Unusable",
+        Bar::NoRoom => "NoRoom",
+        Bar::Foreign => "Foreign",
+    }
+}
+
 /// Adds a line on the counter and the next id, and one for each pending job.
 fn push_list(text: &mut Vec<u8>, count: u64, table: &JobTable) -> Result<(), AllocError>
     ensures { OnOk result (text.new.items ≡ text.old.items ++ list_text (durable_of count table.now)) }
@@ -71,7 +90,8 @@ fn push_list(text: &mut Vec<u8>, count: u64, table: &JobTable) -> Result<(), All
     push_jobs(text, table.pending())
 }
 
-fn push_jobs(text: &mut Vec<u8>, jobs: &[Job]) -> Result<(), AllocError>
+/// Adds a line for each of these jobs.
+pub fn push_jobs(text: &mut Vec<u8>, jobs: &[Job]) -> Result<(), AllocError>
     ensures { OnOk result (text.new.items ≡ text.old.items ++ flat_map (λ job. line (job_text job)) jobs.now) }
 {
     for job in jobs {

@@ -47,6 +47,10 @@ pub fn threads<T: Threads + Wait + Sync, R: Read, W: Write>(
     input: &mut Source<R>,
     output: &mut W,
 ) -> Ended
+    // Promise: What `threads` writes is the text of the trace of a whole run of the plans that were read, or of a fault that has
+    // its reason in them, or the first bad line.
+    // Also: read_plans.
+    // Refuses: entry_left_out, line_of_another_worker, sizes_swapped, fault_answered_as_another.
     ensures prints { Prints IsThreading (R.remaining input.old.reader) (W.contents output.old) (W.contents output.new) result.ending }
     ensures why { IsWhy plans_flaw (R.remaining input.old.reader) result.ending result.why.items }
     ensures reads { input.old.left ≤ input.new.left + 16777216 }

@@ -43,7 +43,7 @@ with_same ids n = has-with_id n n ids ∙ ap (λ (b : Bool). b || has ids n) (eq
 with_other : (ids : List ℕ) (n k : ℕ) → k ≢ n → has (with_id ids n) k ≡ has ids k
 with_other ids n k other = has-with_id n k ids ∙ ap (λ (b : Bool). b || has ids k) (test_other k n other)
 
-same_or_other : (k n : ℕ) → (k ≡ n) ⊎ (k ≢ n)
+pub same_or_other : (k n : ℕ) → (k ≡ n) ⊎ (k ≢ n)
 same_or_other k n = elim (cases_Bool (eqb k n)) [ inl same ↦ inl (eqb-true k n same) | inr not_same ↦ inr (λ same. clash (eqb k n) (eq-eqb k n same) not_same) ]
 
 -- ---- seats
@@ -59,10 +59,10 @@ pub record Reseats (old new : List Seat) (n : ℕ) (s : Seat) : Type 0 where
 
 -- ---- what is taken
 
-taken_same : (n : ℕ) (past : List ℕ) → taken n (n ∷ past) ≡ taken n past + 1
+pub taken_same : (n : ℕ) (past : List ℕ) → taken n (n ∷ past) ≡ taken n past + 1
 taken_same n past = let same : (n == n) ≡ true = grind (arith, nat_tests) in rw same refl
 
-taken_other : (k n : ℕ) (past : List ℕ) → k ≢ n → taken k (n ∷ past) ≡ taken k past
+pub taken_other : (k n : ℕ) (past : List ℕ) → k ≢ n → taken k (n ∷ past) ≡ taken k past
 taken_other k n past other = let apart : (n == k) ≡ false = test_other n k (λ same. other (sym same)) in rw apart refl
 
 module _ (hs : List (List Claim)) (seats seats' : List Seat) (ready stopped : List ℕ) (posted : List Envelope) (past : List ℕ) (n : ℕ) (old new : Seat) (desk : IsDesk hs seats ready stopped posted past) (reseats : Reseats seats seats' n new) (at : slice_get seats n ≡ Some old) where

@@ -1,4 +1,7 @@
 mod Furthest
+mod Followed
+mod Prefixes
+mod Leftovers
 mod Bundles
 mod Turning
 mod Twins

@@ -8,3 +8,5 @@ pub use Rattle.trace_check.proofs.Keyed.{on_ok}
 pub use Rattle.trace_check.proofs.Turning.{turns}
 -- What the calls of a check make of where it stands.
 pub use Rattle.trace_check.proofs.Turns.{none_past}
+-- The turns of an order, from the first to the last.
+pub use Rattle.trace_check.proofs.Prefixes.{before_more, may_take}

@@ -12,7 +12,7 @@ use Rattle.trace_check.specs.Orders.{history, taken, state_of, IsSent}
 use Rattle.trace_check.specs.Verdicts.{VerdictsDecide, TurnsGoOn}
 use Rattle.trace_check.proofs.Furthest.{sent_more, not_complete}
 
-state_more : (self nodes : ℕ) (s : NodeState) (h : List Claim) (k : ℕ) (c : Claim) → slice_get h k ≡ Some c → state_after self nodes s (take (suc k) h) ≡ after_claim self nodes (state_after self nodes s (take k h)) c
+pub state_more : (self nodes : ℕ) (s : NodeState) (h : List Claim) (k : ℕ) (c : Claim) → slice_get h k ≡ Some c → state_after self nodes s (take (suc k) h) ≡ after_claim self nodes (state_after self nodes s (take k h)) c
 state_more self nodes s [] k c at = absurd cc
 state_more self nodes s (x ∷ h) zero c at = ap (λ (y : Claim). after_claim self nodes s y) (same_Some x c at)
 state_more self nodes s (x ∷ h) (suc k) c at = state_more self nodes (after_claim self nodes s x) h k c at

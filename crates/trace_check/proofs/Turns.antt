@@ -42,7 +42,7 @@ set_same [] i v at = absurd cc
 set_same (x ∷ xs) zero v at = ap (λ (s : Seat). s ∷ xs) (sym (same_Some x v at))
 set_same (x ∷ xs) (suc i) v at = ap (λ (ss : List Seat). x ∷ ss) (set_same xs i v at)
 
-reseats_set : (seats : List Seat) (n : ℕ) (s : Seat) → Reseats seats (slice_set seats n s) n s
+pub reseats_set : (seats : List Seat) (n : ℕ) (s : Seat) → Reseats seats (slice_set seats n s) n s
 reseats_set seats n s = record { count = set_length seats n s; here = λ t at. set_here seats n s t at; others = λ k other. set_other seats n s k other }
 
 -- ---- the three answers

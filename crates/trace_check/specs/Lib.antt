@@ -1,7 +1,9 @@
 pub mod Building
 pub mod Claims
 pub mod Desks
+pub mod Followed
 pub mod Kept
+pub mod Leftovers
 pub mod Orders
 pub mod Posts
 pub mod Runs

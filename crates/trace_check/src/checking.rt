@@ -1,10 +1,13 @@
 ghost use Rattle.std.specs.Prelude.{◌≡◌, ◌≤◌, ◌<◌, ◌+◌, [], ℕ, length, slice_get, reverse, IfOk, IsTrue, true, false, MatchOption, Ok, None};
 ghost use Rattle.group_task.specs.Ids.{has, without_id};
 ghost use Rattle.trace_check.specs.Desks.{Fits};
+ghost use Rattle.trace_check.specs.Leftovers.{AreLeftovers};
 ghost use Rattle.trace_check.specs.Orders.{history};
 ghost use Rattle.trace_check.specs.Verdicts.{IsVerdict, DecidesRun};
 
 use crate::desk::{Desk, Judgement, Seat, judge, post_all};
+use crate::leaving::leftovers;
+use crate::leftover::Leftover;
 use crate::posted::Posted;
 use crate::replica::Replica;
 use crate::trace::{Trace, Verdict};
@@ -14,22 +17,57 @@ use wire_msg::Message;
 
 /// Whether some order of all entries is a run. At each turn the least node whose next entry is possible takes it.
 pub fn check(alloc: Global, trace: &Trace) -> Result<Verdict, AllocError>
+    // Promise: A verdict is Run, with a run, or NotARun where no more can be taken after some legal order, with the least node that
+    // has entries left and its next; each turn takes the entry of the least node that can.
+    // Refuses: unsent_message_taken, nodes_repeated, first_not_least, stuck_too_early, receiver_not_compared, receiver_not_woken,
+    // waits_answered_as_stops, first_message_put_in_alone.
     ensures verdict { IfOk result (IsVerdict trace.now) }
+    // Promise: The verdict is Run exactly where some order is a run.
+    // Refuses: always_not_a_run.
     ensures decides { IfOk result (DecidesRun trace.now) }
+{
+    let desk = taken(alloc, trace)?;
+    Ok(decided(trace, desk))
+}
+
+/// A verdict, and the next entry of each node that has entries left where it is no run.
+#[derive(Debug, Drop)]
+pub struct Examined {
+    pub verdict: Verdict,
+    pub left: Vec<Leftover>,
+}
+
+/// The verdict, as `check` gives it, and why no order takes all entries where none does.
+pub fn examine(alloc: Global, trace: &Trace) -> Result<Examined, AllocError>
+    ensures verdict { IfOk result (λ examined. IsVerdict trace.now examined.verdict) }
+    ensures decides { IfOk result (λ examined. DecidesRun trace.now examined.verdict) }
+    ensures left { IfOk result (λ examined. AreLeftovers trace.now examined.left.items) }
+{
+    let desk = taken(alloc, trace)?;
+    let left = leftovers(alloc, trace, &desk)?;
+    let verdict = decided(trace, desk);
+    Ok(Examined { verdict, left })
+}
+
+/// A check at its end: no entry more can be taken.
+fn taken<'a>(alloc: Global, trace: &'a Trace) -> Result<Desk<'a>, AllocError>
+    ensures fits { IfOk result (Fits trace.now) }
+    ensures none { IfOk result (λ desk. desk.ready ≡ []) }
 {
     let mut desk = open(alloc, trace)?;
     for _turn in 0..u64::MAX {
         if !take_turn(trace, &mut desk)? {
-            return Ok(decided(trace, desk));
+            return Ok(desk);
         }
     }
     unreachable!()
 }
 
 /// All nodes opened, and no entry is taken. There is room for as many messages as there are entries, which is about as many as are sent.
-fn open<'a>(alloc: Global, trace: &'a Trace) -> Result<Desk<'a>, AllocError>
+pub(crate) fn open<'a>(alloc: Global, trace: &'a Trace) -> Result<Desk<'a>, AllocError>
     ensures fits { IfOk result (Fits trace.now) }
     ensures order { IfOk result (λ desk. desk.order.items ≡ []) }
+    ensures none { IfOk result (λ desk. desk.stopped ≡ []) }
 {
     let mut entries = 0usize;
     for history in trace.histories() {

@@ -61,6 +61,9 @@ impl History {
 
     /// Adds an entry: what was done, and the messages sent in their order.
     pub fn push(&mut self, deed: &Deed, sent: &[Message]) -> Result<(), AllocError>
+        // Promise: A history is the list of its entries, each as it was put in; want of memory leaves it as it was.
+        // Also: History::entry.
+        // Refuses: payload_read_from_the_start, entry_keeps_what_it_was_brought_as_sent.
         ensures added { OnOk result (self.new ≡ self.old ++ claim deed.now sent.now ∷ []) }
         ensures refused { OnErr result (self.new ≡ self.old) }
     {
@@ -146,6 +149,10 @@ impl History {
 /// A history that is being built: the messages of an entry are added first, one after another, and then the entry is finished. So no
 /// list of whole messages is made for it, and no deed that has a whole message.
 #[derive(Drop)]
+// Promise: A history is built entry by entry: the messages that were added since the last entry are those of the next one, what it
+// was brought first; an entry that isn't finished counts for nothing.
+// Refuses: delivered_message_built_as_sent, failure_built_the_wrong_way, sent_messages_left_out.
+// Promise: Of `HistoryBuilder::reserve` only that the room is there where it isn't refused, and that entries and messages stay.
 pub struct HistoryBuilder {
     entries: Vec<KeptEntry>,
     messages: MessageList,
@@ -377,6 +384,17 @@ impl<'a> Model for Sent<'a> {
 }
 
 impl<'a> Sent<'a> {
+    /// No message, lent from the same list.
+    pub(crate) fn none(&self) -> Sent<'a>
+        ensures { result ≡ [] }
+    {
+        Sent {
+            messages: self.messages,
+            start: 0,
+            end: 0,
+        }
+    }
+
     /// How many messages there are.
     #[tactic(auto, using(crate::proofs::KeptEntries::part_length))]
     pub fn len(&self) -> usize
@@ -405,6 +423,10 @@ impl<'a> Sent<'a> {
 
     /// Whether the message at this place is this one. None is made for it.
     pub fn holds(&self, place: usize, message: &Message) -> bool
+        // Promise: Of the messages that an entry sent it is answered whether the one at a place is a given one, which node it is
+        // for, and its one spelling, and none is made for it.
+        // Also: Sent::receiver, Sent::spell.
+        // Refuses: held_at_another_place, sender_answered_as_receiver, first_sent_spelled.
         ensures { IsTrue result ↔ (slice_get self.now place ≡ Some message.now) }
     {
         if place < self.end - self.start {

@@ -3,18 +3,24 @@
 
 mod checking;
 mod desk;
+mod following;
 mod history;
 mod kept;
 mod laws;
+mod leaving;
 mod ledger;
+mod leftover;
 mod posted;
 mod replica;
 mod trace;
 
-pub use checking::check;
+pub use checking::{Examined, check, examine};
+pub use following::is_order;
 pub use history::{EntryView, History, HistoryBuilder, Sent};
 pub use laws::{
-    none_complete, none_goes_further, orders_are_bundles, turns_go_on, verdicts_decide,
+    holdups_hold, none_complete, none_goes_further, orders_are_bundles, turns_go_on,
+    verdicts_decide,
 };
+pub use leftover::{Holdup, Leftover};
 pub use replica::Replica;
 pub use trace::{Deed, RecoverFault, Trace, Verdict};

@@ -1,4 +1,4 @@
-ghost use Rattle.std.specs.Prelude.{◌≡◌, ◌<◌, ◌≤◌, ◌↔◌, length, true, IfOk, IfSome, IsTrue};
+ghost use Rattle.std.specs.Prelude.{◌≡◌, ◌<◌, ◌≤◌, ◌↔◌, length, true, IfOk, IfSome, IsTrue, MatchOption};
 ghost use Rattle.group_task.specs.declared.node.TheConstants.{NODES};
 ghost use Rattle.node_core.specs.declared.event.Event.TheVariants.{Deliver};
 ghost use Rattle.node_core.specs.NodeStep.{IsSpent};
@@ -8,8 +8,9 @@ ghost use Rattle.node_core.specs.State.{is_down, state_of};
 ghost use Rattle.histories.specs.NodeState.{opening, wants_at};
 ghost use Rattle.histories.specs.declared.what.What.TheVariants.{Rests, Did, Faulted, Crashed, Recovered, MountFailed, RaiseFailed};
 ghost use Rattle.histories.specs.declared.what.Rest.TheVariants.{Nothing};
-ghost use Rattle.histories.specs.Possible.{IsForNode};
-ghost use Rattle.trace_check.specs.Twins.{Judged, Taken, Settled, WantsOf};
+ghost use Rattle.histories.specs.Possible.{IsForNode, IsPossible};
+ghost use Rattle.trace_check.specs.Leftovers.{IsRefused, IsSilent, WouldSend};
+ghost use Rattle.trace_check.specs.Twins.{Comes, Judged, Taken, Settled, WantsOf};
 ghost use Rattle.trace_check.specs.Kept.{EventStands, event_said};
 ghost use Rattle.trace_check.specs.Traces.{claim, claim_seen};
 ghost use Rattle.trace_check.specs.Views.{Stands, claim_kept};
@@ -77,6 +78,8 @@ impl Replica {
     /// Takes an entry of the node's history, if it is possible here: whether a message that was delivered was sent is left
     /// open. Where it isn't possible, the replica may be spoiled, and is of no more use.
     pub fn take(&mut self, entry: &EntryView<'_>) -> Result<bool, AllocError>
+        // Promise: An entry is taken exactly where it is possible, and the copy of the node is then in the state after it.
+        // Refuses: doubt_kept_the_wrong_way, doubt_forgotten, kept_not_read, sent_not_compared.
         ensures id { self.new.id ≡ self.old.id }
         ensures nodes { self.new.nodes ≡ self.old.nodes }
         ensures taken { IfOk result (Taken self.old self.new (claim_seen entry.now)) }
@@ -112,6 +115,22 @@ impl Replica {
             KeptDeed::Crashed => Ok(self.crash(&sent)),
             KeptDeed::Recovered(kept) => self.recover(kept, &sent),
             KeptDeed::NotRecovered(kept, fault) => self.not_recover(kept, fault, &sent),
+        }
+    }
+
+    /// The messages that the node sends where what the entry says was done comes here, whatever it says that was sent. None where that
+    /// isn't possible. Whether a message that was delivered was sent is left open.
+    pub fn sends(self, entry: &EntryView<'_>) -> Result<Option<Vec<Message>>, AllocError>
+        ensures { IfOk result (λ made. MatchOption made (IsRefused self.id self.nodes self.node (claim_seen entry.now))
+            (λ messages. WouldSend self.id self.nodes self.node (claim_seen entry.now) messages.items)) }
+    {
+        match &entry.deed {
+            Deed::Done(event) => self.handled(event),
+            Deed::Recovered(kept) => self.risen(*kept, entry),
+            Deed::Nothing => self.silent(entry),
+            Deed::Faulted(_) => self.silent(entry),
+            Deed::Crashed => self.silent(entry),
+            Deed::NotRecovered(_, _) => self.silent(entry),
         }
     }
 
@@ -234,6 +253,66 @@ impl Replica {
         let answer = self.ledger.take(&wants)?;
         let made = self.core.commit_step(plan, answer);
         Ok(same(&made, sent))
+    }
+
+    /// The messages that an event sends that is handled. None where it isn't taken.
+    fn handled(self, event: &Event) -> Result<Option<Vec<Message>>, AllocError>
+        ensures { IfOk result (λ made. MatchOption made (IsPossible self.id self.nodes self.node (Did event.now) → ⊥)
+            (λ messages. Comes self (Did event.now) messages.items)) }
+    {
+        if !self.is_for_node(event) {
+            return Ok(None);
+        }
+        let Replica {
+            mut core,
+            mut ledger,
+            ..
+        } = self;
+        let plan = match core.plan_step(event, ledger.table()) {
+            Ok(plan) => plan,
+            Err(CoreFault::NoMemory) => return Err(AllocError),
+            Err(_) => return Ok(None),
+        };
+        let wants = plan.wanted();
+        if ledger.is_spent(&wants) {
+            return Ok(None);
+        }
+        let answer = ledger.take(&wants)?;
+        Ok(Some(core.commit_step(plan, answer)))
+    }
+
+    /// What a recovery sends, at a node that is down or isn't.
+    fn risen(self, kept: bool, entry: &EntryView<'_>) -> Result<Option<Vec<Message>>, AllocError>
+        requires { entry.now.deed ≡ deed.Recovered kept }
+        ensures { IfOk result (λ made. MatchOption made (IsRefused self.id self.nodes self.node (claim_seen entry.now))
+            (λ messages. WouldSend self.id self.nodes self.node (claim_seen entry.now) messages.items)) }
+    {
+        if self.is_down() {
+            self.silent(entry)
+        } else if kept {
+            Ok(None)
+        } else {
+            self.handled(&Event::Recover)
+        }
+    }
+
+    /// What an entry sends that sends nothing: an empty list, where it is possible.
+    fn silent(self, entry: &EntryView<'_>) -> Result<Option<Vec<Message>>, AllocError>
+        requires { IsSilent self.id self.nodes self.node (claim_seen entry.now) }
+        ensures { IfOk result (λ made. MatchOption made (IsRefused self.id self.nodes self.node (claim_seen entry.now))
+            (λ messages. WouldSend self.id self.nodes self.node (claim_seen entry.now) messages.items)) }
+    {
+        let mut node = self;
+        let none = Vec::new(node.alloc);
+        let alone = EntryView {
+            deed: entry.deed,
+            sent: entry.sent.none(),
+        };
+        if node.take(&alone)? {
+            Ok(Some(none))
+        } else {
+            Ok(None)
+        }
     }
 
     /// A message that is delivered, which stays where it is. The answers are written into the list of the last ones.
@@ -394,7 +473,7 @@ fn lent(wants: &Wanted) -> WantedRef<'_>
 }
 
 /// Whether these are the same messages.
-fn same(made: &[Message], sent: &Sent<'_>) -> bool
+pub(crate) fn same(made: &[Message], sent: &Sent<'_>) -> bool
     ensures { IsTrue result ↔ (made.now ≡ sent.now) }
 {
     if made.len() != sent.len() {

@@ -1,4 +1,4 @@
-ghost use Rattle.std.specs.Prelude.{◌≡◌, ◌<◌, ◌≤◌, ◌+◌, ◌^◌, length, slice_get, option_map, Some, None, IfSome, IsNone, vec_len};
+ghost use Rattle.std.specs.Prelude.{◌≡◌, ◌<◌, ◌≤◌, ◌+◌, ◌^◌, [], ◌∷◌, length, slice_get, option_map, Some, None, IfSome, IsNone, MatchOption, vec_len};
 ghost use Rattle.group_task.specs.declared.node.TheConstants.{NODES};
 ghost use Rattle.trace_check.specs.Claims.{Claim, brought_by};
 ghost use Rattle.trace_check.specs.Orders.{history};
@@ -9,6 +9,7 @@ use crate::history::{EntryView, History, KeptView, Sent};
 use group_task::NodeId;
 use node_core::Event;
 use std::marker::Model;
+use wire_msg::Message;
 
 /// Why a recovery didn't bring its node up.
 #[derive(Clone, Copy, Debug, PartialEq, Eq)]
@@ -34,6 +35,19 @@ pub enum Deed {
     Recovered(bool),
     /// Recover, which failed so.
     NotRecovered(bool, RecoverFault),
+}
+
+impl Deed {
+    /// The message that the node was brought.
+    pub fn brought(&self) -> Option<&Message>
+        ensures { MatchOption result (brought_by self.now ≡ []) (λ message. brought_by self.now ≡ message.now ∷ []) }
+    {
+        match self {
+            Deed::Done(Event::Deliver(message)) => Some(message),
+            Deed::Faulted(Event::Deliver(message)) => Some(message),
+            _ => None,
+        }
+    }
 }
 
 /// Whether some order of all entries is a run.
@@ -110,6 +124,10 @@ impl Trace {
 
     /// The messages that the entry of a node at this place of its history sent.
     pub fn sent(&self, node: NodeId, place: usize) -> Option<Sent<'_>>
+        // Promise: What an entry sent is asked for by itself: of the entry at this place of this node's history, and none where
+        // there is no such entry; so is the message that it was brought, and it isn't made.
+        // Also: Trace::brought, History::sent, History::brought.
+        // Refuses: first_entry_sent, taken_entry_sent_nothing, delivery_waits_for_nothing.
         ensures { result ≡ option_map (λ (c : Claim). c.sent) (slice_get (history self.now node) place) }
     {
         let history = self.histories.get(usize::from(node.number()))?;

@@ -1,44 +1,63 @@
 ghost use Rattle.std.specs.Prelude.{◌≡◌, ◌≤◌, ◌+◌, ◌++◌, ◌∷◌, [], ℕ, List, codes, IfOk, OnOk};
 ghost use Rattle.console_text.specs.Ends.{Prints, outcome_of, refused};
 ghost use Rattle.trace_console.specs.Judged.{IsJudged, IsJudgement, bad_trace, verdict_printed, words};
+ghost use Rattle.trace_console.specs.Reported.{IsReport, IsReported, IsTold};
 
-use console_text::{Ending, Printout, Source, Trouble, print, push_number, push_text, read_source};
+use crate::reporting::report;
+use console_text::{
+    Ended, Explained, Printout, Source, Trouble, print_explained, push_number, push_text,
+    read_source,
+};
 use group_task::NodeId;
 use std::alloc::{AllocError, Global};
 use std::io::{Read, Write};
-use trace_check::{Trace, Verdict, check};
+use trace_check::{Examined, Trace, Verdict, examine};
 use trace_text::{Spot, TraceFault, read};
 
 /// Reads a trace, and prints the verdict on it: `Run` and the nodes in the order in which their entries can be taken, or `NotARun` with
 /// the least node that has entries left once none can be taken, and the index of its next. A text that is no trace is a `bad trace`,
-/// with the node and the index of the first bad entry where the whole has the shape of a trace.
-pub fn trace<R: Read, W: Write>(alloc: Global, input: &mut Source<R>, output: &mut W) -> Ending
-    ensures prints { Prints IsJudged (R.remaining input.old.reader) (W.contents output.old) (W.contents output.new) result }
+/// with the node and the index of the first bad entry where the whole has the shape of a trace. What holds up the entries that are left is
+/// handed on.
+pub fn trace<R: Read, W: Write>(alloc: Global, input: &mut Source<R>, output: &mut W) -> Ended
+    // Promise: What `trace` writes is the verdict on what was read.
+    // Refuses: index_before_node, place_of_a_bad_trace_left_out, no_run_with_status_of_done.
+    ensures prints { Prints IsJudged (R.remaining input.old.reader) (W.contents output.old) (W.contents output.new) result.ending }
+    // Promise: Where no order takes all entries, standard error says of each node with entries left why its next one can't be taken: it
+    // waits for a message that none sent, or it can't be at the node's state.
+    // Refuses: trace_check::waiting_told_as_impossible, trace_check::reason_of_another_entry.
+    ensures why { IsTold (R.remaining input.old.reader) result.ending result.why.items }
     ensures reads { input.old.left ≤ input.new.left + 16777216 }
 {
     let outcome = match read_source(alloc, input) {
         Ok(bytes) => judge_text(alloc, &bytes).map_err(Trouble::from),
         Err(trouble) => Err(trouble),
     };
-    print(output, outcome)
+    print_explained(alloc, output, outcome)
 }
 
-/// What `trace` prints for an input.
-fn judge_text(alloc: Global, text: &[u8]) -> Result<Printout, AllocError>
-    ensures { IfOk result (λ printout. IsJudged text.now (outcome_of printout)) }
+/// What `trace` prints for an input, and what it says of it.
+fn judge_text(alloc: Global, text: &[u8]) -> Result<Explained, AllocError>
+    ensures printed { IfOk result (λ explained. IsJudged text.now (outcome_of explained.printout)) }
+    ensures why { IfOk result (λ explained. IsReported text.now explained.why.items) }
 {
     match read(alloc, text) {
         Ok(trace) => judge(alloc, &trace),
-        Err(TraceFault::BadTrace(spot)) => bad_printout(alloc, spot),
+        Err(TraceFault::BadTrace(spot)) => {
+            let printout = bad_printout(alloc, spot)?;
+            Ok(printout.without_why(alloc))
+        }
         Err(TraceFault::NoMemory) => Err(AllocError),
     }
 }
 
-fn judge(alloc: Global, trace: &Trace) -> Result<Printout, AllocError>
-    ensures { IfOk result (λ printout. IsJudgement trace.now (outcome_of printout)) }
+fn judge(alloc: Global, trace: &Trace) -> Result<Explained, AllocError>
+    ensures printed { IfOk result (λ explained. IsJudgement trace.now (outcome_of explained.printout)) }
+    ensures why { IfOk result (λ explained. IsReport trace.now explained.why.items) }
 {
-    let verdict = check(alloc, trace)?;
-    verdict_printout(alloc, &verdict)
+    let Examined { verdict, left } = examine(alloc, trace)?;
+    let why = report(alloc, trace, &left)?;
+    let printout = verdict_printout(alloc, &verdict)?;
+    Ok(Explained { printout, why })
 }
 
 /// What is printed for a verdict.
@@ -94,7 +113,7 @@ fn push_place(text: &mut Vec<u8>, node: u64, index: u64) -> Result<(), AllocErro
 }
 
 /// Adds a number behind a space.
-fn push_word(text: &mut Vec<u8>, number: u64) -> Result<(), AllocError>
+pub(crate) fn push_word(text: &mut Vec<u8>, number: u64) -> Result<(), AllocError>
     ensures { OnOk result (text.new.items ≡ text.old.items ++ words (number ∷ [])) }
 {
     push_text(text, " ")?;

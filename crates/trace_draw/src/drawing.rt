@@ -14,6 +14,8 @@ use trace_text::{TraceFault, read};
 /// Reads a trace, and prints the picture of the run that its entries are, in the order that `trace` prints. Where they are none, or the
 /// text is no trace, it prints what `trace` does.
 pub fn draw<R: Read, W: Write>(alloc: Global, input: &mut Source<R>, output: &mut W) -> Ending
+    // Promise: What `draw` writes is the picture of the run that `check` gave, or what `trace` writes.
+    // Refuses: old_group_is_drawn, picture_ends_badly, any_turn_is_its_sender, arrows_in_place_of_marks, arrow_begins_at_its_end.
     ensures prints { Prints IsDrawn (R.remaining input.old.reader) (W.contents output.old) (W.contents output.new) result }
     ensures reads { input.old.left ≤ input.new.left + 16777216 }
 {

@@ -1,7 +1,7 @@
 //! Traces as JSON text.
 //!
 //! A trace is an object with `nodes` and `histories`, and an entry an object with `do`, `sent` and the fields that its `do` names:
-//! docs/TRACES.md has them all. The definitions in `specs/` say which trace a text is, as functions of the value that `serde_json`
+//! docs/SIMULATION.md has them all. The definitions in `specs/` say which trace a text is, as functions of the value that `serde_json`
 //! reads in it.
 #![tactic(auto)]
 
@@ -21,4 +21,4 @@ pub use fault::{Spot, TraceFault};
 pub use parts::{begin_items, begin_trace, end_items, end_trace, push_item};
 pub use reading::{Entry, read_entry};
 pub use whole::read;
-pub use writing::{begin_entry, begin_handled, end_entry, write, write_spelled};
+pub use writing::{begin_entry, begin_handled, deed_name, end_entry, write, write_spelled};

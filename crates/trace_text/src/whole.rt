@@ -14,6 +14,9 @@ use trace_check::{History, Trace};
 
 /// The trace of a text.
 pub fn read(alloc: Global, text: &[u8]) -> Result<Trace, TraceFault>
+    // Promise: A text is read as the trace that the definitions see in it, and refused exactly where they see none, with the place.
+    // Refuses: always_empty_trace, last_bad_entry_named, other_fault_passed_over, raise_read_as_mount, nodes_not_counted,
+    // messages_of_the_entry_before.
     ensures ok { IfOk result (λ trace. trace_of text.now ≡ Ok trace) }
     ensures err { IfErr result (IsFaultOf (trace_of text.now)) }
 {

@@ -22,7 +22,11 @@ use wire_msg::{Message, encode};
 /// The text of a trace: the compact text of its JSON value, in which the members of an object stand in the order of their keys.
 /// A trace of no node has no text that is read back, nor has one with an entry that is `Done` or `Faulted` of Recover.
 pub fn write(alloc: Global, trace: &Trace) -> Result<Vec<u8>, AllocError>
+    // Promise: A trace is written as the compact text of the JSON value that the definitions give it, the keys of each object in
+    // order.
+    // Refuses: kept_written_the_wrong_way, message_written_as_its_payload.
     ensures text { IfOk result (λ text. text.items ≡ compact_text (trace_data trace.now)) }
+    // Promise: What is written is read back as the same trace, if it has a node and writes no recovery as an event.
     ensures reads_back { IfOk result (λ text. IsWritable trace.now → trace_of text.items ≡ Ok trace.now) }
 {
     let mut out = Writer::new(Vec::new(alloc));
@@ -105,7 +109,7 @@ pub fn begin_entry(alloc: Global, out: &mut Writer, deed: &Deed) -> Result<(), A
 {
     out.begin_object()?;
     out.key("do")?;
-    out.string(name_of(deed))?;
+    out.string(deed_name(deed))?;
     write_deed(alloc, out, deed)?;
     begin_list(out, "sent")
 }
@@ -130,7 +134,8 @@ pub fn end_entry(out: &mut Writer) -> Result<(), AllocError>
     out.end_object()
 }
 
-fn name_of(deed: &Deed) -> &'static str
+/// The name of a deed, as an entry has it.
+pub fn deed_name(deed: &Deed) -> &'static str
     ensures { result.now ≡ deed_name deed.now }
 {
     match deed {

@@ -64,6 +64,10 @@ impl Body {
     /// Its form.
     #[inline(always)]
     pub fn form(&self) -> Form<'_>
+        // Promise: A body has a short form exactly where it is no Ready and no Work; a body and its short form are made of each
+        // other; the group that a body names is answered.
+        // Also: Body::short, Body::group, Short::write_to, Short::body.
+        // Refuses: no_body_is_short, short_one_turned_round, group_of_a_task_not_named.
         ensures form { IsForm result (shape_of self.now) }
         ensures same { body_of (shape_of self.now) ≡ self.now }
     {

@@ -19,6 +19,8 @@ pub fn decode_front<'a>(
     bytes: &'a [u8],
     message: &mut Message,
 ) -> Result<Option<&'a [u8]>, WireFault>
+    // Promise: Where no frame is whole, what stood in the message's place stays; Malformed comes exactly where the frame is no
+    // spelling.
     ensures front { IfOk result (λ front. MatchOption front (IsPartial bytes.now × (message.new ≡ message.old)) (λ after. Begins bytes.now message.new after.now)) }
 
     // A frame that spells nothing leaves some message in `message`.

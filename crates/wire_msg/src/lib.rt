@@ -1,4 +1,4 @@
-//! Messages between nodes, and their bytes: each message has one spelling (docs/MESSAGES.md), and a stream of them
+//! Messages between nodes, and their bytes: each message has one spelling (docs/FORMATS.md), and a stream of them
 //! may be cut into pieces anywhere.
 #![tactic(auto)]
 

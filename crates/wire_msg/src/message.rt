@@ -35,6 +35,10 @@ impl Message {
     /// The message, unless sender and receiver are the same node.
     #[inline]
     pub fn new(sender: NodeId, receiver: NodeId, body: Body) -> Option<Message>
+        // Promise: A message's sender and receiver differ: `new` answers None exactly where they are equal; `sender`, `receiver`,
+        // `body` give its parts; `set` makes it another one in its place.
+        // Also: Message::between, Message::set, Message::sender, Message::receiver, Message::body.
+        // Refuses: equal_ends_made, receiver_for_sender, sender_for_receiver, between_one_node, sender_stays.
         ensures { result ≡ envelope sender receiver body }
     {
         if sender == receiver {
@@ -85,6 +89,8 @@ impl Message {
     #[inline]
     pub fn readdress(&mut self, receiver: NodeId)
         requires { self.old.sender ≢ receiver }
+        // Promise: A message made for another node says the same, from the same sender.
+        // Refuses: readdressed_to_nobody.
         ensures { self.new ≡ record { sender = self.old.sender; receiver = receiver; body = self.old.body } }
     {
         let to = &mut self.receiver;

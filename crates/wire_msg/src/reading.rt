@@ -283,6 +283,12 @@ pub(crate) fn read(bytes: &[u8], body: &mut Body) -> Option<(NodeId, NodeId)>
 /// The message that the bytes spell, all of them: `Malformed` where they are no spelling, also where more bytes follow one.
 pub fn decode(bytes: &[u8]) -> Result<Message, WireFault>
     // What is read is spelled so.
+    // Promise: `decode` answers Ok(m) exactly where the bytes are the spelling of m, all of them, and else Malformed, its only
+    // fault.
+    // Refuses: receiver_as_sender, descending_members, padded_body, equal_ids_taken, truth_of_two_taken, count_of_zero_taken,
+    // id_of_128_taken, queue_of_16_taken, payload_beyond_its_length, long_payload_cut, more_than_128_members,
+    // creator_outside_its_group, other_version_taken, version_2_with_small_ids, kind_0b_with_priority_0, shorter_body_taken,
+    // kinds_mixed_up.
     ensures read { IfOk result (λ m. Spells m bytes.now) }
     // What is spelled so is read.
     ensures only { (m : Envelope) → Spells m bytes.now → result ≡ Ok m }
@@ -296,6 +302,10 @@ pub fn decode(bytes: &[u8]) -> Result<Message, WireFault>
 /// Makes `message` the one that the bytes spell, as `decode` reads it, but in place, since a message is long. Where they spell
 /// none, it is some message.
 pub fn decode_into(bytes: &[u8], message: &mut Message) -> Result<(), WireFault>
+    // Promise: `decode_into` reads the same message in the place of another one; `decode_front` that of the frame at the front of
+    // some bytes, and answers what is behind it, or none exactly where no frame is whole.
+    // Also: decode_front.
+    // Refuses: any_bytes_read, front_read_again.
     ensures read { OnOk result (Spells message.new bytes.now) }
     ensures only { (m : Envelope) → Spells m bytes.now → IsOk result × (message.new ≡ m) }
     ensures fault { IfErr result (λ e. e ≡ WireFault.Malformed) }

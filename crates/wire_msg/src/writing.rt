@@ -203,6 +203,11 @@ fn spell(out: &mut Vec<u8>, message: &Message) -> Result<(), AllocError>
 
 /// The spelling of the message, at most 427 bytes. The only fault is `NoMemory`.
 pub fn encode(alloc: Global, message: &Message) -> Result<Vec<u8>, WireFault>
+    // Promise: What `encode` gives is the spelling of its message, so `decode` of it is that message; its only fault is NoMemory;
+    // `encode_into` writes it in place of what its list held, or leaves that empty.
+    // Also: encode_into, decode.
+    // Refuses: encode_reports_malformed, last_byte_of_a_spelling_dropped, sender_and_receiver_swapped, length_one_short,
+    // answer_not_counted, answer_turned_round.
     ensures ok { IfOk result (λ bytes. Spells message.now bytes.items) }
     ensures fault { IfErr result (λ e. e ≡ WireFault.NoMemory) }
 {

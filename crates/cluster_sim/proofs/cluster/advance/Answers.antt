@@ -1,10 +1,12 @@
-use Rattle.std.proofs.Common.{◌≡◌, inl, inr, ◌+◌, ◌<◌, length, slice_get, sym, ◌∙◌, ap, arith, refl, Some, slice_set, vec_capacity, Option}
+use Rattle.std.proofs.Common.{◌≡◌, inl, inr, ◌+◌, ◌<◌, ◌^◌, length, slice_get, sym, ◌∙◌, ap, arith, refl, Some, slice_set, vec_capacity, Option}
+use Rattle.std.proofs.lemmas.List.{length-map}
 use Rattle.std.proofs.lemmas.Option.{slice_get_read}
 use Rattle.histories.specs.declared.attempt.Attempt.{Attempt}
 use Rattle.runs.specs.Reporting.{own_commands}
 use Rattle.runs.proofs.PublicLaws.{own_few}
-use Rattle.cluster_sim.specs.Cluster.{command_in, cluster_with, report_in, with_deed}
-use Rattle.cluster_sim.proofs.Advancing.{hand_fits, jobs_fit, step_reported, goes_on, cluster_on, named_in}
+use Rattle.cluster_sim.specs.Names.{node_named}
+use Rattle.cluster_sim.specs.Cluster.{command_in, cluster_with, moment_in, report_in, with_deed}
+use Rattle.cluster_sim.proofs.Advancing.{hand_fits, jobs_fit, step_reported, goes_on, cluster_on, cluster_still, named_in}
 use Rattle.cluster_sim.proofs.cluster.advance.Goals.{then-is_some, else-is_some}
 use Rattle.cluster_sim.proofs.cluster.advance.Goals as goal
 
@@ -47,6 +49,12 @@ added c =
     let sent = c.perform.new.self.net.sent in
     c.add.ensures sent ∙ ap (with_deed sent c.node_named-id.result c.index-before.result.now c.args.act c.in_ok-deed.deed c.node-2.result.now) (c.in_ok-room.ensures.same sent)
 
+-- no more acts are reported than memory holds
+few_acts : (c : goal.After-result-1) → length (cluster_with c.args.world.now c.args.report.now).report.moments + 3 < 2 ^ 64
+few_acts c =
+    let ms = c.args.report.now.moments in
+    omega (arith, length-map ms.items (moment_in c.args.world.now.net.sent), ms.ok.0, ms.ok.1, ms.small)
+
 pub returns-clause-goes_on : goal.returns-clause-goes_on
 returns-clause-goes_on c w reports =
     let inv = c.requires.cluster in
@@ -74,3 +82,17 @@ returns-clause-cluster c =
       | then-is_some b ↦ inl (sym b.if-is_some.ensures, (λ i. (b.counts-is i).items) ∙ (λ i. slice_set c.args.counts.now.items (at_id i) (c.index-before.result.now + 1)))
       | else-is_some b ↦ inr (sym b.if-is_some.ensures, (λ i. (b.counts-is i).items))
     ])
+    (c.in_ok-deed.ensures.areas inv.last inv.reports.stands) inv.areas inv.unworn (few_acts c)
+
+pub returns-clause-answers : goal.returns-clause-answers
+returns-clause-answers c = c.in_ok-deed.ensures.answers c.requires.cluster.last c.requires.cluster.reports.stands
+
+pub returns-clause-unworn : goal.returns-clause-unworn
+returns-clause-unworn c =
+    let inv = c.requires.cluster in
+    (c.in_ok-deed.ensures.areas inv.last inv.reports.stands _ inv.areas).1 (omega (arith, few_acts c))
+
+pub returns-in_err-deed-clause-cluster : goal.returns-in_err-deed-clause-cluster
+returns-in_err-deed-clause-cluster c =
+    cluster_still c.args.world.now c.perform.new.self c.args.report.now c.reserve.new.self (node_named (length c.args.world.now.nodes) c.args.world.now.net.sent c.args.act) c.args.counts.now.items c.requires.cluster
+    c.reserve.ensures.same c.perform.ensures.slots c.in_err-deed.ensures.memory c.in_err-deed.ensures.untouched

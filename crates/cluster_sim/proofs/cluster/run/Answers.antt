@@ -26,7 +26,7 @@ returns-clause-keeps c =
     let ms = c.into_parts.result.0.moments in
     let short : length (report_in c.into_parts.result.0 sent).moments + 1 < 2 ^ 64 = omega (arith, length-map ms.items (moment_in sent), ms.ok.0, ms.ok.1, ms.small) in
     let many : length (report_in c.into_parts.result.0 sent).moments ≡ length c.step_all.new.self.report.moments = (λ i. length (is c i).moments) in
-    rw (is c, ← h.of_acts, ← h.as_many, ← c.step_all.ensures.slots ∙ c.in_ok-cluster.ensures.slots) (promised c.step_all.new.self h.last h.reports (omega (arith, short, many)))
+    rw (is c, ← h.of_acts, ← h.as_many, ← c.step_all.ensures.slots ∙ c.in_ok-cluster.ensures.slots) (promised c.step_all.new.self h.last h.reports (omega (arith, short, many)) c.into_parts.ensures.unworn)
 
 pub returns-clause-acts : goal.returns-clause-acts
 returns-clause-acts c = sym (map-map (λ (m : Moment). m.act) (moment_in c.into_parts.result.1.network.sent) c.into_parts.result.0.moments.items) ∙ ap acts_in (is c) ∙ (ran c).of_acts

@@ -1,4 +1,5 @@
 use Rattle.std.proofs.Common.{◌≡◌, refl, ◌∙◌, sym, arith}
+use Rattle.cluster_sim.proofs.Answering.{area_stays}
 use Rattle.cluster_sim.proofs.Coming.{some_of}
 use Rattle.cluster_sim.proofs.member.crash.Goals as goal
 
@@ -16,3 +17,9 @@ returns-clause-counted c = λ was now before after.
 
 pub returns-clause-left : goal.returns-clause-left
 returns-clause-left c = rw (← c.as_slice.ensures) c.crash.ensures.disk
+
+pub returns-clause-areas : goal.returns-clause-areas
+returns-clause-areas c =
+    let was = some_of c.args.node.now.disk c.crash.ensures.there in
+    area_stays c.args.node.now.disk c.crash.new.self.disk c.nothing_sent.result (λ worn. let bad = sym c.nothing_sent.ensures ∙ worn in cc)
+    (λ bound within now at. c.crash.ensures.number was.0 now bound was.1 at (within was.0 was.1))

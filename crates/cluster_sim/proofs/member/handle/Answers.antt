@@ -1,7 +1,12 @@
 use Rattle.std.proofs.Common.{◌≡◌, ℕ, length, ◌∙◌, ap, refl}
 use Rattle.sim_net.specs.Network.{after_all_sent}
+use Rattle.sector_disk.specs.Memory.{state_of}
+use Rattle.histories.specs.NodeState.{NodeState}
+use Rattle.durable_node.specs.Node.{Stands}
+use Rattle.cluster_sim.specs.Answering.{IsAnswered}
 use Rattle.cluster_sim.specs.Outcomes.{came_outcome}
-use Rattle.cluster_sim.proofs.Coming.{same_by, Leaves, left_so, comes_by, came_counted}
+use Rattle.cluster_sim.proofs.Answering.{Shows, answered_so, areas_so, stuck_so}
+use Rattle.cluster_sim.proofs.Coming.{some_of, same_by, Leaves, left_so, comes_by, came_counted}
 use Rattle.cluster_sim.proofs.member.handle.Goals as goal
 
 leaves_all : (c : goal.After-drop-came) → Leaves c.args.node.now c.forget_written.new.node c.args.event.now c.in-Ok.came
@@ -24,3 +29,29 @@ returns-clause-came c =
 
 pub returns-clause-counted : goal.returns-clause-counted
 returns-clause-counted c = rw c.outcome_of.ensures (came_counted c.args.node.now.disk c.forget_written.new.node.disk c.in-Ok.came c.len-first.result c.in-Ok.came.fate (leaves_all c).2)
+
+-- what the node says of its disk
+shows_all : (c : goal.After-drop-came) → Shows c.args.node.now
+shows_all c = record {
+  fallen = c.is_fallen.ensures;
+  up = λ up. (let shown = c.shows_its_disk.ensures.up up in (some_of c.args.node.now.kept shown.0, some_of c.args.node.now.area shown.1));
+  number = λ d area on at. c.shows_its_disk.ensures.number d area on at refl;
+}
+
+answered_all : (c : goal.After-drop-came) (s : NodeState) → Stands state_of c.args.node.now s → IsAnswered c.args.node.now c.args.event.now (came_outcome c.in-Ok.came.fate c.len-first.result c.in-Ok.came)
+answered_all c s stands =
+    answered_so c.args.node.now c.forget_written.new.node c.args.event.now c.in-Ok.came c.len-first.result s (some_of c.args.node.now.disk c.step.ensures.counts.was_there) (leaves_all c).1 c.in-Ok.ensures.answers
+    c.shows_its_disk.ensures.down c.ids_fit.ensures stands
+
+pub returns-clause-answers : goal.returns-clause-answers
+returns-clause-answers c = λ s stands. rw c.outcome_of.ensures (answered_all c s stands)
+
+pub returns-clause-areas : goal.returns-clause-areas
+returns-clause-areas c = λ s stands.
+    let was = some_of c.args.node.now.disk c.step.ensures.counts.was_there in
+    rw c.outcome_of.ensures (areas_so c.args.node.now c.forget_written.new.node c.args.event.now c.in-Ok.came c.len-first.result s was.0 was.1 (shows_all c) stands (leaves_all c).1 (leaves_all c).2 (answered_all c s stands))
+
+pub returns-in-Err-clause-memory : goal.returns-in-Err-clause-memory
+returns-in-Err-clause-memory c =
+    let was = some_of c.args.node.now.disk c.step.ensures.counts.was_there in
+    stuck_so c.args.node.now c.step.new.self c.args.event.now _ was.0 was.1 c.in-Err.ensures.stuck

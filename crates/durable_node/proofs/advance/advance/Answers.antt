@@ -1,13 +1,15 @@
 use Rattle.std.proofs.Common.{◌≡◌, sym, ◌∙◌, refl, rules}
 use Rattle.durable_node.specs.declared.node_disk.NodeDisk.TheVariants.{Mounted}
-use Rattle.durable_node.proofs.Nodes.{node_over, over, served, served_stuck}
+use Rattle.durable_node.specs.Faults.{answered}
+use Rattle.durable_node.proofs.AreaLaws.{area_goes_on}
+use Rattle.durable_node.proofs.Nodes.{counts_of, node_over, over, served, served_stuck}
 use Rattle.durable_node.proofs.Serves.{serves}
 use Rattle.durable_node.proofs.advance.advance.Goals as goal
 
-pub returns-in_default-clause-reads : goal.returns-in_default-clause-reads
-returns-in_default-clause-reads g c = λ _ on.
+pub returns-in_default-clause-mounted : goal.returns-in_default-clause-mounted
+returns-in_default-clause-mounted g c = λ _ on.
     let same : c.in_default.disk ≡ c.args.disk.now = search rules in
-    rw same at (c.while_down.ensures.mounted on).1
+    rw same at (c.while_down.ensures.mounted on)
 
 pub handle-requires : goal.handle-requires
 handle-requires g c =
@@ -36,3 +38,28 @@ returns-in-Mounted-clause-stuck g c =
     let e = c.handle.ensures in
     rw c.in-Mounted.is (served_stuck c.args.id c.args.nodes c.args.core.now c.handle.new.core c.in-Mounted.store c.handle.new.store c.args.doubt.now c.handle.new.doubt g.D.SectorDisk.state c.args.mounted.now
     c.args.event.now c.handle.result e.stuck (sym c.is_down.ensures ∙ c.if-not-is_down.true) e.spares)
+
+pub returns-in_default-clause-area : goal.returns-in_default-clause-area
+returns-in_default-clause-area g c =
+    let same : c.in_default.disk ≡ c.args.disk.now = search rules in
+    rw same at c.while_down.ensures.area
+
+pub returns-in_default-clause-counts : goal.returns-in_default-clause-counts
+returns-in_default-clause-counts g c =
+    let same : c.in_default.disk ≡ c.args.disk.now = search rules in
+    rw same at c.while_down.ensures.counts
+
+pub returns-in-Mounted-clause-counts : goal.returns-in-Mounted-clause-counts
+returns-in-Mounted-clause-counts g c =
+    let e = c.handle.ensures.store in
+    let up = sym c.is_down.ensures ∙ c.if-not-is_down.true in
+    let node = rw c.in-Mounted.is at c.requires.node in
+    rw c.in-Mounted.is (counts_of g.D.SectorDisk.state c.in-Mounted.store.disk c.handle.new.store.disk (answered c.handle.result) e.counts (e.rises (node.up up)))
+
+pub returns-in-Mounted-clause-area : goal.returns-in-Mounted-clause-area
+returns-in-Mounted-clause-area g c =
+    let e = c.handle.ensures in
+    let store = c.in-Mounted.store in
+    let up = sym c.is_down.ensures ∙ c.if-not-is_down.true in
+    rw c.in-Mounted.is (area_goes_on c.args.id c.args.nodes c.args.core.now c.handle.new.core store c.handle.new.store c.args.doubt.now c.handle.new.doubt c.args.mounted.now c.args.event.now up
+    c.handle.result e.what e.stuck e.area)

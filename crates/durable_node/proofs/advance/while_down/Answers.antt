@@ -1,6 +1,8 @@
 use Rattle.std.proofs.Common.{Ok}
-use Rattle.durable_node.specs.Node.{disk_in}
+use Rattle.durable_node.specs.Node.{disk_in, store_in}
+use Rattle.node_core.specs.State.{is_down}
 use Rattle.durable_node.specs.Faults.{answered}
+use Rattle.durable_node.proofs.AreaLaws.{area_hidden}
 use Rattle.durable_node.proofs.Nodes.{counts_still}
 use Rattle.durable_node.proofs.Ignores.{few_ignored, ignores, no_device}
 use Rattle.durable_node.proofs.advance.while_down.Goals as goal
@@ -24,3 +26,9 @@ returns-in_default-clause-counts g c =
 
 pub returns-in_default-clause-few : goal.returns-in_default-clause-few
 returns-in_default-clause-few g c = few_ignored _ _ c.ignore.result c.ignore.ensures.what
+
+pub returns-in_default-clause-area : goal.returns-in_default-clause-area
+returns-in_default-clause-area g c = λ d area kept at. absurd (area_hidden (is_down c.args.core.now.state.phase) (store_in c.args.disk.now) area c.requires.down at)
+
+pub returns-in-Recover-clause-area : goal.returns-in-Recover-clause-area
+returns-in-Recover-clause-area g c = λ d area kept at. absurd (area_hidden (is_down c.args.core.now.state.phase) (store_in c.args.disk.now) area c.requires.down at)

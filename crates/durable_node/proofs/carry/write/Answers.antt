@@ -1,6 +1,6 @@
 use Rattle.std.proofs.Common.{◌≡◌, Option, Result, Ok, Err, IsOk, IfErr, ℕ, refl, sym, ap, subst}
 use Rattle.job_model.specs.declared.node_command.NodeCommand.{NodeCommand as Command}
-use Rattle.job_model.specs.declared.node_command.NodeCommand.TheVariants.{Put}
+use Rattle.job_model.specs.declared.node_command.NodeCommand.TheVariants.{Put, Done}
 use Rattle.node_core.specs.Planned.{lent_by}
 use Rattle.node_store.specs.declared.fault.StoreFault.{StoreFault}
 use Rattle.durable_node.specs.declared.fault.NodeFault.{NodeFault}
@@ -20,3 +20,10 @@ returns-in-Put-clause-disk g c =
     subst (λ (w : Option Command). Writes g.D.SectorDisk.state c.args.store.now c.put.new.self w (IsOk c.node_answer-in-Put.result)) (sym (ap lent_by c.in-Put.is))
     (written g.D.SectorDisk.state c.args.store.now c.put.new.self (Put c.in-Put.work.now) (IsOk c.node_answer-in-Put.result) c.requires.ready.whole e.areas.slots e.images
     (λ honest ok. e.after honest (done_of c.put.result c.node_answer-in-Put.result c.node_answer-in-Put.ensures.err ok)))
+
+pub returns-in-Done-clause-disk : goal.returns-in-Done-clause-disk
+returns-in-Done-clause-disk g c =
+    let e = c.done.ensures in
+    subst (λ (w : Option Command). Writes g.D.SectorDisk.state c.args.store.now c.done.new.self w (IsOk c.node_answer-in-Done.result)) (sym (ap lent_by c.in-Done.is))
+    (written g.D.SectorDisk.state c.args.store.now c.done.new.self (Done c.in-Done.id) (IsOk c.node_answer-in-Done.result) c.requires.ready.whole e.areas.slots e.images
+    (λ honest ok. e.after honest (done_of c.done.result c.node_answer-in-Done.result c.node_answer-in-Done.ensures.err ok)))

@@ -16,5 +16,6 @@ returns-clause-fresh c =
       enough = omega (arith, e.counts.sectors, blank, c.requires.least);
       unfailed = e.counts.unchanged (ok_not c.format.result _ ok) ∙ ap (λ (m : Memory). m.failures) c.in_ok-disk.ensures;
       formatted = rw e.counts.sectors (e.formatted refl ok);
+      number = λ image number is at. (let one : number ≡ 1 = cc (at, (e.journal refl ok image is).area) in omega (arith, one));
       sound = rw e.counts.sectors (e.sound refl ok);
     })

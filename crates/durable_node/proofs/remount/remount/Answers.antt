@@ -5,7 +5,8 @@ use Rattle.durable_node.specs.Reading.{IsRead}
 use Rattle.durable_node.specs.Node.{node_with}
 use Rattle.durable_node.specs.Faults.{answered}
 use Rattle.durable_node.proofs.AnyDisk.{unmounted_at, remounted_at}
-use Rattle.durable_node.proofs.Nodes.{node_bare, node_over, risen}
+use Rattle.durable_node.proofs.Mounts.{quiet_rises, rises_behind}
+use Rattle.durable_node.proofs.Nodes.{counts_of, node_bare, node_over, risen}
 use Rattle.durable_node.proofs.Parts.{at_both}
 use Rattle.durable_node.proofs.Readings.{read_at, unread_at}
 use Rattle.durable_node.proofs.Remounts.{mount_fails, rises, shows, stuck}
@@ -36,6 +37,12 @@ returns-in-Err-clause-stuck g c =
 pub returns-in-Err-clause-mounting : goal.returns-in-Err-clause-mounting
 returns-in-Err-clause-mounting g c = rw (c.unmounted.ensures.answered, c.node_fault.ensures)
     (unmounted_at c.args.id c.args.nodes c.args.core.now c.args.disk.now c.in-Err.refused.disk c.args.doubt.now c.args.mounted.now c.in-Err.refused.fault c.in-Err.ensures.no_other)
+
+pub returns-in-Err-clause-counts : goal.returns-in-Err-clause-counts
+returns-in-Err-clause-counts g c =
+    let e = c.in-Err.ensures in
+    rw c.take.ensures.disk (counts_of g.D.SectorDisk.state c.take.result c.in-Err.refused.disk (answered c.unmounted.result) (search rules)
+    (quiet_rises (g.D.SectorDisk.state c.take.result) (g.D.SectorDisk.state c.in-Err.refused.disk) e.run))
 
 pub returns-in-Err-clause-reads : goal.returns-in-Err-clause-reads
 returns-in-Err-clause-reads g c =
@@ -79,7 +86,8 @@ returns g c =
       step = rises state a.id a.nodes a.core.now core mid end a.doubt.now doubt fallen _ e.store came a.disk.now c.take.result a.mounted.now c.take.ensures.disk mount.whole.1 _ _ mount.counts mount.run
           (λ honest. (mount.remains honest).stands) kept c.is_in-kept.ensures.kept e.what e.tried e.disk;
       stuck = search rules;
-      counts = search rules;
+      counts = rw c.take.ensures.disk (counts_of state c.take.result end.disk (answered (Ok came)) (search rules)
+          (rises_behind (state c.take.result) (state mid.disk) (state end.disk) mount.counts.honest mount.run (e.store.rises mount.whole.0)));
       mounting = rw shown.0 remounted;
       kept = rw shown.0 (shown.2 c.is_in-kept.ensures.kept);
       reads = rw (c.take.ensures.disk, shown.0) (at_both (λ was now. IsRead state was now _ _) c.take.result end.disk

@@ -8,7 +8,7 @@ use Rattle.invite_console.proofs.running.run_schedule.Goals as goal
 pub returns : goal.returns
 returns c =
     let size = c.args.schedule.now.size in
-    let opened = begins_kept c.left_by_a_run.ensures.opens c.args.details size.nodes size.slots c.in_ok-world.world c.in_ok-world.ensures.slots c.in_ok-world.ensures.starts in
+    let opened = begins_kept c.left_by_a_run.ensures.opens c.args.details size.nodes size.slots c.in_ok-world.world c.in_ok-world.ensures.slots c.in_ok-world.ensures.starts c.in_ok-world.ensures.unarmed c.in_ok-world.ensures.areas in
     let none : c.in_ok-kept.kept.items ≡ [] = search rules in
     let no_text : c.in_ok-text.text.items ≡ [] = search rules in
     let kept = subst (λ (kept : List Kept). IsKeptSoFar c.args.details size.nodes size.slots c.in_ok-world.world [] kept c.in_ok-text.text.items) (sym none)

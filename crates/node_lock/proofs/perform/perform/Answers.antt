@@ -6,7 +6,7 @@ use Rattle.durable_node.specs.Faults.{answered}
 use Rattle.durable_node.specs.Reading.{ReadsDisk}
 use Rattle.durable_node.specs.Refusing.{Answers}
 use Rattle.durable_node.specs.Remounting.{IsMountedBy, Remounted}
-use Rattle.durable_node.specs.Stepping.{CountsOf, most_by}
+use Rattle.durable_node.specs.Stepping.{AreaGoesOn, CountsOf, most_by}
 use Rattle.node_lock.proofs.Once.{sends_few}
 use Rattle.node_lock.proofs.perform.perform.Goals as goal
 
@@ -20,9 +20,10 @@ returns-in-Ok-clause-did c =
       steps = c.in-Ok.ensures.step;
       answers = subst (λ (r : Result Came NodeFault). Answers old c.args.event.now (answered r)) c.in-Ok.is c.step.ensures.answers;
       counts = subst (λ (r : Result Came NodeFault). CountsOf state_of old.disk left.disk (answered r)) c.in-Ok.is c.step.ensures.counts;
+      area = subst (λ (r : Result Came NodeFault). AreaGoesOn old left c.args.event.now (answered r)) c.in-Ok.is c.step.ensures.area;
       mounting = λ down is. subst (λ (r : Result Came NodeFault). Remounted old left (answered r) left.mounted) c.in-Ok.is (c.step.ensures.mounting down is);
-      kept = λ down is. subst (λ (r : Result Came NodeFault). IfOk r (λ came. IsMountedBy old.doubt came.fate left.mounted)) c.in-Ok.is (c.step.ensures.kept down is);
-      reads = λ down is. subst (λ (r : Result Came NodeFault). ReadsDisk state_of old.disk left.disk (answered r) left.mounted) c.in-Ok.is (c.step.ensures.reads down is);
+      kept = λ down is. subst (λ (r : Result Came NodeFault). IfOk r (λ came. IsMountedBy old.doubt came.fate left.mounted)) c.in-Ok.is (c.step.ensures.mounted down is).0;
+      reads = λ down is. subst (λ (r : Result Came NodeFault). ReadsDisk state_of old.disk left.disk (answered r) left.mounted) c.in-Ok.is (c.step.ensures.mounted down is).1;
       few = c.in-Ok.ensures.few;
       forgot = c.forget.ensures.forgot;
       written = refl;

@@ -14,7 +14,7 @@ trace_acts-requires-clause-many c =
 pub returns-clause-traced : goal.returns-clause-traced
 returns-clause-traced c =
     let size = c.args.schedule.now.size in
-    let begun = begins size.nodes size.slots c.in_ok-world.world c.in_ok-histories.histories.items c.in_ok-world.ensures.slots c.in_ok-world.ensures.starts c.in_ok-histories.ensures in
+    let begun = begins size.nodes size.slots c.in_ok-world.world c.in_ok-histories.histories.items c.in_ok-world.ensures.slots c.in_ok-world.ensures.starts c.in_ok-world.ensures.unarmed c.in_ok-histories.ensures in
     rw c.new.ensures (rw c.deref.ensures.value at (c.in_ok-trace_acts.ensures.traced size.nodes size.slots begun).run)
 
 pub returns-clause-run : goal.returns-clause-run

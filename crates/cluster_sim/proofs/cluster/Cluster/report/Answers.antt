@@ -13,4 +13,4 @@ returns-clause-keeps c =
     let was = c.self.inside in
     let ms = was.report.moments in
     let short : length (cluster_with was.world was.report).report.moments + 1 < 2 ^ 64 = omega (arith, length-map ms.items (moment_in was.world.net.sent), ms.ok.0, ms.ok.1, ms.small) in
-    rw (← c.self.view_is) (promised (cluster_with was.world was.report) inv.last inv.reports short)
+    rw (← c.self.view_is) (promised (cluster_with was.world was.report) inv.last inv.reports short inv.unworn)

@@ -1,3 +1,4 @@
+use Rattle.cluster_sim.proofs.Answering.{idle_areas}
 use Rattle.cluster_sim.proofs.nodes.Nodes.apply.Goals as goal
 
 pub returns-in-Lose-clause-acted : goal.returns-in-Lose-clause-acted
@@ -8,3 +9,12 @@ returns-in-Cut-clause-acted c = rw c.in-Cut.is c.cut.ensures.acted
 
 pub returns-in-Mend-clause-acted : goal.returns-in-Mend-clause-acted
 returns-in-Mend-clause-acted c = rw c.in-Mend.is c.mend.ensures.acted
+
+pub returns-in-Lose-clause-areas : goal.returns-in-Lose-clause-areas
+returns-in-Lose-clause-areas c = idle_areas c.args.self.now.nodes c.lose.new.self.nodes c.lose.result c.lose.ensures.nodes c.lose.ensures.own
+
+pub returns-in-Cut-clause-areas : goal.returns-in-Cut-clause-areas
+returns-in-Cut-clause-areas c = idle_areas c.args.self.now.nodes c.cut.new.self.nodes c.cut.result c.cut.ensures.nodes c.cut.ensures.own
+
+pub returns-in-Mend-clause-areas : goal.returns-in-Mend-clause-areas
+returns-in-Mend-clause-areas c = idle_areas c.args.self.now.nodes c.mend.new.self.nodes c.mend.result c.mend.ensures.nodes c.mend.ensures.own

@@ -1,4 +1,6 @@
-use Rattle.std.proofs.Common.{◌≡◌, ℕ, ◌≤◌, length, nat_lt, slice_get, ◌∙◌, arith, Ok, Some}
+use Rattle.std.proofs.Common.{◌≡◌, ℕ, ◌≤◌, length, nat_lt, refl, slice_get, ◌∙◌, arith, Ok, Some}
+use Rattle.runs.specs.World.{node_in}
+use Rattle.cluster_sim.proofs.Answering.{areas_if, idle_areas}
 use Rattle.std.proofs.lemmas.Option.{slice_get_read}
 use Rattle.runs.specs.Acts.{At}
 use Rattle.runs.proofs.PublicLaws.{get_set_same}
@@ -14,7 +16,7 @@ returns-then-place-len-clause-acted c = λ w stands.
     let past : length c.self.inside.nodes.items ≤ c.args.id = grind (arith, place) in
     let beyond : length c.args.self.now.nodes ≤ c.args.id = rw (← c.self.view_is) past in
     performed {E = ℕ} _ w c.args.act.now (Ok _) c.args.self.now ((operates c.args.act.now c.args.id c.requires).is_step (length w.states) w)
-    (denied_at w c.args.id 0 c.args.act.now (OperatedAs c.args.act.now) c.args.self.now stands beyond)
+    (denied_at w c.args.id 0 c.args.act.now (OperatedAs c.args.act.now (node_in w.states c.args.id)) c.args.self.now stands beyond)
 
 there : (c : goal.After-self-1) → slice_get c.self.inside.nodes.items c.from-place.result ≡ Some c.index_mut.result.now
 there c = slice_get_read c.self.inside.nodes.items c.len.result c.from-place.result c.index_mut.result.now (grind (arith)) (grind (arith)) c.index_mut.ensures.value
@@ -27,9 +29,9 @@ returns-clause-acted c = λ w stands.
     let was = c.self.inside in
     let a = c.args.act.now in
     let is = operates a c.args.id c.requires in
-    performed {E = ℕ} (λ step. At (nat_lt c.args.id (length w.states)) c.args.id 0 (OperatedAs a) step) w a (Ok (bare c.operate.result)) _ (is.is_step (length w.states) w) (rw (← c.from-place.ensures ∙ c.number.ensures.value)
+    performed {E = ℕ} (λ step. At (nat_lt c.args.id (length w.states)) c.args.id 0 (OperatedAs a (node_in w.states c.args.id)) step) w a (Ok (bare c.operate.result)) _ (is.is_step (length w.states) w) (rw (← c.from-place.ensures ∙ c.number.ensures.value)
     (takes {E = ℕ} was.slots c.from-place.result 0 a (OperatedAs a) was.nodes.items c.index_mut.result.now c.operate.new.node was.net.network was.net.network (Ok (bare c.operate.result)) w c.self.invariant (there c)
-    (rw c.self.view_is stands) (λ what of. quietly w c.from-place.result _ (is.brings what of)) (λ s. c.operate.ensures.came was.slots s)))
+    (rw c.self.view_is stands) (λ s what of. quietly w c.from-place.result _ (is.brings s what of)) (λ s. c.operate.ensures.came was.slots s)))
 
 pub returns-clause-faults : goal.returns-clause-faults
 returns-clause-faults c =
@@ -48,3 +50,11 @@ returns-clause-disk c =
     let id = c.from-place.ensures ∙ c.number.ensures.value in
     (operates c.args.act.now c.args.id c.requires).there c.args.self.now _ c.index_mut.result.now c.operate.new.node c.operate.result (rw (← c.self.view_is, ← id) (there c))
     (rw (← id) (get_set_same c.self.inside.nodes.items c.from-place.result c.index_mut.result.now c.operate.new.node (there c))) c.operate.ensures.disk
+
+pub returns-then-place-len-clause-areas : goal.returns-then-place-len-clause-areas
+returns-then-place-len-clause-areas c = idle_areas c.args.self.now.nodes _ _ refl (λ bad. cc)
+
+pub returns-clause-areas : goal.returns-clause-areas
+returns-clause-areas c =
+    let was = c.self.inside in
+    areas_if {E = ℕ} was.slots c.from-place.result was.nodes.items c.index_mut.result.now c.operate.new.node was.net.network was.net.network (Ok (bare c.operate.result)) c.args.self.now c.self.view_is (there c) c.operate.ensures.areas

@@ -1,7 +1,10 @@
-use Rattle.std.proofs.Common.{◌≡◌, ℕ, ◌≤◌, length, slice_get, sym, ◌∙◌, subst, arith, Some}
-use Rattle.std.proofs.lemmas.Option.{slice_get_read}
+use Rattle.std.proofs.Common.{◌≡◌, ℕ, ◌≤◌, length, slice_get, refl, sym, ◌∙◌, subst, arith, None, Some}
+use Rattle.std.proofs.lemmas.Option.{slice_get_past, slice_get_read, slice_get_within}
+use Rattle.runs.proofs.PublicLaws.{at_place}
+use Rattle.cluster_sim.proofs.Answering.{answers_if, areas_if, idle_areas}
 use Rattle.histories.specs.What.{AreAddressed, brought, IsOf}
 use Rattle.cluster_sim.proofs.Members.{denied_at, still_cluster, takes, rests_if, untouched_if, faults_if}
+use Rattle.cluster_sim.specs.World.{StandsFor}
 use Rattle.cluster_sim.proofs.Doings.{brought_came}
 use Rattle.cluster_sim.proofs.nodes.Nodes.take.Goals as goal
 
@@ -22,8 +25,8 @@ returns-clause-acted c = λ w number a stands brings goes.
     let was = c.self.inside in
     let id = c.from-place.ensures ∙ c.number.ensures.value in
     let p = c.from-place.result in
-    rw (← id) (takes was.slots p number a (IsOf c.args.event.now) was.nodes.items c.index_mut.result.now c.handle.new.node was.net.network c.handle.new.net.network c.handle.result w c.self.invariant (there c)
-    (rw c.self.view_is stands) (brought_came w p number c.args.event.now brings (subst (λ (k : ℕ). AreAddressed k (brought (Some c.args.event.now))) (sym id) goes))
+    rw (← id) (takes was.slots p number a (λ s. IsOf c.args.event.now) was.nodes.items c.index_mut.result.now c.handle.new.node was.net.network c.handle.new.net.network c.handle.result w c.self.invariant (there c)
+    (rw c.self.view_is stands) (λ s. brought_came w p number c.args.event.now brings (subst (λ (k : ℕ). AreAddressed k (brought (Some c.args.event.now))) (sym id) goes))
     (λ s. c.handle.ensures.came was.slots s a c.self.invariant.most_slots (c.self.invariant.members p c.index_mut.result.now (there c)).size))
 
 pub returns-clause-memory : goal.returns-clause-memory
@@ -35,7 +38,8 @@ returns-clause-memory c = λ w stands.
 pub returns-clause-untouched : goal.returns-clause-untouched
 returns-clause-untouched c = λ w stands.
     let was = c.self.inside in
-    rw (← c.self.view_is) (untouched_if was.slots c.from-place.result was.nodes.items c.index_mut.result.now c.handle.new.node was.net.network c.handle.new.net.network c.handle.result w (there c)
+    rw (← c.from-place.ensures ∙ c.number.ensures.value)
+    (untouched_if was.slots c.from-place.result was.nodes.items c.index_mut.result.now c.handle.new.node was.net.network c.handle.new.net.network c.handle.result w c.args.self.now c.self.view_is (there c)
     (rw c.self.view_is stands) c.handle.ensures.memory c.handle.ensures.unsent)
 
 pub returns-clause-faults : goal.returns-clause-faults
@@ -43,3 +47,31 @@ returns-clause-faults c =
     let was = c.self.inside in
     rw (← c.from-place.ensures ∙ c.number.ensures.value)
     (faults_if was.slots c.from-place.result was.nodes.items c.index_mut.result.now c.handle.new.node was.net.network c.handle.new.net.network c.handle.result c.args.self.now c.self.view_is (there c) c.handle.ensures.counted)
+
+pub returns-clause-answers : goal.returns-clause-answers
+returns-clause-answers c = λ w stands.
+    let was = c.self.inside in
+    let stood : StandsFor (record { slots = was.slots; nodes = was.nodes.items; net = was.net.network }) w = rw c.self.view_is stands in
+    let s = at_place w.states c.from-place.result (omega (arith, stood.count, slice_get_within was.nodes.items c.from-place.result c.index_mut.result.now (there c))) in
+    let node_stands = stood.each c.from-place.result c.index_mut.result.now s.0 (there c) s.1 in
+    rw (← c.self.view_is, ← c.from-place.ensures ∙ c.number.ensures.value)
+    (answers_if c.from-place.result was.nodes.items c.args.event.now c.index_mut.result.now c.handle.result (there c) (c.handle.ensures.answers s.0 node_stands))
+
+pub returns-clause-areas : goal.returns-clause-areas
+returns-clause-areas c = λ w stands.
+    let was = c.self.inside in
+    let stood : StandsFor (record { slots = was.slots; nodes = was.nodes.items; net = was.net.network }) w = rw c.self.view_is stands in
+    let s = at_place w.states c.from-place.result (omega (arith, stood.count, slice_get_within was.nodes.items c.from-place.result c.index_mut.result.now (there c))) in
+    let node_stands = stood.each c.from-place.result c.index_mut.result.now s.0 (there c) s.1 in
+    areas_if was.slots c.from-place.result was.nodes.items c.index_mut.result.now c.handle.new.node was.net.network c.handle.new.net.network c.handle.result c.args.self.now c.self.view_is (there c)
+    (c.handle.ensures.areas s.0 node_stands)
+
+pub returns-then-place-len-clause-areas : goal.returns-then-place-len-clause-areas
+returns-then-place-len-clause-areas c = λ w stands. idle_areas c.args.self.now.nodes _ _ refl (λ bad. cc)
+
+pub returns-then-place-len-clause-answers : goal.returns-then-place-len-clause-answers
+returns-then-place-len-clause-answers c = λ w stands was at.
+    let place = c.from-place.ensures ∙ c.number.ensures.value in
+    let past : length c.self.inside.nodes.items ≤ c.args.id = grind (arith, place) in
+    let beyond : length c.args.self.now.nodes ≤ c.args.id = rw (← c.self.view_is) past in
+    absurd (let none : None ≡ Some was = sym (slice_get_past c.args.self.now.nodes c.args.id beyond) ∙ at in cc)

@@ -1,6 +1,8 @@
+use Rattle.std.proofs.Common.{◌≡◌, ◌∙◌, sym}
 use Rattle.sector_disk.specs.Memory.{state_of}
-use Rattle.durable_node.proofs.Crashes.{crashes, sound_left}
+use Rattle.durable_node.proofs.Crashes.{crashes, number_left, sound_left}
 use Rattle.durable_node.proofs.Nodes.{node_bare}
+use Rattle.durable_node.proofs.Parts.{is_some}
 use Rattle.durable_node.proofs.memory.DurableNode+MemDisk.crash.Goals as goal
 
 pub invariant_of-self : goal.invariant_of-self
@@ -18,3 +20,9 @@ returns-clause-stands c =
 
 pub returns-clause-there : goal.returns-clause-there
 returns-clause-there c = rw (← c.self.view_is) c.self.invariant.there
+
+pub returns-clause-number : goal.returns-clause-number
+returns-clause-number c = rw (← c.self.view_is) (λ was now bound at end within.
+    let first : c.take-disk.result ≡ was = is_some _ _ (sym c.take-disk.ensures.disk ∙ at) in
+    let last : c.crash.new.self ≡ now = is_some _ _ end in
+    rw (← last) (number_left c.take-disk.result c.crash.new.self bound c.crash.ensures.left c.crash.ensures.anew (rw first within)))

@@ -1,5 +1,6 @@
-use Rattle.std.proofs.Common.{◌≡◌, ap, sym, ◌∙◌, subst}
+use Rattle.std.proofs.Common.{◌≡◌, ap, refl, sym, ◌∙◌, subst}
 use Rattle.sector_disk.specs.Memory.{Memory, state_of}
+use Rattle.job_journal.specs.Journal.{AllWithin}
 use Rattle.node_core.specs.declared.event.Event.TheVariants.{Recover}
 use Rattle.histories.specs.NodeState.{opening}
 use Rattle.durable_node.specs.Node.{Node}
@@ -27,3 +28,9 @@ returns-clause-failures c = λ held at.
 
 pub returns-clause-disarmed : goal.returns-clause-disarmed
 returns-clause-disarmed c = λ held at. unarmed c.recover.new.self.disk held (ap (λ (n : Node Memory). n.disk) (sym c.disarm.ensures.disarmed) ∙ at)
+
+pub returns-clause-number : goal.returns-clause-number
+returns-clause-number c = λ held at.
+    under_left (λ (m : Memory). AllWithin 2 (state_of m)) (λ m is. is) c.recover.new.self.disk
+    (λ m there. c.recover.ensures.counts.rises c.args.disk m (ap (λ (n : Node Memory). n.disk) c.down-node.ensures) there refl 1 c.requires.fresh.number)
+    held (ap (λ (n : Node Memory). n.disk) (sym c.disarm.ensures.disarmed) ∙ at)

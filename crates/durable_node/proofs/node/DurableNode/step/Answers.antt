@@ -12,8 +12,8 @@ returns-clause-answers g c = rw (← c.self.view_is) c.advance.ensures.answers
 pub returns-clause-mounting : goal.returns-clause-mounting
 returns-clause-mounting g c = rw (← c.self.view_is) c.advance.ensures.mounting
 
-pub returns-clause-kept : goal.returns-clause-kept
-returns-clause-kept g c = rw (← c.self.view_is) c.advance.ensures.kept
+pub returns-clause-mounted : goal.returns-clause-mounted
+returns-clause-mounted g c = rw (← c.self.view_is) c.advance.ensures.mounted
 
-pub returns-clause-reads : goal.returns-clause-reads
-returns-clause-reads g c = rw (← c.self.view_is) c.advance.ensures.reads
+pub returns-clause-area : goal.returns-clause-area
+returns-clause-area g c = rw (← c.self.view_is) c.advance.ensures.area

@@ -1,6 +1,7 @@
 use Rattle.job_journal.proofs.Common.{◌≡◌, ◌∙◌, IsOk, raised, refl, arith, nat_tests}
 use Rattle.job_journal.proofs.Changes.{still_since, area_run, area_stays, jobs_held_since, compact_run, compact_since, compact_after}
 use Rattle.job_journal.proofs.Frames.{jobs_held}
+use Rattle.job_journal.proofs.Numbers.{still_numbered, area_numbered, raise_numbered}
 use Rattle.job_journal.proofs.journal.JobJournal.compact.Goals as goal
 
 pub returns-in-Some-clause-images : goal.returns-in-Some-clause-images
@@ -39,3 +40,16 @@ returns-clause-after g c = λ honest ok.
           (c.raise-raised.ensures.run still) raised c.record_count-records.ensures.count
           (λ stand. (c.raise-raised.ensures.after 4 still c.self.invariant.cell stand went).1);
     }
+
+pub returns-in-Some-clause-numbered : goal.returns-in-Some-clause-numbered
+returns-in-Some-clause-numbered g c = λ honest all.
+    still_numbered c.args.self.now _ honest (g.met.D.SectorDisk.laws c.args.disk.now honest) all
+
+pub returns-in_default-write_area-clause-numbered : goal.returns-in_default-write_area-clause-numbered
+returns-in_default-write_area-clause-numbered g c = λ honest. area_numbered c.self.view_is c.other_sector-other.ensures (c.write_area.ensures.run honest)
+
+pub returns-clause-numbered : goal.returns-clause-numbered
+returns-clause-numbered g c = λ honest.
+    raise_numbered c.self.view_is honest c.write_area.ensures.counts.honest
+    (record { at = c.other_sector-other.ensures; run = c.write_area.ensures.run honest; written = c.in-Ok.ensures.written honest refl; synced = c.in-Ok.ensures.synced honest refl })
+    c.raise-raised.ensures.run (λ still. c.raise-raised.ensures.images 4 still c.self.invariant.cell)

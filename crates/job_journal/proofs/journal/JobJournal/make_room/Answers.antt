@@ -1,4 +1,5 @@
 use Rattle.job_journal.proofs.Changes.{still_since}
+use Rattle.job_journal.proofs.Numbers.{still_numbered}
 use Rattle.job_journal.proofs.journal.JobJournal.make_room.Goals as goal
 
 pub returns-then-self-clause-after : goal.returns-then-self-clause-after
@@ -7,3 +8,7 @@ returns-then-self-clause-after g c = λ honest all ok. (c.compact.ensures.after 
 pub returns-clause-images : goal.returns-clause-images
 returns-clause-images g c = λ honest all.
     still_since c.args.self.now _ honest (g.met.D.SectorDisk.laws c.args.disk.now honest) all
+
+pub returns-clause-numbered : goal.returns-clause-numbered
+returns-clause-numbered g c = λ honest all.
+    still_numbered c.args.self.now _ honest (g.met.D.SectorDisk.laws c.args.disk.now honest) all

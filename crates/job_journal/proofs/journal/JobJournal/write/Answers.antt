@@ -1,5 +1,7 @@
 use Rattle.job_journal.proofs.Common.{◌≡◌, sym, subst, arith, AllHold, IsOk, appended}
 use Rattle.job_journal.proofs.Changes.{append_since, append_after, append_run}
+use Rattle.job_journal.proofs.Frames.{first_between}
+use Rattle.job_journal.proofs.Numbers.{slot_numbered}
 use Rattle.job_journal.proofs.journal.JobJournal.write.Goals as goal
 
 pub returns-clause-run : goal.returns-clause-run
@@ -20,3 +22,7 @@ returns-clause-after g c = λ honest ok.
           (append_after honest c.next_slot-slot.ensures.kept c.requires.admitted c.body_for-body.ensures c.next_slot-slot.ensures.slot known.0 known.1
           (c.store-stored.ensures.run honest) synced (c.store-stored.ensures.sealed honest stored));
     }
+
+pub returns-clause-numbered : goal.returns-clause-numbered
+returns-clause-numbered g c = λ honest all.
+    slot_numbered c.args.self.now (omega (arith, c.next_slot-slot.ensures.slot, (first_between c.args.self.now.slots c.args.self.now.area.value).0)) all (c.store-stored.ensures.run honest)

@@ -2,9 +2,9 @@ use Rattle.std.proofs.Common.{◌∙◌}
 use Rattle.node_session.proofs.Servings.{jobs_answered, on_ok}
 use Rattle.node_session.proofs.session.Session.answer_jobs.Goals as goal
 
-pub returns-clause-line : goal.returns-clause-line
-returns-clause-line g c = λ line asks.
+pub returns-clause-replies : goal.returns-clause-replies
+returns-clause-replies g c =
     on_ok c.push_ok.result
-    (λ said. jobs_answered g.D.SectorDisk.state c.args.self.now _ line c.in_ok-number.number c.push_all_jobs.new.text.items c.push_ok.new.text.items c.requires asks c.in_ok-number.ensures.number.0
+    (λ said. jobs_answered g.D.SectorDisk.state c.args.self.now _ c.in_ok-number.number c.push_all_jobs.new.text.items c.push_ok.new.text.items c.requires c.in_ok-number.ensures.number.0
     (c.self.view_is ∙ c.in_ok-number.ensures.number.1) c.in_ok-push_all_jobs.ensures said)
     c.push_ok.ensures

@@ -1,0 +1,3 @@
+pub mod Held
+pub mod Printed
+pub mod Restored

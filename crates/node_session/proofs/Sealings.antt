@@ -1,0 +1,52 @@
+-- Lines of an answer that are sealed, one behind another.
+use Rattle.std.proofs.Common.{◌≡◌, ◌<◌, ℕ, List, [], ◌∷◌, ◌++◌, length, refl, sym, ap, ◌∙◌, append_assoc, arith, ◌+◌, Option, Some, None, Bool, true, false, drop, take}
+use Rattle.std.proofs.lemmas.List.Splits.{length-slice_split}
+use Rattle.std.proofs.Math.Seq.{drop-append_seam}
+use Rattle.line_words.specs.Lines.{is_line_feed, lines_of}
+use Rattle.std.specs.Prelude.{codes}
+use Rattle.hex.specs.Hex.{encode_lower}
+use Rattle.node_session.specs.Seals.{line_by, message_in, number_by, numbered, seal_of, sealed_lines}
+
+-- a text has a line
+some_line : (text : List ℕ) → 0 < length (lines_of text)
+some_line text = (let counts = length-slice_split is_line_feed text in omega (arith, counts))
+
+sealed_more : (key : List ℕ) (life : Option ℕ) (n : ℕ) (line : List ℕ) (lines : List (List ℕ)) → 0 < length lines
+    → sealed_lines key life n (line ∷ lines) ≡ line_by key life n line (message_in line) ++ sealed_lines key life (number_by life n (message_in line)) lines
+sealed_more key life n line [] some = absurd (omega arith)
+sealed_more key life n line (next ∷ lines) some = refl
+
+numbered_more : (life : Option ℕ) (n : ℕ) (line : List ℕ) (lines : List (List ℕ)) → 0 < length lines
+    → numbered life n (line ∷ lines) ≡ numbered life (number_by life n (message_in line)) lines
+numbered_more life n line [] some = absurd (omega arith)
+numbered_more life n line (next ∷ lines) some = refl
+
+-- one line more, as the code does it
+pub sealed_further : (key : List ℕ) (life : Option ℕ) (n m : ℕ) (left line behind text text' all : List ℕ) → lines_of left ≡ line ∷ lines_of behind → text ++ sealed_lines key life n (lines_of left) ≡ all
+    → text' ≡ text ++ line_by key life n line (message_in line) → m ≡ number_by life n (message_in line) → text' ++ sealed_lines key life m (lines_of behind) ≡ all
+sealed_further key life n m left line behind text text' all cut is adds counts =
+    ap (λ (x : List ℕ). x ++ sealed_lines key life m (lines_of behind)) adds
+    ∙ (append_assoc text (line_by key life n line (message_in line)) (sealed_lines key life m (lines_of behind))
+    ∙ (ap (λ (k : ℕ). text ++ (line_by key life n line (message_in line) ++ sealed_lines key life k (lines_of behind))) counts
+    ∙ (ap (λ (x : List ℕ). text ++ x) (sym (sealed_more key life n line (lines_of behind) (some_line behind)))
+    ∙ (ap (λ (ls : List (List ℕ)). text ++ sealed_lines key life n ls) (sym cut) ∙ is))))
+
+pub numbered_further : (life : Option ℕ) (n m : ℕ) (left line behind : List ℕ) (all : ℕ) → lines_of left ≡ line ∷ lines_of behind → numbered life n (lines_of left) ≡ all
+    → m ≡ number_by life n (message_in line) → numbered life m (lines_of behind) ≡ all
+numbered_further life n m left line behind all cut is counts =
+    ap (λ (k : ℕ). numbered life k (lines_of behind)) counts
+    ∙ (sym (numbered_more life n line (lines_of behind) (some_line behind)) ∙ (ap (numbered life n) (sym cut) ∙ is))
+
+-- what is left behind the last line feed
+pub sealed_last : (key : List ℕ) (life : Option ℕ) (n : ℕ) (left : List ℕ) → lines_of left ≡ left ∷ [] → sealed_lines key life n (lines_of left) ≡ left
+sealed_last key life n left one = ap (sealed_lines key life n) one
+
+pub numbered_last : (life : Option ℕ) (n : ℕ) (left : List ℕ) → lines_of left ≡ left ∷ [] → numbered life n (lines_of left) ≡ n
+numbered_last life n left one = ap (numbered life n) one
+
+pub line_so : (key : List ℕ) (life : Option ℕ) (l n next : ℕ) (line : List ℕ) (m : Option (List ℕ)) (message : List ℕ) → life ≡ Some l → m ≡ Some message → next ≡ n + 1
+    → line_by key life n line m ≡ line ++ encode_lower (seal_of key message (record { life = l; number = next })) ++ codes "\n"
+line_so key life l n next line m message lives is counts =
+    ap (λ (o : Option ℕ). line_by key o n line m) lives
+    ∙ (ap (λ (o : Option (List ℕ)). line_by key (Some l) n line o) is
+    ∙ ap (λ (k : ℕ). line ++ encode_lower (seal_of key message (record { life = l; number = k })) ++ codes "\n") (sym counts))

@@ -1,0 +1,55 @@
+// A store begun with a counter and jobs.
+ghost use Rattle.std.specs.Prelude.{◌≡◌, ◌⊎◌, ◌<◌, ◌≤◌, ◌+◌, ◌↔◌, length, IsTrue, IsOk, IsErrOf};
+ghost use Rattle.sector_disk.specs.Disk.{Counts, AllSynced};
+ghost use Rattle.sector_disk.specs.Run.{Run, Each};
+ghost use Rattle.job_model.specs.Table.{durable_of};
+ghost use Rattle.job_journal.specs.Journal.{IsSound};
+ghost use Rattle.node_store.specs.Store.{slots_for, InStore, AllStandFor};
+ghost use Rattle.node_store.specs.Beginning.{HasNoCounter, NothingOr};
+
+use crate::fault::StoreFault;
+use crate::formatting::slots_of;
+use job_model::JobTable;
+use sector_disk::SectorDisk;
+
+/// Makes a store with this counter and the jobs of a table on a disk that has no counter, as a new one of zeros: the journal first, and then the
+/// counter. Refused in the order `TooSmall` (fewer than 24 sectors, no device call), `Device`.
+pub fn begin<D: SectorDisk>(disk: &mut D, count: u64, table: &JobTable) -> Result<(), StoreFault>
+    requires room { length table.now.pending + 2 ≤ slots_for (D.state disk.old).sectors }
+    ensures too_small { IsErrOf result StoreFault.TooSmall ↔ ((D.state disk.old).sectors < 24) }
+    ensures untouched { IsErrOf result StoreFault.TooSmall → disk.new ≡ disk.old }
+    ensures no_other { IsOk result ⊎ IsErrOf result StoreFault.TooSmall ⊎ IsErrOf result StoreFault.Device }
+    ensures counts { Counts (D.state disk.old) (D.state disk.new)
+        (IsErrOf result StoreFault.Device) (IsErrOf result StoreFault.Device → ⊥) }
+    ensures run { IsTrue (D.state disk.old).honest
+        → Run (InStore (slots_for (D.state disk.old).sectors)) (D.state disk.old) (D.state disk.new) }
+
+    // Each image since the start stands for nothing, or for this counter, this next id and just these jobs.
+    // Promise: A store that is begun on a disk without a counter: each image since the start stands for nothing, or for this
+    // counter, this next id and just these jobs.
+    // Also: begun.
+    // Refuses: counter_begun_first, another_counter_begun.
+    ensures images { IsTrue (D.state disk.old).honest → HasNoCounter (D.state disk.old)
+        → Each (D.state disk.old) (D.state disk.new) (NothingOr (slots_for (D.state disk.old).sectors) (durable_of count table.now)) }
+
+    // After `Ok` each image stands for them, the disk is sound, and nothing is unsynced.
+    ensures begun { IsTrue (D.state disk.old).honest → HasNoCounter (D.state disk.old) → IsOk result
+        → AllStandFor (slots_for (D.state disk.old).sectors) (durable_of count table.now) (D.state disk.new) }
+    ensures sound { IsTrue (D.state disk.old).honest → IsOk result
+        → IsSound (slots_for (D.state disk.old).sectors) (D.state disk.new) }
+    ensures synced { IsTrue (D.state disk.old).honest → IsOk result
+        → AllSynced (D.state disk.new) }
+{
+    let sectors = disk.sectors();
+    if sectors < 24 {
+        return Err(StoreFault::TooSmall);
+    }
+    let slots = slots_of(sectors);
+    let Ok(()) = job_journal::begin(disk, slots, table) else {
+        return Err(StoreFault::Device);
+    };
+    let Ok(()) = safe_cell::begin(disk, 0, count) else {
+        return Err(StoreFault::Device);
+    };
+    Ok(())
+}
