@@ -10,3 +10,6 @@ mod Climbing
 mod Taking
 mod Cutting
 mod Pieces
+mod Rows
+mod Sends
+mod Handed

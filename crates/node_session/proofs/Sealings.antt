@@ -1,22 +1,21 @@
 -- Lines of an answer that are sealed, one behind another.
-use Rattle.std.proofs.Common.{◌≡◌, ◌<◌, ℕ, List, [], ◌∷◌, ◌++◌, length, refl, sym, ap, ◌∙◌, append_assoc, arith, ◌+◌, Option, Some, None, Bool, true, false, drop, take}
+use Rattle.std.proofs.Common.{◌≡◌, ◌<◌, ℕ, List, [], ◌∷◌, ◌++◌, length, refl, sym, ap, ◌∙◌, append_assoc, arith, ◌+◌, Option, Some}
 use Rattle.std.proofs.lemmas.List.Splits.{length-slice_split}
-use Rattle.std.proofs.Math.Seq.{drop-append_seam}
 use Rattle.line_words.specs.Lines.{is_line_feed, lines_of}
 use Rattle.std.specs.Prelude.{codes}
 use Rattle.hex.specs.Hex.{encode_lower}
 use Rattle.node_session.specs.Seals.{line_by, message_in, number_by, numbered, seal_of, sealed_lines}
 
 -- a text has a line
-some_line : (text : List ℕ) → 0 < length (lines_of text)
+pub some_line : (text : List ℕ) → 0 < length (lines_of text)
 some_line text = (let counts = length-slice_split is_line_feed text in omega (arith, counts))
 
-sealed_more : (key : List ℕ) (life : Option ℕ) (n : ℕ) (line : List ℕ) (lines : List (List ℕ)) → 0 < length lines
+pub sealed_more : (key : List ℕ) (life : Option ℕ) (n : ℕ) (line : List ℕ) (lines : List (List ℕ)) → 0 < length lines
     → sealed_lines key life n (line ∷ lines) ≡ line_by key life n line (message_in line) ++ sealed_lines key life (number_by life n (message_in line)) lines
 sealed_more key life n line [] some = absurd (omega arith)
 sealed_more key life n line (next ∷ lines) some = refl
 
-numbered_more : (life : Option ℕ) (n : ℕ) (line : List ℕ) (lines : List (List ℕ)) → 0 < length lines
+pub numbered_more : (life : Option ℕ) (n : ℕ) (line : List ℕ) (lines : List (List ℕ)) → 0 < length lines
     → numbered life n (line ∷ lines) ≡ numbered life (number_by life n (message_in line)) lines
 numbered_more life n line [] some = absurd (omega arith)
 numbered_more life n line (next ∷ lines) some = refl

@@ -7,4 +7,5 @@ pub mod Text
 pub mod Seals
 pub mod Lines
 pub mod Stamping
+pub mod Sending
 pub mod Serving

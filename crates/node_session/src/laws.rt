@@ -1,5 +1,6 @@
 // Laws of sessions: the contracts of functions that do nothing.
 ghost use Rattle.node_session.specs.Stamping.{NoStampTwice, OpenedAlone, TakenRises};
+ghost use Rattle.node_session.specs.Sending.{SendsSealed};
 ghost use Rattle.node_session.specs.Serving.{AnyClearing, AnyCutting, BeginsAnywhere, BegunHistory, OneHistory};
 
 use sector_disk::SectorDisk;
@@ -37,6 +38,15 @@ pub fn no_stamp_twice()
     // above the one before it.
     // Refuses: stamp_used_twice.
     ensures { NoStampTwice }
+{}
+
+/// Under a key each `send` line of an answer is the sealing of a message that the step hands out, with a stamp of its own.
+pub fn sends_sealed()
+    // Promise: The `send` lines of an answer are those of the messages that the step hands out, in their order: each is the sealing of its
+    // message under the first key, with this life and the next number; without a key it is the message itself.
+    // Also: Session::feed.
+    // Refuses: another_message_sealed, stamp_used_twice, fallen_node_sends.
+    ensures { SendsSealed }
 {}
 
 /// Under a key a node is delivered what a key of the session opened, above all that was taken of its sender.

@@ -20,7 +20,7 @@ pub use asked::{Asked, Unsealed, read_line};
 pub use ended::Ended;
 pub use laws::{
     any_clearing, any_cutting, begins_anywhere, begun_history, no_stamp_twice, one_history,
-    opened_alone, taken_rises,
+    opened_alone, sends_sealed, taken_rises,
 };
 pub use seals::Seal;
 pub use session::Session;

@@ -1,0 +1,91 @@
+-- The messages that a step hands out, and the lines of its answer that carry them.
+use Rattle.std.specs.Prelude.{ℕ, ◌≡◌, ◌+◌, List, [], ◌∷◌, ◌++◌, map, filter, length, All, Bool, true, false, bytes_eq, codes, decimal, Option, Some, None}
+use Rattle.hex.specs.Hex.{encode_lower}
+use Rattle.line_words.specs.Words.{first_word, words_of}
+use Rattle.line_words.specs.Lines.{lines_of}
+use Rattle.wire_msg.specs.Envelope.{Envelope}
+use Rattle.wire_msg.specs.Spelling.{spelling, IsMessage}
+use Rattle.pace.specs.Waiting.{Waits, sent_again}
+use Rattle.histories.specs.NodeState.{NodeState}
+use Rattle.sealed_msg.specs.declared.stamp.Stamp.{Stamp}
+use Rattle.sealed_msg.specs.Sealing.{sealed}
+use Rattle.node_session.specs.declared.asked.Asked.{Asked}
+use Rattle.node_session.specs.declared.asked.Asked.TheVariants as ask
+use Rattle.node_session.specs.Turns.{Turn, after_turn, sent_in}
+use Rattle.node_session.specs.Chains.{Outcome}
+use Rattle.node_session.specs.Lines.{At, ComesOf, after_line, answer_at}
+use Rattle.node_session.specs.Seals.{Seals, asked_under, life_of}
+
+-- ---- what is handed out
+
+-- by the calls of a line
+abbrev pub sent_turns : ℕ → ℕ → NodeState → List Turn → List Envelope
+sent_turns self nodes s [] = []
+sent_turns self nodes s (turn ∷ turns) = sent_in self nodes s turn ++ sent_turns self nodes (after_turn self nodes s turn) turns
+
+-- a tick sends again first
+abbrev pub again : Asked → Waits → List Envelope
+again (ask.Tick now) w = sent_again now w
+again asked w = []
+
+abbrev pub handed_by : ℕ → ℕ → Bool → At → Asked → Outcome → List Envelope
+handed_by self nodes true a asked came = []
+handed_by self nodes false a asked came = again asked a.waits ++ sent_turns self nodes a.state came.turns
+
+-- by a line, of which this came; nothing once the device failed
+abbrev pub handed_out : ℕ → ℕ → At → List ℕ → Outcome → List Envelope
+handed_out self nodes a line came = handed_by self nodes a.stopped a (asked_under a.seal line) came
+
+-- ---- the lines that carry it
+
+-- a line that begins with the word `send`
+abbrev pub is_send : List ℕ → Bool
+is_send line = bytes_eq (first_word (words_of line)) (codes "send")
+
+-- those of a text
+abbrev pub sends_in : List ℕ → List (List ℕ)
+sends_in text = filter is_send (lines_of text)
+
+-- to the message's receiver go these bytes
+abbrev pub send_of : Envelope → List ℕ → List ℕ
+send_of m bytes = codes "send " ++ decimal m.receiver ++ codes " " ++ encode_lower bytes
+
+-- the stamp of the next message of this life behind the n-th
+abbrev pub stamp_behind : ℕ → ℕ → Stamp
+stamp_behind life n = record { life = life; number = n + 1 }
+
+-- each message is sealed, with a stamp of its own; without a life none goes
+abbrev pub sealed_sends : List ℕ → Option ℕ → ℕ → List Envelope → List (List ℕ)
+sealed_sends key None n ms = []
+sealed_sends key (Some life) n [] = []
+sealed_sends key (Some life) n (m ∷ ms) = send_of m (sealed key (spelling m) (stamp_behind life n)) ∷ sealed_sends key (Some life) (n + 1) ms
+
+abbrev pub plain_sends : List Envelope → List (List ℕ)
+plain_sends ms = map (λ m. send_of m (spelling m)) ms
+
+-- without a key each goes as it is spelled
+abbrev pub sends_under : Option Seals → Option ℕ → List Envelope → List (List ℕ)
+sends_under None life ms = plain_sends ms
+sends_under (Some q) life ms = sealed_sends q.own life q.number ms
+
+-- how many messages were sealed
+abbrev pub sealed_so_far : Option Seals → ℕ
+sealed_so_far None = 0
+sealed_so_far (Some q) = q.number
+
+abbrev pub counted_under : Option Seals → Option ℕ → List Envelope → ℕ
+counted_under None life ms = 0
+counted_under (Some q) None ms = q.number
+counted_under (Some q) (Some life) ms = q.number + length ms
+
+-- ---- the law
+
+-- The `send` lines of an answer are those of the messages that the step hands out, one for each and in their order: each message sealed
+-- under the key, with the life that the node has behind the line and the next number of the session; without a key, as it is spelled.
+pub record AreSent (self nodes : ℕ) (a : At) (line : List ℕ) (came : Outcome) : Type 0 where
+  pub lines : sends_in (answer_at self nodes a line came) ≡ sends_under a.seal (life_of (after_line self nodes a line came).state) (handed_out self nodes a line came)
+  pub number : sealed_so_far (after_line self nodes a line came).seal ≡ counted_under a.seal (life_of (after_line self nodes a line came).state) (handed_out self nodes a line came)
+
+abbrev pub SendsSealed : Type 0
+SendsSealed =
+    (self nodes slots : ℕ) (a : At) (line : List ℕ) (came : Outcome) → ComesOf self nodes slots a line came → All IsMessage (handed_out self nodes a line came) → AreSent self nodes a line came
