@@ -24,7 +24,7 @@ WRITE_OF_THE_GATE = 2
 
 def session(program, file, lines):
     """What a node of its own cluster answers to these lines, and the status that it ends with."""
-    ran = subprocess.run([program, "node", file, "0", "1"], input="".join(f"{line}\n" for line in lines), capture_output=True, text=True, timeout=60, check=False)
+    ran = subprocess.run([program, "node", file, "0", "1"], input="".join(f"{line}\n" for line in lines), capture_output=True, text=True, timeout=600, check=False)
     return ran.stdout.splitlines(), ran.returncode
 
 
@@ -75,7 +75,7 @@ class Tried:
         node.stdin.write("submit 0 63\n")
         node.stdin.close()
         answers = node.stdout.read().splitlines()
-        return answers, node.wait(60)
+        return answers, node.wait(600)
 
 
 def main():

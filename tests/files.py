@@ -136,7 +136,7 @@ class Tried:
 
     def run(self, words, fed, **more):
         """The status and the standard output. Where the status isn't 0, one line is said of it, and else nothing."""
-        ended = subprocess.run([self.program, *words], input=fed if isinstance(fed, bytes) else fed.encode(), capture_output=True, timeout=60, **more)
+        ended = subprocess.run([self.program, *words], input=fed if isinstance(fed, bytes) else fed.encode(), capture_output=True, timeout=600, **more)
         is_said = re.fullmatch(rb"invite: [^\n]+\n", ended.stderr) is not None if ended.returncode else ended.stderr == b""
         if not is_said:
             self.mark(f"it says {ended.stderr!r}", words)
@@ -144,7 +144,7 @@ class Tried:
 
     def says(self, words, fed, status, said, **more):
         """Nothing is printed, and one line is said."""
-        ended = subprocess.run([self.program, *words], input=fed.encode(), capture_output=True, timeout=60, **more)
+        ended = subprocess.run([self.program, *words], input=fed.encode(), capture_output=True, timeout=600, **more)
         self.same((ended.returncode, ended.stdout, ended.stderr.decode()), (status, b"", f"invite: {said}\n"), words)
 
     def expect(self, words, fed, text, status=0, **more):
@@ -157,18 +157,18 @@ class Tried:
         return child
 
     def ask(self, child, fed, text):
-        """Expects this answer to lines, within half a minute from one piece of it to the next."""
+        """Expects this answer to lines, within five minutes from one piece of it to the next."""
         found = b""
         try:
             child.stdin.write(fed)
-            while len(found) < len(text) and select.select([child.stdout], [], [], 30)[0] and (piece := child.stdout.read(65_536)):
+            while len(found) < len(text) and select.select([child.stdout], [], [], 300)[0] and (piece := child.stdout.read(65_536)):
                 found += piece
         except BrokenPipeError:
             found += b"(it has ended)"
         self.same(found, text, fed)
 
     def end(self, child, status, text, name):
-        out, _ = child.communicate(timeout=60)
+        out, _ = child.communicate(timeout=600)
         self.same((child.returncode, out), (status, text), name)
 
     def formatted(self, path, words="4 0 1"):
@@ -297,7 +297,7 @@ def try_denied(tried, folder):
     os.chmod(mine, 0o755)
     os.chmod(folder, 0o755)
     try:
-        subprocess.run([mine, "show"], input=b"", capture_output=True, timeout=60, **who, check=True)
+        subprocess.run([mine, "show"], input=b"", capture_output=True, timeout=600, **who, check=True)
     except (OSError, subprocess.SubprocessError):
         print("files.py: the program can't be run as another user, so nothing was denied")
         return
@@ -412,7 +412,7 @@ def try_removed(tried, path):
         child = tried.node(path)
         tried.ask(child, b"recover\n", UP.replace(b"ok 1", b"ok 2"))
         how(path)
-        out, _ = child.communicate(b"".join(b"submit 0 -\nfinish 0 %d\n" % at for at in range(8)), timeout=60)
+        out, _ = child.communicate(b"".join(b"submit 0 -\nfinish 0 %d\n" % at for at in range(8)), timeout=600)
         tried.mark("" if child.returncode == 7 and b"fault 6 Device" in out else f"status {child.returncode}, it answers {out[-200:]!r}", "removed before jobs")
         os.remove(path + ".other") if os.path.exists(path + ".other") else None
 
@@ -491,7 +491,7 @@ def try_refused_calls(tried, folder, path):
         for at in range(1, 200):
             if os.path.exists(path):
                 os.remove(path)
-            ended = subprocess.run([tried.program, "format", path, "4", "0", "3", "7"], capture_output=True, timeout=60, check=False, **failing(at, error))
+            ended = subprocess.run([tried.program, "format", path, "4", "0", "3", "7"], capture_output=True, timeout=600, check=False, **failing(at, error))
             if ended.returncode == 0:
                 break
             tried.same((ended.returncode, ended.stderr.decode(), os.path.exists(path)), (status, f"invite: {path}: {said}\n", False), ("format", at, read(noted)))
@@ -499,7 +499,7 @@ def try_refused_calls(tried, folder, path):
     # a device that fails while a node runs
     for at in range(7, 30):
         tried.formatted(path)
-        ended = subprocess.run([tried.program, "node", path, "0", "1"], input=b"recover\n", capture_output=True, timeout=60, check=False, **failing(at, errno.EIO))
+        ended = subprocess.run([tried.program, "node", path, "0", "1"], input=b"recover\n", capture_output=True, timeout=600, check=False, **failing(at, errno.EIO))
         tried.same((ended.returncode, ended.stderr.decode()), (3, f"invite: {path}: the device failed: Input/output error (os error 5)\n") if b"fault 1 Device" in ended.stdout else (0, ""), at)
 
     # Calls of a mounting: it opens the file, asks what it is, locks it and asks for its length, and once more for its label; a sync; eight reads, one

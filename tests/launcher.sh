@@ -132,11 +132,19 @@ anew
 call "$room/link" show
 has 'through a link' "$room/out" show input
 
-# what takes long: a word at least every 15 seconds, before the first crate and at one
-anew
-NAP=16 SLOW=node_core KEPT=job_model call ./invite show
-has 'while the sources are looked through' <(grep -cE "^invite: looking through the sources of ${#crates[@]} crates, 0 min 1[5-6] s so far" "$room/err") 1
-has 'while a crate is proved' <(grep -cE "^invite: proved [0-9]+ of ${#crates[@]} crates, at work on node_core, 0 min 3[0-3] s so far" "$room/err") 1
+# what takes long: a word at least every 15 seconds, before the first crate and at one. Where the machine lets a sleep last longer than it is to, the times
+# that are told may lie further apart: then it is tried again, at most twice.
+for again in 1 2 0; do
+    anew
+    NAP=16 SLOW=node_core KEPT=job_model call ./invite show
+    told=$(sed -nE "s/^invite: (looking through the sources of ${#crates[@]} crates|proved [0-9]+ of ${#crates[@]} crates, at work on node_core), 0 min ([0-9]+) s so far.*/\\2/p" \
+        "$room/err" | paste -sd' ')
+    [[ ! $told =~ ^1[5-6]\ 3[0-3]$ ]] || break
+    [ "$again" -eq 0 ] || echo "played again: what takes long ($told)"
+done
+has 'at least every 15 seconds' <([[ ! $told =~ ^1[5-6]\ 3[0-3]$ ]] || echo yes) yes
+has 'while the sources are looked through' <(grep -cE "^invite: looking through the sources of ${#crates[@]} crates, [0-9]+ min [0-9]+ s so far" "$room/err" | sed 's/^[1-9][0-9]*$/some/') some
+has 'while a crate is proved' <(grep -cE "^invite: proved [0-9]+ of ${#crates[@]} crates, at work on node_core, [0-9]+ min [0-9]+ s so far" "$room/err" | sed 's/^[1-9][0-9]*$/some/') some
 has 'a crate that was proved before' <(grep -cE '^invite: job_model was proved by an earlier run \(' "$room/err") 1
 
 for name in node_core invite; do
@@ -158,9 +166,13 @@ has 'a program that ends badly is not built' <(find "$room/repo/crates/invite" -
 
 anew
 # shellcheck disable=SC2016 # the inner shell expands it
-NAP=9 call bash -c './invite show & sleep 1; kill $!; wait $!'
+NAP=600 call bash -c './invite show & until [ -s "$ROOM/log" ]; do sleep 0.1; done; kill $!; wait $!'
 expect 'an interrupted call' 130
 has 'no proof went on' <(grep -c end "$room/log") 0
+for _ in {1..600}; do
+    pgrep -f "$room/bin/rt" >/dev/null || break
+    sleep 0.1
+done
 has 'no proof goes on' <(pgrep -cf "$room/bin/rt") 0
 
 for word in show --unproved; do

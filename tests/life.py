@@ -201,7 +201,7 @@ def the_page(tally, program, room):
     run(program, "node", node, "0", "3", text="recover\nsubmit 3 6869\nsubmit 0 61 7\n")
     before = int(time.time() * 1000)
     script = "set -eu\n" + "echo :next:\n".join(blocks)
-    done = subprocess.run(["bash", "-c", script], cwd=folder, env=dict(os.environ, PROGRAM=program), capture_output=True, text=True, timeout=60)
+    done = subprocess.run(["bash", "-c", script], cwd=folder, env=dict(os.environ, PROGRAM=program), capture_output=True, text=True, timeout=600)
     came = done.stdout.split(":next:\n")
     tally.mark("the page's commands run", "" if done.returncode == 0 and len(came) == len(blocks) == 3 else f"{done.returncode}: {done.stdout}{done.stderr}")
     whole = "kind node\nnode 0\nnodes 3\n"

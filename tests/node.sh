@@ -40,6 +40,12 @@ answers() {
     mark "$problem" "$name"
 }
 
+# comes FILE PATTERN [TIMES]: waits until so many lines of a file are such, for five minutes at most
+comes() {
+    local until=$((SECONDS + 300))
+    while [ "$(grep -cE "$2" "$1")" -lt "${3-1}" ] && [ "$SECONDS" -lt "$until" ]; do sleep 0.1; done
+}
+
 # fresh [FIRST]: makes the file of node 0 of 3 anew
 fresh() {
     rm -f "$file"
@@ -99,9 +105,9 @@ ask 'a job outlives its node' 'recover\njobs\n' 'group Normal 0 0:3 0\nkeeps 3 1
 fresh 1000
 ask 'a first count' 'recover\nsubmit 0 -\n' 'group Normal 0 0:1001 0\nkeeps 1001 1000 0\nok 1\ntake 0 1000 0 -\nok 2 id 1000\n'
 
-# A tick fires the check at the latest after 20 and 10 round trips of 20 ms, and then nothing more at that time.
+# A tick fires the check, and then nothing more at that time. (How long it waits at most node_rows.py tries, over a clock that stands still.)
 fresh
-printf 'recover\ntick 0\ntick 600\ntick 600\n' | "$program" node "$file" 0 3 >"$room/out"
+printf 'recover\ntick 0\ntick 60000\ntick 60000\n' | "$program" node "$file" 0 3 >"$room/out"
 problem=''
 [ "$(grep -c '^send 1 010100010000$' "$room/out")" -eq 1 ] || problem="it answers $(tr '\n' '/' <"$room/out")"
 mark "$problem" 'a tick fires once'
@@ -117,14 +123,12 @@ mark "$problem" 'a new group hands its jobs out'
 # A node that runs: its file is locked, and after kill -9 the next one finds what was answered.
 fresh
 mkfifo "$room/in"
+: >"$room/out"
 "$program" node "$file" 0 3 <"$room/in" >"$room/out" &
 child=$!
 exec 3>"$room/in"
 printf 'recover\nsubmit 1 ff\n' >&3
-for _ in $(seq 100); do
-    grep -q '^ok 2' "$room/out" && break
-    sleep 0.1
-done
+comes "$room/out" '^ok 2'
 ends 4 'a locked file' node "$file" 0 3
 kill -9 "$child"
 wait "$child" 2>/dev/null
@@ -141,8 +145,9 @@ mark "$problem" 'a full output'
 # Each answer of a command is written after the last sync of it: a raise and a Put write, sync and are answered in this order.
 if command -v strace >/dev/null && strace -o "$room/probe" true 2>/dev/null; then
     fresh
-    { printf 'recover\n'; sleep 0.5; printf 'submit 0 -\n'; sleep 0.5; } |
-        strace -f -s 256 -o "$room/calls" -e trace=pwrite64,fdatasync,write "$program" node "$file" 0 3 >/dev/null 2>&1
+    : >"$room/out"
+    { printf 'recover\n'; comes "$room/out" '^ok 1'; printf 'submit 0 -\n'; comes "$room/out" '^ok 2'; } |
+        strace -f -s 256 -o "$room/calls" -e trace=pwrite64,fdatasync,write "$program" node "$file" 0 3 >"$room/out" 2>&1
     order=$(sed -nE 's/.*(pwrite64|fdatasync)\(.*/\1/p; s/.*write\(1, .*(ok [0-9]).*/\1/p' "$room/calls" | grep -B1 '^ok' | tr '\n' ' ')
     problem=''
     [ "$order" = 'fdatasync ok 1 -- fdatasync ok 2 ' ] || [ "$order" = 'fdatasync ok 1 fdatasync ok 2 ' ] || problem="the calls are $order"
@@ -165,27 +170,28 @@ else
 fi
 
 # example NAME PATTERN COMMAND..: the example ends well, and in one of three runs its last lines show what it is for. How much comes about in
-# some seconds hangs on the machine; that nothing is wrong doesn't.
+# some seconds hangs on the machine; that nothing is wrong doesn't. The word SECONDS stands for how long it runs: longer each time.
 example() {
-    local name=$1 pattern=$2 problem=''
+    local name=$1 pattern=$2 seconds problem=''
     shift 2
-    for _ in 1 2 3; do
-        "$@" >"$room/out" 2>&1 || { problem=$(tail -n 3 "$room/out"); break; }
+    for seconds in 7 30 100; do
+        "${@/#SECONDS/$seconds}" >"$room/out" 2>&1 || { problem=$(tail -n 3 "$room/out"); break; }
         grep -qE "$pattern" "$room/out" && { problem=''; break; }
         problem=$(tail -n 3 "$room/out")
+        [ "$seconds" -eq 100 ] || echo "played again: $name"
     done
     mark "$problem" "$name"
 }
 
 if command -v python3 >/dev/null; then
     three=$top/examples/three_processes/three_processes.py
-    example 'three processes' 'groups [1-9].* answered [1-9].* gone [1-9]' python3 "$three" "$program" 5 1
-    example 'three processes and their enemy' 'groups [1-9].* answered [1-9].* gone [1-9]' python3 "$three" "$program" 5 1 kill cut lose
+    example 'three processes' 'groups [1-9].* answered [1-9].* gone [1-9]' python3 "$three" "$program" SECONDS 1
+    example 'three processes and their enemy' 'groups [1-9].* answered [1-9].* gone [1-9]' python3 "$three" "$program" SECONDS 1 kill cut lose
 
     # three machines, all of them this one: they become one group, within some seconds where nothing else keeps them from it
-    for seconds in 6 20 60; do
+    for seconds in 6 20 60 180; do
         rm -f "$room"/machine*
-        base=$((20000 + RANDOM % 20000))
+        base=$((10000 + RANDOM % 20000))
         addresses="127.0.0.1:$base 127.0.0.1:$((base + 1)) 127.0.0.1:$((base + 2))"
         for i in 0 1 2; do
             "$program" format "$room/machine$i" 64 "$i" 3
@@ -197,19 +203,16 @@ if command -v python3 >/dev/null; then
         [ "$(for i in 0 1 2; do grep '^group Normal' "$room/machine$i.out" | tail -n 1; done | sort -u | grep -c ' 0,1,2$')" -eq 1 ] || problem=$(tail -n 2 "$room"/machine?.out)
         [ "$(for i in 0 1 2; do grep '^group Normal' "$room/machine$i.out" | tail -n 1; done | sort -u | wc -l)" -eq 1 ] || problem=$(tail -n 2 "$room"/machine?.out)
         [ -n "$problem" ] || break
+        [ "$seconds" -eq 180 ] || echo 'played again: three machines'
     done
     mark "$problem" 'three machines'
 
     rm -f "$file"
     "$program" format "$file" 64 0 1
-    : >"$room/err"
+    : >"$room/out"
     {
         printf 'recover\nsubmit 0 %s\n' "$(printf 'echo hello' | od -An -tx1 | tr -d ' \n')"
-        for _ in {1..200}; do
-            [ ! -s "$room/err" ] || break
-            sleep 0.3
-        done
-        sleep 3
+        comes "$room/out" '^gone'
     } |
         python3 "$top/examples/worker/worker.py" "$program" node "$file" 0 1 >"$room/out" 2>"$room/err"
     problem=''
@@ -219,15 +222,13 @@ if command -v python3 >/dev/null; then
 
     # what is piped into a machine arrives whole, and a worker runs behind a machine
     machine=$top/examples/three_machines/machine.py
-    base=$((20000 + RANDOM % 20000))
+    base=$((10000 + RANDOM % 20000))
     "$program" format "$room/piped" 1024 0 1
     seq -f 'submit 0 %040.0f' 1000 >"$room/lines"
-    timeout 60 python3 "$machine" "$program" "$room/piped" 0 "127.0.0.1:$base" <"$room/lines" >"$room/out" 2>&1 &
+    : >"$room/out"
+    timeout 600 python3 "$machine" "$program" "$room/piped" 0 "127.0.0.1:$base" <"$room/lines" >"$room/out" 2>&1 &
     child=$!
-    for _ in {1..200}; do
-        [ "$(grep -c '^ok id' "$room/out")" -lt 1000 ] || break
-        sleep 0.3
-    done
+    comes "$room/out" '^ok id' 1000
     kill "$child"
     wait "$child" 2>/dev/null
     problem=''
@@ -236,21 +237,21 @@ if command -v python3 >/dev/null; then
 
     rm -f "$file"
     "$program" format "$file" 64 0 1
-    { printf 'submit 0 %s\n' "$(printf 'echo hello' | od -An -tx1 | tr -d ' \n')" "$(printf 'echo hello' | od -An -tx1 | tr -d ' \n')"; sleep 60; } |
-        timeout 60 python3 "$machine" "python3 '$top/examples/worker/worker.py' '$program'" "$file" 0 "127.0.0.1:$((base + 1))" >"$room/out" 2>"$room/err" &
-    for _ in {1..200}; do
-        [ "$(grep -c '^gone' "$room/out")" -lt 2 ] || break
-        sleep 0.3
-    done
+    : >"$room/out"
+    exec 3<>"$room/in"
+    printf 'submit 0 %s\n' "$(printf 'echo hello' | od -An -tx1 | tr -d ' \n')" "$(printf 'echo hello' | od -An -tx1 | tr -d ' \n')" >&3
+    timeout 600 python3 "$machine" "python3 '$top/examples/worker/worker.py' '$program'" "$file" 0 "127.0.0.1:$((base + 1))" <"$room/in" >"$room/out" 2>"$room/err" &
+    comes "$room/out" '^gone' 2
     kill $!
     wait $! 2>/dev/null
+    exec 3>&-
     problem=''
     [ "$(grep -c '^take' "$room/out") $(grep '^ok' "$room/out" | sort | tr '\n' ' ')$(grep -c '^gone' "$room/out")" = '2 ok id 0 ok id 1 2' ] || problem=$(cat "$room/out" "$room/err")
     [ "$(sort -u "$room/err")" = hello ] || problem='the command did not run'
     mark "$problem" 'a worker behind a machine'
 
     if python3 -c 'import sqlite3' 2>/dev/null; then
-        example 'a lock' 'takeovers [2-9].* refused [1-9].* both [1-9]' python3 "$top/examples/lock/lock.py" "$program" 9
+        example 'a lock' 'takeovers ([2-9]|[1-9][0-9]+),.* refused [1-9].* both [1-9]' python3 "$top/examples/lock/lock.py" "$program" SECONDS
     fi
 fi
 

@@ -139,7 +139,7 @@ class Tried:
         """A file as `format` makes it."""
         if (own, nodes) not in self.made:
             made = os.path.join(self.folder, f"{own}-{nodes}")
-            subprocess.run([self.program, "format", made, "4", str(own), str(nodes)], check=True, timeout=60)
+            subprocess.run([self.program, "format", made, "4", str(own), str(nodes)], check=True, timeout=600)
             with open(made, "rb") as file:
                 self.made[own, nodes] = file.read()
         with open(self.path, "wb") as file:
@@ -158,7 +158,7 @@ class Tried:
             except BrokenPipeError:
                 pass
             os.close(writing)
-            status = child.wait(timeout=60)
+            status = child.wait(timeout=600)
             out.seek(0)
             return out.read().decode(), status
 
@@ -194,7 +194,7 @@ def try_round_trips(tried):
     """What is no round trip."""
     for word in ("0", "60001", "65536", "x", "-1", "20.0", ""):
         tried.fresh()
-        done = subprocess.run([tried.program, "node", tried.path, "0", "3", word], stdin=subprocess.DEVNULL, capture_output=True, text=True, timeout=60)
+        done = subprocess.run([tried.program, "node", tried.path, "0", "3", word], stdin=subprocess.DEVNULL, capture_output=True, text=True, timeout=600)
         tried.mark("" if done.returncode == 2 and done.stdout.startswith("error: ") else f"status {done.returncode}, {done.stdout!r}", ("a round trip of", word))
 
 
@@ -298,7 +298,7 @@ def try_disks_in_memory(tried):
     """No call of a disk in memory fails that wasn't asked to."""
     for slots in (4, 8, 4096):
         schedule = f"cluster 1 {slots}\nsubmit 0 0 61\ncompact 0\nrecover 0\nfinish 0 0 0\ncompact 0\ncrash 0\nrecover 0\n"
-        found = subprocess.run([tried.program, "sim"], input=schedule.encode(), capture_output=True, timeout=60)
+        found = subprocess.run([tried.program, "sim"], input=schedule.encode(), capture_output=True, timeout=600)
         answers = ["ok id 0", "ok", "ok", "refused UnknownJob", "ok", "ok", "ok"]
         text = "".join(f"{at} {answer}\n" for at, answer in enumerate(answers)) + "node 0 Normal coord 0 group 0:3 up - members 0 count 3 pending 0 hand -\n"
         tried.same((found.stdout.decode(), found.returncode), (text, 0), schedule)

@@ -56,7 +56,7 @@ class Tried:
     def file(self, own, nodes=NODES):
         self.made += 1
         path = f"{self.folder}/node{self.made}"
-        subprocess.run([self.program, "format", path, "64", str(own), str(nodes)], check=True, timeout=60)
+        subprocess.run([self.program, "format", path, "64", str(own), str(nodes)], check=True, timeout=600)
         return path
 
 
@@ -97,7 +97,7 @@ class Node:
         self.process.stdin.close()
         self.output.close()
         self.process.stdout.close()
-        return self.process.wait(timeout=60)
+        return self.process.wait(timeout=600)
 
 
 def try_vectors(tried):
@@ -238,7 +238,7 @@ def try_rotation(tried):
 
 
 def status(tried, words, program=None, user=None):
-    done = subprocess.run([program or tried.program, "node", *words], stdin=subprocess.DEVNULL, capture_output=True, timeout=60, user=user)
+    done = subprocess.run([program or tried.program, "node", *words], stdin=subprocess.DEVNULL, capture_output=True, timeout=600, user=user)
     return done.returncode, done.stderr.decode()
 
 

@@ -84,7 +84,7 @@ def step(states, is_up, act, outcome):
 
 def run(program, nodes, acts):
     text = "\n".join([f"cluster {nodes} 4", *acts]) + "\n"
-    done = subprocess.run([program, "sim"], input=text, capture_output=True, text=True, timeout=60)
+    done = subprocess.run([program, "sim"], input=text, capture_output=True, text=True, timeout=600)
     lines = done.stdout.splitlines()
     outcomes = [line.split(" ", 1)[1] for line in lines[: len(acts)]]
     # `ok` may be followed by the messages sent

@@ -218,7 +218,7 @@ class Rows:
 
     def run(self, words, fed):
         fed = fed if isinstance(fed, bytes) else fed.encode()
-        return subprocess.run([self.program, *words], input=fed, capture_output=True, timeout=60)
+        return subprocess.run([self.program, *words], input=fed, capture_output=True, timeout=600)
 
     def expect(self, words, fed, text, status, reason=""):
         """The text, the status, and the reason on standard error; None is any reason, of one line."""
@@ -377,7 +377,7 @@ def try_failing_input(rows, words, fed):
     tty.setraw(other)
     os.write(other, fed)
     os.close(other)
-    found = subprocess.run([rows.program, *words], stdin=one, capture_output=True, timeout=60)
+    found = subprocess.run([rows.program, *words], stdin=one, capture_output=True, timeout=600)
     os.close(one)
     is_right = found.returncode == 1 and found.stdout == b"" and re.fullmatch(rb"invite: can't read: Input/output error.*\n", found.stderr)
     rows.mark("" if is_right else f"status {found.returncode}, {found.stdout!r}, {found.stderr!r}", (words, "a read that fails"))
@@ -390,7 +390,7 @@ def try_failing_output(rows, folder):
         signal.signal(signal.SIGXFSZ, signal.SIG_IGN)
     path = os.path.join(folder, "short")
     with open(path, "wb") as output:
-        found = subprocess.run([rows.program, "show"], input=b"010102000000", stdout=output, stderr=subprocess.PIPE, preexec_fn=limit, timeout=60)
+        found = subprocess.run([rows.program, "show"], input=b"010102000000", stdout=output, stderr=subprocess.PIPE, preexec_fn=limit, timeout=600)
     with open(path, "rb") as output:
         text = output.read()
     is_right = found.returncode == 1 and text == b"2>0 AreY" and re.fullmatch(rb"invite: can't write: File too large.*\n", found.stderr)
@@ -407,7 +407,7 @@ def try_endless_input(rows, folder):
     subprocess.run([compiler, "-shared", "-fPIC", "-O1", "-o", library, os.path.join(HERE, "shim", "endless.c")], check=True)
     with open(noted, "wb") as file:
         file.truncate(8)
-    found = subprocess.run([rows.program, "show"], stdin=subprocess.DEVNULL, capture_output=True, env={**os.environ, "LD_PRELOAD": library, "NOTED": noted}, timeout=100)
+    found = subprocess.run([rows.program, "show"], stdin=subprocess.DEVNULL, capture_output=True, env={**os.environ, "LD_PRELOAD": library, "NOTED": noted}, timeout=600)
     with open(noted, "rb") as file:
         reads = int.from_bytes(file.read(), "little")
     said = b"invite: can't read: the input has no end within 16777216 reads\n"

@@ -454,7 +454,7 @@ REASONS = re.compile(
 def problem_of(program, row):
     """What is wrong with what the program makes of a row; an empty text if nothing is."""
     try:
-        ended = subprocess.run([program, row.command], input=row.fed, capture_output=True, timeout=60)
+        ended = subprocess.run([program, row.command], input=row.fed, capture_output=True, timeout=600)
     except subprocess.TimeoutExpired:
         return "no end within a minute"
     if ended.returncode != row.status:

@@ -107,8 +107,8 @@ has "$((300 * 8 * 9))" polls
     printf 'cluster 2 4\nlinks 1\n'
     for _ in {1..4000}; do printf '0 clock check\n1 intake 0\n'; done
 } >"$room/again.txt"
-problem='node 1 is brought one message at most in 50 runs'
-for _ in {1..50}; do
+problem='node 1 is brought one message at most in 300 runs'
+for _ in {1..300}; do
     "$program" threads <"$room/again.txt" >"$room/again.json" || { problem='there is no trace'; break; }
     if [ "$(grep -o '"do":"deliver"' "$room/again.json" | wc -l)" -ge 2 ]; then
         problem=''

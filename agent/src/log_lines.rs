@@ -23,12 +23,12 @@ pub struct LogLines {
 
 impl LogLines {
     /// To be written to `out`.
-    pub fn start(out: impl Write + Send + 'static) -> LogLines {
+    pub fn start(out: impl Write + Send + 'static) -> io::Result<LogLines> {
         let (to, from) = sync_channel(MAX_WAITING);
         let lines = LogLines { to, waiting: Arc::default(), left_out: Arc::default() };
         let (waiting, left_out) = (Arc::clone(&lines.waiting), Arc::clone(&lines.left_out));
-        thread::spawn(move || write_all(from, out, &waiting, &left_out));
-        lines
+        thread::Builder::new().spawn(move || write_all(from, out, &waiting, &left_out))?;
+        Ok(lines)
     }
 
     /// Waits until all is written, for a while.
@@ -76,7 +76,7 @@ mod tests {
     #[test]
     fn nobody_is_waited_for_and_what_is_left_out_is_said() {
         let (mut reader, out) = UnixStream::pair().unwrap();
-        let mut lines = LogLines::start(out);
+        let mut lines = LogLines::start(out).unwrap();
         let count = 40_000;
         (0..count).for_each(|_| lines.write_all(b"twenty bytes of text\n").unwrap());
         lines.finish();

@@ -2,6 +2,7 @@
 
 use log::debug;
 use sd_notify::NotifyState;
+use std::io;
 use std::sync::mpsc::{sync_channel, Receiver, SyncSender};
 use std::thread;
 use std::time::{Duration, Instant};
@@ -25,15 +26,16 @@ pub struct Notify {
 }
 
 impl Notify {
-    pub fn of_environment() -> Notify {
+    pub fn of_environment() -> io::Result<Notify> {
         let mut micros = 0;
         let has_watchdog = sd_notify::watchdog_enabled(false, &mut micros);
-        let to = std::env::var_os("NOTIFY_SOCKET").map(|_| {
+        let start = |_| {
             let (to, from) = sync_channel(MAX_WAITING);
-            thread::spawn(move || tell(from));
-            to
-        });
-        Notify { to, watchdog: has_watchdog.then(|| Duration::from_micros(micros / 2)), told: Instant::now() }
+            thread::Builder::new().spawn(move || tell(from)).map(|_| to)
+        };
+        let to = std::env::var_os("NOTIFY_SOCKET").map(start).transpose()?;
+        let watchdog = has_watchdog.then(|| Duration::from_micros(micros / 2));
+        Ok(Notify { to, watchdog, told: Instant::now() })
     }
 
     fn say(&self, notice: Notice) {

@@ -1,6 +1,7 @@
 //! Looks names up in a thread of its own: a name server that doesn't answer stops nobody.
 
 use mio::Waker;
+use std::io;
 use std::net::{SocketAddr, ToSocketAddrs};
 use std::sync::mpsc::{sync_channel, Receiver, SyncSender};
 use std::sync::Arc;
@@ -21,18 +22,18 @@ pub struct Resolver {
 }
 
 impl Resolver {
-    pub fn start(waker: Arc<Waker>) -> Resolver {
+    pub fn start(waker: Arc<Waker>) -> io::Result<Resolver> {
         let (to, names) = sync_channel::<(usize, String)>(1);
         let (back, from) = sync_channel(1);
-        thread::spawn(move || {
+        thread::Builder::new().spawn(move || {
             for (at, name) in names {
                 let addresses = name.to_socket_addrs().map(Iterator::collect).unwrap_or_default();
                 if back.send(Found { at, name, addresses }).is_err() || waker.wake().is_err() {
                     return;
                 }
             }
-        });
-        Resolver { to, from, is_busy: false }
+        })?;
+        Ok(Resolver { to, from, is_busy: false })
     }
 
     pub fn is_busy(&self) -> bool {

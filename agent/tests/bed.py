@@ -1,13 +1,48 @@
 """A bed for agents on one machine: a relay between them loses, delays, repeats and cuts by a seed. Needs Python 3.8 alone, and no root."""
-import heapq, json, os, random, selectors, signal, socket, subprocess, threading, time
+import heapq, json, os, random, selectors, signal, socket, subprocess, tempfile, threading, time
 
 HERE = os.path.dirname(os.path.abspath(__file__))
 
+# What has to come about at all has so long for it: on a machine that is slow or busy it comes late, and a fault has it never come.
+PATIENCE = 120
+# So many datagrams at once are far fewer than the buffer of a socket takes.
+AT_ONCE = 16
+
+
+def in_memory(folder="/dev/shm", least=256_000_000):
+    """A folder in memory, where there is one with room: how long a sync takes is another matter."""
+    if not os.access(folder, os.W_OK):
+        return None
+    room = os.statvfs(folder)
+    return folder if room.f_bavail * room.f_frsize >= least else None
+
+
+MEMORY = in_memory()
+
+ports, ports_lock = iter(random.sample(range(10000, 30000), 20000)), threading.Lock()
+
 
 def free_port():
-    with socket.socket(socket.AF_INET, socket.SOCK_DGRAM) as link:
-        link.bind(("127.0.0.1", 0))
-        return link.getsockname()[1]
+    """A port that nobody has, below those that the system gives by itself, and one that wasn't given before."""
+    while True:
+        with ports_lock:
+            port = next(ports)
+        try:
+            for kind in (socket.SOCK_DGRAM, socket.SOCK_STREAM):
+                with socket.socket(socket.AF_INET, kind) as link:
+                    link.bind(("127.0.0.1", port))
+            return port
+        except OSError:
+            pass
+
+
+def is_there(pid):
+    """Whether a process runs."""
+    try:
+        with open("/proc/%d/stat" % pid) as file:
+            return file.read().rsplit(")", 1)[1].split()[0] not in "ZX"
+    except OSError:
+        return False
 
 
 def datagram_socket():
@@ -61,16 +96,16 @@ class Relay:
 
 
 class Agents:
-    """Agents in a folder, each with a node of its own."""
+    """Agents in a folder, each with a node of its own. The nodes' files are there, too, or in a folder within another one."""
 
-    def __init__(self, folder, program, relay, daemon, ctl, settings=None, first=None, slots=256):
-        self.folder, self.program, self.relay, self.daemon, self.ctl_path = folder, program, relay, daemon, ctl
+    def __init__(self, folder, program, relay, daemon, ctl, settings=None, first=None, slots=256, within=None):
+        self.folder, self.program, self.relay, self.daemon, self.ctl_path, self.settings = folder, program, relay, daemon, ctl, settings or {}
         self.count, self.processes = relay.count, [None] * relay.count
-        self.http = [None] * relay.count
+        self.http, self.within = [None] * relay.count, within and tempfile.TemporaryDirectory(prefix="dumgerok-nodes-", dir=within)
         os.makedirs(folder, exist_ok=True)
         for i in range(self.count):
             self.http[i] = free_port()
-            self.write(i, **(settings or {}))
+            self.write(i)
             if not os.path.exists(self.path(i, "node")):
                 words = [program, "format", self.path(i, "node"), str(slots), str(i), str(self.count)]
                 subprocess.run(words + ([str(first)] if first else []), check=True)
@@ -79,12 +114,12 @@ class Agents:
         """The configuration of agent i."""
         rows = dict(cluster="bed", id=i, nodes=self.relay.peers(i), listen="%s:%d" % self.relay.real[i], file=self.path(i, "node"),
                     program=self.program, socket=self.path(i, "sock"), http="127.0.0.1:%d" % self.http[i], record=self.path(i, "record"))
-        rows.update(settings)
+        rows.update({**self.settings, **settings})
         with open(self.path(i, "toml"), "w") as file:
             file.write("".join("%s = %s\n" % (name, json.dumps(value)) for name, value in rows.items() if value is not None))
 
     def path(self, i, what):
-        return os.path.join(self.folder, "%d.%s" % (i, what))
+        return os.path.join(self.within.name if self.within and what == "node" else self.folder, "%d.%s" % (i, what))
 
     def start(self, i, **environment):
         words = ["sh", "-c", 'export WATCHDOG_PID=$$; ulimit -n "${FILES:-1024}"; exec "$0" "$1"', self.daemon, self.path(i, "toml")]
@@ -96,8 +131,12 @@ class Agents:
             self.start(i)
 
     def kill(self, i, number=signal.SIGKILL):
+        """Ends an agent; its status. Its node, which ends with its input, has let go of its file then."""
+        node = self.node(i)
         self.processes[i].send_signal(number)
-        return self.processes[i].wait(10)
+        status = self.processes[i].wait(PATIENCE)
+        self.until(lambda: not is_there(node))
+        return status
 
     def node(self, i):
         """The process of the node of agent i."""
@@ -106,10 +145,16 @@ class Agents:
             return int(file.read().split()[0])
 
     def connect(self, i):
-        link = socket.socket(socket.AF_UNIX, socket.SOCK_STREAM)
-        link.settimeout(10)
-        link.connect(self.path(i, "sock"))
-        return link
+        link, end = socket.socket(socket.AF_UNIX, socket.SOCK_STREAM), time.monotonic() + PATIENCE
+        link.settimeout(PATIENCE)
+        while True:
+            try:
+                link.connect(self.path(i, "sock"))
+                return link
+            except BlockingIOError:          # more wait to be taken than the system keeps
+                if time.monotonic() > end:
+                    raise
+                time.sleep(0.01)
 
     def ask(self, i, **request):
         try:
@@ -122,26 +167,40 @@ class Agents:
     def status(self, i):
         return self.ask(i, do="status")
 
+    def groups(self):
+        """Of each agent that was started the phase and the number of its node's group."""
+        seen = [self.status(i) for i in range(self.count) if self.processes[i] and self.processes[i].poll() is None]
+        return [one and (one["phase"], one["group"]) for one in seen]
+
     def ctl(self, i, *words, **options):
-        return subprocess.run([self.ctl_path, "-s", self.path(i, "sock"), *words], capture_output=True, text=True, timeout=60, **options)
+        return subprocess.run([self.ctl_path, "-s", self.path(i, "sock"), *words], capture_output=True, text=True, timeout=PATIENCE, **options)
 
     def is_one_group(self, ids):
         """Whether these are one group, and nobody else is in it."""
         seen = [self.status(i) for i in ids]
         return all(s and s["phase"] == "Normal" and s["members"] == sorted(ids) and s["group"] == seen[0]["group"] for s in seen)
 
-    def until(self, what, seconds):
+    def send_all(self, j, datagrams, do="jobs"):
+        """Sends datagrams to agent j, a few at a time. An agent that answers a request has taken all datagrams that came before it; its node, which answers
+        `jobs`, too."""
+        for at in range(0, len(datagrams), AT_ONCE):
+            for datagram in datagrams[at:at + AT_ONCE]:
+                self.relay.send(j, datagram)
+            if not self.ask(j, do=do)["ok"]:
+                raise TimeoutError("agent %d doesn't answer" % j)
+
+    def until(self, what):
         """How long it takes until something is so."""
         begin = time.monotonic()
-        while time.monotonic() - begin < seconds:
+        while time.monotonic() - begin < PATIENCE:
             if what():
                 return time.monotonic() - begin
             time.sleep(0.01)
-        raise TimeoutError("after %d s not yet: %s" % (seconds, [self.status(i) for i in range(self.count)]))
+        raise TimeoutError("after %d s not yet: %s" % (PATIENCE, self.groups()))
 
-    def one_group(self, ids=None, seconds=60):
+    def one_group(self, ids=None):
         ids = list(range(self.count)) if ids is None else ids
-        return self.until(lambda: self.is_one_group(ids), seconds)
+        return self.until(lambda: self.is_one_group(ids))
 
     def stop(self):
         for process in self.processes:

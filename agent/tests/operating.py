@@ -1,7 +1,8 @@
 """The commands of docs/OPERATING.md, as they stand there."""
 import os, re, subprocess
 
-from cluster import page
+from bed import PATIENCE
+from cluster import metric, page
 
 TOP = os.path.join(os.path.dirname(os.path.abspath(__file__)), "../..")
 PAGE = os.path.join(TOP, "docs/OPERATING.md")
@@ -62,16 +63,21 @@ def commands(bed, text):
 
 
 def is_command(agents, words):
-    """Whether dumgerokctl does this: one that goes on without an end goes on for some seconds."""
+    """Whether dumgerokctl does this: `watch` prints the state and goes on, `take -- COMMAND` finishes the job that there is and waits for another."""
     if words[0] in OVER_FILES:
         words = ["help", words[0]]
     elif words[-1] == "--json":
         words = words + ["status"]
-    try:
-        asked = [agents.ctl_path, "-s", agents.path(0, "sock"), *words]
-        return subprocess.run(asked, stdout=subprocess.DEVNULL, stderr=subprocess.DEVNULL, timeout=3).returncode == 0
-    except subprocess.TimeoutExpired:
-        return words[0] in ("watch", "take")
+    asked = subprocess.Popen([agents.ctl_path, "-s", agents.path(0, "sock"), *words], stdout=subprocess.PIPE, stderr=subprocess.DEVNULL)
+    if words[0] == "watch":
+        goes_on = bool(asked.stdout.readline())
+    elif words[0] == "take" and "--" in words:
+        goes_on = agents.until(lambda: asked.poll() is not None or metric(agents, 0, "clients_waiting") > 0) >= 0 and asked.poll() is None
+    else:
+        return asked.communicate(timeout=PATIENCE) is not None and asked.returncode == 0
+    asked.kill()
+    asked.communicate()
+    return goes_on
 
 
 def the_page(bed):
@@ -83,9 +89,9 @@ def the_page(bed):
     os.makedirs(folder)
     environment = dict(os.environ, PROGRAM=bed.program, PATH=bed.programs + ":" + os.environ["PATH"])
     script = "set -eum\ntrap 'kill -9 $(jobs -p) 2> /dev/null || true' EXIT\n" + "echo :next:\n".join(blocks)
-    done = subprocess.run(["bash", "-c", script], cwd=folder, env=environment, stdout=subprocess.PIPE, stderr=subprocess.PIPE, text=True, timeout=90)
+    done = subprocess.run(["bash", "-c", script], cwd=folder, env=environment, stdout=subprocess.PIPE, stderr=subprocess.PIPE, text=True, timeout=3 * PATIENCE)
     came = done.stdout.split(":next:\n")
-    check = bed.tally.check
+    check = bed.tally.timed                  # they stand on groups that a busy machine may change
     check("the page's commands run", done.returncode == 0 and len(came) == len(blocks), (done.returncode, done.stdout[-300:], done.stderr[-300:]))
     for said in ("members       0,1,2", "this node", "keeps it as 1", "hello\n", "Run "):
         check("they print %r" % said, said in done.stdout, done.stdout[-500:])

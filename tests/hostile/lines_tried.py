@@ -1,5 +1,5 @@
 """Every line of the grammars of `sim`, `store`, `node` and `format`, spoiled word by word."""
-import os, re, tempfile, time
+import os, re, tempfile
 from grammar import NODE, SIM, STORE, TIMERS, bad_in_pieces, bad_in_schedule, bad_in_store, is_number, is_read
 
 OF_SIM = [f"{timer} 0" for timer in TIMERS] + """deliver 0;lose 0;cut 0 1;mend 0 1;submit 0 3 6869;submit 0 3 6869 7;finish 0 0 0
@@ -141,17 +141,23 @@ def try_node(tried, folder):
 
 
 def grows(tried, path, what, small, great, most):
-    """A node takes at most so many times as long for an input four times as great."""
-    took = []
-    for lines, text in (small, great):
-        if os.path.exists(path):
-            os.remove(path)
-        tried.run(["format", path, "4096", "0", "3"], b"")
-        begun = time.monotonic()
-        status, out, trouble = tried.run(["node", path, "0", "3"], lines, seconds=120)
-        tried.mark(trouble or ("" if status == 0 and out.endswith(text) else f"status {status}, it ends with {out[-100:]!r}"), what)
-        took.append(time.monotonic() - begun)
-    tried.mark("" if took[1] <= most * took[0] else f"{took[0]:.2f} s, and four times as much {took[1]:.2f} s", what)
+    """A node takes at most so many times as long of a processor for an input four times as great. Where it takes longer it is measured again, twice."""
+    children = lambda: sum(os.times()[2:4])
+    for again in range(3):
+        took = []
+        for lines, text in (small, great):
+            if os.path.exists(path):
+                os.remove(path)
+            tried.run(["format", path, "4096", "0", "3"], b"")
+            begun = children()
+            status, out, trouble = tried.run(["node", path, "0", "3"], lines, seconds=120)
+            tried.mark(trouble or ("" if status == 0 and out.endswith(text) else f"status {status}, it ends with {out[-100:]!r}"), what)
+            took.append(children() - begun)
+        if took[1] <= most * took[0]:
+            break
+        if again < 2:
+            print(f"played again: {what}")
+    tried.mark("" if took[1] <= most * took[0] else f"{took[0]:.2f} s of a processor, and four times as much {took[1]:.2f} s", what)
 
 
 def try_growth(tried, folder):

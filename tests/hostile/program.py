@@ -1,11 +1,33 @@
 """Runs the program, and counts what was tried. Whatever it is fed, it ends by itself, with a status that the texts allow, without a signal
 and where it ends badly with one line on standard error that says why. What is wrong with a trace, and that a run is unfinished, is printed alone."""
-import os, re, subprocess, sys
+import os, re, subprocess, sys, time
 
-SECONDS = 20
+# So many seconds of a processor a run may take. On a machine that is busy with other things it ends later, and it may wait for nothing for PATIENCE.
+SECONDS, PATIENCE = 20, 300
 # What may stand on standard error: a line, and behind that of a trace that is no run one for each node with entries left.
 ERRORS = re.compile(rb"(invite: [ -~]+\n(node [0-9]+: entry [0-9]+ [ -~]+\n)*)?")
 STATUSES = {"answer": {0, 1}, "show": {0, 1}, "sim": {0, 1}, "trace": {0, 1}, "record": {0, 1}, "threads": {0, 1}, "draw": {0, 1}, "store": {0, 1}, "format": {0, 1, 2, 3, 4, 5, 7, 8}, "node": {0, 1, 3, 4, 5, 6, 7, 8}, "inspect": {0, 1, 3, 7, 8}, "export": {0, 1, 3, 7, 8}}
+
+
+def processor_seconds(child):
+    """What a process that wasn't waited for has taken of a processor."""
+    with open(f"/proc/{child.pid}/stat", encoding="utf-8") as file:
+        words = file.read().rsplit(")", 1)[1].split()
+    return (int(words[11]) + int(words[12])) / os.sysconf("SC_CLK_TCK")
+
+
+def ends(child, fed, seconds):
+    """What a process puts out until it ends; TimeoutExpired where it has taken so many seconds of a processor, or waits for nothing."""
+    begun = time.monotonic()
+    while True:
+        try:
+            return child.communicate(fed, timeout=seconds)
+        except subprocess.TimeoutExpired:
+            fed = None
+            if processor_seconds(child) >= seconds or time.monotonic() - begun > max(PATIENCE, 3 * seconds):
+                child.kill()
+                child.wait()
+                raise
 
 
 class Tried:
@@ -32,12 +54,13 @@ class Tried:
 
     def run(self, words, fed, env=None, seconds=SECONDS, limit=None):
         """The status, the output and the trouble there was with how it ended."""
-        try:
-            ended = subprocess.run([self.program, *words], input=fed, capture_output=True, timeout=seconds, env=env, preexec_fn=limit)
-        except subprocess.TimeoutExpired:
-            return None, b"", f"no end within {seconds} s"
-        self.error = ended.stderr
-        return ended.returncode, ended.stdout, self.trouble_in(words, ended.returncode, ended.stdout)
+        pipes = dict(stdin=subprocess.PIPE, stdout=subprocess.PIPE, stderr=subprocess.PIPE)
+        with subprocess.Popen([self.program, *words], env=env, preexec_fn=limit, **pipes) as child:
+            try:
+                out, self.error = ends(child, fed, seconds)
+            except subprocess.TimeoutExpired:
+                return None, b"", f"no end within {seconds} s of a processor"
+        return child.returncode, out, self.trouble_in(words, child.returncode, out)
 
     def trouble_in(self, words, status, out):
         if status not in STATUSES[words[0]]:

@@ -1,6 +1,7 @@
 """Standard input, output and error that are closed, that fail, or that nobody reads; and words of a command line that are strange."""
 import os, signal, subprocess, tempfile
 from files_tried import found_in, read
+from program import PATIENCE
 
 INPUTS = {
     ("answer", "0", "3"): b"010102000000\n", ("show",): b"010102000000\n", ("sim",): b"cluster 1 4\nrecover 0\n", ("trace",): b'{"nodes":1,"histories":[[]]}',
@@ -25,7 +26,7 @@ class Streams:
         close = lambda: [os.close(one) for one in closed]
         with subprocess.Popen([self.tried.program, *words], preexec_fn=close, **streams) as child:
             try:
-                child.communicate(fed if streams["stdin"] == subprocess.PIPE else None, timeout=20)
+                child.communicate(fed if streams["stdin"] == subprocess.PIPE else None, timeout=PATIENCE)
             except subprocess.TimeoutExpired:
                 child.kill()
                 return "no end"
@@ -57,7 +58,7 @@ def try_own_file(streams):
         return read(streams.path)
     before = begun()
     with subprocess.Popen([streams.tried.program, "node", streams.path, "0", "3"], preexec_fn=lambda: os.close(0), stdout=subprocess.DEVNULL, stderr=subprocess.DEVNULL) as child:
-        status = child.wait(20)
+        status = child.wait(PATIENCE)
     trouble = "" if status in (0, 1) and read(streams.path) == before else f"status {status}, and the file is another"
     streams.tried.mark(trouble, "a closed input and a line in a payload")
 
@@ -99,7 +100,7 @@ def try_words(streams):
 def strange(tried, words, allowed):
     """What is wrong with how such a command line ends; its input is a line that no command reads well."""
     with subprocess.Popen([tried.program, *words], stdin=subprocess.DEVNULL, stdout=subprocess.DEVNULL, stderr=subprocess.DEVNULL, cwd=tempfile.gettempdir()) as child:
-        status = child.wait(20)
+        status = child.wait(PATIENCE)
     return "" if status in allowed else f"status {status} in place of {allowed}"
 
 

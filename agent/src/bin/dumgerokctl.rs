@@ -3,10 +3,13 @@
 #![forbid(unsafe_code)]
 
 use clap::Parser;
-use dumgerok_agent::ctl::{run, Arguments};
+use dumgerok_agent::ctl::{become_command, run, Arguments};
 use std::process::ExitCode;
 
 fn main() -> ExitCode {
+    if let Some(status) = become_command() {
+        return ExitCode::from(status);
+    }
     match run(Arguments::parse()) {
         Ok(()) => ExitCode::SUCCESS,
         Err(failure) => {

@@ -97,7 +97,13 @@ fn main() -> ExitCode {
             return ExitCode::from(CONFIG);
         }
     };
-    let lines = LogLines::start(std::io::stderr());
+    let lines = match LogLines::start(std::io::stderr()) {
+        Ok(lines) => lines,
+        Err(why) => {
+            eprintln!("dumgerokd: there is no thread for the log: {why}");
+            return ExitCode::FAILURE;
+        }
+    };
     log_as(config.log, lines.clone());
     let status = run(config, path).unwrap_or_else(|why| {
         error!("{why:#}");

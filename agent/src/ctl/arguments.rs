@@ -7,7 +7,8 @@ use std::path::PathBuf;
 
 /// Asks the Dumgerok agent of this machine.
 ///
-/// The exit status is 0 for ok, 1 for refused, 2 for a command line that can't be read, 3 where no agent answers.
+/// The exit status is 0 for ok, 1 for refused or where the output can't be written, 2 for a command line that can't be read, 3 where no
+/// agent answers.
 #[derive(Parser)]
 #[command(name = "dumgerokctl", version)]
 pub struct Arguments {
@@ -61,7 +62,8 @@ pub enum Command {
     ///
     /// COMMAND has the payload on its standard input, and DUMGEROK_ORIGIN, DUMGEROK_ID, DUMGEROK_QUEUE, DUMGEROK_PRIORITY and
     /// DUMGEROK_PAYLOAD (as hex digits) in its environment. A job whose command fails is left to be taken again. Where the job goes to
-    /// another node, its command is killed. Without COMMAND one job is printed, and may be given to others until it is finished.
+    /// another node, its command is killed with what it started. Without COMMAND one job is printed, and may be given to others until it
+    /// is finished.
     Take {
         #[arg(long, value_parser = clap::value_parser!(u8).range(0..16))]
         queue: Option<u8>,
@@ -81,8 +83,8 @@ pub enum Command {
     Format {
         #[arg(long, value_name = "PATH", default_value = "/etc/dumgerok/node.toml")]
         config: PathBuf,
-        /// How many records the journal holds, 4 to 4096
-        #[arg(long, default_value_t = 4096)]
+        /// How many records the journal holds, 4 to 4096: twice as many as jobs are ever pending at once
+        #[arg(long, default_value_t = 128)]
         slots: u32,
         /// The node's group numbers and ids begin behind this; else behind the time
         #[arg(long)]

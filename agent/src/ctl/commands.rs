@@ -6,16 +6,16 @@ use super::worker::{self, Worker};
 use super::{file, program, show, Failure};
 use clap::CommandFactory;
 use serde_json::{json, Value};
-use std::io::{self, Write};
+use std::io::{self, ErrorKind, Write};
 use std::path::Path;
 
 /// Writes text; a reader that went away ends the command without a word.
 fn print(text: &str) -> Result<(), Failure> {
     let mut out = io::stdout().lock();
-    if out.write_all(text.as_bytes()).and_then(|()| out.flush()).is_err() {
-        std::process::exit(0);
+    match out.write_all(text.as_bytes()).and_then(|()| out.flush()) {
+        Err(why) if why.kind() == ErrorKind::BrokenPipe => std::process::exit(0),
+        written => written.map_err(Failure::Output),
     }
-    Ok(())
 }
 
 pub fn run(arguments: Arguments) -> Result<(), Failure> {
@@ -27,8 +27,9 @@ pub fn run(arguments: Arguments) -> Result<(), Failure> {
         Command::Judge { files, program: _, trace: true } => print(&format!("{}\n", program::trace_of(files)?)),
         Command::Judge { files, program, trace: false } => program::judge(files, program),
         Command::Completions { shell } => {
-            clap_complete::generate(*shell, &mut Arguments::command(), "dumgerokctl", &mut io::stdout());
-            Ok(())
+            let mut script = Vec::new();
+            clap_complete::generate(*shell, &mut Arguments::command(), "dumgerokctl", &mut script);
+            print(&String::from_utf8_lossy(&script))
         }
         _ => with_agent(&socket(given), is_json, command),
     }

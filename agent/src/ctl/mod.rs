@@ -4,6 +4,8 @@ mod agent;
 mod arguments;
 mod commands;
 mod file;
+mod interrupts;
+mod own_session;
 mod program;
 mod show;
 mod table;
@@ -11,6 +13,7 @@ mod worker;
 
 pub use arguments::{Arguments, Command};
 pub use commands::run;
+pub use own_session::become_command;
 
 use std::process::ExitCode;
 use thiserror::Error;
@@ -25,6 +28,8 @@ pub enum Failure {
     Usage(String),
     #[error("no agent answers: {0}")]
     NoAgent(#[from] std::io::Error),
+    #[error("the output can't be written: {0}")]
+    Output(std::io::Error),
     /// A program that was called ended with this status.
     #[error("the program ended with status {0}")]
     Program(u8),
@@ -33,7 +38,7 @@ pub enum Failure {
 impl Failure {
     pub fn status(&self) -> ExitCode {
         ExitCode::from(match self {
-            Failure::Refused(_) => 1,
+            Failure::Refused(_) | Failure::Output(_) => 1,
             Failure::Usage(_) => 2,
             Failure::NoAgent(_) => 3,
             Failure::Program(status) => *status,

@@ -1,13 +1,15 @@
 //! Works on jobs by running a command for each.
 
 use super::agent::Agent;
+use super::interrupts::Interrupts;
+use super::own_session::{self, end};
 use super::show;
 use super::Failure;
 use serde_json::{json, Value};
 use std::ffi::OsString;
 use std::io::{self, Write};
 use std::path::Path;
-use std::process::{Child, Command, Stdio};
+use std::process::{Child, Stdio};
 use std::sync::mpsc::{channel, Receiver, RecvTimeoutError};
 use std::thread;
 use std::time::Duration;
@@ -58,12 +60,19 @@ pub fn next_job(agent: &mut Agent, queue: Option<u8>) -> Result<Value, Failure> 
 
 impl Worker<'_> {
     pub fn work(&self) -> Result<(), Failure> {
-        let mut pause = FIRST_PAUSE;
+        match self.command.first() {
+            Some(program) if own_session::is_there(program) => {}
+            Some(program) => {
+                return Err(Failure::Usage(format!("{}: there is no such command", program.to_string_lossy())))
+            }
+            None => return Err(Failure::Usage("no COMMAND".to_string())),
+        }
+        let (mut pause, interrupts) = (FIRST_PAUSE, Interrupts::register()?);
         loop {
             // a connection for each job: where it ends the job is given to another
             let mut agent = Agent::connect(self.socket)?;
             let job = next_job(&mut agent, self.queue)?;
-            let outcome = self.run(agent, &job)?;
+            let outcome = self.run(agent, &job, &interrupts)?;
             let name = format!("{}:{}", job["origin"], job["id"]);
             match outcome {
                 Outcome::Done => pause = FIRST_PAUSE,
@@ -82,29 +91,17 @@ impl Worker<'_> {
         }
     }
 
-    fn run(&self, mut agent: Agent, job: &Value) -> Result<Outcome, Failure> {
-        let mut child = self.spawn(job)?;
+    fn run(&self, mut agent: Agent, job: &Value, interrupts: &Interrupts) -> Result<Outcome, Failure> {
         let events = agent.listen()?;
-        let is_done = loop {
-            if let Some(status) = child.try_wait()? {
-                break status.success();
-            }
-            match events.recv_timeout(LOOK) {
-                Ok(event) if is_stop(&event, job) => {
-                    end(&mut child)?;
-                    return Ok(Outcome::Stopped);
-                }
-                Ok(_) | Err(RecvTimeoutError::Timeout) => {}
-                Err(RecvTimeoutError::Disconnected) => {
-                    end(&mut child)?;
-                    return Err(io::Error::new(io::ErrorKind::UnexpectedEof, "the agent ended the connection").into());
-                }
-            }
-        };
-        if !is_done {
-            return Ok(Outcome::Failed);
+        interrupts.set_idle(false);
+        let ended = watch_over(&mut self.spawn(job)?, &events, job, interrupts);
+        interrupts.set_idle(true);
+        interrupts.end()?;
+        match ended? {
+            Some(true) => self.finish(&mut agent, &events, job),
+            Some(false) => Ok(Outcome::Failed),
+            None => Ok(Outcome::Stopped),
         }
-        self.finish(&mut agent, &events, job)
     }
 
     fn finish(&self, agent: &mut Agent, events: &Receiver<Value>, job: &Value) -> Result<Outcome, Failure> {
@@ -118,14 +115,13 @@ impl Worker<'_> {
     }
 
     fn spawn(&self, job: &Value) -> Result<Child, Failure> {
-        let (program, words) = self.command.split_first().ok_or_else(|| Failure::Usage("no COMMAND".to_string()))?;
         let digits = job["payload"].as_str().unwrap_or_default();
-        let mut command = Command::new(program);
-        command.args(words).stdin(Stdio::piped()).env("DUMGEROK_PAYLOAD", digits);
+        let mut command = own_session::command(self.command);
+        command.stdin(Stdio::piped()).env("DUMGEROK_PAYLOAD", digits);
         for (name, field) in [("ORIGIN", "origin"), ("ID", "id"), ("QUEUE", "queue"), ("PRIORITY", "priority")] {
             command.env(format!("DUMGEROK_{name}"), job[field].to_string());
         }
-        let named = |why| Failure::Usage(format!("{}: {why}", program.to_string_lossy()));
+        let named = |why| Failure::Usage(format!("the command can't be run: {why}"));
         let mut child = command.spawn().map_err(named)?;
         if let Some(mut input) = child.stdin.take() {
             // 400 bytes at most, which a pipe holds; a command needn't read them
@@ -139,9 +135,30 @@ fn is_stop(event: &Value, job: &Value) -> bool {
     event["event"] == "stop" && event["origin"] == job["origin"] && event["id"] == job["id"]
 }
 
-fn end(child: &mut Child) -> io::Result<()> {
-    child.kill()?;
-    child.wait().map(drop)
+/// Waits until a command ends: whether it ended well, or None where it was killed since its job went elsewhere or a signal came.
+fn watch_over(
+    child: &mut Child,
+    events: &Receiver<Value>,
+    job: &Value,
+    interrupts: &Interrupts,
+) -> Result<Option<bool>, Failure> {
+    loop {
+        if let Some(status) = child.try_wait()? {
+            return Ok(Some(status.success()));
+        }
+        let has_ended = match events.recv_timeout(LOOK) {
+            Ok(event) => is_stop(&event, job) || interrupts.have_come(),
+            Err(RecvTimeoutError::Timeout) => interrupts.have_come(),
+            Err(RecvTimeoutError::Disconnected) => {
+                end(child)?;
+                return Err(io::Error::new(io::ErrorKind::UnexpectedEof, "the agent ended the connection").into());
+            }
+        };
+        if has_ended {
+            end(child)?;
+            return Ok(None);
+        }
+    }
 }
 
 impl Agent {
@@ -149,13 +166,13 @@ impl Agent {
     fn listen(&mut self) -> io::Result<Receiver<Value>> {
         let mut reader = self.reader()?;
         let (to, from) = channel();
-        thread::spawn(move || {
+        thread::Builder::new().spawn(move || {
             while let Ok(line) = reader.hear() {
                 if to.send(line).is_err() {
                     return;
                 }
             }
-        });
+        })?;
         Ok(from)
     }
 }

@@ -2,7 +2,7 @@
 
 use super::requests::MAX_LISTINGS;
 use super::{Asker, Daemon};
-use crate::http::{Page, Response, PAGE};
+use crate::http::{Page, Response, PAGE, THREADS};
 use crate::node::{Lane, Line};
 use serde_json::json;
 use std::time::{Duration, Instant};
@@ -19,7 +19,12 @@ pub(super) struct PendingJobs {
 
 impl Daemon {
     pub(super) fn serve_pages(&mut self, now: Instant) {
-        while let Some(page) = self.http.as_ref().and_then(|http| http.next()) {
+        // one that is asked for meanwhile wakes the loop again
+        for _ in 0..THREADS {
+            let page = match self.http.as_ref().and_then(|http| http.next()) {
+                Some(page) => page,
+                None => return,
+            };
             let response = self.response_to(&page, now);
             page.answer(response);
         }

@@ -2,12 +2,16 @@
 
 use hmac::{Hmac, Mac};
 use sha2::Sha256;
-use std::fs;
+use std::fs::File;
+use std::io::Read;
 use std::path::Path;
 use thiserror::Error;
 
 const CONTEXT: &[u8] = b"dumgerok agent 1";
 const TAG: usize = 32;
+
+/// No more of a key file is read: two lines are far shorter, and what is longer is none.
+const MAX_FILE: u64 = 4096;
 
 type HmacSha256 = Hmac<Sha256>;
 
@@ -29,7 +33,9 @@ pub struct Seal {
 impl Seal {
     /// Reads the cluster's key file. The keys are bound to the cluster's name and its number of nodes.
     pub fn read(path: &Path, cluster: &str, nodes: usize) -> Result<Seal, KeyError> {
-        Seal::of(&fs::read_to_string(path)?, cluster, nodes)
+        let mut text = String::new();
+        File::open(path)?.take(MAX_FILE).read_to_string(&mut text)?;
+        Seal::of(&text, cluster, nodes)
     }
 
     fn of(text: &str, cluster: &str, nodes: usize) -> Result<Seal, KeyError> {
@@ -98,6 +104,7 @@ mod tests {
         assert!(both.open(&two.seal(b"x".to_vec())).is_some());
         assert!(one.open(&both.seal(b"x".to_vec())).is_some());
         assert!(two.open(&both.seal(b"x".to_vec())).is_none());
+        assert!(Seal::read(Path::new("/dev/zero"), "prod", 3).is_err());
         for bad in ["", "00\n", "zz", &ONE.repeat(3)] {
             assert!(Seal::of(bad, "prod", 3).is_err(), "{bad:?}");
         }

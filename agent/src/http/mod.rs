@@ -3,7 +3,7 @@
 mod request;
 mod server;
 
-pub use server::{Page, Response, Server};
+pub use server::{Page, Response, Server, THREADS};
 
 /// The page that `/` shows: one file, which asks `/state` for all that it draws.
 pub const PAGE: &str = include_str!("page.html");

@@ -11,8 +11,8 @@ use std::sync::Arc;
 use std::thread;
 use std::time::{Duration, Instant};
 
-/// So many requests are served at a time.
-const THREADS: usize = 8;
+/// So many requests are served at a time: so many wait for the loop at most.
+pub const THREADS: usize = 8;
 
 /// So long a request may take to come, and its answer to be taken.
 const PATIENCE: Duration = Duration::from_secs(2);
@@ -86,7 +86,7 @@ impl Server {
         let (to, from) = sync_channel(THREADS);
         for _ in 0..THREADS {
             let (listener, to, waker) = (Arc::clone(&listener), to.clone(), Arc::clone(&waker));
-            thread::spawn(move || serve(&listener, &to, &waker));
+            thread::Builder::new().spawn(move || serve(&listener, &to, &waker))?;
         }
         Ok(Server { from })
     }

@@ -7,6 +7,9 @@ use serde_json::{json, Map, Value};
 
 const TIMERS: [&str; 7] = ["check", "merge", "accept", "ready", "coord", "dispatch", "recover"];
 
+/// So many groups that a node made without an answer are put into a trace beyond those of its recoveries: one answer names fewer.
+const MAX_UNKNOWN: u64 = 64;
+
 /// An event and the lines that stand behind it in the answer.
 struct Event<'a> {
     name: &'a str,
@@ -112,8 +115,8 @@ impl<'a> History<'a> {
         }
         match closing {
             Closing::Ok(Some(id)) => {
-                self.kept.next = id.wrapping_sub(self.begins[usize::from(self.own)].id) + 1;
-                self.kept.pending += 1;
+                self.kept.next = id.wrapping_sub(self.begins[usize::from(self.own)].id).wrapping_add(1);
+                self.kept.pending = self.kept.pending.saturating_add(1);
             }
             Closing::Fault => self.killed(Some(request)),
             _ => {}
@@ -193,6 +196,9 @@ impl<'a> History<'a> {
         } else {
             has_counted = false;
             self.put("crash", Vec::new(), Map::new());
+        }
+        if raised > self.recoveries.saturating_add(MAX_UNKNOWN) {
+            return None;
         }
         for _ in 0..raised {
             self.put_recovery(has_counted, Some("raise"));
@@ -290,6 +296,13 @@ mod tests {
         assert_eq!(lost, [r#"{"do":"crash","sent":[]}"#, r#"{"do":"recover","kept":false,"sent":[]}"#]);
         let raised = entries(&format!("{START}> merge\nstart\n> recover\nkeeps 103 5 0\nok 1\n"));
         assert_eq!(raised[0], r#"{"do":"merge","fault":"device","sent":[]}"#);
+    }
+
+    #[test]
+    fn counts_that_no_node_reaches_are_refused() {
+        let lines = format!("{START}> merge\nstart\n> recover\nkeeps 18446744073709551615 5 0\nok 1\n");
+        let record = NodeRecord { node: 0, lines: lines.lines().map(str::to_string).collect() };
+        assert!(History::of(0, &record, &[Begin { count: 100, id: 5 }]).is_err());
     }
 
     #[test]

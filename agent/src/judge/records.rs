@@ -4,6 +4,9 @@ use std::fs;
 use std::path::{Path, PathBuf};
 use thiserror::Error;
 
+/// So many nodes a cluster has at most.
+const MAX_NODES: usize = 128;
+
 #[derive(Debug, Error)]
 pub enum RecordError {
     #[error("{path}: {why}")]
@@ -47,7 +50,9 @@ impl Part {
             (words.starts_with(&begin), words.as_slice())
         {
             if let (Ok(node), Ok(nodes), Ok(part)) = (node.parse(), nodes.parse(), part.parse()) {
-                return Ok(Part { node, nodes, part, lines: lines.map(str::to_string).collect() });
+                if (1..=MAX_NODES).contains(&nodes) && node < nodes {
+                    return Ok(Part { node, nodes, part, lines: lines.map(str::to_string).collect() });
+                }
             }
         }
         Err(RecordError::NoRecord(path.to_path_buf()))
@@ -60,14 +65,15 @@ pub fn read(paths: &[PathBuf]) -> Result<Vec<NodeRecord>, RecordError> {
     parts.sort_by_key(|part| (part.node, part.part));
     let nodes = parts.iter().map(|part| part.nodes).max().unwrap_or(0);
     let mut records: Vec<NodeRecord> = (0..nodes).map(|node| NodeRecord { node, lines: Vec::new() }).collect();
-    let mut last = vec![0; nodes];
+    let mut last: Vec<u64> = vec![0; nodes];
     for part in parts {
         let record = match records.get_mut(part.node) {
             Some(record) => record,
             None => return Err(RecordError::Missing { nodes, missing: part.node }),
         };
-        if last[part.node] != 0 && last[part.node] + 1 != part.part {
-            return Err(RecordError::Gap { node: part.node, part: last[part.node] + 1 });
+        let next = last[part.node].saturating_add(1);
+        if last[part.node] != 0 && next != part.part {
+            return Err(RecordError::Gap { node: part.node, part: next });
         }
         last[part.node] = part.part;
         record.lines.extend(part.lines);
@@ -75,5 +81,27 @@ pub fn read(paths: &[PathBuf]) -> Result<Vec<NodeRecord>, RecordError> {
     match last.iter().position(|part| *part == 0) {
         Some(missing) => Err(RecordError::Missing { nodes, missing }),
         None => Ok(records),
+    }
+}
+
+#[cfg(test)]
+mod tests {
+    use super::*;
+
+    #[test]
+    fn heads_that_no_agent_writes() {
+        let path = std::env::temp_dir().join(format!("dumgerok-head-{}", std::process::id()));
+        for (head, is_read) in [
+            ("node 1 of 2 part 1", true),
+            ("node 0 of 99999999999 part 1", false),
+            ("node 2 of 2 part 1", false),
+            ("node 0 of 0 part 1", false),
+            ("node -1 of 2 part 1", false),
+            ("node 0 of 2 part 18446744073709551616", false),
+        ] {
+            fs::write(&path, format!("# dumgerok record 1 {head} cluster c\nstart\n")).unwrap();
+            assert_eq!(Part::read(&path).is_ok(), is_read, "{head}");
+        }
+        fs::remove_file(&path).unwrap();
     }
 }

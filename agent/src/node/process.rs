@@ -25,6 +25,9 @@ pub enum Lane {
 /// The node's longest line is far shorter.
 const MAX_LINE: usize = 64 * 1024;
 
+/// A node that was killed has so long to be gone.
+const PATIENCE_BEHIND_KILL: Duration = Duration::from_millis(250);
+
 /// So many bytes are read at a time, so that what they say is done before more of it is held.
 const MAX_AT_A_TIME: usize = 256 * 1024;
 
@@ -222,9 +225,9 @@ impl<A> NodeProcess<A> {
                 return None;
             }
         };
+        let texts = std::mem::take(&mut self.texts);
         let request = self.asked.pop_front()?;
         self.on_the_way[request.lane as usize] -= request.text.len() + 1;
-        let texts = std::mem::take(&mut self.texts);
         if request.is_recorded {
             self.write_down(texts.iter().chain([&text]).map(String::as_str));
         }
@@ -236,17 +239,25 @@ impl<A> NodeProcess<A> {
         Some(answer)
     }
 
-    /// Ends its input, by which it ends, and kills it where it hasn't ended in time.
+    /// Ends its input, by which it ends, and kills it where it hasn't ended in time. One that waits for a disk that hangs can't be killed, and isn't waited for.
     pub fn end(&mut self, within: Duration) -> io::Result<ExitStatus> {
         self.input = None;
+        if let Some(status) = self.wait(within)? {
+            return Ok(status);
+        }
+        self.child.kill()?;
+        let hangs = || io::Error::new(ErrorKind::TimedOut, "the node can't be killed: it waits for its disk");
+        self.wait(PATIENCE_BEHIND_KILL)?.ok_or_else(hangs)
+    }
+
+    fn wait(&mut self, within: Duration) -> io::Result<Option<ExitStatus>> {
         let until = Instant::now() + within;
-        while Instant::now() < until {
-            if let Some(status) = self.child.try_wait()? {
+        loop {
+            let status = self.child.try_wait()?;
+            if status.is_some() || Instant::now() >= until {
                 return Ok(status);
             }
             thread::sleep(Duration::from_millis(5));
         }
-        self.child.kill()?;
-        self.child.wait()
     }
 }

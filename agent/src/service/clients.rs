@@ -187,7 +187,7 @@ impl Clients {
     /// Gives a client an answer that it is owed.
     pub fn answer(&mut self, id: ClientId, reply: &Reply) {
         if let Some(client) = self.all.get_mut(&id) {
-            client.owed -= 1;
+            client.owed = client.owed.saturating_sub(1);
         }
         self.tell(id, reply);
         if self.all.get(&id).map_or(false, Client::is_gone) {
