@@ -189,6 +189,8 @@ def try_bytes(tried, path):
         tried.mark("" if os.stat(path).st_blocks >= 8 + 4 * slots else "it has no room", (slots, requests))
         write(path, bytes_of(slots, sectors))
         tried.expect(["store", path], "mount\nlist\n", "ok\n" + shown)
+        # a mounting writes nothing: the file stays, with the number of its area
+        tried.same(read(path), bytes_of(slots, sectors), ("mounted alone", requests))
     for words, requests, sectors, label in NODES:
         tried.formatted(path, words)
         _, out = tried.run(["node", path, *words.split()[1:3]], requests)
@@ -496,8 +498,8 @@ def try_refused_calls(tried, folder, path):
                 break
             tried.same((ended.returncode, ended.stderr.decode(), os.path.exists(path)), (status, f"invite: {path}: {said}\n", False), ("format", at, read(noted)))
         tried.mark("" if 40 < at < 199 else f"{at} calls", "a format's calls")
-    # a device that fails while a node runs
-    for at in range(7, 30):
+    # a device that fails while a node runs, which opened its file with seven calls
+    for at in range(8, 30):
         tried.formatted(path)
         ended = subprocess.run([tried.program, "node", path, "0", "1"], input=b"recover\n", capture_output=True, timeout=600, check=False, **failing(at, errno.EIO))
         tried.same((ended.returncode, ended.stderr.decode()), (3, f"invite: {path}: the device failed: Input/output error (os error 5)\n") if b"fault 1 Device" in ended.stdout else (0, ""), at)

@@ -2,7 +2,7 @@
 # Hostile input: messages, lines, files and traces that are spoiled in every way, and each allocation refused. The expected texts are worked out in
 # Python from the pages under docs/, in tests/hostile/.
 # Called with the program, as in: tests/hostile.sh crates/invite/out/invite. With --long behind it more of each is tried; with names (bytes, lines,
-# plans, files, traces, memory, refused, streams) those alone. It needs python3, a C compiler for what is loaded before the C library, and says so where there
+# plans, files, traces, shapes, memory, refused, streams) those alone. It needs python3, a C compiler for what is loaded before the C library, and says so where there
 # is none; and for `refused` the programs of tests that `rt ci`, or `rt test` in their crates, leaves.
 # Its last line counts the checks.
 set -u

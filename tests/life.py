@@ -11,6 +11,7 @@ HERE = os.path.dirname(os.path.abspath(__file__))
 PAGE = os.path.join(HERE, "../docs/FORMATS.md")
 
 SECTOR = 512
+BLOCK = 4096
 SEAL = "a5"
 
 # A store of four slots: the area cell has the value 1, and the counter 0.
@@ -131,6 +132,81 @@ def files(tally, program, room):
         os.unlink(path)
 
 
+def spread(held):
+    """A packed file's bytes with a block of 4,096 bytes for each sector, and a label that says so."""
+    whole = len(held) // SECTOR
+    blocks = b"".join(held[SECTOR * at:SECTOR * (at + 1)] + bytes(BLOCK - SECTOR) for at in range(whole))
+    label = held[SECTOR * whole:]
+    return blocks + label[:11] + b"\1" + label[12:]
+
+
+def filled(path, sector, byte):
+    """Fills the block of a sector, as a write that was torn may leave it."""
+    with open(path, "r+b") as file:
+        file.seek(BLOCK * sector)
+        file.write(bytes([byte]) * BLOCK)
+
+
+def spaced(tally, program, room):
+    """Files with a block for each sector: the bytes are those of a packed file, spread; they are read and served without a word about it."""
+    path = os.path.join(room, "spaced")
+    for name, sectors, parts, behind, text, status in FILES:
+        if behind != LABEL:
+            continue
+        held = spread(image(sectors, parts, behind))
+        with open(path, "wb") as file:
+            file.write(held)
+        judge(tally, f"inspect {name}, spaced", run(program, "inspect", path), (text, status))
+        if name in EXPORTS:
+            judge(tally, f"export {name}, spaced", run(program, "export", path), EXPORTS[name])
+        os.unlink(path)
+    for words, jobs, parts, exported in MADE:
+        slots, node, nodes = [int(word) for word in words.split()[:3]]
+        packed = image(8 + 4 * slots, parts, "64756d6765726f6b 01" + "%02x%02x" % (node, nodes) + "00" * 5)
+        for stride, held in (("512", packed), ("4096", spread(packed))):
+            out = run(program, "format", path, *words.split(), "--stride", stride, *(["--jobs", "-"] if jobs is not None else []), text=jobs or "")
+            with open(path, "rb") as file:
+                tally.mark(f"format {words} --stride {stride} with {jobs!r}", "" if out == ("", 0, "") and file.read() == held else f"{out}, or other bytes")
+            judge(tally, f"export of format {words} --stride {stride} with {jobs!r}", run(program, "export", path), (exported, 0))
+            os.unlink(path)
+    for stride in ("0", "511", "1024", "04096", "4096 ", "x", ""):
+        out, status, _ = run(program, "format", path, "4", "0", "3", "--stride", stride)
+        tally.mark(f"format --stride {stride!r}", "" if status == 2 and not os.path.exists(path) else f"{status}: {out}")
+    served(tally, program, path)
+
+
+def served(tally, program, path):
+    """A node over such a file is killed; what it answered is there, nothing stands between its sectors, and a torn block costs one sector."""
+    run(program, "format", path, "8", "0", "3", "--stride", "4096")
+    node = subprocess.Popen([program, "node", path, "0", "3"], stdin=subprocess.PIPE, stdout=subprocess.PIPE, text=True)
+    node.stdin.write("recover\nsubmit 3 6869 7\nsubmit 0 61\n")
+    node.stdin.flush()
+    for line in node.stdout:
+        if line.startswith("ok 3"):
+            break
+    node.kill()
+    node.wait()
+    text = "kind node\nnode 0\nnodes 3\nslots 8\nused 3\ncount 1\nnext 2\njobs 2\nqueue_0 1\nqueue_3 1\n"
+    judge(tally, "inspect behind a kill, spaced", run(program, "inspect", path), (text, 0))
+    judge(tally, "export behind a kill, spaced", run(program, "export", path), ("job 0 3 6869 7\njob 1 0 61\n", 0))
+    with open(path, "rb") as file:
+        held = file.read()
+    between = [at for at in range((len(held) - 16) // BLOCK) if any(held[BLOCK * at + SECTOR:BLOCK * (at + 1)])]
+    tally.mark("nothing stands between sectors", "" if not between and len(held) == BLOCK * 40 + 16 else f"{len(held)} bytes, {between}")
+    out, status, said = run(program, "node", path, "1", "3")
+    tally.mark("another node's file, spaced", "" if status == 5 and "the file of node 0 of 3" in said else f"{status}: {said}")
+    judge(tally, "a store isn't made over it", run(program, "store", path, text="mount\nformat 4\n"), ("refused Foreign\nrefused Foreign\n", 0))
+    # the gate and the body of the next raise, and those of the next record
+    for sector, byte in ((1, 0), (0, 0xff), (14, 0xff), (15, 0)):
+        filled(path, sector, byte)
+        judge(tally, f"the block of sector {sector} is torn", run(program, "inspect", path), (text, 0))
+    out, status, _ = run(program, "node", path, "0", "3", text="recover\njobs\n")
+    tally.mark("a node recovers with torn blocks", "" if status == 0 and "keeps 2 2 2\n" in out else f"{status}: {out}")
+    filled(path, 12, 0xff)
+    judge(tally, "a torn block of a record", run(program, "inspect", path), (text[:text.index("count")] + "count 2\ndamaged_journal 12\n", 1))
+    os.unlink(path)
+
+
 def in_use(tally, program, room):
     """A file that is locked, and one that a node has open, are read all the same."""
     path = os.path.join(room, "node")
@@ -222,6 +298,7 @@ def main():
     room = tempfile.mkdtemp()
     try:
         files(tally, program, room)
+        spaced(tally, program, room)
         in_use(tally, program, room)
         no_file(tally, program, room)
         made(tally, program, room)

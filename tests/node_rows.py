@@ -21,7 +21,7 @@ ROWS = [
      UP + "take 0 0 3 6869 7\nok 2 id 0\npending 0 3 6869 7\nhand 0 0 3 6869 7\nok 3\ngone 0\nok 4\ntake 0 1 0 -\nok 5 id 1\nok 6\npending 1 0 -\nhand 0 1 0 -\nok 7\n"),
     # a question, one for another node, and the loss of nodes that aren't in the group
     ("recover\ndeliver 010101000000\ndeliver 010101020000\nlost 0\nlost 1\n", UP + "send 1 01020001000101\nok 2\nrefused 3 Stranger\nok 4\nok 5\n"),
-    # the first tick sets the timers, a check is due after 400 ms and at most 200 more, and its questions are sent again from the second round trip on
+    # the first tick sets the timers, a check is due after 200 ms and at most 100 more, and its questions are sent again from the second round trip on
     ("tick 0\nrecover\ntick 2000\ntick 2620\ntick 2620\ntick 2640\ntick 2660\n",
      "ok 1\ngroup Normal 0 0:1 0\nkeeps 1 0 0\nok 2\nnext ?\nok 3\nfired check\nsend 1 010100010000\nsend 2 010100020000\n"
      "next 2640\nok 4\nnext 2640\nok 5\nnext 2660\nok 6\nsend 1 010100010000\nsend 2 010100020000\nnext 2680\nok 7\n"),
@@ -40,10 +40,14 @@ JOINING = "recover;deliver 010500010009000000000000000002"
 JOINED = JOINING + ";deliver 01070001000c000000000000000002020001"
 TIMERS = [
     (0, 3, "state", "dispatch", [(0, False), (1000, False), (2**64 - 1, False)]),
-    # 20 round trips, and up to 10 more; it fires once
-    (0, 1, "recover", "check", [(100, False), (100, False), (499, False), (700, True), (700, False)]),
+    # 10 round trips in a new group, and up to 5 more; it fires once. Then 45, and up to 5 more
+    (0, 1, "recover", "check", [(100, False), (100, False), (299, False), (400, True), (400, False), (600, False), (1299, False), (1600, True)]),
     # 5, and up to 5 more, and 10 for each step by which the greatest coordinator found is above the node
     (0, 3, "recover;check", "merge", [(0, False), (99, False), (200, True), (200, False)]),
+    # at once where all have answered, and none of them leads
+    (0, 3, "recover;check", "merge", [(0, False), ("deliver 01020100000100", None), (1, False), ("deliver 01020200000100", None), (2, True), (2, False)]),
+    (0, 3, "recover;check", "merge", [(0, False), ("deliver 01020100000101", None), ("deliver 01020200000100", None), (1, False), (299, False), (400, True)]),
+    (0, 1, "recover", "merge", [(0, False), (199, False), (300, True)]),
     (0, 2, "recover;check;deliver 01020100000101", "merge", [(5, False), (304, False), (405, True)]),
     (2, 6, "recover;check;deliver 01020002000101;deliver 01020502000101", "merge", [(0, False), (699, False), (800, True)]),
     (5, 6, "recover;check;deliver 01020005000101;deliver 01020205000101", "merge", [(0, False), (99, False), (200, True)]),
@@ -53,13 +57,14 @@ TIMERS = [
     (0, 2, LEADING, "ready", [(7, False), (206, False), (207, True), (207, False)]),
     # 20 for the task, and then 10 for the coordinator's answer
     (1, 2, JOINING, "coord", [(7, False), (406, False), (407, True), (407, False), (606, False), (607, True), (607, False)]),
-    # 20, and up to 10 more, and then 10
+    # 20 in a new group, and up to 10 more, and then 10
     (1, 2, JOINED, "coord", [(7, False), (406, False), (607, True), (607, False), (806, False), (807, True), (807, False)]),
-    # what is heard of the coordinator puts its question off no further
-    (1, 2, JOINED, "coord", [(7, False), ("deliver 010100010000", None), (406, False), ("deliver 010100010000", None), (607, True)]),
-    # a greater node that looks for others is to merge first: a merge waits anew for its turn, once; a lesser one changes nothing
-    (0, 2, "recover;check;deliver 01020100000101", "merge", [(0, False), (290, False), ("deliver 010101000000", None), (291, False), (590, False), (691, True)]),
-    (0, 2, "recover;check;deliver 01020100000101", "merge", [(0, False), (200, False), ("deliver 010101000000", None), (201, False), ("deliver 010101000000", None), (500, False), (601, True)]),
+    # at once behind a check of the coordinator, and then 52 behind the answer, and up to 3 more; another node's check changes nothing
+    (1, 2, JOINED, "coord", [(7, False), ("deliver 010100010000", None), (8, True), (8, False), ("deliver 01040001000a00000000000000000201", None), (9, False), (1048, False), (1109, True)]),
+    (1, 3, JOINED, "coord", [(7, False), ("deliver 010102010000", None), (406, False), (607, True)]),
+    # a greater node that looks for others is to merge first: a merge waits twice as long, once; a lesser one changes nothing
+    (0, 2, "recover;check;deliver 01020100000101", "merge", [(0, False), (290, False), ("deliver 010101000000", None), (291, False), (599, False), (800, True)]),
+    (0, 2, "recover;check;deliver 01020100000101", "merge", [(0, False), (200, False), ("deliver 010101000000", None), (201, False), ("deliver 010101000000", None), (599, False), (800, True)]),
     (1, 6, "recover;check;deliver 01020501000101", "merge", [(0, False), (899, False), ("deliver 010100010000", None), (1000, True)]),
     # at once in a group that is new, then once the oldest job was the same for 5 and a millisecond for each job, and after a quarter more each time, up to 300;
     # never where there is no job
@@ -70,14 +75,14 @@ TIMERS = [
                                               (800_000, True), (900_000, True), (1_000_000, True), (1_100_000, True), (1_200_000, True), (1_300_000, True), (1_400_000, True),
                                               (1_500_000, True), (1_600_000, True), (1_700_000, True), (1_800_000, True), (1_900_000, True), (2_000_000, True),
                                               (2_005_999, False), (2_006_000, True), (2_011_999, False), (2_012_000, True)]),
-    # each check is counted, and a member that was silent in three of them is given up in place of the next
-    (0, 2, IN_STEP, "check", [(0, False), (600, True), (800, False), (1400, True), (1600, False), (2200, True), (2400, False), (3000, False)]),
-    (0, 2, IN_STEP, "recover", [(0, False), (600, False), (800, False), (1400, False), (1600, False), (2200, False), (2400, False), (3000, True), (3000, False)]),
-    (0, 2, IN_STEP, "recover", [(0, False), (600, False), (800, False), (1400, False), (1600, False), (2200, False), ("deliver 01020100000100", None),
-                                (2400, False), (3000, False), (3200, False), (3800, False), (4000, False), (4600, False), (4800, False), (5400, True)]),
+    # each check is counted, and a member that was silent in three of them is given up at the end of the third
+    (0, 2, IN_STEP, "check", [(0, False), (300, True), (500, False), (1500, True), (1700, False), (2700, True), (2900, False)]),
+    (0, 2, IN_STEP, "recover", [(0, False), (300, False), (500, False), (1500, False), (1700, False), (2700, False), (2900, True), (2900, False)]),
+    (0, 2, IN_STEP, "recover", [(0, False), (300, False), (500, False), (1500, False), (1700, False), (2700, False), ("deliver 01020100000100", None), (2701, False), (2900, False),
+                                (3900, False), (4100, False), (5100, False), (5300, False), (6300, False), (6500, True)]),
     # a jump of an hour, and of 2^63 ms: what waits is due once
-    (0, 1, "recover", "check", [(0, False), (3_600_000, True), (3_600_000, False), (3_600_399, False), (3_600_798, False), (3_601_000, True)]),
-    (0, 1, "recover", "check", [(0, False), (2**63, True), (2**63, False), (2**63 + 399, False), (2**63 + 798, False), (2**63 + 1000, True)]),
+    (0, 1, "recover", "check", [(0, False), (3_600_000, True), (3_600_000, False), (3_600_399, False), (3_600_899, False), (3_601_399, True)]),
+    (0, 1, "recover", "check", [(0, False), (2**63, True), (2**63, False), (2**63 + 399, False), (2**63 + 899, False), (2**63 + 1399, True)]),
     (0, 2, INVITING, "accept", [(7, False), (2**63, True), (2**63, False)]),
     # the clock falls back by an hour, by some milliseconds, and to 0: waits go on from there
     (0, 2, INVITING, "accept", [(4_000_000, False), (4_000_060, False), (400_000, False), (400_039, False), (400_040, True), (400_040, False)]),
@@ -90,7 +95,7 @@ TIMERS = [
 
 # The same where a round trip is said to be so many milliseconds: all waits are so many of them.
 OF_A_ROUND_TRIP = [
-    ("5", 0, 1, "recover", "check", [(0, False), (99, False), (150, True), (150, False)]),
+    ("5", 0, 1, "recover", "check", [(0, False), (49, False), (75, True), (75, False)]),
     ("5", 0, 2, INVITING, "accept", [(7, False), (31, False), (32, True)]),
     ("1", 1, 2, JOINING, "coord", [(7, False), (26, False), (27, True), (36, False), (37, True)]),
     ("60000", 0, 2, INVITING, "accept", [(0, False), (299_999, False), (300_000, True)]),
@@ -206,7 +211,7 @@ def try_jitter(tried):
         text, _ = tried.serve([b"recover\n"] + ["".join(f"tick {time}\n" for time in range(at, at + 50)).encode() for at in range(0, 900, 50)], own, 4)
         answers = re.split(r"^ok .*\n", text, flags=re.MULTILINE)[1:]
         at = [next((time for time, answer in enumerate(answers) if event in fired(answer)), -1) for event in ("check", "merge")]
-        tried.mark("" if 400 <= at[0] <= 600 and 100 <= at[1] - at[0] <= 200 else f"it checks and merges at {at}", ("jitter of node", own))
+        tried.mark("" if 200 <= at[0] <= 300 and 100 <= at[1] - at[0] <= 200 else f"it checks and merges at {at}", ("jitter of node", own))
         seen[tuple(at)] = own
     tried.mark("" if len(seen) == 4 else f"the times are {seen}", "jitter of four nodes")
 

@@ -27,7 +27,7 @@ class Cluster:
 
     def do(self, own, event, fields="", *args):
         """The node does this; what it sent is given back."""
-        sent = self.nodes[own].take(event, *args)
+        sent = self.nodes[own].take(event, *args) or []
         listed = ",".join(f'"{one.hex()}"' for one in sent)
         self.histories[own].append(f'{{"do":"{event}"{fields},"sent":[{listed}]}}')
         self.entries += 1
@@ -56,13 +56,13 @@ class Cluster:
         self.bring(self.do(leader, "merge"))
         self.bring(self.do(leader, "accept"))
 
+    def text(self):
+        histories = ",".join("[" + ",".join(history) + "]" for history in self.histories)
+        return f'{{"histories":[{histories}],"nodes":{len(self.nodes)}}}'
+
     def write(self, path):
         with open(path, "w") as out:
-            out.write('{"histories":[')
-            for node, history in enumerate(self.histories):
-                out.write(("," if node else "") + "[")
-                out.write(",".join(history) + "]")
-            out.write(f'],"nodes":{len(self.nodes)}}}')
+            out.write(self.text())
 
 
 def elections(entries):
@@ -103,6 +103,21 @@ def backlog(entries):
     return cluster
 
 
+def by_priority(entries):
+    """Jobs of all priorities come to another node, the greatest first, which finishes them in that order."""
+    cluster = Cluster(2)
+    cluster.gather(0)
+    jobs = entries // 4
+    for job in range(jobs):
+        cluster.submit(0, 1, job % 256)
+    cluster.bring(cluster.do(0, "dispatch"))
+    for job in sorted(range(jobs), key=lambda job: (-(job % 256), job)):
+        cluster.finish(1, 0, job)
+    while cluster.entries < entries:
+        cluster.do(0, "check")
+    return cluster
+
+
 def dispatches(entries):
     """Jobs of all priorities, and as many dispatches, which find all of them in hand: ten looks at a job for each entry of the other runs."""
     cluster = Cluster(1)
@@ -139,6 +154,7 @@ WORKLOADS = {
     "drain, oldest first": drain(lambda jobs: jobs),
     "drain, newest first": drain(reversed),
     "backlog": backlog,
+    "jobs of another node": by_priority,
     "dispatches": dispatches,
     "one message": once,
     "last node first": last_first,

@@ -28,7 +28,8 @@
 //!
 //! 1. All nodes come up within 10 round trips of each other, and run until they are one group.
 //! 2. They go on for as long as `quiet` says, with no fault but loss: each new group in that time was without need.
-//! 3. The coordinator dies and, once all others are one group, comes up again, until all are; then a member dies for good.
+//! 3. The coordinator dies within 60 more and, once all others are one group, comes up again, until all are; then a member dies
+//!    for good, within 60 more.
 //!
 //! A message is lost with the given probability and takes 0.2 to 0.5 round trips. Nodes send again what they wait for; a link
 //! that does so until a message is acknowledged can be tried too. Each node's timers are looked at twice a round trip. A raise

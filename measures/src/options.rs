@@ -85,6 +85,8 @@ impl Options {
 
     fn set_wait(&mut self, name: &str, units: u16) -> Result<(), &'static str> {
         match name {
+            "first_check" => self.setting.first_check = units,
+            "first_check_jitter" => self.setting.first_check_jitter = units,
             "check" => self.setting.check = units,
             "check_jitter" => self.setting.check_jitter = units,
             "merge" => self.setting.merge = units,
@@ -93,6 +95,8 @@ impl Options {
             "accept" => self.setting.accept = units,
             "ready" => self.setting.ready = units,
             "task" => self.setting.task = units,
+            "first_coordinator" => self.setting.first_coordinator = units,
+            "first_coordinator_jitter" => self.setting.first_coordinator_jitter = units,
             "coordinator" => self.setting.coordinator = units,
             "coordinator_jitter" => self.setting.coordinator_jitter = units,
             "answer" => self.setting.answer = units,

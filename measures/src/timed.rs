@@ -277,6 +277,9 @@ impl Timed {
             self.pace.regrouped();
         }
         self.pace.pass(now);
+        if self.repeats && self.waiting.is_answered(&sight) {
+            self.pace.answered();
+        }
         match self.pace.tick(&sight) {
             Some(event) => self.step(&event),
             None => Ok(()),

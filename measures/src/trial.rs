@@ -6,10 +6,14 @@ use crate::options::Options;
 use crate::timed::Counts;
 use group_task::NodeId;
 use job_model::{Payload, QUEUES, Queue, Work};
+use rand_core::utils::NextWord;
+use rand_pcg::Pcg32;
 use std::alloc::Global;
 
 /// After so many round trips without one group a trial gives up.
 const MOST: u16 = 2_000;
+/// A node dies within so many round trips: some time between two checks.
+const MOMENTS: u32 = 60;
 
 /// What came of one trial. Times are in round trips.
 #[derive(Drop)]
@@ -72,6 +76,8 @@ fn run_cluster(
     trial.to_one = Some(cluster.time());
     trial.extra = cluster.groups().saturating_sub(u64::from(nodes));
     watch(cluster, options, trial)?;
+    let mut random = Pcg32::new(seed, 3_000);
+    cluster.run((random.next_word() % MOMENTS) as u16)?;
     if let Some(leader) = cluster.run_until_one(MOST)? {
         trial.coordinator = run_without(cluster, leader)?;
         if trial.coordinator.is_some() {
@@ -79,6 +85,7 @@ fn run_cluster(
             trial.back = run_on(cluster)?;
         }
     }
+    cluster.run((random.next_word() % MOMENTS) as u16)?;
     if let Some(leader) = cluster.run_until_one(MOST)? {
         if let Some(member) = cluster.live().without(leader).first() {
             trial.member = run_without(cluster, member)?;

@@ -3,7 +3,7 @@
 
     run.py PROGRAM [--long] [NAME..]
 
-Each NAME is one of bytes, lines, plans, files, traces, memory, refused, streams; with none all are tried. The last line counts the checks."""
+Each NAME is one of bytes, lines, plans, files, traces, shapes, memory, refused, streams; with none all are tried. The last line counts the checks."""
 import os, sys, time
 
 sys.dont_write_bytecode = True
@@ -13,7 +13,7 @@ from program import Tried
 
 def main():
     program, *words = sys.argv[1:]
-    names = [word for word in words if not word.startswith("--")] or ["bytes", "lines", "plans", "files", "traces", "memory", "refused", "streams"]
+    names = [word for word in words if not word.startswith("--")] or ["bytes", "lines", "plans", "files", "traces", "shapes", "memory", "refused", "streams"]
     if not os.access(program, os.X_OK):
         print(f"run.py: there is no program {program}\n0 passed, 1 failed")
         return 1

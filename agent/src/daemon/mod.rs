@@ -4,6 +4,7 @@ mod answers;
 mod asker;
 mod datagrams;
 mod forwarding;
+mod looks;
 mod pages;
 mod requests;
 mod signals;
@@ -24,14 +25,17 @@ use crate::service::{Changes, Clients, Hand};
 use crate::view::View;
 use anyhow::Context;
 use log::{info, warn};
+use looks::Looks;
 use mio::event::Event;
 use mio::{Events, Poll, Registry, Token, Waker};
 use pages::PendingJobs;
 use signals::Signals;
+use std::io::ErrorKind;
 use std::os::unix::process::ExitStatusExt;
 use std::path::PathBuf;
 use std::process::ExitStatus;
 use std::sync::Arc;
+use std::thread;
 use std::time::{Duration, Instant};
 
 const NODE_INPUT: Token = Token(0);
@@ -46,11 +50,15 @@ const FIRST_CLIENT: usize = 16;
 /// A node whose input ended may take so long to end: SIGTERM ends the agent within a second.
 const PATIENCE_AT_END: Duration = Duration::from_millis(700);
 
+/// For so long an answer of the node is looked for without a sleep.
+const LONGEST_LOOK: Duration = Duration::from_micros(150);
+
 pub struct Daemon {
     config: Config,
     path: PathBuf,
     poll: Poll,
     node: NodeProcess<Asker>,
+    looks: Looks,
     clock: Clock,
     link: Link,
     peers: Peers,
@@ -103,6 +111,7 @@ impl Daemon {
             http,
             pending_jobs: PendingJobs::default(),
             listings: 0,
+            looks: Looks::new(now),
             poll,
             config,
             path,
@@ -116,10 +125,7 @@ impl Daemon {
         self.ask(Asker::Start, "recover".to_string());
         loop {
             self.node.flush();
-            match self.poll.poll(&mut events, Some(whole_ms(self.sleep(Instant::now())))) {
-                Err(error) if error.kind() != std::io::ErrorKind::Interrupted => return Err(error.into()),
-                _ => {}
-            }
+            self.wait(&mut events)?;
             for event in &events {
                 self.wake(event);
             }
@@ -135,6 +141,21 @@ impl Daemon {
             }
             self.work(Instant::now());
         }
+    }
+
+    /// Waits until something comes or is to be done. An answer of the node comes soon, so for a moment it is looked for without a sleep.
+    fn wait(&mut self, events: &mut Events) -> anyhow::Result<()> {
+        let (begin, sleep) = (Instant::now(), self.sleep(Instant::now()));
+        if !sleep.is_zero() && self.node.is_asked() && self.looks.take(begin) {
+            while begin.elapsed() < LONGEST_LOOK {
+                poll(&mut self.poll, events, Duration::ZERO)?;
+                if !events.is_empty() {
+                    return Ok(());
+                }
+                thread::yield_now();
+            }
+        }
+        poll(&mut self.poll, events, whole_ms(sleep))
     }
 
     fn wake(&mut self, event: &Event) {
@@ -222,6 +243,13 @@ impl Daemon {
             (_, signal) => info!("the node was ended by signal {}", signal.unwrap_or(0)),
         }
         status.code().and_then(|code| u8::try_from(code).ok()).unwrap_or(1)
+    }
+}
+
+fn poll(poll: &mut Poll, events: &mut Events, sleep: Duration) -> anyhow::Result<()> {
+    match poll.poll(events, Some(sleep)) {
+        Err(error) if error.kind() != ErrorKind::Interrupted => Err(error.into()),
+        _ => Ok(()),
     }
 }
 

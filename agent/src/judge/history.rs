@@ -1,6 +1,7 @@
 //! What one node did, as the entries of a trace.
 
 use super::message::{message_of, Begin};
+use super::order::Turn;
 use super::{NodeRecord, RecordError};
 use crate::node::{Closing, Group, Phase};
 use serde_json::{json, Map, Value};
@@ -28,6 +29,12 @@ pub struct History<'a> {
     own: u8,
     begins: &'a [Begin],
     entries: Vec<Value>,
+    /// What an order needs to know of each entry.
+    turns: Vec<Turn>,
+    /// The node's clock as it was told last, over all its processes.
+    time: u64,
+    /// What that clock was when this process began.
+    began: u64,
     kept: Kept,
     is_up: bool,
     leads: bool,
@@ -46,6 +53,9 @@ impl<'a> History<'a> {
             own,
             begins,
             entries: Vec::new(),
+            turns: Vec::new(),
+            time: 0,
+            began: 0,
             kept: Kept { count: 1, next: 0, pending: 0 },
             is_up: false,
             leads: true,
@@ -59,7 +69,9 @@ impl<'a> History<'a> {
             if let Some(asked) = line.strip_prefix("> ") {
                 request = Some(asked);
                 answer.clear();
+                history.told(asked);
             } else if line == "start" {
+                history.began = history.time;
                 history.killed(request.take());
             } else if let Some(closing) = Closing::read(line) {
                 let fault = || RecordError::Line { node: record.node, line: line.clone() };
@@ -71,15 +83,31 @@ impl<'a> History<'a> {
         Ok(history)
     }
 
-    pub fn entries(self) -> Vec<Value> {
-        self.entries
+    /// The entries, and what an order needs to know of each.
+    pub fn entries(self) -> (Vec<Value>, Vec<Turn>) {
+        (self.entries, self.turns)
     }
 
-    fn put(&mut self, name: &str, sent: Vec<String>, fields: Map<String, Value>) {
+    /// Reads the time, where the node is told it.
+    fn told(&mut self, request: &str) {
+        if let Some(Ok(ms)) = request.strip_prefix("tick ").map(str::parse::<u64>) {
+            self.time = self.time.max(self.began.saturating_add(ms));
+        }
+    }
+
+    /// Puts an entry of an event that a request, if any, brought.
+    fn put(&mut self, name: &str, request: &str, sent: &[&str], fields: Map<String, Value>) {
         let mut entry = fields;
+        let messages: Vec<String> = sent.iter().map(|digits| message_of(digits, self.begins)).collect();
         entry.insert("do".to_string(), json!(name));
-        entry.insert("sent".to_string(), json!(sent));
+        entry.insert("sent".to_string(), json!(messages));
         self.entries.push(Value::Object(entry));
+        let brought = if name == "deliver" { request.split(' ').nth(1) } else { None };
+        self.turns.push(Turn {
+            time: self.time,
+            sent: sent.iter().map(|digits| digits.to_string()).collect(),
+            brought: brought.map(str::to_string),
+        });
     }
 
     /// The process ended, with this request unanswered.
@@ -130,9 +158,9 @@ impl<'a> History<'a> {
             self.recovered(keeps)?;
         } else {
             let sent = event.lines.iter().filter_map(|line| line.strip_prefix("send ")?.split(' ').nth(1));
-            let sent = sent.map(|digits| message_of(digits, self.begins)).collect();
+            let sent: Vec<&str> = sent.collect();
             let fields = self.fields_of(event.name, request)?;
-            self.put(event.name, sent, fields);
+            self.put(event.name, request, &sent, fields);
         }
         if ["check", "merge"].contains(&event.name) {
             self.is_checking = event.name == "check";
@@ -187,15 +215,15 @@ impl<'a> History<'a> {
         let mut has_counted = true;
         if found.next > self.kept.next || found.pending < self.kept.pending {
             let fields = self.fields_of(word, doubt)?;
-            self.put_failed(word, "device", fields);
+            self.put_failed(word, doubt, "device", fields);
         } else if raised > self.recoveries {
             raised -= 1;
             let event = if ["tick", "lost"].contains(&word) { self.raiser() } else { word };
             let fields = self.fields_of(event, doubt)?;
-            self.put_failed(event, if event == "recover" { "raise" } else { "device" }, fields);
+            self.put_failed(event, doubt, if event == "recover" { "raise" } else { "device" }, fields);
         } else {
             has_counted = false;
-            self.put("crash", Vec::new(), Map::new());
+            self.put("crash", doubt, &[], Map::new());
         }
         if raised > self.recoveries.saturating_add(MAX_UNKNOWN) {
             return None;
@@ -208,17 +236,17 @@ impl<'a> History<'a> {
         Some(())
     }
 
-    fn put_failed(&mut self, name: &str, fault: &str, mut fields: Map<String, Value>) {
+    fn put_failed(&mut self, name: &str, request: &str, fault: &str, mut fields: Map<String, Value>) {
         fields.insert("fault".to_string(), json!(fault));
-        self.put(name, Vec::new(), fields);
+        self.put(name, request, &[], fields);
     }
 
     fn put_recovery(&mut self, kept: bool, fault: Option<&str>) {
         let mut fields = Map::new();
         fields.insert("kept".to_string(), json!(kept));
         match fault {
-            Some(fault) => self.put_failed("recover", fault, fields),
-            None => self.put("recover", Vec::new(), fields),
+            Some(fault) => self.put_failed("recover", "", fault, fields),
+            None => self.put("recover", "", &[], fields),
         }
     }
 
@@ -268,7 +296,7 @@ mod tests {
     fn entries(lines: &str) -> Vec<String> {
         let record = NodeRecord { node: 0, lines: lines.lines().map(str::to_string).collect() };
         let begins = [Begin { count: 100, id: 5 }];
-        let entries = History::of(0, &record, &begins).unwrap().entries();
+        let (entries, _) = History::of(0, &record, &begins).unwrap().entries();
         entries.iter().map(Value::to_string).collect()
     }
 

@@ -2,6 +2,7 @@
 
 mod history;
 mod message;
+mod order;
 mod records;
 
 pub use records::{read, NodeRecord, RecordError};
@@ -10,12 +11,16 @@ use history::History;
 use message::Begin;
 use serde_json::{json, Value};
 
-/// The trace of the records of all nodes, in their order.
+/// The trace of the records of all nodes, in their order, and the order of their turns where one is found.
 pub fn trace_of(records: &[NodeRecord]) -> Result<Value, RecordError> {
     let begins = records.iter().map(begin_of).collect::<Result<Vec<Begin>, _>>()?;
     let histories = (0..).zip(records).map(|(own, record)| History::of(own, record, &begins).map(History::entries));
-    let histories = histories.collect::<Result<Vec<_>, _>>()?;
-    Ok(json!({"nodes": records.len(), "histories": histories}))
+    let (histories, turns): (Vec<_>, Vec<_>) = histories.collect::<Result<Vec<_>, _>>()?.into_iter().unzip();
+    let mut trace = json!({"nodes": records.len(), "histories": histories});
+    if let Some(order) = order::of(&turns) {
+        trace["order"] = json!(order);
+    }
+    Ok(trace)
 }
 
 /// What the file of a node kept when its record began: a trace begins with count 1 and id 0.

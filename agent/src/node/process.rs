@@ -106,6 +106,11 @@ impl<A> NodeProcess<A> {
         self.on_the_way[lane as usize] < MAX_ON_THE_WAY
     }
 
+    /// Whether an answer of it is to come.
+    pub fn is_asked(&self) -> bool {
+        !self.asked.is_empty()
+    }
+
     /// Takes a request; `flush` writes it.
     pub fn ask(&mut self, asker: A, lane: Lane, text: String) {
         self.on_the_way[lane as usize] += text.len() + 1;

@@ -6,8 +6,9 @@ ghost use Rattle.histories.specs.Fates.{command_with};
 ghost use Rattle.node_core.specs.State.{is_down, state_of};
 ghost use Rattle.cluster_sim.specs.World.{StandsFor};
 ghost use Rattle.runs.specs.Reporting.{report_of};
+ghost use Rattle.runs.specs.Numbered.{sent_under};
 ghost use Rattle.runs.specs.World.{start};
-ghost use Rattle.cluster_sim.specs.Cluster.{report_in, mounted_of, HasRoom, command_in, listed, with_deed, with_opening, given_in, mounting_at, pending_room, tried_as, tried_at, work_in};
+ghost use Rattle.cluster_sim.specs.Cluster.{moment_in, report_in, mounted_of, HasRoom, command_in, listed, with_deed, with_opening, given_in, mounting_at, pending_room, tried_as, tried_at, work_in};
 
 use crate::deed::Deed;
 use crate::naming::hand_room;
@@ -18,7 +19,7 @@ use group_task::{GroupNo, NodeId};
 use histories::{Attempt, Command, Tried};
 use job_model::{Job, Work};
 use node_core::{Phase, Vector};
-use runs::TriedAt;
+use runs::{Outcome, TriedAt};
 use schedule::Act;
 use sector_disk::MemDisk;
 use std::alloc::{AllocError, Global};
@@ -93,10 +94,7 @@ impl Report {
         requires count { (count : ℕ) → deed.tried ≡ Some Attempt.Raise → deed.acked ≡ Some count → 1 ≤ count }
         ensures { (sent : List Envelope) → report_in self.new sent ≡ with_deed sent id before act deed node.now (report_in self.old sent) }
     {
-        let Room {
-            vector: mut copy,
-            pending,
-        } = room;
+        let Room { vector, pending } = room;
         let mounted = if deed.mounted {
             mounted_by(node, id, before, pending)
         } else {
@@ -105,14 +103,8 @@ impl Report {
         let group = given_by(id, deed.tried, deed.acked);
         let command: Option<Command> = command_in(&act, deed.tried);
         let tried: Option<Tried> = tried_by(command, deed.acked);
-        copy.set(node.vector());
-        copy.fit();
-        self.moments.push_reserved(Moment {
-            act,
-            node: id,
-            outcome: deed.outcome,
-            vector: copy,
-        });
+        let moment = moment_of(node, id, act, deed.outcome, vector);
+        self.moments.push_reserved(moment);
         push_some(&mut self.groups, group);
         push_some(&mut self.commands, tried_at(id, tried));
         push_some(&mut self.mounted, mounted);
@@ -188,6 +180,28 @@ fn work_in(act: &Act) -> Option<Work>
     match act {
         Act::Submit(_, job) => Some(job.work()),
         _ => None,
+    }
+}
+
+/// What is reported of an act, of which this came: the node's vector goes to one that has room for it.
+fn moment_of(
+    node: &DurableNode<MemDisk>,
+    id: NodeId,
+    act: Act,
+    outcome: Outcome,
+    vector: Vector,
+) -> Moment
+    requires { length node.now.state.hand ≤ vector.hand.room }
+    ensures { (sent : List Envelope) → moment_in sent result ≡ record { act = act; node = id; outcome = outcome; sent = sent_under sent outcome; state = node.now.state } }
+{
+    let mut vector = vector;
+    vector.set(node.vector());
+    vector.fit();
+    Moment {
+        act,
+        node: id,
+        outcome,
+        vector,
     }
 }
 

@@ -1,5 +1,7 @@
 -- What the words of a command line ask for.
 use Rattle.std.specs.Prelude.{ℕ, List, ◌==◌, nat_le, nat_lt, Bool, false, bytes_eq, codes, if◌then◌else◌, option_map, Option, Some, None, string_bytes}
+use Rattle.file_disk.specs.declared.stride.Stride.{Stride}
+use Rattle.file_disk.specs.declared.stride.Stride.TheVariants.{Packed, Spaced}
 use Rattle.group_task.specs.declared.node.TheConstants.{NODES}
 use Rattle.node_console.specs.declared.making.TheConstants.{LEAST_SLOTS, MOST_SLOTS}
 use Rattle.line_words.specs.Words.{number_of}
@@ -17,6 +19,8 @@ pub record Made : Type 0 where
   pub place : ℕ × ℕ
   pub slots : ℕ
   pub first : ℕ
+  -- how far apart its sectors lie
+  pub stride : Stride
 
 -- the path of a file of keys, and the name of a cluster
 pub record Sealed : Type 0 where
@@ -42,7 +46,7 @@ abbrev pub placed : Place → ℕ × ℕ
 placed place = (place.id, place.nodes)
 
 abbrev pub made : Making → Made
-made making = record { place = placed making.place; slots = making.slots; first = making.first }
+made making = record { place = placed making.place; slots = making.slots; first = making.first; stride = making.stride }
 
 abbrev pub sealed : Sealing → Sealed
 sealed sealing = record { key = string_bytes sealing.key; cluster = string_bytes sealing.cluster }
@@ -92,15 +96,25 @@ abbrev pub first_of : Option (List ℕ) → Option ℕ
 first_of None = Some 0
 first_of (Some word) = number_of word
 
-abbrev pub making_by : Option (ℕ × ℕ) → Option ℕ → Option ℕ → Option Made
-making_by None slots first = None
-making_by (Some place) None first = None
-making_by (Some place) (Some slots) None = None
-making_by (Some place) (Some slots) (Some first) =
-    if nat_lt slots LEAST_SLOTS then None else if nat_lt MOST_SLOTS slots then None else Some (record { place = place; slots = slots; first = first })
+abbrev pub stride_by : Option ℕ → Option Stride
+stride_by None = None
+stride_by (Some bytes) = if bytes == 512 then Some Packed else if bytes == 4096 then Some Spaced else None
+
+-- how many bytes of a file there are for each sector
+abbrev pub stride_of : Option (List ℕ) → Option Stride
+stride_of None = Some Packed
+stride_of (Some word) = stride_by (number_of word)
+
+abbrev pub making_by : Option (ℕ × ℕ) → Option ℕ → Option ℕ → Option Stride → Option Made
+making_by None slots first stride = None
+making_by (Some place) None first stride = None
+making_by (Some place) (Some slots) None stride = None
+making_by (Some place) (Some slots) (Some first) None = None
+making_by (Some place) (Some slots) (Some first) (Some stride) =
+    if nat_lt slots LEAST_SLOTS then None else if nat_lt MOST_SLOTS slots then None else Some (record { place = place; slots = slots; first = first; stride = stride })
 
 abbrev pub making_of : Arguments → Option Made
-making_of arguments = making_by (place_of arguments) (number_in (arguments (codes "SLOTS"))) (first_of (arguments (codes "FIRST")))
+making_of arguments = making_by (place_of arguments) (number_in (arguments (codes "SLOTS"))) (first_of (arguments (codes "FIRST"))) (stride_of (arguments (codes "stride")))
 
 abbrev pub format_by : Option (List ℕ) → Option Made → Option (List ℕ) → Option Asked
 format_by None made jobs = None

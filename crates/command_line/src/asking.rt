@@ -1,10 +1,11 @@
 // From the words of the command line to what they ask for.
 ghost use Rattle.std.specs.Prelude.{◌≡◌, IfOk, bytes_eq, codes, option_map, string_bytes};
 ghost use Rattle.clap.specs.Words.{first_value, found_of};
-ghost use Rattle.command_line.specs.Asked.{answers, asked, asked_by, exports, format_of, inspects, is_set, made, making_of, node_of, placed, place_of, round_trip_of, sealed, sealed_by, stores};
+ghost use Rattle.command_line.specs.Asked.{answers, asked, asked_by, exports, format_of, inspects, is_set, made, making_of, node_of, placed, place_of, round_trip_of, sealed, sealed_by, stores, stride_of};
 
 use crate::task::{Batch, MOST_ROUND_TRIP, Making, Place, ROUND_TRIP, Sealing, Task};
 use clap::ArgMatches;
+use file_disk::Stride;
 use group_task::{NODES, NodeId};
 use invite_console::Details;
 use line_words::number;
@@ -157,7 +158,7 @@ fn export(alloc: Global, words: &ArgMatches<'_>) -> Result<Option<Task>, AllocEr
     Ok(Some(Task::Export(String::from_str(alloc, path)?)))
 }
 
-/// What FILE is made for, by SLOTS, SELF, NODES and FIRST.
+/// What FILE is made for, by SLOTS, SELF, NODES, FIRST and its stride.
 fn making(words: &ArgMatches<'_>) -> Option<Making>
     ensures { option_map made result ≡ making_of (λ id. first_value (found_of words.now) id) }
 {
@@ -167,6 +168,7 @@ fn making(words: &ArgMatches<'_>) -> Option<Making>
         Some(word) => number(word.as_bytes())?,
         None => 0,
     };
+    let stride = stride(words)?;
     if slots < LEAST_SLOTS || MOST_SLOTS < slots {
         return None;
     }
@@ -174,7 +176,22 @@ fn making(words: &ArgMatches<'_>) -> Option<Making>
         place,
         slots,
         first,
+        stride,
     })
+}
+
+/// How many bytes of a file there are for each sector.
+fn stride(words: &ArgMatches<'_>) -> Option<Stride>
+    ensures { result ≡ stride_of (first_value (found_of words.now) (codes "stride")) }
+{
+    let Some(word) = words.get_str("stride") else {
+        return Some(Stride::Packed);
+    };
+    match number(word.as_bytes())? {
+        512 => Some(Stride::Packed),
+        4096 => Some(Stride::Spaced),
+        _ => None,
+    }
 }
 
 /// The node that SELF and NODES name.

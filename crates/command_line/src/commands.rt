@@ -85,6 +85,12 @@ const JOBS: Argument = Argument {
     help: "A file of jobs that it begins with, as export prints them, or - for standard input; their ids are below FIRST",
 };
 
+const STRIDE: Argument = Argument {
+    name: "stride",
+    form: Form::Valued,
+    help: "The bytes of the file for each sector: 512, if not given, or 4096, for devices of large sectors",
+};
+
 const KEY: Argument = Argument {
     name: "key",
     form: Form::Beside("KEYFILE", "cluster"),
@@ -145,7 +151,7 @@ const COMMANDS: [Described; 12] = [
         name: "format",
         about: "Makes the file of a node, where there is none of this name",
         more: "It reads nothing but the jobs. A node that lost its file takes FIRST above each count and id that it gave (docs/FORMATS.md).\n\nExample: invite format /tmp/node0 64 0 3",
-        arguments: &[FILE, SLOTS, SELF, NODES, FIRST, JOBS],
+        arguments: &[FILE, SLOTS, SELF, NODES, FIRST, JOBS, STRIDE],
     },
     Described {
         name: "node",

@@ -154,7 +154,15 @@ fn format(rt: &HostRuntime, path: &str, making: &Making, jobs: &Option<String>) 
         },
     };
     let place = making.place;
-    let status = node_console::format_file(rt, path, making.slots, place.id, place.nodes, &jobs);
+    let status = node_console::format_file(
+        rt,
+        path,
+        making.slots,
+        place.id,
+        place.nodes,
+        making.stride,
+        &jobs,
+    );
     explain_status(rt, path, status)
 }
 
@@ -211,7 +219,23 @@ fn look(rt: &HostRuntime, path: &str, shown: Shown) -> io::Result<u8> {
         Ok(file) => file,
         Err(status) => return explain_status(rt, path, status),
     };
-    let mut input = Source::new(file);
+    match node_console::image_of(rt.alloc(), &file) {
+        Ok(None) => shown_of(rt, Source::new(file), shown),
+        Ok(Some(bytes)) => shown_of(rt, Source::new(bytes.as_slice()), shown),
+        Err(error) if error.kind() == ErrorKind::OutOfMemory => Err(error),
+        Err(error) => {
+            explain(rt, Reason::Unread(Some(error)))?;
+            Ok(1)
+        }
+    }
+}
+
+/// Prints what the bytes of a file hold, and answers the exit status.
+fn shown_of<R: Read + Drop>(
+    rt: &HostRuntime,
+    mut input: Source<R>,
+    shown: Shown,
+) -> io::Result<u8> {
     let mut output = Sink::new(rt.stdout());
     let ending = match shown {
         Shown::All => file_console::inspect(rt.alloc(), &mut input, &mut output),
@@ -250,7 +274,7 @@ fn task_of(rt: &HostRuntime, words: &[String]) -> io::Result<Result<Task, u8>> {
             };
             if task.is_none() {
                 println!(rt;
-                    "error: SELF and NODES are decimal numbers, NODES from 1 to {NODES}, and SELF is below NODES; SLOTS is from {LEAST_SLOTS} to {MOST_SLOTS}, FIRST below 2^64, and ROUND_TRIP_MS from 1 to {MOST_ROUND_TRIP}\n\nFor more information, try '--help'."
+                    "error: SELF and NODES are decimal numbers, NODES from 1 to {NODES}, and SELF is below NODES; SLOTS is from {LEAST_SLOTS} to {MOST_SLOTS}, FIRST below 2^64, the stride 512 or 4096, and ROUND_TRIP_MS from 1 to {MOST_ROUND_TRIP}\n\nFor more information, try '--help'."
                 )?;
             }
             Ok(task.ok_or(UNREADABLE))

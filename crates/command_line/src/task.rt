@@ -3,6 +3,7 @@ ghost use Rattle.std.specs.Prelude.{◌<◌, ◌≤◌};
 ghost use Rattle.group_task.specs.declared.node.TheConstants.{NODES};
 ghost use Rattle.node_console.specs.declared.making.TheConstants.{LEAST_SLOTS, MOST_SLOTS};
 
+use file_disk::Stride;
 use group_task::NodeId;
 use invite_console::Details;
 
@@ -47,6 +48,8 @@ pub struct Making {
     pub place: Place,
     pub slots: u64,
     pub first: u64,
+    /// How far apart its sectors lie.
+    pub stride: Stride,
     ghost least: { LEAST_SLOTS ≤ slots },
     ghost most: { slots ≤ MOST_SLOTS },
 }

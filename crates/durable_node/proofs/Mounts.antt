@@ -11,6 +11,7 @@ use Rattle.node_store.specs.Store.{StoreState, durable_by, durable_of, stands_fo
 use Rattle.node_store.proofs.PublicLaws.{sound_kept}
 use Rattle.histories.specs.NodeState.{NodeState, settled}
 use Rattle.histories.specs.Possible.{IsSettling}
+use Rattle.durable_node.specs.Area.{AllEndIn, area_of, records_at}
 use Rattle.durable_node.specs.Carrying.{BeforeOrAfter, KeepsSound, Writes}
 use Rattle.durable_node.specs.Node.{IsLeft}
 use Rattle.durable_node.proofs.Parts.{is_some}
@@ -39,16 +40,25 @@ rises_behind old mid new same run rises honest bound within = rises (same ∙ ho
 
 -- a store that wasn't called
 pub unwritten : {Disk : Type 0} (disks : Disk → DiskState) (store : StoreState Disk) (wants : Option Command) (done : Type 0)
-    → (IsTrue (disks store.disk).honest → Laws (disks store.disk)) → Writes disks store store wants done
-unwritten disks store wants done laws = record { images = λ honest all image since. inl (all image ((laws honest).only_now image since)); after = λ honest all _. all }
+    → (IsTrue (disks store.disk).honest → Laws (disks store.disk)) → (done → ⊥) → Writes disks store store wants done
+unwritten disks store wants done laws none = record {
+  images = λ honest all image since. inl (all image ((laws honest).only_now image since));
+  after = λ honest all _. all;
+  spelled = λ honest ok. absurd (none ok);
+}
 
 -- a store that took a command
 pub written : {Disk : Type 0} (disks : Disk → DiskState) (old new : StoreState Disk) (command : Command) (done : Type 0)
     → IsFalse old.broken → new.journal.slots ≡ old.journal.slots
     → (IsTrue (disks old.disk).honest → IsFalse old.broken → ImagesSince old.journal.slots (disks old.disk) (disks new.disk) (StoreBeforeOrAfter old command))
     → (IsTrue (disks old.disk).honest → done → Lasts new.journal.slots (durable_of new) (disks new.disk))
+    → (IsTrue (disks old.disk).honest → done → AllEndIn (area_of new) (records_at (durable_of old) (area_of old) (Some command)) (disks new.disk))
     → Writes disks old new (Some command) done
-written disks old new command done whole slots images after = record { images = λ honest all. (images honest whole).each; after = λ honest all ok. rw slots at (after honest ok).stands }
+written disks old new command done whole slots images after spelled = record {
+  images = λ honest all. (images honest whole).each;
+  after = λ honest all ok. rw slots at (after honest ok).stands;
+  spelled = spelled;
+}
 
 -- what calls that wrote nothing left stands for what was there
 quiet_image : (old new : DiskState) (s : NodeState) → IsLeft old s → IsTrue old.honest → Run nothing old new → (image : Image) → IsImage new image

@@ -6,6 +6,7 @@ use Rattle.job_model.specs.Durable.{Durable}
 use Rattle.node_core.specs.declared.fault.CoreFault.TheVariants.{Down}
 use Rattle.node_core.specs.Core.{Core}
 use Rattle.node_core.specs.Start.{down}
+use Rattle.job_journal.specs.Compacting.{records_for}
 use Rattle.node_store.specs.Store.{slots_for, stands_for}
 use Rattle.durable_node.specs.declared.fault.NodeFault.{NodeFault}
 use Rattle.durable_node.specs.declared.fault.NodeFault.TheVariants as node
@@ -16,6 +17,7 @@ use Rattle.histories.specs.declared.what.Rest.{Rest}
 use Rattle.histories.specs.declared.what.Rest.TheVariants.{Nothing, Compacted, CompactDown, CompactWorn}
 use Rattle.histories.specs.After.{after}
 use Rattle.histories.specs.Possible.{IsPossible}
+use Rattle.durable_node.specs.Area.{AllEndIn, jobs_in}
 pub use Rattle.durable_node.specs.Area.{moved}
 use Rattle.durable_node.specs.Node.{Node, Area, IsCoreOf, Stands}
 
@@ -55,6 +57,12 @@ StaysKept {Disk} disks old new =
 pub record IsMovedNode {Disk : Type 0} (old new : Node Disk) : Type 0 where
   pub is : new ≡ record old { disk = new.disk; area = new.area; mounted = None }
   pub area : (d : Durable) (area : Area) → old.kept ≡ Some d → old.area ≡ Some area → new.area ≡ Some (moved d area)
+
+-- then its area ends in the records of the jobs on an honest disk, in each image and in the spelling of today
+abbrev pub IsMovedInto : {Disk A : Type 0} → (Disk → DiskState) → Node Disk → Node Disk → Result A NodeFault → Type 0
+IsMovedInto {Disk} disks old new result =
+    (was now : Disk) (d : Durable) (area : Area) → old.disk ≡ Some was → new.disk ≡ Some now → old.kept ≡ Some d → old.area ≡ Some area →
+    IsTrue (disks was).honest → IsOk result → AllEndIn (moved d area) (records_for (jobs_in d)) (disks now)
 
 -- the device failed in it: the node is down, and what was in doubt is as before, so no command of a node that was up
 abbrev pub IsFallenNode : {Disk : Type 0} → Node Disk → Node Disk → Type 0

@@ -1,5 +1,5 @@
 -- What a call of a node does, and how it is answered.
-use Rattle.std.specs.Prelude.{ℕ, ◌≡◌, ◌+◌, Bool, true, false, if◌then◌else◌, IsTrue, IsFalse, IsSome, IsErrOf, [], Option, Some, None, option_map, Result}
+use Rattle.std.specs.Prelude.{ℕ, ◌≡◌, ◌+◌, Bool, true, false, if◌then◌else◌, IsTrue, IsFalse, IsSome, IsOk, IsErrOf, [], Option, Some, None, option_map, Result}
 use Rattle.sector_disk.specs.Disk.{DiskState, Counts}
 use Rattle.job_journal.specs.Journal.{RisesByOne}
 use Rattle.job_model.specs.Answer.{answer_of}
@@ -33,7 +33,7 @@ use Rattle.job_model.specs.declared.node_command.NodeCommand.{NodeCommand as Com
 use Rattle.job_model.specs.declared.node_command.NodeCommand.TheVariants.{Raise}
 use Rattle.node_core.specs.declared.fault.CoreFault.{CoreFault}
 use Rattle.node_core.specs.declared.fault.CoreFault.TheVariants.{NoMemory}
-use Rattle.durable_node.specs.Area.{Area, LeavesArea}
+use Rattle.durable_node.specs.Area.{AllEndIn, Area, LeavesArea, area_after, records_at}
 use Rattle.durable_node.specs.Node.{Node, Stands, shown_doubt}
 
 -- the event Recover
@@ -151,10 +151,16 @@ Stuck disks old new event node.NotFormatted = IsUnmountable disks old new event
 Stuck disks old new event (node.Damaged sector) = IsUnmountable disks old new event
 Stuck disks old new event node.TooSmall = IsUnmountable disks old new event
 
+-- what becomes of an area by a wanted command: what the call leaves of it, and on an honest disk the command's records at its end
+pub record IsAreaAfter {Disk A : Type 0} (disks : Disk → DiskState) (old new : Node Disk) (d : Durable) (area : Area) (wants : Option Command) (result : Result A NodeFault) : Type 0 where
+  pub leaves : LeavesArea d area wants result new.area
+  pub spelled : (was now : Disk) → old.disk ≡ Some was → new.disk ≡ Some now → IsTrue (disks was).honest → IsOk result
+      → AllEndIn (area_after d area wants) (records_at d area wants) (disks now)
+
 -- what becomes of the area of a node that is up: its command is one record more, behind a compaction where no slot was free
-abbrev pub AreaGoesOn : {Disk : Type 0} → Node Disk → Node Disk → Event → Result Came NodeFault → Type 0
-AreaGoesOn old new event result = (d : Durable) (area : Area) → old.kept ≡ Some d → old.area ≡ Some area →
-    LeavesArea d area (wants_of old.id d.pending event old.state) result new.area
+abbrev pub AreaGoesOn : {Disk : Type 0} → (Disk → DiskState) → Node Disk → Node Disk → Event → Result Came NodeFault → Type 0
+AreaGoesOn disks old new event result = (d : Durable) (area : Area) → old.kept ≡ Some d → old.area ≡ Some area →
+    IsAreaAfter disks old new d area (wants_of old.id d.pending event old.state) result
 
 -- The disk before a call and after it is there, and so is its count of failures: every answer but `Device` leaves that as it is, and
 -- `Device` is answered only where it rose, or stands at its greatest value. The number of its area rises by one at most.

@@ -36,7 +36,7 @@ pub(crate) fn advance<D: SectorDisk + Drop>(
     ensures stuck { IfErr result (Stuck D.state (node_with id nodes core.old disk.old doubt.old mounted.old) (node_with id nodes core.new disk.new doubt.new mounted.new) event.now) }
     ensures answers { Answers (node_with id nodes core.old disk.old doubt.old mounted.old) event.now (answered result) }
     ensures counts { CountsOf D.state (disk_in disk.old) (disk_in disk.new) (answered result) }
-    ensures area { AreaGoesOn (node_with id nodes core.old disk.old doubt.old mounted.old) (node_with id nodes core.new disk.new doubt.new mounted.new) event.now (answered result) }
+    ensures area { AreaGoesOn D.state (node_with id nodes core.old disk.old doubt.old mounted.old) (node_with id nodes core.new disk.new doubt.new mounted.new) event.now (answered result) }
     ensures mounting { is_down core.old.state.phase ≡ true → event.now ≡ Event.Recover
         → Remounted (node_with id nodes core.old disk.old doubt.old mounted.old) (node_with id nodes core.new disk.new doubt.new mounted.new) (answered result) (mounted_in mounted.new (store_in disk.new)) }
     ensures mounted { is_down core.old.state.phase ≡ true → event.now ≡ Event.Recover
@@ -70,7 +70,7 @@ fn while_down<D: SectorDisk + Drop>(
     ensures stuck { IfErr result (Stuck D.state (node_with id nodes core.old disk.old doubt.old mounted.old) (node_with id nodes core.new disk.new doubt.new mounted.new) event.now) }
     ensures answers { Answers (node_with id nodes core.old disk.old doubt.old mounted.old) event.now (answered result) }
     ensures counts { CountsOf D.state (disk_in disk.old) (disk_in disk.new) (answered result) }
-    ensures area { AreaGoesOn (node_with id nodes core.old disk.old doubt.old mounted.old) (node_with id nodes core.new disk.new doubt.new mounted.new) event.now (answered result) }
+    ensures area { AreaGoesOn D.state (node_with id nodes core.old disk.old doubt.old mounted.old) (node_with id nodes core.new disk.new doubt.new mounted.new) event.now (answered result) }
     ensures mounting { event.now ≡ Event.Recover
         → Remounted (node_with id nodes core.old disk.old doubt.old mounted.old) (node_with id nodes core.new disk.new doubt.new mounted.new) (answered result) (mounted_in mounted.new (store_in disk.new)) }
     ensures mounted { event.now ≡ Event.Recover

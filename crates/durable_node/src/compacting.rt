@@ -3,8 +3,10 @@ ghost use Rattle.std.specs.Prelude.{◌≡◌, ◌≢◌, IsTrue, IsFalse, IsOk,
 ghost use Rattle.sector_disk.specs.Run.{Each};
 ghost use Rattle.node_core.specs.State.{is_down};
 ghost use Rattle.node_store.specs.Store.{durable_of, StaysAs};
+ghost use Rattle.job_journal.specs.Compacting.{records_for};
+ghost use Rattle.durable_node.specs.Area.{AllEndIn, jobs_in};
 ghost use Rattle.durable_node.specs.Carrying.{KeepsSound};
-ghost use Rattle.durable_node.specs.Compacting.{Compacts, StaysKept, IsMovedNode, IsFallenNode, IsRewrittenCore, moved};
+ghost use Rattle.durable_node.specs.Compacting.{Compacts, StaysKept, IsMovedNode, IsMovedInto, IsFallenNode, IsRewrittenCore, moved};
 ghost use Rattle.durable_node.specs.Node.{disk_in, store_in, area_in, area_of, IsNode, IsOver, node_with};
 ghost use Rattle.durable_node.specs.Refusing.{AnswersTo, compaction_refusal};
 ghost use Rattle.durable_node.specs.Stepping.{CountsOf};
@@ -33,6 +35,7 @@ pub(crate) fn compact<D: SectorDisk>(
     ensures answers { AnswersTo (compaction_refusal (area_in (is_down core.old.state.phase) (store_in disk.old))) result }
     ensures step { Compacts D.state (node_with id nodes core.old disk.old doubt.now mounted.old) (node_with id nodes core.new disk.new doubt.now mounted.new) result }
     ensures moved { IsOk result → IsMovedNode (node_with id nodes core.old disk.old doubt.now mounted.old) (node_with id nodes core.new disk.new doubt.now mounted.new) }
+    ensures spelled { IsMovedInto D.state (node_with id nodes core.old disk.old doubt.now mounted.old) (node_with id nodes core.new disk.new doubt.now mounted.new) result }
     ensures fallen { IsErrOf result NodeFault.Device → IsFallenNode (node_with id nodes core.old disk.old doubt.now mounted.old) (node_with id nodes core.new disk.new doubt.now mounted.new) }
     ensures refused { IfErr result (λ fault. fault ≢ NodeFault.Device
         → node_with id nodes core.new disk.new doubt.now mounted.new ≡ node_with id nodes core.old disk.old doubt.now None) }
@@ -58,6 +61,8 @@ fn rewrite<D: SectorDisk>(
     ensures core { IsRewrittenCore id nodes core.old core.new result }
     ensures answers { AnswersTo (compaction_refusal (Some (area_of store.old))) result }
     ensures done { IsOk result → IsFalse store.new.broken × (area_of store.new ≡ moved (durable_of store.old) (area_of store.old)) }
+    ensures spelled { IsTrue (D.state store.old.disk).honest → IsOk result
+        → AllEndIn (area_of store.new) (records_for (jobs_in (durable_of store.old))) (D.state store.new.disk) }
     ensures refused { IfErr result (λ fault. fault ≢ NodeFault.Device → store.new ≡ store.old) }
     ensures kept { durable_of store.new ≡ durable_of store.old }
     ensures store { KeepsSound D.state store.old store.new (IsErrOf result NodeFault.Device) }

@@ -7,7 +7,7 @@ ghost use Rattle.node_core.specs.Start.{down};
 ghost use Rattle.node_core.specs.State.{state_of, is_down};
 ghost use Rattle.node_store.specs.Store.{slots_for};
 ghost use Rattle.durable_node.specs.Area.{Area};
-ghost use Rattle.durable_node.specs.Compacting.{Compacts, StaysKept, IsMovedNode, IsFallenNode};
+ghost use Rattle.durable_node.specs.Compacting.{Compacts, StaysKept, IsMovedNode, IsMovedInto, IsFallenNode};
 ghost use Rattle.durable_node.specs.Faults.{answered};
 ghost use Rattle.durable_node.specs.Reading.{ReadsDisk};
 ghost use Rattle.durable_node.specs.Refusing.{Answers, AnswersTo, compaction_refusal};
@@ -221,7 +221,11 @@ impl<D: SectorDisk + Drop> DurableNode<D> {
         // Also: DurableNode::recover, DurableNode::compact.
         // Refuses: device_answered_without_a_failure.
         ensures counts { CountsOf D.state self.old.disk self.new.disk (answered result) }
-        ensures area { AreaGoesOn self.old self.new event.now (answered result) }
+        // Promise: What a done event wrote stands in each image of an honest disk in today's spelling: its command's record, behind
+        // those of a compaction where no slot was free; a compaction's records likewise.
+        // Also: DurableNode::recover, DurableNode::compact.
+        // Refuses: job_journal::old_spelling_appended, job_journal::old_spelling_kept.
+        ensures area { AreaGoesOn D.state self.old self.new event.now (answered result) }
         // Over any disk, honest or not.
         // Promise: Over any disk, a recovery of a node that is Down mounts nothing, is refused for it and leaves the node; or it
         // mounts a counter and jobs, and then is alone in the next group, or Down where the raise failed or no count is left.
@@ -266,7 +270,7 @@ impl<D: SectorDisk + Drop> DurableNode<D> {
         ensures stuck { IfErr result (Stuck D.state self.old self.new Event.Recover) }
         ensures answers { Answers self.old Event.Recover (answered result) }
         ensures counts { CountsOf D.state self.old.disk self.new.disk (answered result) }
-        ensures area { AreaGoesOn self.old self.new Event.Recover (answered result) }
+        ensures area { AreaGoesOn D.state self.old self.new Event.Recover (answered result) }
         ensures mounting { is_down self.old.state.phase ≡ true → Remounted self.old self.new (answered result) self.new.mounted }
         ensures mounted { is_down self.old.state.phase ≡ true → IfOk result (λ came. IsMountedBy self.old.doubt came.fate self.new.mounted) × ReadsDisk D.state self.old.disk self.new.disk (answered result) self.new.mounted }
         ensures few { IfOk result (λ came. length came.sent.items ≤ most_by self.old.nodes self.old.kept) }
@@ -296,6 +300,7 @@ impl<D: SectorDisk + Drop> DurableNode<D> {
         // Also: images.
         // Refuses: compaction_only_promised, compaction_forgets_jobs.
         ensures moved { IsOk result → IsMovedNode self.old self.new }
+        ensures spelled { IsMovedInto D.state self.old self.new result }
         ensures fallen { IsErrOf result NodeFault.Device → IsFallenNode self.old self.new }
         ensures refused { IfErr result (λ fault. fault ≢ NodeFault.Device → self.new ≡ record self.old { mounted = None }) }
         ensures images { StaysKept D.state self.old self.new }

@@ -1,5 +1,5 @@
 -- What the bytes of a file hold.
-use Rattle.std.specs.Prelude.{◌≡◌, ◌<◌, ℕ, ◌*◌, ◌/◌, ◌==◌, List, ◌∷◌, ◌++◌, length, take, drop, get_or, replicate, bytes_eq, codes, Option, Some, None, Result, Ok, Err, if◌then◌else◌}
+use Rattle.std.specs.Prelude.{◌≡◌, ◌<◌, ℕ, ◌*◌, ◌/◌, ◌==◌, ◌||◌, Bool, List, ◌∷◌, ◌++◌, length, take, drop, get_or, replicate, bytes_eq, codes, Option, Some, None, Result, Ok, Err, if◌then◌else◌}
 use Rattle.sector_disk.specs.Disk.{Image, sector_at}
 use Rattle.safe_cell.specs.Cell.{cell_at}
 use Rattle.job_journal.specs.Areas.{area_of, sealed_prefix, slots_from}
@@ -23,12 +23,16 @@ pub record IsHeldBy (bytes : List ℕ) (image : Image) : Type 0 where
 abbrev pub tail_of : List ℕ → List ℕ
 tail_of bytes = drop (512 * (length bytes / 512)) bytes
 
--- the label of node `id` of so many
-abbrev pub label_for : ℕ → ℕ → List ℕ
-label_for id nodes = codes "dumgerok" ++ 1 ∷ id ∷ nodes ∷ replicate 5 0
+-- the label of node `id` of so many; `apart` is 1 where each sector has a block of its own in the file, else 0
+abbrev pub label_for : ℕ → ℕ → ℕ → List ℕ
+label_for id nodes apart = codes "dumgerok" ++ 1 ∷ id ∷ nodes ∷ apart ∷ replicate 4 0
+
+-- it is one of node `id` of so many
+abbrev pub is_label : List ℕ → ℕ → ℕ → Bool
+is_label label id nodes = bytes_eq label (label_for id nodes 0) || bytes_eq label (label_for id nodes 1)
 
 abbrev pub labelled : List ℕ → Owner
-labelled label = if bytes_eq label (label_for (get_or label 9 0) (get_or label 10 0)) then Node (get_or label 9 0) (get_or label 10 0) else Unknown
+labelled label = if is_label label (get_or label 9 0) (get_or label 10 0) then Node (get_or label 9 0) (get_or label 10 0) else Unknown
 
 -- a file without a label is a store's
 abbrev pub owner_by : List ℕ → Owner

@@ -6,7 +6,7 @@ ghost use Rattle.disk_sector.specs.declared.layout.TheConstants.{LEAST_SLOTS, MO
 ghost use Rattle.safe_cell.specs.Cell.{cell_at};
 ghost use Rattle.job_journal.specs.Areas.{first_of, sealed_prefix, slots_from};
 ghost use Rattle.node_store.specs.Store.{slots_for};
-ghost use Rattle.file_console.specs.Held.{counter_of, found_in, journal_of, label_for, labelled, owner_of, used_in};
+ghost use Rattle.file_console.specs.Held.{counter_of, found_in, is_label, journal_of, label_for, labelled, owner_of, used_in};
 
 use crate::found::{Counter, Owner};
 use disk_sector::MOST_SLOTS;
@@ -31,19 +31,29 @@ pub fn owner_of(bytes: &[u8]) -> Owner
 fn labelled(label: [u8; 16]) -> Owner
     ensures { result ≡ labelled label }
 {
-    if label == label_for(label[9], label[10]) {
+    if is_label(label, label[9], label[10]) {
         Owner::Node(label[9], label[10])
     } else {
         Owner::Unknown
     }
 }
 
-/// The label of node `id` of so many.
-fn label_for(id: u8, nodes: u8) -> [u8; 16]
-    ensures { result ≡ label_for id nodes }
+/// Whether this is a label of node `id` of so many.
+fn is_label(label: [u8; 16], id: u8, nodes: u8) -> bool
+    ensures { result ≡ is_label label id nodes }
+{
+    if label == label_for(id, nodes, 0) {
+        return true;
+    }
+    label == label_for(id, nodes, 1)
+}
+
+/// The label of node `id` of so many; `apart` is 1 where each sector has a block of its own in the file.
+fn label_for(id: u8, nodes: u8, apart: u8) -> [u8; 16]
+    ensures { result ≡ label_for id nodes apart }
 {
     [
-        b'd', b'u', b'm', b'g', b'e', b'r', b'o', b'k', 1, id, nodes, 0, 0, 0, 0, 0,
+        b'd', b'u', b'm', b'g', b'e', b'r', b'o', b'k', 1, id, nodes, apart, 0, 0, 0, 0,
     ]
 }
 

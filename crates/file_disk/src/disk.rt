@@ -102,7 +102,7 @@ impl FileDisk {
         FileDisk::open_with(rt, path, Stride::Packed)
     }
 
-    /// As [`FileDisk::open`], with sectors so far apart: as far as they were when the file was made, which the file doesn't say.
+    /// As [`FileDisk::open`], with sectors so far apart: as far as they were when the file was made.
     pub fn open_with<P: AsPath>(
         rt: &impl Files<File = File>,
         path: P,
@@ -118,6 +118,13 @@ impl FileDisk {
     /// What the system said at the first call that failed; none where no call has, and where the file was at fault without the system.
     pub fn why(&self) -> Option<io::Error> {
         self.why
+    }
+
+    /// How far apart its sectors lie.
+    pub fn stride(&self) -> Stride
+        ensures { result ≡ self.now.stride }
+    {
+        self.stride
     }
 
     // Where the last sector ends.

@@ -1,14 +1,20 @@
 // The label of a file, behind its last sector.
-ghost use Rattle.std.specs.Prelude.{◌≡◌, ◌↔◌, IsOk, IsErrOf, IsOkUnless, IsTrue, true};
+ghost use Rattle.std.specs.Prelude.{◌≡◌, ◌↔◌, IfOk, IsOk, IsErrOf, IsOkUnless, IsTrue, true};
 ghost use Rattle.sector_disk.specs.Memory.{risen};
 ghost use Rattle.sector_disk.specs.declared.fault.DiskFault.TheVariants.{Device};
-ghost use Rattle.file_disk.specs.Label.{IsOfANode};
+ghost use Rattle.file_disk.specs.File.{unfailed};
+ghost use Rattle.file_disk.specs.Label.{IsOfANode, IsSpaced};
+ghost use Rattle.file_disk.specs.declared.stride.Stride.TheVariants.{Spaced};
 
-use crate::disk::FileDisk;
+use crate::disk::{FileDisk, over};
+use crate::fault::OpenFault;
+use crate::making::opened;
 use crate::places::{read_at, write_at};
+use crate::stride::Stride;
 use sector_disk::DiskFault;
-use std::fs::File;
+use std::fs::{File, Files};
 use std::io;
+use std::path::AsPath;
 
 /// How many bytes a label has. They are fewer than a sector's, so the file has as many sectors with it as without.
 pub const LABEL: usize = 16;
@@ -26,7 +32,46 @@ pub fn is_of_a_node(label: Option<[u8; LABEL]>) -> bool
     }
 }
 
+/// How far apart the sectors of a file with this label, or with none, lie: packed, where it isn't a node's.
+pub fn stride_in(label: Option<[u8; LABEL]>) -> Stride
+    // Promise: A file's sectors lie as far apart as its label says: each in a block of its own exactly where it is a node's that says so.
+    // Refuses: any_label_spaces.
+    ensures { (result ≡ Spaced) ↔ IsSpaced label }
+{
+    let Some(bytes) = label else {
+        return Stride::Packed;
+    };
+    if is_of_a_node(label) && bytes[11] == 1 {
+        Stride::Spaced
+    } else {
+        Stride::Packed
+    }
+}
+
+// The label at the end of a file of this length, and how far apart its sectors lie.
+pub(crate) fn stride_of(file: &File, length: u64) -> io::Result<Stride> {
+    if length % Stride::Spaced.bytes() != LABEL as u64 {
+        return Ok(Stride::Packed);
+    }
+    let mut label = [0u8; LABEL];
+    read_at(file, length.saturating_sub(LABEL as u64), &mut label)?;
+    Ok(stride_in(Some(label)))
+}
+
 impl FileDisk {
+    /// As [`FileDisk::open`], with the sectors as far apart as the file's label says.
+    pub fn open_labelled<P: AsPath>(
+        rt: &impl Files<File = File>,
+        path: P,
+    ) -> Result<FileDisk, OpenFault>
+        ensures ok { IfOk result (λ disk. disk ≡ unfailed disk.sectors disk.stride) }
+    {
+        let file = opened(rt, path)?;
+        let length = file.metadata()?.len();
+        let stride = stride_of(&file, length)?;
+        Ok(over(file, length, stride))
+    }
+
     /// Writes the label behind the last sector, and syncs the file with its new length.
     pub fn set_label(&mut self, label: &[u8; LABEL]) -> Result<(), DiskFault>
         ensures device { IsOkUnless result Device }

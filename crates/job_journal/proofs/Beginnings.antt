@@ -8,6 +8,7 @@ use Rattle.job_journal.proofs.Frames.{jobs_held_at, slots_same_from, synced_imag
 pub unwritten : (slots : ℕ) (jobs : Jobs) (c : Image) → ((k : ℕ) → k < 2 * slots → slot_at c (8 + 2 * k) ≡ None) → IsWritten 8 slots (records_for jobs) 0 0 c
 unwritten slots jobs c none = record {
   bodies = λ k less. absurd (omega (arith, less));
+  bytes = λ k less. absurd (omega (arith, less));
   sealed = λ k less. absurd (omega (arith, less));
   free = λ k le less. none k (omega (arith, less));
 }

@@ -3,7 +3,7 @@
 use Rattle.job_journal.proofs.Common.{◌≡◌, ◌+◌, ◌*◌, ◌<◌, ◌⊎◌, inl, inr, ⊎_elim, ℕ, List, [], ◌∷◌, length, get_or, set, Bool, false, Some, None, is_some, sym, ◌∙◌, ap, subst, subst₂, refl}
 use Rattle.job_journal.proofs.Common.{arith, IsTrue, Result, Ok, Err, IfOk, ◌-◌, ◌≤◌, zero, suc, ◌++◌, map, slice_get, length-append, append-nil, append_assoc, length-map, nat_tests}
 use Rattle.job_journal.proofs.Common.{Image, DiskState, SameBut, AllSynced, Laws, Counts, sector_at, IsImage, Run, Each, run_widen, each_of_two, slot_at, InSlot, InSlots, run_on, Erased}
-use Rattle.job_journal.proofs.Common.{erased_start, slot_same, Stands, CellState, IsCellAt, AllStand, raised, stands_same, cell_at, Command, record_of, Job, Record, IsInOrder}
+use Rattle.job_journal.proofs.Common.{erased_start, slot_same, Stands, CellState, IsCellAt, AllStand, raised, stands_same, cell_at, Command, record_of, bytes_of, Job, Record, IsInOrder}
 use Rattle.job_journal.proofs.Common.{jobs_of, jobs_after, id_of, Jobs, Reads, fresh, taken, replay_at, then_slot, replayed, JournalFault, slots_from, sealed_prefix, IsPrefix, first_of}
 use Rattle.job_journal.proofs.Common.{jobs_in, IsSound, IsSoundImage, ImagesSince, InJournal, replay_from, JournalState, Holds, AllHold, IsJournal, first_sector, next_slot, Admitted}
 use Rattle.job_journal.proofs.Common.{BeforeOrAfter, appended, record_for, with_slot, KeepsJobs, HasAppended, IsWritten, records_for, other_sector}
@@ -160,10 +160,13 @@ writing_more first slots {old = old} {mid = mid} was_ok into so_far counts run s
 
 -- one body more
 pub written_fill : (first slots : ℕ) (records : List Record) (filled : ℕ) (d c : Image) → SameBut (λ k. k ≡ first + 2 * filled) d c
-    → record_of (sector_at c (first + 2 * filled)) ≡ slice_get records filled → IsWritten first slots records filled 0 d → IsWritten first slots records (filled + 1) 0 c
-written_fill first slots records filled d c same here so_far = record {
+    → record_of (sector_at c (first + 2 * filled)) ≡ slice_get records filled → Some (sector_at c (first + 2 * filled)) ≡ slice_get (map bytes_of records) filled
+    → IsWritten first slots records filled 0 d → IsWritten first slots records (filled + 1) 0 c
+written_fill first slots records filled d c same here spelled so_far = record {
   bodies = below_more (λ k. record_of (sector_at c (first + 2 * k)) ≡ slice_get records k) filled
       (λ k before. ap record_of (same.same (first + 2 * k) (λ is. omega (arith, is, before))) ∙ so_far.bodies k before) here;
+  bytes = below_more (λ k. Some (sector_at c (first + 2 * k)) ≡ slice_get (map bytes_of records) k) filled
+      (λ k before. ap (λ s. Some s) (same.same (first + 2 * k) (λ is. omega (arith, is, before))) ∙ so_far.bytes k before) spelled;
   sealed = λ k less. absurd (omega (arith, less));
   free = λ k le less. grind (arith, nat_tests, same.same (first + 2 * k + 1) (λ is. omega (arith, is)), so_far.free k le less);
 }
@@ -177,6 +180,7 @@ written_seal first slots records filled sealed d c same here so_far =
     λ k other. slot_same c d (first + 2 * k) (same.same (first + 2 * k + 1) (λ is. other (omega (arith, is)))) (body k) in
     record {
       bodies = λ k less. ap record_of (body k) ∙ so_far.bodies k less;
+      bytes = λ k less. ap (λ s. Some s) (body k) ∙ so_far.bytes k less;
       sealed = below_more (λ k. slot_at c (first + 2 * k) ≡ Some (sector_at c (first + 2 * k))) sealed
           (λ k before. slot k (λ is. omega (arith, is, before)) ∙ so_far.sealed k before ∙ ap (λ s. Some s) (sym (body k))) (here ∙ ap (λ s. Some s) (sym (body sealed)));
       free = λ k le less. slot k (λ is. omega (arith, is, le)) ∙ so_far.free k (omega (arith, le)) less;
@@ -205,6 +209,7 @@ whole_slots at (suc n) (r ∷ rs) c fits h =
     let body : record_of (sector_at c at) ≡ Some r = subst (λ s. record_of (sector_at c s) ≡ Some r) first (h.bodies 0 (omega arith)) in
     let rest = whole_slots (at + 2) n rs c (omega (arith, fits)) (record {
       bodies = λ k less. ap (λ s. record_of (sector_at c s)) (there k) ∙ h.bodies (suc k) (omega (arith, less));
+      bytes = λ k less. ap (λ s. Some (sector_at c s)) (there k) ∙ h.bytes (suc k) (omega (arith, less));
       sealed = λ k less. subst (λ s. slot_at c s ≡ Some (sector_at c s)) (sym (there k)) (h.sealed (suc k) (omega (arith, less)));
       free = λ k le less. ap (λ s. slot_at c s) (there k) ∙ h.free (suc k) (omega (arith, le)) (omega (arith, less));
     }) in

@@ -14,14 +14,14 @@ pub use Rattle.safe_cell.specs.Answered.{OnlyReads}
 pub use Rattle.safe_cell.specs.Cell.{InCell, cell_at, cell_of, greater}
 pub use Rattle.safe_cell.specs.Mounted.{Stands, CellState, IsCellAt, AllStand, raised}
 pub use Rattle.job_model.specs.Order.{IsInOrder, IdsRise}
-pub use Rattle.job_model.specs.Records.{record_of}
+pub use Rattle.job_model.specs.Records.{record_of, bytes_of}
 pub use Rattle.job_model.specs.Table.{Table, CanApply, CanKeep, command_of, durable_of}
 pub use Rattle.job_model.specs.declared.command.Command.{Command}
 pub use Rattle.job_model.specs.declared.job.Job.{Job}
 pub use Rattle.job_model.specs.declared.record.Record.{Record}
 pub use Rattle.job_journal.specs.Appending.{Admitted, BeforeOrAfter, appended, record_for, is_full}
-pub use Rattle.job_journal.specs.Areas.{slots_from, sealed_prefix, AllUnsealed, IsPrefix, first_of, area_of}
-pub use Rattle.job_journal.specs.Compacting.{with_slot, KeepsJobs, HasAppended, IsWritten, records_for, other_sector}
+pub use Rattle.job_journal.specs.Areas.{slots_from, sealed_prefix, AllUnsealed, IsPrefix, first_of, area_of, EndsIn}
+pub use Rattle.job_journal.specs.Compacting.{with_slot, KeepsJobs, HasAppended, IsWritten, records_for, records_written, compacted, other_sector}
 pub use Rattle.job_journal.specs.Jobs.{no_jobs, jobs_of, jobs_after, with_jobs, id_of, Jobs, is_unknown, is_out_of_ids}
 pub use Rattle.job_journal.specs.Journal.{jobs_in, IsFormatted, IsSoundImage, InJournal, IsSound, ImagesSince, replay_from, damage_of, cell_damage, replay_by, replay_in, jobs_by, IsSoundArea, IsNumbered, AllWithin, RisesByOne}
 pub use Rattle.job_journal.specs.Mounted.{JournalState, Holds, AllHold, IsJournal, first_sector, next_slot}

@@ -1,14 +1,14 @@
 -- What a compaction writes, and what it leaves.
-use Rattle.std.specs.Prelude.{◌≡◌, ◌<◌, ◌≤◌, ℕ, ◌+◌, ◌*◌, ◌==◌, true, List, ◌∷◌, length, map, slice_get, Option, Some, None, if◌then◌else◌}
+use Rattle.std.specs.Prelude.{◌≡◌, ◌<◌, ◌≤◌, ℕ, ◌+◌, ◌*◌, ◌==◌, true, List, [], ◌∷◌, ◌++◌, length, map, slice_get, Option, Some, None, if◌then◌else◌}
 use Rattle.sector_disk.specs.Disk.{Image, sector_at}
 use Rattle.slot_gate.specs.Slot.{slot_at}
 use Rattle.safe_cell.specs.Mounted.{raised}
 use Rattle.job_model.specs.declared.command.Command.{Command}
 use Rattle.job_model.specs.declared.record.Record.{Record}
 use Rattle.job_model.specs.declared.record.Record.TheVariants.{Base, Keep}
-use Rattle.job_model.specs.Records.{record_of}
+use Rattle.job_model.specs.Records.{record_of, bytes_of}
 use Rattle.job_journal.specs.Jobs.{Jobs, jobs_of, with_jobs, jobs_after, id_of}
-use Rattle.job_journal.specs.Appending.{is_last, appended}
+use Rattle.job_journal.specs.Appending.{is_last, appended, record_for}
 use Rattle.job_journal.specs.Areas.{first_of}
 use Rattle.job_journal.specs.Mounted.{JournalState}
 use Rattle.job_journal.specs.declared.fault.JournalFault.{JournalFault}
@@ -17,6 +17,11 @@ use Rattle.job_journal.specs.declared.fault.JournalFault.TheVariants.{Broken, Ex
 -- the records that stand for these jobs: their next id, and each job in order of id
 abbrev pub records_for : Jobs → List Record
 records_for jobs = Base jobs.next ∷ map Keep jobs.pending
+
+-- the records that an append writes: the command's, behind those of a compaction where no slot was free
+abbrev pub records_written : ℕ → ℕ → Jobs → Command → List Record
+records_written slots used jobs command =
+    if used == slots then records_for jobs ++ record_for jobs command ∷ [] else record_for jobs command ∷ []
 
 -- why a compaction is refused before the device is called
 abbrev pub compaction_refusal : JournalState → Option JournalFault
@@ -54,6 +59,7 @@ pub record IsGivenUp (old new : JournalState) : Type 0 where
 -- them, the first slots are sealed, and the others aren't.
 pub record IsWritten (first slots : ℕ) (records : List Record) (fills seals : ℕ) (image : Image) : Type 0 where
   pub bodies : (k : ℕ) → k < fills → record_of (sector_at image (first + 2 * k)) ≡ slice_get records k
+  pub bytes : (k : ℕ) → k < fills → Some (sector_at image (first + 2 * k)) ≡ slice_get (map bytes_of records) k
   pub sealed : (k : ℕ) → k < seals → slot_at image (first + 2 * k) ≡ Some (sector_at image (first + 2 * k))
   pub free : (k : ℕ) → seals ≤ k → k < slots → slot_at image (first + 2 * k) ≡ None
 

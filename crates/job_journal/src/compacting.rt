@@ -5,8 +5,8 @@ ghost use Rattle.disk_sector.specs.declared.layout.TheConstants.{MOST_SLOTS};
 ghost use Rattle.sector_disk.specs.Disk.{Counts};
 ghost use Rattle.sector_disk.specs.Run.{Run, Each};
 ghost use Rattle.job_journal.specs.Appending.{Answers};
-ghost use Rattle.job_journal.specs.Areas.{first_of};
-ghost use Rattle.job_journal.specs.Compacting.{compaction_refusal, compacted, with_slot, KeepsJobs, IsGivenUp};
+ghost use Rattle.job_journal.specs.Areas.{first_of, EndsIn};
+ghost use Rattle.job_journal.specs.Compacting.{compaction_refusal, compacted, records_for, with_slot, KeepsJobs, IsGivenUp};
 ghost use Rattle.job_journal.specs.Jobs.{jobs_of};
 ghost use Rattle.job_journal.specs.Journal.{jobs_in, ImagesSince, InJournal, IsNumbered};
 ghost use Rattle.job_journal.specs.Mounted.{AllHold, Lasts, IsJournal};
@@ -64,8 +64,10 @@ impl JobJournal {
             → Each (D.state disk.old) (D.state disk.new) (IsNumbered self.old.area.value) }
 
         // After `Ok` each image has the new area, and nothing is unsynced.
+        // Promise: The records that it wrote are the bytes of today's spelling, each job's Keep too.
+        // Refuses: old_spelling_kept.
         ensures after { IsTrue (D.state disk.old).honest → IsOk result
-            → Lasts (AllHold self.old (D.state disk.old)) self.new (D.state disk.new) }
+            → Lasts (AllHold self.old (D.state disk.old)) (records_for (jobs_of self.old.table)) self.new (D.state disk.new) }
     {
         if let Some(fault) = self.refuse_compaction() {
             return Err(fault);
@@ -101,6 +103,8 @@ impl JobJournal {
             → Each (D.state disk.old) (D.state disk.new) (IsNumbered self.old.area.value) }
         ensures after { IsTrue (D.state disk.old).honest → AllHold self.old (D.state disk.old) → IsOk result
             → AllHold self.new (D.state disk.new) }
+        ensures spelled { IsTrue (D.state disk.old).honest → IsOk result → self.old.used ≡ self.old.slots
+            → EndsIn self.new.slots self.new.area.value self.new.used (records_for (jobs_of self.old.table)) (D.state disk.new).contents }
     {
         if self.used == self.slots {
             return self.compact(disk);

@@ -1,10 +1,11 @@
 -- Whose a file is.
 use Rattle.std.specs.Prelude.{◌≡◌, ℕ, List, ◌∷◌, ◌++◌, codes, replicate, slice_index_or, Option, Some, None}
-use Rattle.file_disk.specs.Label.{IsOfANode}
+use Rattle.file_disk.specs.Label.{IsOfANode, byte_of}
+use Rattle.file_disk.specs.declared.stride.Stride.{Stride}
 
--- what stands behind the last sector of the file of node `id` of so many
-abbrev pub label_of : ℕ → ℕ → List ℕ
-label_of id nodes = codes "dumgerok" ++ 1 ∷ id ∷ nodes ∷ replicate 5 0
+-- what stands behind the last sector of the file of node `id` of so many, whose sectors lie so far apart
+abbrev pub label_of : ℕ → ℕ → Stride → List ℕ
+label_of id nodes stride = codes "dumgerok" ++ 1 ∷ id ∷ nodes ∷ byte_of stride ∷ replicate 4 0
 
 -- the byte behind a label's name, which is the version of the file's format
 abbrev pub version_in : Option (List ℕ) → ℕ

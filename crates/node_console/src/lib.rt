@@ -11,6 +11,6 @@ mod status;
 pub use keys::Keys;
 pub use label::{Owner, owner_of};
 pub use making::{LEAST_SLOTS, MOST_SLOTS, format_file};
-pub use reading::file_to_read;
+pub use reading::{file_to_read, image_of};
 pub use serving::{serve, serve_file};
 pub use status::Status;

@@ -15,26 +15,27 @@ pub const LEAST_SLOTS: u64 = 4;
 /// How many slots an area of the journal has at most.
 pub const MOST_SLOTS: u64 = 4096;
 
-/// Makes the file of a node with these jobs. The next id is what its counter begins with, too: so it gives no number of a group and no id
-/// below it. It is refused where there is something of its name. Where it fails, what it made is removed.
+/// Makes the file of a node with these jobs, and sectors so far apart. The next id is what its counter begins with, too: so it gives
+/// no number of a group and no id below it. It is refused where there is something of its name. Where it fails, what it made is removed.
 pub fn format_file<P: AsPath>(
     rt: &impl Files<File = File>,
     path: P,
     slots: u64,
     id: NodeId,
     nodes: u8,
+    stride: Stride,
     jobs: &JobTable,
 ) -> Status
     requires least { LEAST_SLOTS ≤ slots }
     requires most { slots ≤ MOST_SLOTS }
     requires room { length jobs.now.pending + 2 ≤ slots }
 {
-    let mut disk = match FileDisk::create_new(rt, &path, 8 + 4 * slots, Stride::Packed) {
+    let mut disk = match FileDisk::create_new(rt, &path, 8 + 4 * slots, stride) {
         Ok(disk) => disk,
         Err(fault) => return Status::File(fault),
     };
     let begun = node_store::begin(&mut disk, jobs.next(), jobs).is_ok();
-    if begun && disk.set_label(&label_of(id, nodes)).is_ok() {
+    if begun && disk.set_label(&label_of(id, nodes, stride)).is_ok() {
         return Status::Done;
     }
     let _ = fs::remove_file(rt, &path);

@@ -21,7 +21,8 @@ use std::time::{Clock, Instant};
 /// How many bytes one read may give.
 const PIECE: usize = 65_536;
 
-/// Serves a node over its file until the input ends, with its messages sealed where there are keys. A round trip between nodes takes so many milliseconds of the clock that ticks tell.
+/// Serves a node over its file until the input ends, with its messages sealed where there are keys. A round trip between nodes takes so many
+/// milliseconds of the clock that ticks tell.
 pub fn serve_file<P: AsPath, R: Read, W: Write>(
     rt: &(impl Files<File = File> + Clock),
     alloc: Global,
@@ -40,12 +41,12 @@ pub fn serve_file<P: AsPath, R: Read, W: Write>(
         Ok(seal) => seal,
         Err(status) => return status,
     };
-    let disk = match FileDisk::open(rt, path) {
+    let disk = match FileDisk::open_labelled(rt, path) {
         Ok(disk) => disk,
         Err(fault) => return Status::File(fault),
     };
     match disk.label() {
-        Ok(label) if is_own(label, id, nodes) => {}
+        Ok(label) if is_own(label, id, nodes, disk.stride()) => {}
         Ok(label) => return Status::Foreign(owner_of(label)),
         Err(error) => return Status::Device(Some(error)),
     }

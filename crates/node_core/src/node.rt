@@ -245,7 +245,7 @@ impl NodeCore {
         requires last { CanCarry self.old plan }
         requires count { plan_wants plan ≡ Some Raise → 1 ≤ answer }
         // Promise: A commit makes the table's new state and messages for the answer handed in; it takes no memory (it has no error,
-        // and calls nothing that has one but an append within its room).
+        // and calls nothing that has one but to append or to list a job in the room that is there).
         // Also: kept.
         // Refuses: deaf_node, applied_without_its_task, invitations_dropped, job_for_its_owner_dropped,
         // recovered_node_is_not_normal.

@@ -42,7 +42,7 @@ pub record Did (old : Node Memory) (event : Event) (w : What) (sent : List Envel
   pub steps : Steps state_of old left event came
   pub answers : Answers old event (answered (Ok came))
   pub counts : CountsOf state_of old.disk left.disk (answered (Ok came))
-  pub area : AreaGoesOn old left event (answered (Ok came))
+  pub area : AreaGoesOn state_of old left event (answered (Ok came))
   pub mounting : is_down old.state.phase ≡ true → event ≡ Recover → Remounted old left (answered (Ok came)) left.mounted
   pub kept : is_down old.state.phase ≡ true → event ≡ Recover → IsMountedBy old.doubt came.fate left.mounted
   pub reads : is_down old.state.phase ≡ true → event ≡ Recover → ReadsDisk state_of old.disk left.disk (answered (Ok came)) left.mounted

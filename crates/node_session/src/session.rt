@@ -430,6 +430,11 @@ impl<D: SectorDisk + Drop> Session<D> {
     {
         let sight = self.sight();
         self.look_at(sight.group);
+        let due = self.pace.tick(&sight);
+        if due.is_some() || !self.waiting.is_answered(&sight) {
+            return due;
+        }
+        self.pace.answered();
         self.pace.tick(&sight)
     }
 

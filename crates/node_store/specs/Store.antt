@@ -1,5 +1,5 @@
 -- What a disk with a counter and a journal stands for, and what a mounted store knows of it.
-use Rattle.std.specs.Prelude.{◌≡◌, ◌⊎◌, ◌<◌, ◌≤◌, ℕ, ◌-◌, ◌/◌, ◌^◌, ◌==◌, min, Bool, IsTrue, IsFalse, Option, Some, None, if◌then◌else◌, Result}
+use Rattle.std.specs.Prelude.{◌≡◌, ◌⊎◌, ◌<◌, ◌≤◌, ℕ, ◌-◌, ◌/◌, ◌^◌, ◌==◌, min, Bool, List, IsTrue, IsFalse, Option, Some, None, if◌then◌else◌, Result}
 use Rattle.disk_sector.specs.Layout.{sectors_for}
 use Rattle.disk_sector.specs.declared.layout.TheConstants.{MOST_SLOTS}
 use Rattle.sector_disk.specs.Disk.{Image, DiskState, IsImage, AllSynced, sector_at}
@@ -11,7 +11,9 @@ use Rattle.job_model.specs.declared.node_command.NodeCommand.{NodeCommand as Com
 use Rattle.job_model.specs.Durable.{Durable}
 use Rattle.job_model.specs.Fold.{after_command}
 use Rattle.job_model.specs.declared.command.Command.{Command as Change}
+use Rattle.job_model.specs.declared.record.Record.{Record}
 use Rattle.job_journal.specs.declared.fault.JournalFault.{JournalFault}
+use Rattle.job_journal.specs.Areas.{EndsIn}
 use Rattle.job_journal.specs.Jobs.{Jobs, jobs_of, kept}
 use Rattle.job_journal.specs.Journal.{jobs_in, IsFormatted, IsSound, RisesByOne}
 use Rattle.job_journal.specs.Mounted.{JournalState, AllHold}
@@ -40,6 +42,11 @@ AllStandFor slots state disk = (image : Image) → IsImage disk image → stands
 pub record Lasts (slots : ℕ) (state : Durable) (disk : DiskState) : Type 0 where
   pub synced : AllSynced disk
   pub stands : AllStandFor slots state disk
+
+-- What it has after a change of the journal: the journal also ends in the records that were written, each in today's spelling.
+pub record Leaves (records : List Record) (journal : JournalState) (state : Durable) (disk : DiskState) : Type 0 where
+  pub lasts : Lasts journal.slots state disk
+  pub spelled : (image : Image) → IsImage disk image → EndsIn journal.slots journal.area.value journal.used records image
 
 -- What a program that has mounted a store knows of it.
 pub record StoreState (Disk : Type 0) : Type 0 where

@@ -1,5 +1,5 @@
 -- Waits at round trips of any length.
-use Rattle.std.proofs.Common.{◌≡◌, ◌≤◌, ◌<◌, ◌+◌, ◌*◌, ◌/◌, ◌⊎◌, ℕ, inl, inr, sym, ap, ◌∙◌, arith, max, min}
+use Rattle.std.proofs.Common.{◌≡◌, ◌≤◌, ◌<◌, ◌+◌, ◌*◌, ◌/◌, ◌⊎◌, ℕ, Bool, true, false, inl, inr, sym, ap, ◌∙◌, arith, max, min}
 use Rattle.std.proofs.lemmas.Bool.{cases_lt}
 use Rattle.std.proofs.Math.Nat.{add-mul, mul-div_cancel_left, mul-le-mul_left, mul_assoc, mul_comm}
 use Rattle.pace.specs.declared.wait.Wait.{Wait}
@@ -7,23 +7,37 @@ use Rattle.pace.specs.declared.wait.Wait.TheVariants.{Check, Merge, Accept, Read
 use Rattle.pace.specs.Timers.{first_pause, jitter_of, least_of, measured, most_pause}
 use Rattle.pace.specs.Laws.{Scales}
 
-least : (unit : ℕ) → 1 ≤ unit → (wait : Wait) → least_of (measured unit) wait ≡ unit * least_of (measured 1) wait
-least unit some Check = omega (arith, some)
-least unit some Merge = omega (arith, some)
-least unit some Accept = omega (arith, some)
-least unit some Ready = omega (arith, some)
-least unit some Task = omega (arith, some)
-least unit some Coordinator = omega (arith, some)
-least unit some Answer = omega (arith, some)
+least : (unit : ℕ) → 1 ≤ unit → (settled : Bool) (wait : Wait) → least_of (measured unit) settled wait ≡ unit * least_of (measured 1) settled wait
+least unit some true Check = omega (arith, some)
+least unit some false Check = omega (arith, some)
+least unit some true Merge = omega (arith, some)
+least unit some false Merge = omega (arith, some)
+least unit some true Accept = omega (arith, some)
+least unit some false Accept = omega (arith, some)
+least unit some true Ready = omega (arith, some)
+least unit some false Ready = omega (arith, some)
+least unit some true Task = omega (arith, some)
+least unit some false Task = omega (arith, some)
+least unit some true Coordinator = omega (arith, some)
+least unit some false Coordinator = omega (arith, some)
+least unit some true Answer = omega (arith, some)
+least unit some false Answer = omega (arith, some)
 
-jitter : (unit : ℕ) → (wait : Wait) → jitter_of (measured unit) wait ≡ unit * jitter_of (measured 1) wait
-jitter unit Check = omega arith
-jitter unit Merge = omega arith
-jitter unit Accept = omega arith
-jitter unit Ready = omega arith
-jitter unit Task = omega arith
-jitter unit Coordinator = omega arith
-jitter unit Answer = omega arith
+jitter : (unit : ℕ) → (settled : Bool) (wait : Wait) → jitter_of (measured unit) settled wait ≡ unit * jitter_of (measured 1) settled wait
+jitter unit true Check = omega arith
+jitter unit false Check = omega arith
+jitter unit true Merge = omega arith
+jitter unit false Merge = omega arith
+jitter unit true Accept = omega arith
+jitter unit false Accept = omega arith
+jitter unit true Ready = omega arith
+jitter unit false Ready = omega arith
+jitter unit true Task = omega arith
+jitter unit false Task = omega arith
+jitter unit true Coordinator = omega arith
+jitter unit false Coordinator = omega arith
+jitter unit true Answer = omega arith
+jitter unit false Answer = omega arith
 
 most : (unit : ℕ) → 1 ≤ unit → most_pause (measured unit) ≡ unit * most_pause (measured 1)
 most unit some = omega (arith, some)

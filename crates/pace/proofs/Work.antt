@@ -1,8 +1,8 @@
--- How long work rests.
-use Rattle.std.proofs.Common.{◌≡◌, ◌≤◌, ◌-◌, ◌^◌, ℕ, Bool, true, false, subst, sym, arith}
+-- How long work rests, and that what is set now isn't over.
+use Rattle.std.proofs.Common.{◌≡◌, ◌≤◌, ◌+◌, ◌-◌, ◌^◌, ℕ, Bool, true, false, subst, sym, arith, min}
 use Rattle.std.specs.Prelude.{if◌then◌else◌}
 use Rattle.pace.specs.declared.setting.Setting.{Setting}
-use Rattle.pace.specs.Timers.{first_pause, longer_pause}
+use Rattle.pace.specs.Timers.{first_pause, longer_pause, times}
 
 first_some : (s : Setting) (pending : ℕ) → 1 ≤ first_pause s pending
 first_some s pending = omega arith
@@ -22,3 +22,8 @@ left_by false pause rested none now some = absurd cc
 pub rests_first : (b c : Bool) (s : Setting) (pending was pause rested : ℕ) → (if b then pause - rested else 2 ^ 64 - 1) ≡ 0 → rested ≡ 0
     → pause ≡ (if c then first_pause s pending else longer_pause s was) → ⊥
 rests_first b c s pending was pause rested none now is = left_by b pause rested none now (subst (λ (n : ℕ). 1 ≤ n) (sym is) (pause_by c s pending was))
+
+-- a wait of a millisecond at least isn't over where none of it is
+pub not_over : (twice : Bool) (length more waited : ℕ) → 1 ≤ length → waited ≡ 0 → min (times twice (length + more)) (2 ^ 64 - 1) ≤ waited → ⊥
+not_over true length more waited some none over = omega (arith, some, none, over)
+not_over false length more waited some none over = omega (arith, some, none, over)

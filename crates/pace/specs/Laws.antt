@@ -1,5 +1,5 @@
 -- What follows of a policy.
-use Rattle.std.specs.Prelude.{ℕ, ◌≡◌, ◌≤◌, ◌*◌, min, Some}
+use Rattle.std.specs.Prelude.{ℕ, ◌≡◌, ◌≤◌, ◌*◌, min, Bool, Some}
 use Rattle.group_task.specs.Group.{Group}
 use Rattle.node_core.specs.declared.event.Event.TheVariants as on
 use Rattle.node_core.specs.declared.timer.Timer.TheVariants as timer
@@ -11,8 +11,8 @@ use Rattle.pace.specs.Policy.{Policy, HasCome, IsWorkDue, Dispatches, IsWithin, 
 
 -- a deadline that is set now has not come, whatever is seen
 abbrev pub TimerFiresOnce : Type 0
-TimerFiresOnce = (p : Policy) (s : Sight) (raise : ℕ) (wait : Wait) (group : Group) (d : Deadline) →
-    IsSet p.setting raise wait group d → HasCome p s d → ⊥
+TimerFiresOnce = (p : Policy) (s : Sight) (settled : Bool) (raise : ℕ) (wait : Wait) (group : Group) (d : Deadline) →
+    IsSet p.setting settled raise wait group d → HasCome p s d → ⊥
 
 -- work that was dispatched now is not due, whatever is seen
 abbrev pub WorkFiresOnce : Type 0
@@ -32,8 +32,8 @@ PutOffOnce = (d : Deadline) (waited : ℕ) → put_off (later waited (put_off d)
 
 -- with a round trip of so many milliseconds each wait is so many times what it is with one of a millisecond
 pub record Scales (unit : ℕ) : Type 0 where
-  pub least : (wait : Wait) → least_of (measured unit) wait ≡ unit * least_of (measured 1) wait
-  pub jitter : (wait : Wait) → jitter_of (measured unit) wait ≡ unit * jitter_of (measured 1) wait
+  pub least : (settled : Bool) (wait : Wait) → least_of (measured unit) settled wait ≡ unit * least_of (measured 1) settled wait
+  pub jitter : (settled : Bool) (wait : Wait) → jitter_of (measured unit) settled wait ≡ unit * jitter_of (measured 1) settled wait
   pub turn : (measured unit).turn * (measured unit).unit ≡ unit * (measured 1).turn
   pub raise : (ms : ℕ) → raise_of (measured unit) ms ≡ min ms (unit * (measured 1).raise_most)
   pub first : (jobs : ℕ) → first_pause (measured unit) (20 * jobs) ≡ unit * first_pause (measured 1) (20 * jobs)

@@ -1,5 +1,5 @@
 -- What a policy keeps, and what it fires.
-use Rattle.std.specs.Prelude.{ℕ, ◌≡◌, ◌≢◌, ◌⊎◌, ◌+◌, ◌-◌, ◌≤◌, ◌<◌, ◌^◌, min, Bool, false, not, ◌&&◌, ◌||◌, ◌==◌, nat_le, nat_lt, if◌then◌else◌, List, slice_index, slice_set, replicate, Option, Some, None, is_some}
+use Rattle.std.specs.Prelude.{ℕ, ◌≡◌, ◌≢◌, ◌⊎◌, ◌+◌, ◌-◌, ◌≤◌, ◌<◌, ◌^◌, min, Bool, true, false, not, ◌&&◌, ◌||◌, ◌==◌, nat_le, nat_lt, if◌then◌else◌, List, slice_index, slice_set, replicate, Option, Some, None, is_some}
 use Rattle.std.specs.List.{list_any}
 use Rattle.group_task.specs.declared.node.TheConstants.{NODES}
 use Rattle.node_core.specs.declared.event.Event.{Event}
@@ -8,13 +8,13 @@ use Rattle.node_core.specs.declared.phase.Phase.TheVariants.{Normal}
 use Rattle.node_core.specs.declared.timer.Timer.TheVariants as timer
 use Rattle.pace.specs.declared.setting.Setting.{Setting}
 use Rattle.pace.specs.declared.wait.Wait.{Wait}
-use Rattle.pace.specs.declared.wait.Wait.TheVariants.{Check}
+use Rattle.pace.specs.declared.wait.Wait.TheVariants.{Merge}
 use Rattle.pace.specs.declared.deadline.Deadline.{Deadline}
 use Rattle.pace.specs.declared.sight.Sight.{Sight}
-use Rattle.pace.specs.Timers.{wait_of, timer_of, first_pause, lasts, later, longer_pause, put_off}
+use Rattle.pace.specs.Timers.{answered, at_once, wait_of, timer_of, first_pause, is_led_by, lasts, later, longer_pause, put_off}
 
--- the policy of a node: the time that was told last, how much of what comes isn't waited for, the deadline that is set, how many checks were
--- fired and how many of them before each node was last heard, the oldest job that was seen, how long work rests and for how long it has to before it is
+-- the policy of a node: the time that was told last, how much of what comes isn't waited for, the deadline that is set, whether its group is settled
+-- (a check was made or heard of in it), how many checks were fired and how many of them before each node was last heard, the oldest job that was seen, how long work rests and for how long it has to before it is
 -- dispatched (at once where that is 0), and how long the node's last raise took
 pub record Policy : Type 0 where
   pub id : ℕ
@@ -22,6 +22,7 @@ pub record Policy : Type 0 where
   pub told : Option ℕ
   pub skip : ℕ
   pub deadline : Option Deadline
+  pub settled : Bool
   pub checks : ℕ
   pub heard : List ℕ
   pub oldest : Option ℕ
@@ -36,6 +37,7 @@ fresh setting id = record {
   told = None;
   skip = 0;
   deadline = None;
+  settled = false;
   checks = 0;
   heard = replicate NODES 0;
   oldest = None;
@@ -68,13 +70,29 @@ spent ms p = record p { skip = min (p.skip + ms) (2 ^ 64 - 1) }
 abbrev pub heard_from : ℕ → Policy → Policy
 heard_from id p = record p { heard = slice_set p.heard id p.checks }
 
-abbrev pub put_off_deadline : Option Deadline → Option Deadline
-put_off_deadline None = None
-put_off_deadline (Some d) = Some (put_off d)
+-- a member asks at once behind a check of its coordinator, by which its group is settled; a greater node that looks for other coordinators is to merge first
+abbrev pub asked_with : ℕ → Policy → Deadline → Policy
+asked_with from p d = if is_led_by from d then record p { deadline = Some (at_once d); settled = true } else record p { deadline = Some (if nat_lt p.id from then put_off d else d) }
 
--- this node looks for other coordinators: a greater one is to merge first
+abbrev pub asked_where : ℕ → Policy → Option Deadline → Policy
+asked_where from p None = p
+asked_where from p (Some d) = asked_with from p d
+
+-- this node looks for other coordinators
 abbrev pub asked_by : ℕ → Policy → Policy
-asked_by from p = if nat_lt p.id from then record p { deadline = put_off_deadline p.deadline } else p
+asked_by from p = asked_where from p p.deadline
+
+abbrev pub answered_deadline : Option Deadline → Option Deadline
+answered_deadline None = None
+answered_deadline (Some d) = Some (answered d)
+
+-- all whom the node asked have answered, and none of them leads
+abbrev pub all_answered : Policy → Policy
+all_answered p = record p { deadline = answered_deadline p.deadline }
+
+-- the node is in another group than before
+abbrev pub in_new_group : Policy → Policy
+in_new_group p = record p { settled = false; rested = 0; pause = 0 }
 
 -- its times are numbers of 64 bits
 abbrev pub IsWithinDeadline : Option Deadline → Type 0
@@ -92,10 +110,10 @@ is_silent p id = not (id == p.id) && nat_le p.setting.silent_checks (p.checks - 
 abbrev pub has_silent : Policy → List ℕ → Bool
 has_silent p members = list_any (is_silent p) members
 
--- what is fired when a wait is over: its timer, but a coordinator gives its group up in place of one more check, where a member is silent
-abbrev pub event_at : Policy → List ℕ → Wait → Event
-event_at p members Check = if has_silent p members then on.Recover else on.Timer (timer_of Check)
-event_at p members wait = on.Timer (timer_of wait)
+-- what is fired when a wait is over: its timer, but a coordinator that found no other gives its group up at the end of a check, where a member is silent
+abbrev pub event_at : Policy → Sight → Wait → Event
+event_at p s Merge = if not (is_some s.merge_wait) && has_silent p s.members then on.Recover else on.Timer (timer_of Merge)
+event_at p s wait = on.Timer (timer_of wait)
 
 -- this deadline is set, and is the one of what is waited for where this is seen
 pub record Runs (p : Policy) (s : Sight) (d : Deadline) : Type 0 where
@@ -133,16 +151,18 @@ IsWorkDue p s = (s.phase ≡ Normal) × (work_left p s ≡ 0)
 
 -- what may be fired: what a wait that is over asks for, or the dispatch of work that is due
 abbrev pub MayFire : Policy → Sight → Event → Type 0
-MayFire p s event = ((d : Deadline) × HasCome p s d × (event ≡ event_at p s.members d.wait)) ⊎ ((event ≡ on.Timer timer.Dispatch) × IsWorkDue p s)
+MayFire p s event = ((d : Deadline) × HasCome p s d × (event ≡ event_at p s d.wait)) ⊎ ((event ≡ on.Timer timer.Dispatch) × IsWorkDue p s)
 
 -- something is fired, if it is asked for now
 abbrev pub IsDue : Policy → Sight → Type 0
 IsDue p s = ((d : Deadline) × HasCome p s d) ⊎ IsWorkDue p s
 
--- each check is counted, and nothing else
-pub record Counts (fired : Option Event) (old new : ℕ) : Type 0 where
-  pub check : fired ≡ Some (on.Timer timer.Check) → new ≡ min (old + 1) (2 ^ 64 - 1)
-  pub other : fired ≢ Some (on.Timer timer.Check) → new ≡ old
+-- each check is counted, and settles the group; nothing else does
+pub record Counts (fired : Option Event) (old new : Policy) : Type 0 where
+  pub check : fired ≡ Some (on.Timer timer.Check) → new.checks ≡ min (old.checks + 1) (2 ^ 64 - 1)
+  pub settles : fired ≡ Some (on.Timer timer.Check) → new.settled ≡ true
+  pub other : fired ≢ Some (on.Timer timer.Check) → new.checks ≡ old.checks
+  pub stays : fired ≢ Some (on.Timer timer.Check) → new.settled ≡ old.settled
 
 -- the same of work
 pub record SameWork (p q : Policy) : Type 0 where

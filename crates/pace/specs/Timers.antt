@@ -1,5 +1,5 @@
 -- What a node waits for, for how long, and the timer that fires then.
-use Rattle.std.specs.Prelude.{ℕ, ◌≡◌, ◌+◌, ◌-◌, ◌*◌, ◌/◌, ◌^◌, ◌≤◌, max, min, Bool, true, false, not, ◌&&◌, if◌then◌else◌, Option, Some, None}
+use Rattle.std.specs.Prelude.{ℕ, ◌≡◌, ◌+◌, ◌-◌, ◌*◌, ◌/◌, ◌^◌, ◌≤◌, max, min, Bool, true, false, ◌&&◌, ◌==◌, if◌then◌else◌, Option, Some, None}
 use Rattle.group_task.specs.Group.{Group}
 use Rattle.node_core.specs.declared.phase.Phase.{Phase}
 use Rattle.node_core.specs.declared.phase.Phase.TheVariants.{Down, Election, Reorganization, Normal}
@@ -29,36 +29,40 @@ timer_of Accept = timer.Accept
 timer_of Ready = timer.Ready
 timer_of wait = timer.Coord
 
-abbrev pub units_of : Setting → Wait → ℕ
-units_of s Check = s.check
-units_of s Merge = s.merge
-units_of s Accept = s.accept
-units_of s Ready = s.ready
-units_of s Task = s.task
-units_of s Coordinator = s.coordinator
-units_of s Answer = s.answer
+-- in a settled group, in which a check was made or heard of, or before
+abbrev pub units_of : Setting → Bool → Wait → ℕ
+units_of s settled Check = if settled then s.check else s.first_check
+units_of s settled Merge = s.merge
+units_of s settled Accept = s.accept
+units_of s settled Ready = s.ready
+units_of s settled Task = s.task
+units_of s settled Coordinator = if settled then s.coordinator else s.first_coordinator
+units_of s settled Answer = s.answer
 
-abbrev pub jitter_units : Setting → Wait → ℕ
-jitter_units s Check = s.check_jitter
-jitter_units s Merge = s.merge_jitter
-jitter_units s Coordinator = s.coordinator_jitter
-jitter_units s wait = 0
+abbrev pub jitter_units : Setting → Bool → Wait → ℕ
+jitter_units s settled Check = if settled then s.check_jitter else s.first_check_jitter
+jitter_units s settled Merge = s.merge_jitter
+jitter_units s settled Coordinator = if settled then s.coordinator_jitter else s.first_coordinator_jitter
+jitter_units s settled wait = 0
 
 -- a node waits for a millisecond at least
-abbrev pub least_of : Setting → Wait → ℕ
-least_of s wait = max (units_of s wait * s.unit) 1
+abbrev pub least_of : Setting → Bool → Wait → ℕ
+least_of s settled wait = max (units_of s settled wait * s.unit) 1
 
-abbrev pub jitter_of : Setting → Wait → ℕ
-jitter_of s wait = jitter_units s wait * s.unit
+abbrev pub jitter_of : Setting → Bool → Wait → ℕ
+jitter_of s settled wait = jitter_units s settled wait * s.unit
 
 -- the steps that a merge is put off by
 abbrev pub steps : Wait → Option ℕ → ℕ
 steps Merge (Some n) = n
 steps wait found = 0
 
+abbrev pub times : Bool → ℕ → ℕ
+times twice n = if twice then 2 * n else n
+
 -- how long a wait lasts, where the node's last raise took so long: a turn has room for the raise of who merges first
 abbrev pub lasts : Setting → ℕ → Option ℕ → Deadline → ℕ
-lasts s raise merge_wait d = min (d.length + steps d.wait merge_wait * (s.turn * s.unit + raise)) (2 ^ 64 - 1)
+lasts s raise merge_wait d = min (times d.put_off (d.length + steps d.wait merge_wait * (s.turn * s.unit + raise))) (2 ^ 64 - 1)
 
 -- so many milliseconds later
 abbrev pub later : ℕ → Deadline → Deadline
@@ -68,9 +72,25 @@ abbrev pub is_merge : Wait → Bool
 is_merge Merge = true
 is_merge wait = false
 
--- a merge begins to wait anew, once
+-- a merge waits twice as long
 abbrev pub put_off : Deadline → Deadline
-put_off d = if is_merge d.wait && not d.put_off then record d { waited = 0; put_off = true } else d
+put_off d = if is_merge d.wait then record d { put_off = true } else d
+
+-- a wait is over at once
+abbrev pub at_once : Deadline → Deadline
+at_once d = record d { length = 0 }
+
+-- a look for other coordinators is over
+abbrev pub answered : Deadline → Deadline
+answered d = if is_merge d.wait then at_once d else d
+
+abbrev pub is_question : Wait → Bool
+is_question Coordinator = true
+is_question wait = false
+
+-- a member waits to ask this node, its coordinator: the one that made its group
+abbrev pub is_led_by : ℕ → Deadline → Bool
+is_led_by id d = is_question d.wait && d.group.creator == id
 
 -- who is asked may be in a raise, and answers behind it
 abbrev pub patience : Wait → ℕ → ℕ
@@ -80,13 +100,13 @@ patience Answer raise = raise
 patience wait raise = 0
 
 -- the deadline of this wait in a group, none of which is over
-pub record IsSet (s : Setting) (raise : ℕ) (wait : Wait) (group : Group) (d : Deadline) : Type 0 where
+pub record IsSet (s : Setting) (settled : Bool) (raise : ℕ) (wait : Wait) (group : Group) (d : Deadline) : Type 0 where
   pub its_wait : d.wait ≡ wait
   pub its_group : d.group ≡ group
   pub from_now : d.waited ≡ 0
   pub in_time : d.put_off ≡ false
-  pub least : least_of s wait + patience wait raise ≤ d.length
-  pub most : d.length ≤ least_of s wait + jitter_of s wait + patience wait raise
+  pub least : least_of s settled wait + patience wait raise ≤ d.length
+  pub most : d.length ≤ least_of s settled wait + jitter_of s settled wait + patience wait raise
 
 -- a raise is reckoned with up to so many round trips
 abbrev pub raise_of : Setting → ℕ → ℕ
@@ -108,16 +128,20 @@ longer_pause s pause = min (max (pause + pause / 4) 1) (most_pause s)
 abbrev pub measured : ℕ → Setting
 measured unit = record {
   unit = unit;
-  check = 20;
-  check_jitter = 10;
+  first_check = 10;
+  first_check_jitter = 5;
+  check = 45;
+  check_jitter = 5;
   merge = 5;
   merge_jitter = 5;
   turn = 10;
   accept = 5;
   ready = 10;
   task = 20;
-  coordinator = 20;
-  coordinator_jitter = 10;
+  first_coordinator = 20;
+  first_coordinator_jitter = 10;
+  coordinator = 52;
+  coordinator_jitter = 3;
   answer = 10;
   dispatch = 5;
   dispatch_most = 300;

@@ -1,6 +1,6 @@
 -- The messages that a node sent and still waits for.
-use Rattle.std.specs.Prelude.{ℕ, ◌++◌, ◌+◌, ◌-◌, ◌^◌, min, nat_le, List, [], Bool, false, not, ◌&&◌, ◌||◌, ◌==◌, if◌then◌else◌, Option, Some, None}
-use Rattle.std.specs.List.{filter}
+use Rattle.std.specs.Prelude.{ℕ, ◌++◌, ◌+◌, ◌-◌, ◌^◌, min, nat_le, List, [], Bool, true, false, not, ◌&&◌, ◌||◌, ◌==◌, if◌then◌else◌, Option, Some, None, is_some}
+use Rattle.std.specs.List.{filter, list_any}
 use Rattle.group_task.specs.Group.{Group, same_group}
 use Rattle.group_task.specs.Ids.{has}
 use Rattle.wire_msg.specs.Envelope.{Envelope}
@@ -9,6 +9,7 @@ use Rattle.wire_msg.specs.declared.body.Body.TheVariants as says
 use Rattle.node_core.specs.declared.event.Event.{Event}
 use Rattle.node_core.specs.declared.event.Event.TheVariants as on
 use Rattle.node_core.specs.State.{State, is_election, is_reorganization}
+use Rattle.pace.specs.declared.sight.Sight.{Sight}
 
 abbrev pub answerer_by : ℕ → Body → Option ℕ
 answerer_by sender (says.Coordinator agreed) = Some sender
@@ -61,6 +62,17 @@ waits_since answered sent s w = record w {
 -- behind an event that led to this state, in which these were sent
 abbrev pub waits_behind : Option Event → List Envelope → State → Waits → Waits
 waits_behind event sent s w = waits_since (answerer event) sent s w
+
+abbrev pub is_check : Body → Bool
+is_check says.AreYouCoordinator = true
+is_check body = false
+
+abbrev pub asks : List Envelope → Bool
+asks messages = list_any (λ m. is_check m.body) messages
+
+-- a check is over: it found no other coordinator, and all have answered
+abbrev pub is_answered : Sight → Waits → Bool
+is_answered s w = s.checking && (not (is_some s.merge_wait) && not (asks w.again || asks w.fresh))
 
 -- the next time has come; it is a unit away at most, or the clock fell back
 abbrev pub has_come : ℕ → Waits → Bool

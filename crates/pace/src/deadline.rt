@@ -1,9 +1,9 @@
 ghost use Rattle.std.specs.Prelude.{◌≡◌, ◌↔◌, ◌≤◌, ◌<◌, ◌-◌, ◌+◌, ◌*◌, ◌^◌, min, IsTrue};
-ghost use Rattle.pace.specs.Timers.{lasts, later, put_off};
+ghost use Rattle.pace.specs.Timers.{answered, at_once, is_led_by, lasts, later, put_off, times};
 
 use crate::setting::Setting;
 use crate::wait::Wait;
-use group_task::GroupNo;
+use group_task::{GroupNo, NodeId};
 
 /// How long a wait lasts. It belongs to one group of the node: in another group a node waits anew.
 #[derive(Clone, Copy, Debug, PartialEq, Eq)]
@@ -14,7 +14,7 @@ pub struct Deadline {
     pub length: u64,
     /// How much of it is over, in milliseconds.
     pub waited: u64,
-    /// Whether it was begun anew, for another node's turn.
+    /// Whether it lasts twice as long, for another node's turn.
     pub put_off: bool,
 }
 
@@ -36,18 +36,41 @@ impl Deadline {
         }
     }
 
-    /// A merge begins to wait anew, once.
+    /// A merge waits twice as long.
     pub fn put_off(self) -> Deadline
         ensures { result ≡ put_off self }
     {
         match self.wait {
-            Wait::Merge if !self.put_off => Deadline {
-                waited: 0,
+            Wait::Merge => Deadline {
                 put_off: true,
                 ..self
             },
             _ => self,
         }
+    }
+
+    /// It comes at once.
+    pub fn at_once(self) -> Deadline
+        ensures { result ≡ at_once self }
+    {
+        Deadline { length: 0, ..self }
+    }
+
+    /// A look for other coordinators is over.
+    pub fn answered(self) -> Deadline
+        ensures { result ≡ answered self }
+    {
+        match self.wait {
+            Wait::Merge => self.at_once(),
+            _ => self,
+        }
+    }
+
+    /// Whether a member waits to ask this node, its coordinator.
+    pub fn is_led_by(&self, node: NodeId) -> bool
+        ensures { result ≡ is_led_by node self.now }
+    {
+        matches!(self.wait, Wait::Coordinator) && self.group.creator().is(node)
     }
 
     /// Whether it has come.
@@ -66,7 +89,7 @@ impl Deadline {
         lasts.saturating_sub(waited)
     }
 
-    /// How long it lasts, in milliseconds. A merge is put off by a turn for each step of the node's wait, and a turn has room for the
+    /// How long it lasts, in milliseconds. A merge waits longer by a turn for each step of the node's wait, and a turn has room for the
     /// raise of who merges first: `raise` milliseconds.
     pub fn lasts(&self, setting: &Setting, raise: u32, merge_wait: Option<u64>) -> u64
         ensures { result ≡ lasts setting.now raise merge_wait self.now }
@@ -76,17 +99,18 @@ impl Deadline {
             _ => 0,
         };
         let turn = u64::from(u32::from(setting.turn) * u32::from(setting.unit)) + u64::from(raise);
-        longer(self.length, turns, turn)
+        longer(self.length, turns, turn, self.put_off)
     }
 }
 
-/// A length and so many turns, or the greatest number.
-fn longer(length: u64, turns: u64, turn: u64) -> u64
+/// A length and so many turns, or twice that, or the greatest number.
+fn longer(length: u64, turns: u64, turn: u64, twice: bool) -> u64
     requires { turn < 2 ^ 40 }
-    ensures { result ≡ min (length + turns * turn) (2 ^ 64 - 1) }
+    ensures { result ≡ min (times twice (length + turns * turn)) (2 ^ 64 - 1) }
 {
-    let more = product(turns, turn);
-    u64::try_from(u128::from(length) + more).unwrap_or(u64::MAX)
+    let once = u128::from(length) + product(turns, turn);
+    let all = if twice { 2 * once } else { once };
+    u64::try_from(all).unwrap_or(u64::MAX)
 }
 
 pub(crate) fn product(times: u64, length: u64) -> u128

@@ -20,7 +20,7 @@ pub fn falls_back()
 
 /// A merge is put off for another node's turn once. This function is the law, and does nothing.
 pub fn put_off_once()
-    // Promise: A merge begins its wait anew for a greater node that looks for coordinators, once for each wait.
+    // Promise: A merge waits twice as long for a greater node that looks for coordinators, and no longer, however often it looks.
     // Refuses: merge_put_off_again_and_again.
     ensures { PutOffOnce }
 {}

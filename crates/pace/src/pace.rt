@@ -5,7 +5,7 @@ ghost use Rattle.node_core.specs.declared.event.Event.{Event};
 ghost use Rattle.pace.specs.declared.deadline.Deadline.{Deadline};
 ghost use Rattle.pace.specs.declared.wait.Wait.{Wait};
 ghost use Rattle.pace.specs.Timers.{wait_of, lasts, raise_of, IsSet};
-ghost use Rattle.pace.specs.Policy.{aged, asked_by, fresh, heard_from, is_silent, has_silent, event_at, looked_at, may_dispatch, passed, rests, since, spent, work_left, Runs, HasCome, IsDue, IsWorkDue, MayFire, Counts, Dispatches};
+ghost use Rattle.pace.specs.Policy.{aged, all_answered, asked_by, fresh, heard_from, in_new_group, is_silent, has_silent, event_at, looked_at, may_dispatch, passed, rests, since, spent, work_left, Runs, HasCome, IsDue, IsWorkDue, MayFire, Counts, Dispatches};
 
 use crate::deadline::Deadline;
 use crate::setting::Setting;
@@ -28,6 +28,8 @@ pub struct Pace {
     told: Option<u64>,
     skip: u64,
     deadline: Option<Deadline>,
+    // whether a check was made or heard of in the node's group
+    settled: bool,
     // how many checks were fired, and how many of them before each node was last heard
     checks: u64,
     heard: [u64; NODES as usize],
@@ -50,6 +52,7 @@ impl Model for Pace {
       told = a.told;
       skip = a.skip;
       deadline = a.deadline;
+      settled = a.settled;
       checks = a.checks;
       heard = a.heard;
       oldest = a.oldest;
@@ -71,6 +74,7 @@ impl Pace {
             told: None,
             skip: 0,
             deadline: None,
+            settled: false,
             checks: 0,
             heard: [0; NODES as usize],
             oldest: None,
@@ -89,24 +93,43 @@ impl Pace {
         self.heard[usize::from(from.number())] = self.checks;
     }
 
-    /// This node looks for other coordinators. Where it is greater, it is to merge first: a merge that waits for its turn begins to wait anew, once.
+    /// This node looks for other coordinators. A member whose coordinator it is asks it at once. Where it is greater, it is to merge first: a
+    /// merge that waits for its turn waits twice as long.
     pub fn asked(&mut self, from: NodeId)
+        // Promise: A member's question is due at once behind a check of its coordinator that it hears, and of nobody else; from then on its
+        // group is settled.
+        // Refuses: question_behind_anyones_check, check_heard_for_nothing.
         ensures { self.new ≡ asked_by from self.old }
     {
-        if from.number() <= self.id.number() {
+        let Some(deadline) = self.deadline else {
             return;
-        }
-        if let Some(deadline) = self.deadline {
+        };
+        if deadline.is_led_by(from) {
+            self.deadline = Some(deadline.at_once());
+            self.settled = true;
+        } else if from.number() > self.id.number() {
             self.deadline = Some(deadline.put_off());
         }
     }
 
-    /// The node is in another group than before: the jobs that it keeps are due at once.
-    pub fn regrouped(&mut self)
-        // Promise: In a new group the jobs that the node keeps are due at once.
-        // Refuses: new_group_waits_for_work.
-        ensures { self.new ≡ record self.old { rested = 0; pause = 0 } }
+    /// All whom the node asked whether they lead have answered, and none of them does: its check is over.
+    pub fn answered(&mut self)
+        // Promise: A check is over at once where all have answered and none of them leads.
+        // Refuses: answers_end_no_check.
+        ensures { self.new ≡ all_answered self.old }
     {
+        if let Some(deadline) = self.deadline {
+            self.deadline = Some(deadline.answered());
+        }
+    }
+
+    /// The node is in another group than before: the jobs that it keeps are due at once, and no check was made in it.
+    pub fn regrouped(&mut self)
+        // Promise: In a new group the jobs that the node keeps are due at once, and its first check or question comes sooner.
+        // Refuses: new_group_waits_for_work, new_group_is_settled.
+        ensures { self.new ≡ in_new_group self.old }
+    {
+        self.settled = false;
         self.rested = 0;
         self.pause = 0;
     }
@@ -145,7 +168,7 @@ impl Pace {
     pub fn tick(&mut self, sight: &Sight) -> Option<Event>
         // Promise: Where the wait is over, its timer is fired, before any work.
         // Refuses: tick_fires_nothing, silent_for_one_check_more.
-        ensures timer { (d : Deadline) → HasCome self.old sight.now d → result ≡ Some (event_at self.old sight.now.members d.wait) }
+        ensures timer { (d : Deadline) → HasCome self.old sight.now d → result ≡ Some (event_at self.old sight.now d.wait) }
         ensures work { IsWorkDue self.old sight.now → is_some result ≡ true }
         // Promise: Nothing else is fired but work, at a Normal node and when its time has come; where it has come something is
         // fired.
@@ -162,15 +185,16 @@ impl Pace {
         ensures runs_on { (d : Deadline) → Runs self.old sight.now d → d.waited < lasts self.old.setting self.old.raise sight.now.merge_wait d
             → self.new.deadline ≡ Some d }
         ensures set { ((d : Deadline) → Runs self.old sight.now d → ⊥) → (wait : Wait) → wait_of sight.now ≡ Some wait
-            → (d : Deadline) × (self.new.deadline ≡ Some d) × IsSet self.old.setting self.old.raise wait sight.now.group d }
-        // Promise: Each check is counted; behind a dispatch work rests anew, the longer the longer it did; where the oldest job is
+            → (d : Deadline) × (self.new.deadline ≡ Some d) × IsSet self.old.setting self.old.settled self.old.raise wait sight.now.group d }
+        // Promise: Each check is counted and settles the group; behind a dispatch work rests anew, the longer the longer it did; where the oldest job is
         // another one than was seen, it begins to; nothing else changes.
         // Also: dispatches, kept.
-        // Refuses: work_that_moves_dispatched.
-        ensures checks { Counts result self.old.checks self.new.checks }
+        // Refuses: work_that_moves_dispatched, check_settles_nothing.
+        ensures checks { Counts result self.old self.new }
         ensures dispatches { Dispatches result sight.now self.old self.new }
         ensures kept { self.new ≡ record self.old {
           deadline = self.new.deadline;
+          settled = self.new.settled;
           checks = self.new.checks;
           oldest = self.new.oldest;
           rested = self.new.rested;
@@ -183,7 +207,7 @@ impl Pace {
             return self.dispatch(sight);
         };
         if deadline.has_come(&self.setting, self.raise, sight.merge_wait) {
-            let event = self.fire(wait, sight.members);
+            let event = self.fire(wait, sight);
             self.deadline = None;
             return Some(event);
         }
@@ -290,18 +314,22 @@ impl Pace {
         None
     }
 
-    /// What is fired when a wait is over: its timer, but a coordinator whose member fell silent gives its group up in place of
-    /// one more check.
-    fn fire(&mut self, wait: Wait, members: Members) -> Event
-        ensures value { result ≡ event_at self.old members wait }
-        ensures checks { Counts (Some result) self.old.checks self.new.checks }
-        ensures kept { self.new ≡ record self.old { checks = self.new.checks } }
+    /// What is fired when a wait is over: its timer, but a coordinator whose member fell silent, and that found no other coordinator, gives
+    /// its group up at the end of a check.
+    fn fire(&mut self, wait: Wait, sight: &Sight) -> Event
+        ensures value { result ≡ event_at self.old sight.now wait }
+        ensures checks { Counts (Some result) self.old self.new }
+        ensures kept { self.new ≡ record self.old { checks = self.new.checks; settled = self.new.settled } }
     {
-        if matches!(wait, Wait::Check) {
-            if self.has_silent(members) {
+        match wait {
+            Wait::Check => {
+                self.checks = self.checks.saturating_add(1);
+                self.settled = true;
+            }
+            Wait::Merge if sight.merge_wait.is_none() && self.has_silent(sight.members) => {
                 return Event::Recover;
             }
-            self.checks = self.checks.saturating_add(1);
+            _ => {}
         }
         Event::Timer(wait.timer())
     }
@@ -328,15 +356,15 @@ impl Pace {
 
     /// Sets the deadline of this wait, with its jitter.
     fn set(&mut self, wait: Wait, group: GroupNo)
-        ensures deadline { (d : Deadline) × (self.new.deadline ≡ Some d) × IsSet self.old.setting self.old.raise wait group d }
+        ensures deadline { (d : Deadline) × (self.new.deadline ≡ Some d) × IsSet self.old.setting self.old.settled self.old.raise wait group d }
         ensures kept { self.new ≡ record self.old { deadline = self.new.deadline } }
     {
-        let range = u64::from(wait.jitter(&self.setting)) + 1;
+        let range = u64::from(wait.jitter(&self.setting, self.settled)) + 1;
         let jitter = u64::from(self.random.next_word()) % range;
         self.deadline = Some(Deadline {
             wait,
             group,
-            length: u64::from(wait.least(&self.setting))
+            length: u64::from(wait.least(&self.setting, self.settled))
                 + jitter
                 + u64::from(wait.patience(self.raise)),
             waited: 0,

@@ -10,7 +10,11 @@ use crate::deadline::product;
 pub struct Setting {
     /// A round trip, in milliseconds. All that follows counts these.
     pub unit: u16,
-    /// A coordinator looks for other coordinators so often.
+    /// A coordinator looks for other coordinators first so long after its group began.
+    pub first_check: u16,
+    /// At most so much more, drawn anew each time.
+    pub first_check_jitter: u16,
+    /// And then so often.
     pub check: u16,
     /// At most so much more, drawn anew each time.
     pub check_jitter: u16,
@@ -26,7 +30,11 @@ pub struct Setting {
     pub ready: u16,
     /// For the task, at a node that accepted an invitation.
     pub task: u16,
-    /// A member asks so often whether its coordinator is there.
+    /// A member that didn't hear its coordinator look for others asks so long after its group began whether it is there.
+    pub first_coordinator: u16,
+    /// At most so much more, drawn anew each time.
+    pub first_coordinator_jitter: u16,
+    /// One that heard it before asks where it didn't for so long.
     pub coordinator: u16,
     /// At most so much more, drawn anew each time.
     pub coordinator_jitter: u16,
@@ -50,16 +58,20 @@ impl Setting {
     {
         Setting {
             unit,
-            check: 20,
-            check_jitter: 10,
+            first_check: 10,
+            first_check_jitter: 5,
+            check: 45,
+            check_jitter: 5,
             merge: 5,
             merge_jitter: 5,
             turn: 10,
             accept: 5,
             ready: 10,
             task: 20,
-            coordinator: 20,
-            coordinator_jitter: 10,
+            first_coordinator: 20,
+            first_coordinator_jitter: 10,
+            coordinator: 52,
+            coordinator_jitter: 3,
             answer: 10,
             dispatch: 5,
             dispatch_most: 300,

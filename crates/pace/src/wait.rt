@@ -18,7 +18,7 @@ pub enum Wait {
     Ready,
     /// A node that accepted an invitation: its task.
     Task,
-    /// A member: its next question whether the coordinator is there.
+    /// A member: a check of its coordinator, behind which it asks whether the coordinator is there.
     Coordinator,
     /// A node that asked whether its coordinator is there: the answer.
     Answer,
@@ -56,22 +56,24 @@ impl Wait {
         }
     }
 
-    /// How long it lasts at least, in milliseconds.
-    pub fn least(self, setting: &Setting) -> u32
-        ensures { result ≡ least_of setting.now self }
+    /// How long it lasts at least, in milliseconds: in a settled group, where a check was made or heard of, or before.
+    pub fn least(self, setting: &Setting, settled: bool) -> u32
+        ensures { result ≡ least_of setting.now settled self }
     {
-        let units = self.units(setting);
+        let units = self.units(setting, settled);
         (u32::from(units) * u32::from(setting.unit)).max(1)
     }
 
     /// How much longer it may last, in milliseconds.
-    pub fn jitter(self, setting: &Setting) -> u32
-        ensures { result ≡ jitter_of setting.now self }
+    pub fn jitter(self, setting: &Setting, settled: bool) -> u32
+        ensures { result ≡ jitter_of setting.now settled self }
     {
         let units = match self {
-            Wait::Check => setting.check_jitter,
+            Wait::Check if settled => setting.check_jitter,
+            Wait::Check => setting.first_check_jitter,
             Wait::Merge => setting.merge_jitter,
-            Wait::Coordinator => setting.coordinator_jitter,
+            Wait::Coordinator if settled => setting.coordinator_jitter,
+            Wait::Coordinator => setting.first_coordinator_jitter,
             _ => 0,
         };
         u32::from(units) * u32::from(setting.unit)
@@ -87,16 +89,18 @@ impl Wait {
         }
     }
 
-    fn units(self, setting: &Setting) -> u16
-        ensures { result ≡ units_of setting.now self }
+    fn units(self, setting: &Setting, settled: bool) -> u16
+        ensures { result ≡ units_of setting.now settled self }
     {
         match self {
-            Wait::Check => setting.check,
+            Wait::Check if settled => setting.check,
+            Wait::Check => setting.first_check,
             Wait::Merge => setting.merge,
             Wait::Accept => setting.accept,
             Wait::Ready => setting.ready,
             Wait::Task => setting.task,
-            Wait::Coordinator => setting.coordinator,
+            Wait::Coordinator if settled => setting.coordinator,
+            Wait::Coordinator => setting.first_coordinator,
             Wait::Answer => setting.answer,
         }
     }

@@ -1,8 +1,9 @@
 ghost use Rattle.std.specs.Prelude.{◌≡◌, ◌++◌, ◌<◌, ◌≤◌, ℕ, [], IfSome, IsNone, OnOk, true, None, Some};
 ghost use Rattle.std.specs.List.{filter};
 ghost use Rattle.node_core.specs.State.{state_of};
-ghost use Rattle.pace.specs.Waiting.{answerer, has_come, invites, is_of, is_waited, none_waited, sent_again, waits_behind, waits_on, waits_since};
+ghost use Rattle.pace.specs.Waiting.{answerer, asks, has_come, is_answered, is_check, invites, is_of, is_waited, none_waited, sent_again, waits_behind, waits_on, waits_since};
 
+use crate::sight::Sight;
 use group_task::{GroupNo, NodeId};
 use node_core::{Event, Phase, Vector};
 use std::alloc::{AllocError, Global};
@@ -112,6 +113,15 @@ impl Waiting {
         self.next <= now || u128::from(now) + u128::from(self.unit) < u128::from(self.next)
     }
 
+    /// Whether a check is over: all whom the node asked have answered, and none of them leads.
+    pub fn is_answered(&self, sight: &Sight) -> bool
+        // Promise: A check counts as answered where no question of it is waited for, and it found no other coordinator.
+        // Refuses: unanswered_check_is_over, found_coordinator_passed_over.
+        ensures { result ≡ is_answered sight.now self.now }
+    {
+        sight.checking && sight.merge_wait.is_none() && !(asks(&self.again) || asks(&self.fresh))
+    }
+
     /// What was due is sent; what was sent since the last time is sent again at the next.
     pub fn go_on(&mut self, now: u64) -> Result<(), AllocError>
         ensures { OnOk result (self.new ≡ waits_on now self.old) }
@@ -146,6 +156,24 @@ fn push_waited(
         }
     }
     Ok(())
+}
+
+/// Whether one of the messages is a check's question.
+fn asks(messages: &[Message]) -> bool
+    ensures { result ≡ asks messages.now }
+{
+    for message in messages {
+        if is_check(message) {
+            return true;
+        }
+    }
+    false
+}
+
+fn is_check(message: &Message) -> bool
+    ensures { result ≡ is_check message.now.body }
+{
+    matches!(message.body(), Body::AreYouCoordinator)
 }
 
 /// Whether a node still waits for what comes of a message that it sent.

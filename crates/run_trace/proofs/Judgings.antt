@@ -1,7 +1,7 @@
 -- The trace of a run is one: what its entries say may come in the order of the steps, and they can be taken so.
-use Rattle.std.proofs.Common.{◌≡◌, ◌⊎◌, inl, inr, ℕ, List, [], sym, subst, arith, ◌≤◌, zero, suc, ◌∷◌, ◌++◌, map, length, drop, slice_get, Option, Some, refl, ap, ◌∙◌}
+use Rattle.std.proofs.Common.{◌≡◌, ◌⊎◌, inl, inr, ℕ, List, [], sym, subst, arith, ◌≤◌, zero, suc, ◌∷◌, ◌++◌, map, length, drop, reverse, append_assoc, slice_get, Option, Some, refl, ap, ◌∙◌}
 use Rattle.std.specs.Prelude.{option_map}
-use Rattle.std.proofs.lemmas.List.{length-drop, length-map}
+use Rattle.std.proofs.lemmas.List.{append-nil, length-drop, length-map, reverse-append}
 use Rattle.std.proofs.lemmas.Bool.{cases_lt}
 use Rattle.std.proofs.lemmas.Option.{slice_get_within, slice_get-map}
 use Rattle.wire_msg.specs.Envelope.{Envelope}
@@ -12,7 +12,8 @@ use Rattle.histories.specs.After.{after, sent_at}
 use Rattle.histories.specs.Possible.{IsPossible}
 use Rattle.trace_check.specs.Claims.{Claim, MayCome, after_claim, brought_by}
 use Rattle.trace_check.specs.Traces.{claim}
-use Rattle.run_trace.specs.Traced.{deed_of, claim_of, trace_in, IsTraceOf}
+use Rattle.trace_check.specs.declared.order.Order.{Order}
+use Rattle.run_trace.specs.Traced.{deed_of, claim_of, trace_in, nodes_in, IsOrder, IsRecordOf, IsTraceOf}
 use Rattle.histories.specs.Lists.{IsAmong, Each}
 use Rattle.histories.proofs.PublicLaws.{among_either, each_of}
 use Rattle.schedule.specs.declared.act.Act.{Act}
@@ -89,8 +90,22 @@ takes nodes hs w past n number what left at rest may =
       λ k. (let was = rest k in let now = next.1 in grind arith),
     )
 
-to_the_end : (nodes : ℕ) (hs : List (List Claim)) (left : List Step) (w : World) (past : List ℕ) → IsAt nodes hs w.states w.net.sent past → AreLeft nodes hs w past left → RunFrom nodes w left → IsRun hs
-to_the_end nodes hs [] w past at rest run = (past, at.legal, λ n. (let most = at.within n in let left = length-drop (taken n past) (history hs n) in let none = ap length (rest n) in omega (arith, most, left, none)))
+-- the turns of these steps, behind those of the past
+abbrev turned : List Step → List ℕ → List ℕ
+turned [] past = past
+turned (Takes n number what ∷ left) past = turned left (n ∷ past)
+turned (Changes net ∷ left) past = turned left past
+turned (Denies n why ∷ left) past = turned left past
+
+turned_is : (left : List Step) (past : List ℕ) → turned left past ≡ reverse (nodes_in left) ++ past
+turned_is [] past = refl
+turned_is (Takes n number what ∷ left) past =
+    turned_is left (n ∷ past) ∙ sym (append_assoc (reverse (nodes_in left)) (n ∷ []) past) ∙ ap (λ (ns : List ℕ). ns ++ past) (sym (reverse-append (n ∷ []) (nodes_in left)))
+turned_is (Changes net ∷ left) past = turned_is left past
+turned_is (Denies n why ∷ left) past = turned_is left past
+
+to_the_end : (nodes : ℕ) (hs : List (List Claim)) (left : List Step) (w : World) (past : List ℕ) → IsAt nodes hs w.states w.net.sent past → AreLeft nodes hs w past left → RunFrom nodes w left → IsOrder hs (turned left past)
+to_the_end nodes hs [] w past at rest run = (at.legal, λ n. (let most = at.within n in let left = length-drop (taken n past) (history hs n) in let none = ap length (rest n) in omega (arith, most, left, none)))
 to_the_end nodes hs (Takes n number what ∷ left) w past at rest run =
     let next = takes nodes hs w past n number what left at rest run.0 in
     to_the_end nodes hs left (world_after nodes w (Takes n number what)) (n ∷ past) next.0 next.1 run.1
@@ -122,11 +137,12 @@ history_is nodes n steps run = elim (cases_lt n nodes) [
     as_many : (k : ℕ) (steps : List Step) → length (trace_in (histories_of k steps)) ≡ k
     as_many k steps = length-map (histories_of k steps) (λ (h : List Entry). map claim_of h) ∙ how_many k 0 k steps
 
-pub traced_is_run : (nodes slots : ℕ) (acts : List Act) (trace : List (List Claim)) → IsTraceOf nodes slots acts trace → IsRun trace
-traced_is_run nodes slots acts trace of =
+-- in the order of the steps all can be taken
+ordered_by : (nodes slots : ℕ) (acts : List Act) (trace : List (List Claim)) → (of : IsTraceOf nodes slots acts trace) → IsOrder trace (turned of.steps [])
+ordered_by nodes slots acts trace of =
     let run = all_acts_run nodes slots (start nodes) acts of.steps of.is_run in
     let hs = trace_in (histories_of nodes of.steps) in
-    subst IsRun (sym of.of_histories) (to_the_end nodes hs of.steps (start nodes) []
+    subst (λ (hs : List (List Claim)). IsOrder hs (turned of.steps [])) (sym of.of_histories) (to_the_end nodes hs of.steps (start nodes) []
     (record {
       many = length-map (histories_of nodes of.steps) (λ (h : List Entry). map claim_of h) ∙ how_many nodes 0 nodes of.steps;
       within = λ n. omega arith;
@@ -134,3 +150,10 @@ traced_is_run nodes slots acts trace of =
       sent = λ m is. absurd is;
       legal = tt;
     }) (λ n. history_is nodes n of.steps run) run)
+
+pub traced_is_run : (nodes slots : ℕ) (acts : List Act) (trace : List (List Claim)) → IsTraceOf nodes slots acts trace → IsRun trace
+traced_is_run nodes slots acts trace of = let ordered = ordered_by nodes slots acts trace of in (turned of.steps [], ordered.0, ordered.1)
+
+pub recorded_order : (nodes slots : ℕ) (acts : List Act) (trace : List (List Claim)) (order : Order) → IsRecordOf nodes slots acts trace order → IsOrder trace (reverse order.nodes.items)
+recorded_order nodes slots acts trace order of =
+    subst (IsOrder trace) (turned_is of.run.steps [] ∙ append-nil (reverse (nodes_in of.run.steps)) ∙ ap (λ (ns : List ℕ). reverse ns) (sym of.turns.nodes)) (ordered_by nodes slots acts trace of.run)

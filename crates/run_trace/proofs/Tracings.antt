@@ -10,12 +10,12 @@ use Rattle.schedule.specs.declared.act.Act.{Act}
 use Rattle.sim_net.specs.declared.fault.NetFault.{NetFault}
 use Rattle.sim_net.specs.Network.{delivery, Network, after_all_sent}
 use Rattle.runs.specs.World.{World, node_in, start}
-use Rattle.runs.specs.Step.{Step, Takes, world_after}
+use Rattle.runs.specs.Step.{Step, Takes, Changes, Denies, world_after}
 use Rattle.runs.specs.Run.{entry_at, history_in, histories_from, world_at, IsAllowed, histories_of}
 use Rattle.runs.specs.Acts.{At, Brings, IsStepOf, what_outcome, IsRunOf, act_outcome}
 use Rattle.run_trace.specs.declared.bringing.Brought.{Brought}
 use Rattle.run_trace.specs.declared.bringing.Brought.TheVariants.{Event, Recovery, Arming, Crash, Compaction}
-use Rattle.run_trace.specs.Bringing.{delivered, brought_by, CameOf}
+use Rattle.run_trace.specs.Bringing.{delivered, brought_by, number_of, CameOf}
 use Rattle.job_model.specs.Durable.{Durable}
 use Rattle.node_core.specs.declared.wanted.Wanted.{Wanted}
 use Rattle.node_core.specs.Start.{down}
@@ -35,9 +35,10 @@ use Rattle.run_trace.specs.declared.deeds.Ended.{Ended}
 use Rattle.run_trace.specs.declared.deeds.Rise.{Rise}
 use Rattle.run_trace.specs.declared.deeds.Rise.TheVariants.{Mounted}
 use Rattle.run_trace.specs.Deeds.{IsRise, ended, deed_by, ActedAs, IsNoted}
-use Rattle.run_trace.specs.Traced.{AreActed, deed_of, claim_of, trace_in, IsSoFar, HasWorld}
+use Rattle.run_trace.specs.Traced.{AreActed, AreTurns, deed_of, claim_of, trace_in, nodes_in, messages_in, message_if, IsNext as IsNextTurn, IsRecordOf, IsSoFar, HasWorld}
 use Rattle.runs.specs.Growth.{IsNext, StepOfSlots}
-use Rattle.trace_check.specs.Claims.{Claim}
+use Rattle.trace_check.specs.declared.order.Order.{Order}
+use Rattle.trace_check.specs.Claims.{Claim, brought_by as deed_brought}
 use Rattle.sector_disk.specs.Memory.{Memory, state_of}
 use Rattle.runs.proofs.PublicLaws.{acts_go_on, step_length, length_openings, at_place, how_many, node_there}
 use Rattle.runs.specs.declared.outcome.Outcome.{Outcome}
@@ -74,6 +75,7 @@ other_same self nodes first s a _ none = refl
 -- The step is one of this node, in this state, to which this was brought; another outcome of it would be a step of the act too.
 pub record IsStepAt (now : NodeState) (steps : Step → Type 0) (a : Act) (n : ℕ) (b : Brought) (step : Step) : Type 0 where
   pub number : ℕ
+  pub numbered : number ≡ number_of a
   pub what : What
   pub is : step ≡ Takes n number what
   pub came : CameOf now b what
@@ -85,33 +87,33 @@ pub record IsStepAt (now : NodeState) (steps : Step → Type 0) (a : Act) (n : �
 abbrev if_there : Bool → ℕ × Brought → Option (ℕ × Brought)
 if_there t comes = if t then Some comes else None
 
-comes_at : (now : ℕ → NodeState) (a : Act) (t : Bool) (m number : ℕ) (b : Brought) (n : ℕ) (c : Brought) (step : Step) → b ≢ Event on.Recover → ((what : What) (self nodes first : ℕ) (s : NodeState) → what_outcome self nodes first s what a ≡ what_outcome self nodes first s what (bringing b))
+comes_at : (now : ℕ → NodeState) (a : Act) (t : Bool) (m number : ℕ) (b : Brought) (n : ℕ) (c : Brought) (step : Step) → number ≡ number_of a → b ≢ Event on.Recover → ((what : What) (self nodes first : ℕ) (s : NodeState) → what_outcome self nodes first s what a ≡ what_outcome self nodes first s what (bringing b))
     → if_there t (m, b) ≡ Some (n, c) → At t m number (CameOf (now m) b) step → IsStepAt (now n) (At t m number (CameOf (now m) b)) a n c step
-comes_at now a true m number b n c step plain same_outcome is at =
+comes_at now a true m number b n c step numbered plain same_outcome is at =
     let x : ℕ × Brought = (m, b) in
     let y : ℕ × Brought = (n, c) in
     let same : x ≡ y = is_some x y is in
     subst (λ (p : ℕ × Brought). IsStepAt (now p.0) (At true m number (CameOf (now m) b)) a p.0 p.1 step) same
-    (record { number = number; what = at.0; is = at.1; came = at.2; again = λ other came. (other, refl, came); plain = plain; same_outcome = same_outcome at.0 })
-comes_at now a false m number b n c step plain same_outcome is at = absurd cc
+    (record { number = number; numbered = numbered; what = at.0; is = at.1; came = at.2; again = λ other came. (other, refl, came); plain = plain; same_outcome = same_outcome at.0 })
+comes_at now a false m number b n c step numbered plain same_outcome is at = absurd cc
 
 delivers_at : (now : ℕ → NodeState) (nodes : ℕ) (net : Network) (k : ℕ) (r : Result Envelope NetFault) (n : ℕ) (c : Brought) (step : Step)
     → option_and_then (λ (comes : ℕ × Brought). if nat_lt comes.0 nodes then Some comes else None) (delivered r) ≡ Some (n, c) → Brings nodes net k r step → IsStepAt (now n) (Brings nodes net k r) (act.Deliver k) n c step
-delivers_at now nodes net k (Ok m) n c step is brings = comes_at now (act.Deliver k) (nat_lt m.receiver nodes) m.receiver k (Event (on.Deliver m)) n c step (λ e. cc) (λ what self size first s. other_same self size first s _ what (λ k e. cc)) is brings
+delivers_at now nodes net k (Ok m) n c step is brings = comes_at now (act.Deliver k) (nat_lt m.receiver nodes) m.receiver k (Event (on.Deliver m)) n c step refl (λ e. cc) (λ what self size first s. other_same self size first s _ what (λ k e. cc)) is brings
 delivers_at now nodes net k (Err why) n c step is brings = absurd cc
 
 pub step_at : (nodes : ℕ) (w : World) (a : Act) (n : ℕ) (b : Brought) (step : Step) → brought_by nodes w.net a ≡ Some (n, b) → IsStepOf nodes w a step → IsStepAt (node_in w.states n) (IsStepOf nodes w a) a n b step
-step_at nodes w (act.Timer m timer) n b step is of = comes_at (node_in w.states) (act.Timer m timer) (nat_lt m nodes) m 0 (Event (on.Timer timer)) n b step (λ e. cc) (λ what self size first s. other_same self size first s _ what (λ k e. cc)) is of
+step_at nodes w (act.Timer m timer) n b step is of = comes_at (node_in w.states) (act.Timer m timer) (nat_lt m nodes) m 0 (Event (on.Timer timer)) n b step refl (λ e. cc) (λ what self size first s. other_same self size first s _ what (λ k e. cc)) is of
 step_at nodes w (act.Deliver k) n b step is of = delivers_at (node_in w.states) nodes w.net k (delivery w.net k) n b step is of
 step_at nodes w (act.Lose k) n b step is of = absurd cc
 step_at nodes w (act.Cut x y) n b step is of = absurd cc
 step_at nodes w (act.Mend x y) n b step is of = absurd cc
-step_at nodes w (act.Submit m work) n b step is of = comes_at (node_in w.states) (act.Submit m work) (nat_lt m nodes) m 0 (Event (on.Submit work)) n b step (λ e. cc) (λ what self size first s. other_same self size first s _ what (λ k e. cc)) is of
-step_at nodes w (act.Finish m origin id) n b step is of = comes_at (node_in w.states) (act.Finish m origin id) (nat_lt m nodes) m 0 (Event (on.Finish origin id)) n b step (λ e. cc) (λ what self size first s. other_same self size first s _ what (λ k e. cc)) is of
-step_at nodes w (act.Arm m calls) n b step is of = comes_at (node_in w.states) (act.Arm m calls) (nat_lt m nodes) m 0 Arming n b step (λ e. cc) (λ what self size first s. other_same self size first s _ what (λ k e. cc)) is of
-step_at nodes w (act.Crash m fill) n b step is of = comes_at (node_in w.states) (act.Crash m fill) (nat_lt m nodes) m 0 Crash n b step (λ e. cc) (λ what self size first s. other_same self size first s _ what (λ k e. cc)) is of
-step_at nodes w (act.Recover m) n b step is of = comes_at (node_in w.states) (act.Recover m) (nat_lt m nodes) m 0 Recovery n b step (λ e. cc) (λ what self size first s. other_same self size first s _ what (λ k e. cc)) is of
-step_at nodes w (act.Compact m) n b step is of = comes_at (node_in w.states) (act.Compact m) (nat_lt m nodes) m 0 Compaction n b step (λ e. cc) (λ what self size first s. compaction_same self size first s m 0 what) is of
+step_at nodes w (act.Submit m work) n b step is of = comes_at (node_in w.states) (act.Submit m work) (nat_lt m nodes) m 0 (Event (on.Submit work)) n b step refl (λ e. cc) (λ what self size first s. other_same self size first s _ what (λ k e. cc)) is of
+step_at nodes w (act.Finish m origin id) n b step is of = comes_at (node_in w.states) (act.Finish m origin id) (nat_lt m nodes) m 0 (Event (on.Finish origin id)) n b step refl (λ e. cc) (λ what self size first s. other_same self size first s _ what (λ k e. cc)) is of
+step_at nodes w (act.Arm m calls) n b step is of = comes_at (node_in w.states) (act.Arm m calls) (nat_lt m nodes) m 0 Arming n b step refl (λ e. cc) (λ what self size first s. other_same self size first s _ what (λ k e. cc)) is of
+step_at nodes w (act.Crash m fill) n b step is of = comes_at (node_in w.states) (act.Crash m fill) (nat_lt m nodes) m 0 Crash n b step refl (λ e. cc) (λ what self size first s. other_same self size first s _ what (λ k e. cc)) is of
+step_at nodes w (act.Recover m) n b step is of = comes_at (node_in w.states) (act.Recover m) (nat_lt m nodes) m 0 Recovery n b step refl (λ e. cc) (λ what self size first s. other_same self size first s _ what (λ k e. cc)) is of
+step_at nodes w (act.Compact m) n b step is of = comes_at (node_in w.states) (act.Compact m) (nat_lt m nodes) m 0 Compaction n b step refl (λ e. cc) (λ what self size first s. compaction_same self size first s m 0 what) is of
 
 -- ---- an act that comes to no node adds no entry
 
@@ -234,11 +236,35 @@ acted_on nodes [] (x ∷ steps) view w a step end new acted one = absurd acted
 acted_on nodes (b ∷ acts) [] view w a step end new acted one = absurd acted
 acted_on nodes (b ∷ acts) (x ∷ steps) view w a step end new acted one = (acted.0, acted.1, acted_on nodes acts steps acted.0 (world_after nodes w x) a step end new acted.2 one)
 
+nodes_go_on : (steps : List Step) (step : Step) → nodes_in (steps ++ step ∷ []) ≡ nodes_in steps ++ nodes_in (step ∷ [])
+nodes_go_on [] step = refl
+nodes_go_on (Takes n number what ∷ steps) step = ap (λ (ns : List ℕ). n ∷ ns) (nodes_go_on steps step)
+nodes_go_on (Changes net ∷ steps) step = nodes_go_on steps step
+nodes_go_on (Denies n why ∷ steps) step = nodes_go_on steps step
+
+messages_go_on : (steps : List Step) (step : Step) → messages_in (steps ++ step ∷ []) ≡ messages_in steps ++ messages_in (step ∷ [])
+messages_go_on [] step = refl
+messages_go_on (Takes n number what ∷ steps) step = ap (λ (ms : List (Option ℕ)). message_if (deed_brought (deed_of what)) number ∷ ms) (messages_go_on steps step)
+messages_go_on (Changes net ∷ steps) step = messages_go_on steps step
+messages_go_on (Denies n why ∷ steps) step = messages_go_on steps step
+
+-- the order has the turn of this step, if it is one
+pub record IsTurned (step : Step) (old new : Order) : Type 0 where
+  pub nodes : new.nodes.items ≡ old.nodes.items ++ nodes_in (step ∷ [])
+  pub messages : new.messages.items ≡ old.messages.items ++ messages_in (step ∷ [])
+
+turns_go_on : (steps : List Step) (step : Step) (old new : Order) → AreTurns steps old → IsTurned step old new → AreTurns (steps ++ step ∷ []) new
+turns_go_on steps step old new are turned = record {
+  nodes = turned.nodes ∙ ap (λ (ns : List ℕ). ns ++ nodes_in (step ∷ [])) are.nodes ∙ sym (nodes_go_on steps step);
+  messages = turned.messages ∙ ap (λ (ms : List (Option ℕ)). ms ++ messages_in (step ∷ [])) are.messages ∙ sym (messages_go_on steps step);
+}
+
 -- the run so far goes on by this step, and the trace has it
-goes_on : (nodes slots : ℕ) (before : List Act) (a : Act) (old new : WorldView) (trace trace' : List (List Claim)) (so : IsSoFar nodes slots old before trace) (step : Step) → new.slots ≡ old.slots
+goes_on : (nodes slots : ℕ) (before : List Act) (a : Act) (old new : WorldView) (trace trace' : List (List Claim)) (order order' : Order) (so : IsSoFar nodes slots old before trace order) (step : Step)
+    → IsTurned step order order' → new.slots ≡ old.slots
     → let w = world_at nodes (start nodes) so.run.steps in IsNext (length w.states) new.slots w a step → trace' ≡ trace_in (histories_of nodes (so.run.steps ++ step ∷ []))
-    → IsActed (length w.states) old new w a step → IsSoFar nodes slots new (before ++ a ∷ []) trace'
-goes_on nodes slots before a old new trace trace' so step same next of_histories acted =
+    → IsActed (length w.states) old new w a step → IsSoFar nodes slots new (before ++ a ∷ []) trace' order'
+goes_on nodes slots before a old new trace trace' order order' so step turned same next of_histories acted =
     let w = world_at nodes (start nodes) so.run.steps in
     let next_there : IsNext nodes slots w a step = subst (λ (k : ℕ). IsNext nodes k w a step) (same ∙ so.slots_are) (subst (λ (k : ℕ). IsNext k new.slots w a step) so.count next) in
     let acted_there : IsActed nodes old new w a step = subst (λ (k : ℕ). IsActed k old new w a step) so.count acted in
@@ -254,6 +280,7 @@ goes_on nodes slots before a old new trace trace' so step same next of_histories
         unarmed = so.run.unarmed;
         acted = acted_on nodes before so.run.steps so.run.first (start nodes) a step so.run.last new so.run.acted (subst (λ (v : WorldView). IsActed nodes v new w a step) (sym so.last_is) acted_there);
       };
+      turns = turns_go_on so.run.steps step order order' so.turns turned;
       last_is = refl;
       slots_are = same ∙ so.slots_are;
       count = ap (λ (x : World). length x.states) world ∙ step_length nodes w step ∙ so.count;
@@ -261,11 +288,12 @@ goes_on nodes slots before a old new trace trace' so step same next of_histories
     }
 
 -- an act that comes to a node: what stands in the trace may have come of it, and leaves the same world
-pub traced : (nodes slots : ℕ) (before : List Act) (a : Act) (n : ℕ) (b : Brought) (rise : Rise) (e : Ended) (old new : WorldView) (was now : Node Memory) (place : ℕ) (sent : List Envelope) (trace trace' : List (List Claim))
-    → IsSoFar nodes slots old before trace → new.slots ≡ old.slots → ((w : World) → StandsFor old w → ActedAs old w a e new) → brought_by (length old.nodes) old.net a ≡ Some (n, b)
+pub traced : (nodes slots : ℕ) (before : List Act) (a : Act) (n : ℕ) (b : Brought) (rise : Rise) (e : Ended) (old new : WorldView) (was now : Node Memory) (place : ℕ) (sent : List Envelope) (trace trace' : List (List Claim)) (order order' : Order)
+    → IsSoFar nodes slots old before trace order → new.slots ≡ old.slots → ((w : World) → StandsFor old w → ActedAs old w a e new) → brought_by (length old.nodes) old.net a ≡ Some (n, b)
     → slice_get old.nodes n ≡ Some was → slice_get new.nodes n ≡ Some now → IsRise (is_down was.state.phase) was.doubt now.mounted rise → place ≡ length old.net.sent → sent ≡ drop place new.net.sent
-    → IsNoted n (claim (deed_by b rise e) sent) trace trace' → IsSoFar nodes slots new (before ++ a ∷ []) trace'
-traced nodes slots before a n b rise e old new was now place sent trace trace' so same acts brings old_at new_at stood place_is sent_is noted =
+    → IsNoted n (claim (deed_by b rise e) sent) trace trace' → IsNextTurn n (message_if (deed_brought (deed_by b rise e)) (number_of a)) order order'
+    → IsSoFar nodes slots new (before ++ a ∷ []) trace' order'
+traced nodes slots before a n b rise e old new was now place sent trace trace' order order' so same acts brings old_at new_at stood place_is sent_is noted next_turn =
     let w = world_at nodes (start nodes) so.run.steps in
     let size = length w.states in
     let acted = (acts w so.stands).1 in
@@ -306,30 +334,43 @@ traced nodes slots before a n b rise e old new was now place sent trace trace' s
     let taken_outcome : (acts w so.stands).0 ≡ act_outcome size w a taken =
     acted.outcome_is ∙ ap (λ (x : Step). act_outcome size w a x) at.is ∙ ap (λ (x : NodeState). what_outcome n size (length w.net.sent) x at.what a) is_s
     ∙ sym (r.ends (length w.net.sent) a) ∙ ap (λ (x : NodeState). what_outcome n size (length w.net.sent) x r.other a) (sym is_s) in
-    goes_on nodes slots before a old new trace trace' so taken same next of_histories (record {
+    let message : message_if (deed_brought (deed_by b rise e)) (number_of a) ≡ message_if (deed_brought (deed_of r.other)) at.number =
+    λ i. message_if (deed_brought (sym deed_is i)) (sym at.numbered i) in
+    let turned : IsTurned taken order order' = record { nodes = next_turn.nodes; messages = next_turn.messages ∙ ap (λ (k : Option ℕ). order.messages.items ++ k ∷ []) message } in
+    goes_on nodes slots before a old new trace trace' order order' so taken turned same next of_histories (record {
       stands = stands;
       operates = subst (λ (o : Outcome). Operates a old new o) taken_outcome (acts w so.stands).3;
       faults = subst (λ (o : Outcome). FaultsAt (node_named (length old.nodes) old.net.sent a) old new o) taken_outcome (acts w so.stands).4;
     })
 
+-- and no turn
+quiet_turn : (order : Order) (nodes : ℕ) (w : World) (step : Step) → IsQuiet nodes w step → IsTurned step order order
+quiet_turn order nodes w (Takes n number what) quiet = absurd (let here = sym (quiet n) ∙ entry_here n nodes w number what in cc)
+quiet_turn order nodes w (Changes net) quiet = record { nodes = sym (append-nil order.nodes.items); messages = sym (append-nil order.messages.items) }
+quiet_turn order nodes w (Denies n why) quiet = record { nodes = sym (append-nil order.nodes.items); messages = sym (append-nil order.messages.items) }
+
 -- one that comes to no node leaves the trace as it is
-pub none_noted : (nodes slots : ℕ) (before : List Act) (a : Act) (e : Ended) (old new : WorldView) (trace : List (List Claim)) → IsSoFar nodes slots old before trace
-    → new.slots ≡ old.slots → ((w : World) → StandsFor old w → ActedAs old w a e new) → brought_by (length old.nodes) old.net a ≡ None → IsSoFar nodes slots new (before ++ a ∷ []) trace
-none_noted nodes slots before a e old new trace so same acts none =
+pub none_noted : (nodes slots : ℕ) (before : List Act) (a : Act) (e : Ended) (old new : WorldView) (trace : List (List Claim)) (order : Order) → IsSoFar nodes slots old before trace order
+    → new.slots ≡ old.slots → ((w : World) → StandsFor old w → ActedAs old w a e new) → brought_by (length old.nodes) old.net a ≡ None → IsSoFar nodes slots new (before ++ a ∷ []) trace order
+none_noted nodes slots before a e old new trace order so same acts none =
     let w = world_at nodes (start nodes) so.run.steps in
     let acted = (acts w so.stands).1 in
+    let size = length w.states in
     let none_w : brought_by (length w.states) w.net a ≡ None = ap (λ (k : ℕ). brought_by k w.net a) (sym so.stands.count) ∙ ap (λ (net : Network). brought_by (length old.nodes) net a) (sym so.stands.net) ∙ none in
     let quiet = subst (λ (k : ℕ). IsQuiet k w acted.step) so.count (none_comes (length w.states) w a acted.step none_w acted.next.of_act) in
-    goes_on nodes slots before a old new trace trace so acted.step same acted.next (so.run.of_histories ∙ ap trace_in (sym (histories_stay 0 nodes nodes so.run.steps acted.step (λ m more. quiet m)))) (record {
+    goes_on nodes slots before a old new trace trace order order so acted.step (quiet_turn order size w acted.step (none_comes size w a acted.step none_w acted.next.of_act)) same acted.next (so.run.of_histories ∙ ap trace_in (sym (histories_stay 0 nodes nodes so.run.steps acted.step (λ m more. quiet m)))) (record {
       stands = acted.stands;
       operates = subst (λ (o : Outcome). Operates a old new o) acted.outcome_is (acts w so.stands).3;
       faults = subst (λ (o : Outcome). FaultsAt (node_named (length old.nodes) old.net.sent a) old new o) acted.outcome_is (acts w so.stands).4;
     })
 
+pub recorded_so : (nodes slots : ℕ) (view : WorldView) (acts : List Act) (trace : List (List Claim)) (order : Order) → IsSoFar nodes slots view acts trace order → IsRecordOf nodes slots acts trace order
+recorded_so nodes slots view acts trace order so = record { run = so.run; turns = so.turns }
+
 -- ---- the beginning, and what a cluster stays
 
-pub begins : (nodes slots : ℕ) (view : WorldView) (trace : List (List Claim)) → view.slots ≡ slots → StandsFor view (start nodes) → AreUnarmed view.nodes → trace ≡ replicate nodes [] → IsSoFar nodes slots view [] trace
-begins nodes slots view trace same stands unarmed none = record { run = record { steps = []; is_run = tt; of_histories = none ∙ sym (begun 0 nodes nodes); first = view; last = view; opened = stands; unarmed = unarmed; acted = refl }; last_is = refl; slots_are = same; count = length_openings 0 nodes; stands = stands }
+pub begins : (nodes slots : ℕ) (view : WorldView) (trace : List (List Claim)) (order : Order) → order.nodes.items ≡ [] → order.messages.items ≡ [] → view.slots ≡ slots → StandsFor view (start nodes) → AreUnarmed view.nodes → trace ≡ replicate nodes [] → IsSoFar nodes slots view [] trace order
+begins nodes slots view trace order no_node no_message same stands unarmed none = record { turns = record { nodes = no_node; messages = no_message }; run = record { steps = []; is_run = tt; of_histories = none ∙ sym (begun 0 nodes nodes); first = view; last = view; opened = stands; unarmed = unarmed; acted = refl }; last_is = refl; slots_are = same; count = length_openings 0 nodes; stands = stands }
 
 pub world_stays : (a : Act) (e : Ended) (old new : WorldView) → HasWorld old → ((w : World) → StandsFor old w → ActedAs old w a e new) → HasWorld new
 world_stays a e old new has acts = let acted = (acts has.0 has.1).1 in (world_after (length has.0.states) has.0 acted.step, acted.stands)

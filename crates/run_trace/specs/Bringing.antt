@@ -45,3 +45,17 @@ CameOf s Recovery what = IsOf on.Recover what
 CameOf s Arming what = what ≡ Rests Nothing
 CameOf s Crash what = what ≡ Crashed
 CameOf s Compaction what = IsCompaction s what
+
+-- the number of the message that an act delivers; of another act it says nothing
+abbrev pub number_of : Act → ℕ
+number_of (act.Timer n timer) = 0
+number_of (act.Deliver k) = k
+number_of (act.Lose k) = 0
+number_of (act.Cut a b) = 0
+number_of (act.Mend a b) = 0
+number_of (act.Submit n work) = 0
+number_of (act.Finish n origin id) = 0
+number_of (act.Arm n calls) = 0
+number_of (act.Crash n fill) = 0
+number_of (act.Recover n) = 0
+number_of (act.Compact n) = 0

@@ -1,5 +1,6 @@
 -- The trace of a run: each entry of the nodes' histories, as a trace has it.
-use Rattle.std.specs.Prelude.{ℕ, ◌≡◌, false, List, [], ◌∷◌, map, length}
+use Rattle.std.specs.Prelude.{ℕ, ◌≡◌, false, List, [], ◌∷◌, ◌++◌, map, length, Option, Some, None}
+use Rattle.wire_msg.specs.Envelope.{Envelope}
 use Rattle.node_core.specs.declared.event.Event.{Event}
 use Rattle.node_core.specs.declared.event.Event.TheVariants as on
 use Rattle.histories.specs.declared.what.What.{What}
@@ -9,9 +10,11 @@ use Rattle.schedule.specs.declared.act.Act.{Act}
 use Rattle.trace_check.specs.declared.trace.Deed.{Deed}
 use Rattle.trace_check.specs.declared.trace.Deed.TheVariants as deed
 use Rattle.trace_check.specs.declared.trace.RecoverFault.TheVariants as recover
-use Rattle.trace_check.specs.Claims.{Claim}
+use Rattle.trace_check.specs.declared.order.Order.{Order}
+use Rattle.trace_check.specs.Claims.{Claim, brought_by}
+use Rattle.trace_check.specs.Orders.{IsComplete, IsLegal}
 use Rattle.runs.specs.World.{World, start}
-use Rattle.runs.specs.Step.{Step, world_after}
+use Rattle.runs.specs.Step.{Step, Takes, Changes, Denies, world_after}
 use Rattle.runs.specs.Run.{histories_of, world_at}
 use Rattle.runs.specs.Acts.{IsRunOf}
 use Rattle.cluster_sim.specs.Acting.{IsActed}
@@ -64,9 +67,50 @@ pub record IsTraceOf (nodes slots : ℕ) (acts : List Act) (trace : List (List C
   pub unarmed : AreUnarmed first.nodes
   pub acted : AreActed nodes first (start nodes) acts steps last
 
--- and the cluster is as that run left it
-pub record IsSoFar (nodes slots : ℕ) (view : WorldView) (acts : List Act) (trace : List (List Claim)) : Type 0 where
+-- ---- the order of its turns
+
+-- the node of each turn
+abbrev pub nodes_in : List Step → List ℕ
+nodes_in [] = []
+nodes_in (Takes n number what ∷ steps) = n ∷ nodes_in steps
+nodes_in (Changes net ∷ steps) = nodes_in steps
+nodes_in (Denies n why ∷ steps) = nodes_in steps
+
+-- the number of the message, where one was brought
+abbrev pub message_if : List Envelope → ℕ → Option ℕ
+message_if [] number = None
+message_if (m ∷ ms) number = Some number
+
+-- of each turn the number of the message that its node was brought; of one that it refused nothing stands in a trace
+abbrev pub messages_in : List Step → List (Option ℕ)
+messages_in [] = []
+messages_in (Takes n number what ∷ steps) = message_if (brought_by (deed_of what)) number ∷ messages_in steps
+messages_in (Changes net ∷ steps) = messages_in steps
+messages_in (Denies n why ∷ steps) = messages_in steps
+
+-- the turns of these steps, in their order
+pub record AreTurns (steps : List Step) (order : Order) : Type 0 where
+  pub nodes : order.nodes.items ≡ nodes_in steps
+  pub messages : order.messages.items ≡ messages_in steps
+
+-- the order has this turn besides
+pub record IsNext (n : ℕ) (message : Option ℕ) (old new : Order) : Type 0 where
+  pub nodes : new.nodes.items ≡ old.nodes.items ++ n ∷ []
+  pub messages : new.messages.items ≡ old.messages.items ++ message ∷ []
+
+-- the trace is that of some run of these acts, and this is the order of that run's turns
+pub record IsRecordOf (nodes slots : ℕ) (acts : List Act) (trace : List (List Claim)) (order : Order) : Type 0 where
   pub run : IsTraceOf nodes slots acts trace
+  pub turns : AreTurns run.steps order
+
+-- all entries can be taken in this order, the newest first
+abbrev pub IsOrder : List (List Claim) → List ℕ → Type 0
+IsOrder hs past = IsLegal hs past × IsComplete hs past
+
+-- and the cluster is as that run left it
+pub record IsSoFar (nodes slots : ℕ) (view : WorldView) (acts : List Act) (trace : List (List Claim)) (order : Order) : Type 0 where
+  pub run : IsTraceOf nodes slots acts trace
+  pub turns : AreTurns run.steps order
   pub slots_are : view.slots ≡ slots
   pub count : length (world_at nodes (start nodes) run.steps).states ≡ nodes
   pub stands : StandsFor view (world_at nodes (start nodes) run.steps)

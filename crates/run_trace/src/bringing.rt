@@ -1,12 +1,15 @@
 // What an act brings to a node.
 ghost use Rattle.std.specs.Prelude.{◌≡◌, ◌<◌, IfSome};
 ghost use Rattle.sim_net.specs.Network.{delivery};
-ghost use Rattle.run_trace.specs.Bringing.{brought_by, delivered};
+ghost use Rattle.trace_check.specs.Claims.{brought_by as deed_brought};
+ghost use Rattle.run_trace.specs.Bringing.{brought_by, delivered, number_of};
+ghost use Rattle.run_trace.specs.Traced.{message_if};
 
 use group_task::NodeId;
 use node_core::Event;
 use schedule::Act;
 use sim_net::Net;
+use trace_check::Deed;
 
 /// What an act brings to a node.
 #[derive(Clone, Copy)]
@@ -50,5 +53,16 @@ fn delivered(net: &Net, number: u64) -> Option<(NodeId, Brought)>
     match net.deliver(number) {
         Ok(message) => Some((message.receiver(), Brought::Event(Event::Deliver(message)))),
         Err(_) => None,
+    }
+}
+
+/// The number of the message that an act brought to a node, where its deed says that it was brought one.
+pub(crate) fn message_of(act: &Act, deed: &Deed) -> Option<u64>
+    ensures { result ≡ message_if (deed_brought deed.now) (number_of act.now) }
+{
+    deed.brought()?;
+    match act {
+        Act::Deliver(number) => Some(*number),
+        _ => Some(0),
     }
 }

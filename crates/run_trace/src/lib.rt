@@ -8,4 +8,4 @@ mod bringing;
 mod deeds;
 mod tracing;
 
-pub use tracing::trace_of;
+pub use tracing::{Recorded, record_of, trace_of};

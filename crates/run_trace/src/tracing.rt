@@ -1,5 +1,5 @@
 // A schedule's run as a trace.
-ghost use Rattle.std.specs.Prelude.{◌≡◌, ◌<◌, ◌≤◌, ◌++◌, [], ◌∷◌, ℕ, List, length, drop, replicate, IfOk, OnOk, Some};
+ghost use Rattle.std.specs.Prelude.{◌≡◌, ◌<◌, ◌≤◌, ◌++◌, [], ◌∷◌, ℕ, List, length, drop, replicate, reverse, IfOk, OnOk, Some};
 ghost use Rattle.schedule.specs.declared.act.Act.{Act as ActValue};
 ghost use Rattle.schedule.specs.Limits.{IsWithinLimits};
 ghost use Rattle.cluster_sim.specs.World.{StandsFor};
@@ -9,9 +9,9 @@ ghost use Rattle.trace_check.specs.Traces.{claim};
 ghost use Rattle.trace_check.specs.Verdicts.{IsRun};
 ghost use Rattle.run_trace.specs.Bringing.{brought_by};
 ghost use Rattle.run_trace.specs.Deeds.{ActedAs, IsNoted};
-ghost use Rattle.run_trace.specs.Traced.{HasWorld, IsSoFar, IsTraceOf};
+ghost use Rattle.run_trace.specs.Traced.{HasWorld, IsNext, IsOrder, IsRecordOf, IsSoFar, IsTraceOf};
 
-use crate::bringing::{Brought, brought_by};
+use crate::bringing::{Brought, brought_by, message_of};
 use crate::deeds::{Ended, deed_by, rise_of, seen_at};
 use cluster_sim::{Outcome, Refusal, World};
 use group_task::NodeId;
@@ -19,8 +19,16 @@ use message_list::MessageList;
 use node_core::{CoreFault, Refusal as NodeRefusal};
 use schedule::{Act, Schedule};
 use std::alloc::{AllocError, Global};
-use trace_check::{Deed, History, Trace};
+use trace_check::{Deed, History, Order, Trace};
 use wire_msg::Message;
+
+/// A run that was recorded.
+#[derive(Drop)]
+pub struct Recorded {
+    pub trace: Trace,
+    /// The order in which its turns came.
+    pub order: Order,
+}
 
 /// The trace of a schedule's run on a simulated cluster.
 pub fn trace_of(alloc: Global, schedule: &Schedule) -> Result<Trace, AllocError>
@@ -33,11 +41,38 @@ pub fn trace_of(alloc: Global, schedule: &Schedule) -> Result<Trace, AllocError>
     // Promise: Some order of that trace is a run, so `check` answers Run.
     ensures run { IfOk result IsRun }
 {
+    let whole = record_of(alloc, schedule)?;
+    Ok(whole.trace)
+}
+
+/// The trace of a schedule's run on a simulated cluster, and the order in which the turns of that run came.
+pub fn record_of(alloc: Global, schedule: &Schedule) -> Result<Recorded, AllocError>
+    requires { IsWithinLimits schedule.now.size schedule.now.acts.items }
+    // Promise: With the trace of a schedule comes the order of the turns of that very run: the node of each, and the number of the
+    // message that came to it, as the network counts them.
+    // Refuses: turn_of_node_0, message_misnumbered_by_one.
+    ensures recorded { IfOk result (λ recorded. IsRecordOf schedule.now.size.nodes schedule.now.size.slots schedule.now.acts.items recorded.trace recorded.order) }
+    // Promise: All entries can be taken in that order.
+    ensures ordered { IfOk result (λ recorded. IsOrder recorded.trace (reverse recorded.order.nodes.items)) }
+{
     let size = schedule.size;
     let mut world = World::open(alloc, size.nodes, size.slots)?;
     let mut histories = begun(alloc, size.nodes)?;
-    trace_acts(alloc, &mut world, &mut histories, &schedule.acts)?;
-    Ok(Trace::new(histories))
+    let mut order = Order {
+        nodes: Vec::new(alloc),
+        messages: Vec::new(alloc),
+    };
+    trace_acts(
+        alloc,
+        &mut world,
+        &mut histories,
+        &mut order,
+        &schedule.acts,
+    )?;
+    Ok(Recorded {
+        trace: Trace::new(histories),
+        order,
+    })
 }
 
 /// A history of no entries for each node.
@@ -57,15 +92,16 @@ fn trace_acts(
     alloc: Global,
     world: &mut World,
     histories: &mut Vec<History>,
+    order: &mut Order,
     acts: &[Act],
 ) -> Result<(), AllocError>
     requires world { HasWorld world.old }
     requires many { length histories.old.items ≡ length world.old.nodes }
     ensures many { OnOk result (length histories.new.items ≡ length histories.old.items) }
-    ensures traced { (nodes slots : ℕ) → IsSoFar nodes slots world.old [] histories.old.items → OnOk result (IsSoFar nodes slots world.new acts.now histories.new.items) }
+    ensures traced { (nodes slots : ℕ) → IsSoFar nodes slots world.old [] histories.old.items order.old → OnOk result (IsSoFar nodes slots world.new acts.now histories.new.items order.new) }
 {
     for act in acts {
-        trace_act(alloc, world, histories, act)?;
+        trace_act(alloc, world, histories, order, act)?;
     }
     Ok(())
 }
@@ -75,6 +111,7 @@ fn trace_act(
     alloc: Global,
     world: &mut World,
     histories: &mut Vec<History>,
+    order: &mut Order,
     act: &Act,
 ) -> Result<(), AllocError>
     requires world { HasWorld world.old }
@@ -82,11 +119,11 @@ fn trace_act(
     ensures world { OnOk result (HasWorld world.new) }
     ensures many { OnOk result (length histories.new.items ≡ length histories.old.items) }
     ensures nodes { OnOk result (length world.new.nodes ≡ length world.old.nodes) }
-    ensures traced { (nodes slots : ℕ) (before : List ActValue) → IsSoFar nodes slots world.old before histories.old.items
-        → OnOk result (IsSoFar nodes slots world.new (before ++ act.now ∷ []) histories.new.items) }
+    ensures traced { (nodes slots : ℕ) (before : List ActValue) → IsSoFar nodes slots world.old before histories.old.items order.old
+        → OnOk result (IsSoFar nodes slots world.new (before ++ act.now ∷ []) histories.new.items order.new) }
 {
     match brought_by(world.count(), world.net(), act) {
-        Some((id, brought)) => trace_at(alloc, world, histories, act, id, &brought),
+        Some((id, brought)) => trace_at(alloc, world, histories, order, act, id, &brought),
         None => {
             step(world, act)?;
             Ok(())
@@ -99,6 +136,7 @@ fn trace_at(
     alloc: Global,
     world: &mut World,
     histories: &mut Vec<History>,
+    order: &mut Order,
     act: &Act,
     id: NodeId,
     brought: &Brought,
@@ -110,8 +148,8 @@ fn trace_at(
     ensures world { OnOk result (HasWorld world.new) }
     ensures many { OnOk result (length histories.new.items ≡ length histories.old.items) }
     ensures nodes { OnOk result (length world.new.nodes ≡ length world.old.nodes) }
-    ensures traced { (nodes slots : ℕ) (before : List ActValue) → IsSoFar nodes slots world.old before histories.old.items
-        → OnOk result (IsSoFar nodes slots world.new (before ++ act.now ∷ []) histories.new.items) }
+    ensures traced { (nodes slots : ℕ) (before : List ActValue) → IsSoFar nodes slots world.old before histories.old.items order.old
+        → OnOk result (IsSoFar nodes slots world.new (before ++ act.now ∷ []) histories.new.items order.new) }
 {
     let was = seen_at(world.node(id));
     let place = world.net().sent().len();
@@ -119,7 +157,8 @@ fn trace_at(
     let rise = rise_of(&was, world.node(id));
     let deed = deed_by(brought, rise, ended);
     let sent = sent_since(alloc, world.net().sent(), place)?;
-    note(histories, id, &deed, &sent)
+    let message = message_of(act, &deed);
+    note(histories, order, id, &deed, message, &sent)
 }
 
 /// Does an act: how it ended. Want of memory is an error, wherever it came.
@@ -154,16 +193,21 @@ fn sent_since(
     Ok(sent)
 }
 
-/// Adds an entry to the history of its node.
+/// Adds an entry to the history of its node, and its turn to the order.
 fn note(
     histories: &mut Vec<History>,
+    order: &mut Order,
     id: NodeId,
     deed: &Deed,
+    message: Option<u64>,
     sent: &[Message],
 ) -> Result<(), AllocError>
     requires { id < length histories.old.items }
-    ensures noted { OnOk result (IsNoted id (claim deed.now sent.now) histories.old.items histories.new.items) }
+    ensures noted { OnOk result (IsNoted id (claim deed.now sent.now) histories.old.items histories.new.items × IsNext id message order.old order.new) }
     ensures many { OnOk result (length histories.new.items ≡ length histories.old.items) }
 {
-    histories[usize::from(id.number())].push(deed, sent)
+    histories[usize::from(id.number())].push(deed, sent)?;
+    order.nodes.push(id)?;
+    order.messages.push(message)?;
+    Ok(())
 }

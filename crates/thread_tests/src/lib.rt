@@ -4,6 +4,10 @@
 #![tactic(auto)]
 
 #[cfg(test)]
+mod gates;
+#[cfg(test)]
+mod judged;
+#[cfg(test)]
 mod links;
 #[cfg(test)]
 mod refused;

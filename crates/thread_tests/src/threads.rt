@@ -4,6 +4,7 @@ ghost use Rattle.std.specs.Prelude.{◌≡◌, ◌≤◌, IfSome, length};
 ghost use Rattle.group_task.specs.declared.node.TheConstants.{NODES};
 ghost use Rattle.node_threads.specs.Nodes.{PollOthers};
 
+use crate::judged::is_run;
 use crate::turns::came;
 use crossbeam_utils::CachePadded;
 use group_task::{NODES, NodeId};
@@ -48,18 +49,20 @@ fn run<R: Threads + Wait + Sync + Abort, G: Gate + Send>(
     run_threads(rt, alloc, size, plans, gate)
 }
 
-/// A run of these plans, which is gathered.
-fn whole<R: Threads + Wait + Sync + Abort, G: Gate + Send>(
+/// A run of these plans, which is gathered: some order of its entries is a run.
+pub(crate) fn whole<R: Threads + Wait + Sync + Abort, G: Gate + Send>(
     rt: &R,
     alloc: Global,
     plans: &[Plans],
     gate: &G,
 ) -> Gathered {
-    run(rt, alloc, plans, gate).ok().expect(rt, "a whole run")
+    let whole = run(rt, alloc, plans, gate).ok().expect(rt, "a whole run");
+    assert!(rt; is_run(rt, alloc, &whole));
+    whole
 }
 
 /// Why a run of these plans isn't gathered.
-fn fault<R: Threads + Wait + Sync + Abort, G: Gate + Send>(
+pub(crate) fn fault<R: Threads + Wait + Sync + Abort, G: Gate + Send>(
     rt: &R,
     alloc: Global,
     plans: &[Plans],
@@ -69,7 +72,7 @@ fn fault<R: Threads + Wait + Sync + Abort, G: Gate + Send>(
 }
 
 /// The plan of a node whose clock fires Check so often, and that does nothing else.
-fn checks(alloc: Global, turns: usize) -> Result<Plans, AllocError> {
+pub(crate) fn checks(alloc: Global, turns: usize) -> Result<Plans, AllocError> {
     let clock = vec![in alloc; Timer::Check; turns]?;
     Ok(Plans::new(Vec::new(alloc), clock, Vec::new(alloc)))
 }
@@ -81,7 +84,7 @@ fn one_poll(alloc: Global) -> Result<Plans, AllocError> {
 }
 
 /// Adds the plan of one more node.
-fn add(rt: &impl Abort, plans: &mut Vec<Plans>, plan: Result<Plans, AllocError>) {
+pub(crate) fn add(rt: &impl Abort, plans: &mut Vec<Plans>, plan: Result<Plans, AllocError>) {
     plans
         .push(plan.expect(rt, "memory for a plan"))
         .expect(rt, "memory for plans");
@@ -97,7 +100,7 @@ fn checking(rt: &impl Abort, alloc: Global, nodes: usize, turns: usize) -> Vec<P
 }
 
 /// Whether so many have come, looked at again and again.
-fn wait_for(flag: &AtomicU64, many: u64) -> bool {
+pub(crate) fn wait_for(flag: &AtomicU64, many: u64) -> bool {
     for _look in 0..LOOKS {
         if many <= flag.load(Ordering::SeqCst) {
             return true;

@@ -449,7 +449,7 @@ impl<'a> Sent<'a> {
     }
 
     /// The message at this place, lent as it is kept.
-    pub(crate) fn lend(&self, place: usize) -> Option<LentMessage<'a>>
+    pub fn lend(&self, place: usize) -> Option<LentMessage<'a>>
         ensures { result ≡ slice_get self.now place }
     {
         if place < self.end - self.start {

@@ -10,6 +10,7 @@ mod laws;
 mod leaving;
 mod ledger;
 mod leftover;
+mod order;
 mod posted;
 mod replica;
 mod trace;
@@ -22,5 +23,6 @@ pub use laws::{
     verdicts_decide,
 };
 pub use leftover::{Holdup, Leftover};
+pub use order::Order;
 pub use replica::Replica;
 pub use trace::{Deed, RecoverFault, Trace, Verdict};

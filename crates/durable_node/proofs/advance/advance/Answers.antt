@@ -62,4 +62,4 @@ returns-in-Mounted-clause-area g c =
     let store = c.in-Mounted.store in
     let up = sym c.is_down.ensures ∙ c.if-not-is_down.true in
     rw c.in-Mounted.is (area_goes_on c.args.id c.args.nodes c.args.core.now c.handle.new.core store c.handle.new.store c.args.doubt.now c.handle.new.doubt c.args.mounted.now c.args.event.now up
-    c.handle.result e.what e.stuck e.area)
+    g.D.SectorDisk.state c.handle.result e.what e.stuck e.area e.disk)

@@ -1,6 +1,7 @@
 use Rattle.std.proofs.Common.{◌≡◌, true, sym, ◌∙◌, refl, rules}
 use Rattle.node_core.specs.State.{is_down}
 use Rattle.durable_node.specs.Node.{disk_in}
+use Rattle.durable_node.proofs.AreaLaws.{moved_into}
 use Rattle.durable_node.proofs.Nodes.{counts_of, counts_still, over}
 use Rattle.durable_node.proofs.Compactions.{compact_down, compacts}
 use Rattle.durable_node.proofs.compacting.compact.Goals as goal
@@ -32,3 +33,9 @@ returns-in-Mounted-clause-counts g c =
     let e = c.rewrite.ensures.store in
     let node = rw c.in-Mounted.is at c.requires.node in
     rw c.in-Mounted.is (counts_of g.D.SectorDisk.state c.in-Mounted.store.disk c.rewrite.new.store.disk c.rewrite.result e.counts (e.rises (node.up (sym c.is_down.ensures ∙ c.if-not-is_down.true))))
+
+pub returns-in-Mounted-clause-spelled : goal.returns-in-Mounted-clause-spelled
+returns-in-Mounted-clause-spelled g c =
+    let e = c.rewrite.ensures in
+    rw c.in-Mounted.is (moved_into c.args.id c.args.nodes c.args.core.now c.rewrite.new.core c.in-Mounted.store c.rewrite.new.store c.args.doubt.now c.args.mounted.now
+    (sym c.is_down.ensures ∙ c.if-not-is_down.true) g.D.SectorDisk.state c.rewrite.result (λ ok. (e.done ok).1) e.spelled)

@@ -7,10 +7,10 @@ use Rattle.durable_node.proofs.Turned.{same_fault, turned_as, wanted_so}
 use Rattle.durable_node.proofs.handle.handle.Goals as goal
 
 pub returns-in-Err-clause-disk : goal.returns-in-Err-clause-disk
-returns-in-Err-clause-disk g c = unwritten g.D.SectorDisk.state c.args.store.now _ _ (g.met.D.SectorDisk.laws c.args.store.now.disk)
+returns-in-Err-clause-disk g c = unwritten g.D.SectorDisk.state c.args.store.now _ _ (g.met.D.SectorDisk.laws c.args.store.now.disk) (λ ok. (let failed = rw c.silent.ensures.fate at ok in absurd cc))
 
 pub returns-in-Err-NoMemory-clause-disk : goal.returns-in-Err-NoMemory-clause-disk
-returns-in-Err-NoMemory-clause-disk g c = unwritten g.D.SectorDisk.state c.args.store.now _ _ (g.met.D.SectorDisk.laws c.args.store.now.disk)
+returns-in-Err-NoMemory-clause-disk g c = unwritten g.D.SectorDisk.state c.args.store.now _ _ (g.met.D.SectorDisk.laws c.args.store.now.disk) (λ ok. absurd cc)
 
 pub returns-then-not-is_device-clause-what : goal.returns-then-not-is_device-clause-what
 returns-then-not-is_device-clause-what g c =

@@ -1,4 +1,6 @@
-use Rattle.job_journal.proofs.Common.{sym, ◌∙◌, ap, refl, arith, record_of, run_on}
+use Rattle.job_journal.proofs.Common.{sym, ◌∙◌, ap, refl, arith, Some, record_of, bytes_of, records_for, jobs_of, run_on}
+use Rattle.std.proofs.lemmas.Option.{slice_get-map}
+use Rattle.std.specs.Prelude.{option_map}
 use Rattle.job_journal.proofs.Changes.{writing_start, writing_more, written_fill}
 use Rattle.job_journal.proofs.area.fill_area.Goals as goal
 
@@ -13,5 +15,6 @@ pub loop-filled-preserved : goal.loop-filled-preserved
 loop-filled-preserved g c =
     writing_more _ _ refl (λ k is. (omega (arith, is), omega (arith, is))) c.loop-filled.invariant c.in-Ok.ensures.counts c.fill.ensures.run
     (λ honest so_far. written_fill _ _ _ c.loop-filled.filled _ _ (c.fill.ensures.run honest).contents
-    (ap record_of (c.in-Ok.ensures.written honest refl) ∙ c.to_sector-body.ensures.read_back ∙ sym c.record_at.ensures) so_far)
+    (ap record_of (c.in-Ok.ensures.written honest refl) ∙ c.to_sector-body.ensures.read_back ∙ sym c.record_at.ensures)
+    (ap (λ s. Some s) (c.in-Ok.ensures.written honest refl ∙ c.to_sector-body.ensures.bytes) ∙ sym (slice_get-map bytes_of (records_for (jobs_of c.args.table.now)) c.loop-filled.filled ∙ ap (λ o. option_map bytes_of o) c.record_at.ensures)) so_far)
     (λ honest. c.in-Ok.ensures.synced honest refl)

@@ -1,6 +1,7 @@
 use Rattle.job_journal.proofs.Common.{◌≡◌, ◌∙◌, IsOk, raised, refl, arith, nat_tests}
 use Rattle.job_journal.proofs.Changes.{still_since, area_run, area_stays, jobs_held_since, compact_run, compact_since, compact_after}
 use Rattle.job_journal.proofs.Frames.{jobs_held}
+use Rattle.job_journal.proofs.Spellings.{compact_ends}
 use Rattle.job_journal.proofs.Numbers.{still_numbered, area_numbered, raise_numbered}
 use Rattle.job_journal.proofs.journal.JobJournal.compact.Goals as goal
 
@@ -35,6 +36,9 @@ returns-clause-after g c = λ honest ok.
     let raised : c.raise-raised.new.self ≡ raised c.self.inside.area = grind arith in
     record {
       synced = c.raise-raised.ensures.synced still went;
+      spelled = compact_ends c.self.view_is c.self.invariant
+          (record { at = c.other_sector-other.ensures; run = c.write_area.ensures.run honest; written = c.in-Ok.ensures.written honest refl; synced = c.in-Ok.ensures.synced honest refl })
+          (c.raise-raised.ensures.run still) (c.raise-raised.ensures.synced still went) raised c.record_count-records.ensures.count;
       holds = compact_after c.self.view_is honest c.self.invariant c.record_count-records.ensures.in_order
           (record { at = c.other_sector-other.ensures; run = c.write_area.ensures.run honest; written = c.in-Ok.ensures.written honest refl; synced = c.in-Ok.ensures.synced honest refl })
           (c.raise-raised.ensures.run still) raised c.record_count-records.ensures.count

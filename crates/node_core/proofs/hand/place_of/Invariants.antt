@@ -1,0 +1,15 @@
+use Rattle.std.proofs.Common.{◌-◌, ◌≡◌, ◌+◌, ◌≤◌, ◌<◌, ℕ, false, length, slice_index_or}
+use Rattle.node_core.specs.declared.in_hand.InHand.{InHand}
+use Rattle.node_core.proofs.Holds.{is_of}
+use Rattle.node_core.proofs.hand.place_of.Given as goal
+
+abbrev pub invariant-loop-low : goal.invariant-loop-low
+invariant-loop-low l = record {
+  near : l.low ≤ l.high + 1;
+  within : l.high ≤ length l.jobs;
+  before : (k : ℕ) (d : InHand) → k < l.low → is_of (slice_index_or l.jobs k d) l.origin l.id ≡ false;
+  behind : (k : ℕ) (d : InHand) → l.high ≤ k → k < length l.jobs → is_of (slice_index_or l.jobs k d) l.origin l.id ≡ false;
+}
+
+abbrev pub decreases-loop-low : goal.decreases-loop-low
+decreases-loop-low l = l.high - l.low

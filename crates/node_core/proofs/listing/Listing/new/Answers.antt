@@ -1,0 +1,5 @@
+use Rattle.node_core.proofs.Listings.{none_listed}
+use Rattle.node_core.proofs.listing.Listing.new.Goals as goal
+
+pub returns : goal.returns
+returns c = λ whole. none_listed _ c.new.ensures.empty

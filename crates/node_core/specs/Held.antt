@@ -1,0 +1,10 @@
+-- The jobs in hand, by the nodes that keep them and their ids there.
+use Rattle.std.specs.Prelude.{ℕ, ◌==◌, List, Bool, not, ◌&&◌}
+use Rattle.std.specs.List.{filter, list_any}
+use Rattle.node_core.specs.declared.in_hand.InHand.{InHand}
+
+abbrev pub holds : List InHand → ℕ → ℕ → Bool
+holds hand origin id = list_any (λ job. job.origin == origin && job.id == id) hand
+
+abbrev pub without_held : List InHand → ℕ → ℕ → List InHand
+without_held hand origin id = filter (λ job. not (job.origin == origin && job.id == id)) hand
