@@ -237,10 +237,9 @@ says $'no order takes all entries: look first at node 0, entry 0\nnode 0: entry 
 prints 1 '{"nodes":2,"histories":[[{"do":"crash","sent":["010100010000"]}],[]]}' 'NotARun 0 0\n' trace
 prints 1 '{"nodes":1,"histories":[[{"do":"none","sent":[]},{"do":"none"}]]}\n' 'bad trace 0 1\n' trace
 prints 1 '' 'bad trace\n' trace
-prints 0 'cluster 2 8\ncheck 0\ndeliver 0\n' '{"histories":[[{"do":"check","sent":["010100010000"]}],[{"do":"deliver","msg":"010100010000","sent":["01020100000101"]}]],"nodes":2}\n' record
+prints 0 'cluster 2 8\ncheck 0\ndeliver 0\n' '{"histories":[[{"do":"check","sent":["010100010000"]}],[{"do":"deliver","msg":"010100010000","sent":["01020100000101"]}]],"nodes":2,"order":"0 - 1 0"}\n' record
 says 'line 2: no such act: chek'
 prints 1 'cluster 2 8\nchek 0\n' 'bad line 2\n' record
-prints 1 '{"nodes":2,"histories":[[],[{"do":"deliver","msg":"010100010000","sent":["01020100000101"]}]]}\n' 'NotARun 1 0\n' draw
 prints 1 '{"nodes":1,"histories":[[{"do":"none","sent":[]},{"do":"none"}]]}\n' 'bad trace 0 1\n' draw
 prints 0 'cluster 1 4\nlinks 1\n0 clock check\n0 clock merge\n' '{"histories":[[{"do":"check","sent":[]},{"do":"merge","sent":[]}]],"nodes":1}\n' threads
 

@@ -148,25 +148,25 @@ ENTRIES = [
     ("compact 1", 1, '{"do":"none","sent":[]}'),
 ]
 
-# Schedules, and the traces of their runs.
+# Schedules, and the traces of their runs, with the order of their turns: each has its node, and the number of the message that it was brought.
 RECORDED = [
-    ("cluster 1 4\n", '{"histories":[[]],"nodes":1}'),
+    ("cluster 1 4\n", '{"histories":[[]],"nodes":1,"order":""}'),
     # a question and its answer; what the network does is no entry
     ("cluster 2 8\ncheck 1\nlose 7\ncut 0 1\ndeliver 0\nmend 0 1\ndeliver 0\ndeliver 1\ncheck 2\n",
      '{"histories":[[{"do":"deliver","msg":"010101000000","sent":["01020001000101"]}],[{"do":"check","sent":["010101000000"]},'
-     '{"do":"deliver","msg":"01020001000101","sent":[]}]],"nodes":2}'),
+     '{"do":"deliver","msg":"01020001000101","sent":[]}]],"nodes":2,"order":"1 - 0 0 1 1"}'),
     # a disk that fails in a submit and in a mounting; what is refused, an arming and a compaction are nothing
     ("cluster 1 4\ndispatch 0\nsubmit 0 3 6869 7\nmerge 0\ncompact 0\narm 0 0\nsubmit 0 0 -\ncheck 0\nrecover 0\ncrash 0\nrecover 0\nrecover 0\nfinish 0 0 0\n",
      '{"histories":[[{"do":"dispatch","sent":[]},{"do":"submit","payload":"6869","priority":7,"queue":3,"sent":[]},{"do":"merge","sent":[]},{"do":"none","sent":[]},'
      '{"do":"none","sent":[]},{"do":"submit","fault":"device","payload":"","queue":0,"sent":[]},{"do":"check","sent":[]},'
      '{"do":"recover","fault":"mount","kept":false,"sent":[]},{"do":"crash","sent":[]},{"do":"recover","kept":false,"sent":[]},'
-     '{"do":"recover","kept":false,"sent":[]},{"do":"none","sent":[]}]],"nodes":1}'),
+     '{"do":"recover","kept":false,"sent":[]},{"do":"none","sent":[]}]],"nodes":1,"order":"' + " ".join(["0 -"] * 12) + '"}'),
     # a raise whose gate is torn by the crash, and reads as sealed
     ("cluster 3 8\ncheck 0\ndeliver 0\ndeliver 1\ndeliver 2\ndeliver 3\narm 0 5\nmerge 0\ncrash 0 a5\nrecover 0\n",
      '{"histories":[[{"do":"check","sent":["010100010000","010100020000"]},{"do":"deliver","msg":"01020100000101","sent":[]},'
      '{"do":"deliver","msg":"01020200000101","sent":[]},{"do":"none","sent":[]},{"do":"merge","fault":"device","sent":[]},{"do":"crash","sent":[]},'
      '{"do":"recover","kept":true,"sent":[]}],[{"do":"deliver","msg":"010100010000","sent":["01020100000101"]}],'
-     '[{"do":"deliver","msg":"010100020000","sent":["01020200000101"]}]],"nodes":3}'),
+     '[{"do":"deliver","msg":"010100020000","sent":["01020200000101"]}]],"nodes":3,"order":"0 - 1 0 2 1 0 2 0 3 0 - 0 - 0 - 0 -"}'),
 ]
 
 # Sessions over one file that isn't there at first, one after another, and what each prints.
@@ -250,7 +250,8 @@ def opening(nodes):
 
 
 def histories(nodes, node, entry):
-    return '{"histories":[' + ",".join(f"[{entry}]" if n == node else "[]" for n in range(nodes)) + f'],"nodes":{nodes}}}\n'
+    """The trace of a run of one turn, in which its node was brought no message, with its order."""
+    return '{"histories":[' + ",".join(f"[{entry}]" if n == node else "[]" for n in range(nodes)) + f'],"nodes":{nodes},"order":"{node} -"}}\n'
 
 
 def try_messages(rows):

@@ -9,6 +9,8 @@ line counts the checks."""
 import os, re, subprocess, sys
 from typing import NamedTuple
 
+TOP = os.path.join(os.path.dirname(os.path.abspath(__file__)), "..")
+
 
 class Row(NamedTuple):
     """What is printed is one of these texts; where it can't be foreseen which one, there are more."""
@@ -185,29 +187,35 @@ BAD = [
     r'{"do":"finish","origin":0,"id":0,"fault":"mount","sent":[]}',
 ]
 
-# How all pictures are drawn, as the definition of the picture says it (crates/trace_draw/specs/Picture.antt).
-STYLE = r"""" font-family="sans-serif" font-size="11" text-anchor="middle">
-<style>.life{stroke:#bbb}.message{stroke:#47a;marker-end:url(#tip)}.done{fill:#333}.rest{fill:#bbb}.fail{fill:#c22}.rise,.group{fill:#183}.deed{text-anchor:start;transform:translate(3px,-7px) rotate(-35deg)}text{paint-order:stroke;stroke:#fff;stroke-width:3px}</style>
-<defs><marker id="tip" orient="auto" refX="12" refY="3" markerWidth="9" markerHeight="6"><path d="M0 0L8 3L0 6z" fill="#47a"/></marker></defs>
-<rect width="100%" height="100%" fill="#fff"/>
-<text x="16" y="18" style="text-anchor:start">dot: an entry; arrow: a message that came</text>
-<text x="16" y="33" class="group" style="text-anchor:start">green: the group that a node is in from here on</text>
-"""
+def constants_of_pictures():
+    """What stands in all pictures alike, which nothing else says: how they are drawn, and their legend."""
+    with open(f"{TOP}/crates/trace_draw/src/style.rt", encoding="utf-8") as file:
+        return dict(re.findall(r'pub const (\w+): &str =\s*r##"(.*?)"##;', file.read(), re.S))
 
-# Traces, and in front of and behind the style their pictures.
+
+def pictured(height, lines, left=""):
+    """The picture that has these lines, in an order that wasn't recorded; the narrowest is as wide as its legend."""
+    alike = constants_of_pictures()
+    head = f'<svg xmlns="http://www.w3.org/2000/svg" width="880" height="{height}'
+    return head + alike["STYLE"] + alike["LEGEND"] + alike["POSSIBLE"] + (alike["LEFT"] if left else "") + lines
+
+
+# Traces, how high their pictures are, and what stands in these behind the legend: bands, names, arrows, marks.
 PICTURES = [
-    # turns at 110, 136 and 162, lines at 80 and 150
+    # turns at 110, 136 and 162, lines at 160 and 270
     (
         "a question and its answer",
         ASKED,
-        r'<svg xmlns="http://www.w3.org/2000/svg" width="208" height="220',
-        r"""<path class="life" d="M70 80H188"/><g transform="translate(40 80)"><text y="4">node 0</text><text class="group" y="19">0:1</text></g>
-<path class="life" d="M70 150H188"/><g transform="translate(40 150)"><text y="4">node 1</text><text class="group" y="19">1:1</text></g>
-<path class="message" d="M110 80L136 150"/>
-<path class="message" d="M136 150L162 80"/>
-<g transform="translate(110 80)"><circle r="4" class="done"/><text class="deed">check</text></g>
-<g transform="translate(136 150)"><circle r="4" class="done"/></g>
-<g transform="translate(162 80)"><circle r="4" class="done"/></g>
+        336,
+        r"""<svg x="97" y="140" width="78" height="61"><title>node 0, from turn 0 until turn 3: Normal in group 0:1, coordinator 0, members 0</title><rect width="100%" height="100%" class="g1"/><line x2="100%" y1="20" y2="20" class="normal"/><text x="3" y="46" class="group">0:1</text><text x="3" y="57">0 of 0</text></svg>
+<svg x="97" y="250" width="78" height="61"><title>node 1, from turn 0 until turn 3: Normal in group 1:1, coordinator 1, members 1</title><rect width="100%" height="100%" class="g4"/><line x2="100%" y1="20" y2="20" class="normal"/><text x="3" y="46" class="group">1:1</text><text x="3" y="57">1 of 1</text></svg>
+<text class="name" x="88" y="160">node 0</text>
+<text class="name" x="88" y="270">node 1</text>
+<path class="message" d="M110 160L136 270"><title>0 to 1: AreYouCoordinator</title></path>
+<path class="message" d="M136 270L162 160"><title>1 to 0: Coordinator yes</title></path>
+<g transform="translate(110 160)"><title>turn 0: node 0, entry 0: check</title><circle r="4" class="done"/><text x="-3" y="14" class="entry">0</text><text class="deed">check</text></g>
+<g transform="translate(136 270)"><title>turn 1: node 1, entry 0: deliver</title><circle r="4" class="done"/><text x="-3" y="14" class="entry">0</text><text class="deed kind">AreYouCoordinator</text></g>
+<g transform="translate(162 160)"><title>turn 2: node 0, entry 1: deliver</title><circle r="4" class="done"/><text x="-3" y="14" class="entry">1</text><text class="deed kind">Coordinator yes</text></g>
 </svg>
 """,
     ),
@@ -215,68 +223,84 @@ PICTURES = [
     (
         "a crash and recoveries",
         r'{"nodes":1,"histories":[[{"do":"crash","sent":[]},{"do":"recover","kept":false,"sent":[]},{"do":"recover","kept":false,"sent":[]},{"do":"none","sent":[]}]]}',
-        r'<svg xmlns="http://www.w3.org/2000/svg" width="234" height="150',
-        r"""<path class="life" d="M70 80H214"/><g transform="translate(40 80)"><text y="4">node 0</text><text class="group" y="19">0:1</text></g>
-<g transform="translate(110 80)"><circle r="4" class="fail"/><text class="deed">crash</text></g>
-<g transform="translate(136 80)"><circle r="4" class="rise"/><text class="deed">recover</text><text class="group" y="19">0:2</text></g>
-<g transform="translate(162 80)"><circle r="4" class="rise"/><text class="deed">recover</text><text class="group" y="19">0:3</text></g>
-<g transform="translate(188 80)"><circle r="4" class="rest"/></g>
+        226,
+        r"""<svg x="123" y="140" width="26" height="61"><title>node 0, from turn 1 until turn 2: Normal in group 0:2, coordinator 0, members 0</title><rect width="100%" height="100%" class="g2"/><line x2="100%" y1="20" y2="20" class="normal"/><text x="3" y="46" class="group">0:2</text><text x="3" y="57">0 of 0</text></svg>
+<svg x="149" y="140" width="52" height="61"><title>node 0, from turn 2 until turn 4: Normal in group 0:3, coordinator 0, members 0</title><rect width="100%" height="100%" class="g3"/><line x2="100%" y1="20" y2="20" class="normal"/><text x="3" y="46" class="group">0:3</text><text x="3" y="57">0 of 0</text></svg>
+<text class="name" x="88" y="160">node 0</text>
+<g transform="translate(110 160)"><title>turn 0: node 0, entry 0: crash</title><circle r="4" class="fail"/><path class="crash" d="M-8 -8L8 8M-8 8L8 -8"/><text x="-3" y="14" class="entry">0</text><text class="deed">crash</text></g>
+<g transform="translate(136 160)"><title>turn 1: node 0, entry 1: recover</title><circle r="4" class="rise"/><text x="-3" y="14" class="entry">1</text><text class="deed">recover</text></g>
+<g transform="translate(162 160)"><title>turn 2: node 0, entry 2: recover</title><circle r="4" class="rise"/><text x="-3" y="14" class="entry">2</text><text class="deed">recover</text></g>
+<g transform="translate(188 160)"><title>turn 3: node 0, entry 3: none</title><circle r="4" class="rest"/><text x="-3" y="14" class="entry">3</text></g>
 </svg>
 """,
     ),
-    # what was done stands at each mark but of what was refused; a node that is down is in no group, and a raise that is found counts
+    # what was done stands at each mark but of what was refused; a node that is down has no band, and a raise that is found counts
     (
         "each kind of entry",
         r'{"nodes":1,"histories":[[{"do":"none","sent":[]},{"do":"check","sent":[]},{"do":"merge","sent":[]},{"do":"accept","sent":[]},{"do":"ready","sent":[]},{"do":"coord","sent":[]},{"do":"dispatch","sent":[]},'
         r'{"do":"submit","queue":3,"priority":255,"payload":"6869","sent":[]},{"do":"finish","origin":0,"id":0,"sent":[]},{"do":"submit","queue":0,"payload":"","fault":"device","sent":[]},'
         r'{"do":"recover","kept":false,"fault":"mount","sent":[]},{"do":"recover","kept":false,"fault":"raise","sent":[]},{"do":"crash","sent":[]},{"do":"recover","kept":true,"sent":[]}]]}',
-        r'<svg xmlns="http://www.w3.org/2000/svg" width="494" height="150',
-        r"""<path class="life" d="M70 80H474"/><g transform="translate(40 80)"><text y="4">node 0</text><text class="group" y="19">0:1</text></g>
-<g transform="translate(110 80)"><circle r="4" class="rest"/></g>
-<g transform="translate(136 80)"><circle r="4" class="done"/><text class="deed">check</text></g>
-<g transform="translate(162 80)"><circle r="4" class="done"/><text class="deed">merge</text></g>
-<g transform="translate(188 80)"><circle r="4" class="done"/><text class="deed">accept</text></g>
-<g transform="translate(214 80)"><circle r="4" class="done"/><text class="deed">ready</text></g>
-<g transform="translate(240 80)"><circle r="4" class="done"/><text class="deed">coord</text></g>
-<g transform="translate(266 80)"><circle r="4" class="done"/><text class="deed">dispatch</text></g>
-<g transform="translate(292 80)"><circle r="4" class="done"/><text class="deed">submit</text></g>
-<g transform="translate(318 80)"><circle r="4" class="done"/><text class="deed">finish</text></g>
-<g transform="translate(344 80)"><circle r="4" class="fail"/><text class="deed">submit</text></g>
-<g transform="translate(370 80)"><circle r="4" class="fail"/><text class="deed">recover</text></g>
-<g transform="translate(396 80)"><circle r="4" class="fail"/><text class="deed">recover</text></g>
-<g transform="translate(422 80)"><circle r="4" class="fail"/><text class="deed">crash</text></g>
-<g transform="translate(448 80)"><circle r="4" class="rise"/><text class="deed">recover</text><text class="group" y="19">0:3</text></g>
+        226,
+        r"""<svg x="97" y="140" width="234" height="61"><title>node 0, from turn 0 until turn 9: Normal in group 0:1, coordinator 0, members 0</title><rect width="100%" height="100%" class="g1"/><line x2="100%" y1="20" y2="20" class="normal"/><text x="3" y="46" class="group">0:1</text><text x="3" y="57">0 of 0</text></svg>
+<svg x="435" y="140" width="26" height="61"><title>node 0, from turn 13 until turn 14: Normal in group 0:3, coordinator 0, members 0</title><rect width="100%" height="100%" class="g3"/><line x2="100%" y1="20" y2="20" class="normal"/><text x="3" y="46" class="group">0:3</text><text x="3" y="57">0 of 0</text></svg>
+<text class="name" x="88" y="160">node 0</text>
+<g transform="translate(110 160)"><title>turn 0: node 0, entry 0: none</title><circle r="4" class="rest"/><text x="-3" y="14" class="entry">0</text></g>
+<g transform="translate(136 160)"><title>turn 1: node 0, entry 1: check</title><circle r="4" class="done"/><text x="-3" y="14" class="entry">1</text><text class="deed">check</text></g>
+<g transform="translate(162 160)"><title>turn 2: node 0, entry 2: merge</title><circle r="4" class="done"/><text x="-3" y="14" class="entry">2</text><text class="deed">merge</text></g>
+<g transform="translate(188 160)"><title>turn 3: node 0, entry 3: accept</title><circle r="4" class="done"/><text x="-3" y="14" class="entry">3</text><text class="deed">accept</text></g>
+<g transform="translate(214 160)"><title>turn 4: node 0, entry 4: ready</title><circle r="4" class="done"/><text x="-3" y="14" class="entry">4</text><text class="deed">ready</text></g>
+<g transform="translate(240 160)"><title>turn 5: node 0, entry 5: coord</title><circle r="4" class="done"/><text x="-3" y="14" class="entry">5</text><text class="deed">coord</text></g>
+<g transform="translate(266 160)"><title>turn 6: node 0, entry 6: dispatch</title><circle r="4" class="done"/><text x="-3" y="14" class="entry">6</text><text class="deed">dispatch</text></g>
+<g transform="translate(292 160)"><title>turn 7: node 0, entry 7: submit</title><circle r="4" class="done"/><text x="-3" y="14" class="entry">7</text><text class="deed">submit</text></g>
+<g transform="translate(318 160)"><title>turn 8: node 0, entry 8: finish</title><circle r="4" class="done"/><text x="-3" y="14" class="entry">8</text><text class="deed">finish</text></g>
+<g transform="translate(344 160)"><title>turn 9: node 0, entry 9: submit</title><circle r="4" class="fail"/><text x="-3" y="14" class="entry">9</text><text class="deed">submit</text></g>
+<g transform="translate(370 160)"><title>turn 10: node 0, entry 10: recover</title><circle r="4" class="fail"/><text x="-3" y="14" class="entry">10</text><text class="deed">recover</text></g>
+<g transform="translate(396 160)"><title>turn 11: node 0, entry 11: recover</title><circle r="4" class="fail"/><text x="-3" y="14" class="entry">11</text><text class="deed">recover</text></g>
+<g transform="translate(422 160)"><title>turn 12: node 0, entry 12: crash</title><circle r="4" class="fail"/><path class="crash" d="M-8 -8L8 8M-8 8L8 -8"/><text x="-3" y="14" class="entry">12</text><text class="deed">crash</text></g>
+<g transform="translate(448 160)"><title>turn 13: node 0, entry 13: recover</title><circle r="4" class="rise"/><text x="-3" y="14" class="entry">13</text><text class="deed">recover</text></g>
 </svg>
 """,
     ),
-    # of two questions that are the same, the answer's arrow comes from the later one
+    # of two questions that are the same, the arrow comes from the later one, perhaps; the earlier one came to none, and so did the answer
     (
         "the last sender",
         r'{"nodes":2,"histories":[[{"do":"check","sent":["010100010000"]},{"do":"check","sent":["010100010000"]}],[{"do":"deliver","msg":"010100010000","sent":["01020100000101"]}]]}',
-        r'<svg xmlns="http://www.w3.org/2000/svg" width="208" height="220',
-        r"""<path class="life" d="M70 80H188"/><g transform="translate(40 80)"><text y="4">node 0</text><text class="group" y="19">0:1</text></g>
-<path class="life" d="M70 150H188"/><g transform="translate(40 150)"><text y="4">node 1</text><text class="group" y="19">1:1</text></g>
-<path class="message" d="M136 80L162 150"/>
-<g transform="translate(110 80)"><circle r="4" class="done"/><text class="deed">check</text></g>
-<g transform="translate(136 80)"><circle r="4" class="done"/><text class="deed">check</text></g>
-<g transform="translate(162 150)"><circle r="4" class="done"/></g>
+        336,
+        r"""<svg x="97" y="140" width="78" height="61"><title>node 0, from turn 0 until turn 3: Normal in group 0:1, coordinator 0, members 0</title><rect width="100%" height="100%" class="g1"/><line x2="100%" y1="20" y2="20" class="normal"/><text x="3" y="46" class="group">0:1</text><text x="3" y="57">0 of 0</text></svg>
+<svg x="97" y="250" width="78" height="61"><title>node 1, from turn 0 until turn 3: Normal in group 1:1, coordinator 1, members 1</title><rect width="100%" height="100%" class="g4"/><line x2="100%" y1="20" y2="20" class="normal"/><text x="3" y="46" class="group">1:1</text><text x="3" y="57">1 of 1</text></svg>
+<text class="name" x="88" y="160">node 0</text>
+<text class="name" x="88" y="270">node 1</text>
+<path class="unsure" d="M136 160L162 270"><title>0 to 1: AreYouCoordinator, perhaps from another turn</title></path>
+<g transform="translate(110 160)"><title>turn 0: node 0, entry 0: check</title><circle r="4" class="done"/><text x="-3" y="14" class="entry">0</text><text class="deed">check</text><g class="untaken"><title>no turn was brought what it sent to 1</title><path d="M2 3L8 13M4 13L12 13M8 9L8 17"/></g></g>
+<g transform="translate(136 160)"><title>turn 1: node 0, entry 1: check</title><circle r="4" class="done"/><text x="-3" y="14" class="entry">1</text><text class="deed">check</text></g>
+<g transform="translate(162 270)"><title>turn 2: node 1, entry 0: deliver</title><circle r="4" class="done"/><text x="-3" y="14" class="entry">0</text><text class="deed kind">AreYouCoordinator</text><g class="untaken"><title>no turn was brought what it sent to 0</title><path d="M2 3L8 13M4 13L12 13M8 9L8 17"/></g></g>
 </svg>
 """,
     ),
 ]
 
-# Schedules, the trace that `record` writes of each (with no spaces, and the keys of each object in order), and the verdict on it.
+# No run: nothing is taken, and what is left stands behind the names.
+LEFT = r"""<text class="name" x="88" y="160">node 0</text>
+<text class="name" x="88" y="270">node 1</text>
+<g class="left" transform="translate(110 270)"><title>
+node 1: entry 0 waits for 010100010000</title><circle r="5"/><text x="10" y="4">
+node 1: entry 0 waits for 010100010000</text></g>
+</svg>
+"""
+WAITS = b"invite: no order takes all entries: each that is left waits for a message that none sent\nnode 1: entry 0 waits for 010100010000\n"
+
+# Schedules, the trace that `record` writes of each (with no spaces, and the keys of each object in order) with the order of its turns, and the verdict on it.
 RECORDED = [
     (
         "a question and its answer",
         "cluster 2 8\ncheck 0\ndeliver 0\ndeliver 1\n",
-        r'{"histories":[[{"do":"check","sent":["010100010000"]},{"do":"deliver","msg":"01020100000101","sent":[]}],[{"do":"deliver","msg":"010100010000","sent":["01020100000101"]}]],"nodes":2}',
+        r'{"histories":[[{"do":"check","sent":["010100010000"]},{"do":"deliver","msg":"01020100000101","sent":[]}],[{"do":"deliver","msg":"010100010000","sent":["01020100000101"]}]],"nodes":2,"order":"0 - 1 0 0 1"}',
         "Run 0 1 0\n",
     ),
     (
         "priorities",
         "cluster 1 4\nsubmit 0 0 - 1\nsubmit 0 3 00 255\n",
-        r'{"histories":[[{"do":"submit","payload":"","priority":1,"queue":0,"sent":[]},{"do":"submit","payload":"00","priority":255,"queue":3,"sent":[]}]],"nodes":1}',
+        r'{"histories":[[{"do":"submit","payload":"","priority":1,"queue":0,"sent":[]},{"do":"submit","payload":"00","priority":255,"queue":3,"sent":[]}]],"nodes":1,"order":"0 - 0 -"}',
         "Run 0 0\n",
     ),
     # the last of the four calls of an append fails, and then a mounting at its first call; one of a journal with one record makes eleven calls and finds the
@@ -286,9 +310,49 @@ RECORDED = [
         "cluster 1 4\nfinish 0 3 18446744073709551615\narm 0 3\nsubmit 0 15 6869\nrecover 0\narm 0 11\nrecover 0\ncrash 0\nrecover 0\ndispatch 0\narm 0 3\nfinish 0 0 0\narm 0 1000\nrecover 0\n",
         r'{"histories":[[{"do":"none","sent":[]},{"do":"none","sent":[]},{"do":"submit","fault":"device","payload":"6869","queue":15,"sent":[]},{"do":"recover","fault":"mount","kept":false,"sent":[]},'
         r'{"do":"none","sent":[]},{"do":"recover","fault":"raise","kept":true,"sent":[]},{"do":"crash","sent":[]},{"do":"recover","kept":false,"sent":[]},{"do":"dispatch","sent":[]},'
-        r'{"do":"none","sent":[]},{"do":"finish","fault":"device","id":0,"origin":0,"sent":[]},{"do":"none","sent":[]},{"do":"recover","kept":true,"sent":[]}]],"nodes":1}',
+        r'{"do":"none","sent":[]},{"do":"finish","fault":"device","id":0,"origin":0,"sent":[]},{"do":"none","sent":[]},{"do":"recover","kept":true,"sent":[]}]],"nodes":1,"order":"0 -' + " 0 -" * 12 + '"}',
         "Run" + " 0" * 13 + "\n",
     ),
+]
+
+CRASHED = r'{"do":"crash","sent":["010100010000"]}'
+ASKED_ALONE = r'{"do":"check","sent":["010100010000"]},{"do":"deliver","msg":"01020100000101","sent":[]}'
+
+# Traces of runs that may go on: what is printed, the status, and what is said of the entries that are left.
+ONGOING = [
+    ("all entries can be taken", ASKED, "Run 0 1 0\n", 0, ""),
+    ("nothing yet", r'{"nodes":2,"histories":[[],[]]}', "Run\n", 0, ""),
+    # the record of the node that answered, or of the one that asked, comes later
+    (
+        "an answer that none sent yet",
+        r'{"nodes":2,"histories":[[' + ASKED_ALONE + "],[]]}",
+        "Ongoing 0\n",
+        0,
+        "each that is left waits for a message that none sent\nnode 0: entry 1 waits for 01020100000101",
+    ),
+    (
+        "a question that none sent yet",
+        NOBODY_ASKED,
+        "Ongoing\n",
+        0,
+        "each that is left waits for a message that none sent\nnode 1: entry 0 waits for 010100010000",
+    ),
+    # whatever others send, a crash sends nothing; a node that merely waits isn't named
+    (
+        "a crash that sent something",
+        r'{"nodes":2,"histories":[[' + CRASHED + "],[]]}",
+        "NotARun 0 0\n",
+        1,
+        "look first at node 0, entry 0\nnode 0: entry 0 (crash) can't be: it would send nothing",
+    ),
+    (
+        "one waits, and one can't be",
+        r'{"nodes":2,"histories":[[' + ASKED_ALONE + "],[" + CRASHED + "]]}",
+        "NotARun 1 0\n",
+        1,
+        "look first at node 1, entry 0\nnode 0: entry 1 waits for 01020100000101\nnode 1: entry 0 (crash) can't be: it would send nothing",
+    ),
+    ("no trace", r'{"nodes":1,"histories":[[{"do":"none","sent":[]},{"do":"none"}]]}', "bad trace 0 1\n", 1, ""),
 ]
 
 # Plans, each trace that a run of them in threads can have, and the verdict on it.
@@ -414,7 +478,7 @@ def judged(name, trace, verdict):
     """The verdict on a trace; `draw` prints it too where it is no run."""
     fed = trace if isinstance(trace, bytes) else trace.encode()
     status = 0 if verdict.startswith("Run") else 1
-    commands = ["trace"] if status == 0 else ["trace", "draw"]
+    commands = ["trace", "draw"] if verdict.startswith("bad") else ["trace"]
     return [Row(name, command, fed, status, (verdict.encode(),)) for command in commands]
 
 
@@ -429,11 +493,15 @@ def all_rows():
         yield from judged(entries[:200], of_one_node(entries), verdict)
     for entry in BAD:
         yield from judged(entry[:200], of_one_node(entry), "bad trace 0 0\n")
-    for name, trace, size, lines in PICTURES:
-        yield Row(name, "draw", trace.encode(), 0, ((size + STYLE + lines).encode(),))
+    for name, trace, height, lines in PICTURES:
+        yield Row(name, "draw", trace.encode(), 0, (pictured(height, lines).encode(),))
+    yield Row("nobody asked", "draw", NOBODY_ASKED.encode(), 1, (pictured(336, LEFT, left=True).encode(),), WAITS)
     for name, schedule, trace, verdict in RECORDED:
         yield Row(name, "record", schedule.encode(), 0, (f"{trace}\n".encode(),))
         yield from judged(name, trace, verdict)
+    for name, trace, printed, status, said in ONGOING:
+        reason = f"invite: no order takes all entries: {said}\n".encode() if said else b""
+        yield Row(name, "trace --ongoing", trace.encode(), status, (printed.encode(),), reason)
     for name, plans, traces in PLANS:
         yield Row(name, "threads", plans.encode(), 0, tuple(f"{trace}\n".encode() for trace, _ in traces))
         for trace, verdict in traces:
@@ -454,7 +522,7 @@ REASONS = re.compile(
 def problem_of(program, row):
     """What is wrong with what the program makes of a row; an empty text if nothing is."""
     try:
-        ended = subprocess.run([program, row.command], input=row.fed, capture_output=True, timeout=600)
+        ended = subprocess.run([program, *row.command.split()], input=row.fed, capture_output=True, timeout=600)
     except subprocess.TimeoutExpired:
         return "no end within a minute"
     if ended.returncode != row.status:

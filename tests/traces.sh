@@ -117,7 +117,7 @@ for _ in {1..300}; do
 done
 mark "$problem" 'a slot that was emptied'
 
-# The picture in docs/ is the one that is drawn of its schedule; each picture of a schedule is well-formed, with a dot for each entry.
+# The picture in docs/ is the one that is drawn of its schedule; each picture of a schedule is well-formed, with a dot for each entry beside those of its legend.
 problem=''
 "$program" draw <"$room/record-partition_heals.json" | cmp -s - docs/partition_heals.svg || problem='docs/partition_heals.svg is another picture'
 mark "$problem" 'the picture in docs'
@@ -126,7 +126,7 @@ if command -v python3 >/dev/null; then
         name=$(basename "$schedule" .txt)
         problem=''
         "$program" draw <"$room/record-$name.json" >"$room/picture" || problem='it is not drawn'
-        dots=$(python3 -c 'import sys, xml.etree.ElementTree as tree; print(sum(e.tag.endswith("circle") for e in tree.parse(sys.argv[1]).iter()))' "$room/picture")
+        dots=$(python3 -c 'import sys, xml.etree.ElementTree as tree; print(sum(e.tag.endswith("circle") and e.get("cx") is None for e in tree.parse(sys.argv[1]).iter()))' "$room/picture")
         [ "$dots" = "$(grep -o '"do":' "$room/record-$name.json" | wc -l)" ] || problem="$dots dots"
         mark "$problem" "picture of $name"
     done

@@ -120,18 +120,16 @@ def one_trace(fuzz):
 
 
 def one_picture(fuzz):
-    """The picture of a run; of no run what `trace` prints."""
+    """The picture of what can be taken; of what is no trace what `trace` prints."""
     fed = trace_of(fuzz)
     try:
         nodes, histories = traces.read(fed)
     except traces.Bad as bad:
         return ["draw"], fed, (1, f"{bad}\n".encode())
     search = pictures.Watched(nodes, histories)
-    status, text = search.verdict()
-    if status:
-        return ["draw"], fed, (status, text.encode())
+    wanted, _ = search.verdict()
     fuzz.tried.count("pictures")
-    return ["draw"], fed, lambda status, out: f"status {status}" if status != 0 else pictures.problem_in_picture(out, nodes, search.turns)
+    return ["draw"], fed, lambda status, out: f"status {status}" if status != wanted else pictures.problem_in_picture(out, nodes, search)
 
 
 class Stores:

@@ -35,13 +35,13 @@ def judged(tried, data, note):
 
 
 def drawn(tried, data, status, text, search, note):
-    """Where there is no run, `draw` prints what `trace` does; else the picture of the run."""
-    if status:
+    """Of what is no trace `draw` prints what `trace` does; else the picture of what can be taken, with the status of `trace`."""
+    if search is None:
         tried.expect(["draw"], data, status, text.encode(), ("draw", note))
         return
     got, out, trouble = tried.run(["draw"], data)
     if not trouble:
-        trouble = f"status {got}" if got else problem_in_picture(out, len(search.nodes), search.turns)
+        trouble = f"status {got}" if got != status else problem_in_picture(out, len(search.nodes), search)
     tried.mark(trouble, ("draw", note, data[:300]))
 
 

@@ -1,10 +1,14 @@
 -- What the words of a command line ask for.
-use Rattle.std.specs.Prelude.{ℕ, List, ◌==◌, nat_le, nat_lt, Bool, false, bytes_eq, codes, if◌then◌else◌, option_map, Option, Some, None, string_bytes}
+use Rattle.std.specs.Prelude.{ℕ, List, ◌==◌, nat_le, nat_lt, Bool, true, false, bytes_eq, codes, if◌then◌else◌, option_map, Option, Some, None, string_bytes}
 use Rattle.file_disk.specs.declared.stride.Stride.{Stride}
 use Rattle.file_disk.specs.declared.stride.Stride.TheVariants.{Packed, Spaced}
 use Rattle.group_task.specs.declared.node.TheConstants.{NODES}
 use Rattle.node_console.specs.declared.making.TheConstants.{LEAST_SLOTS, MOST_SLOTS}
 use Rattle.line_words.specs.Words.{number_of}
+use Rattle.trace_console.specs.declared.judging.Stage.{Stage}
+use Rattle.trace_console.specs.declared.judging.Stage.TheVariants.{Over, Ongoing}
+use Rattle.trace_draw.specs.declared.drawing.Form.{Form}
+use Rattle.trace_draw.specs.declared.drawing.Form.TheVariants as form
 use Rattle.command_line.specs.declared.task.TheConstants.{MOST_ROUND_TRIP, ROUND_TRIP}
 use Rattle.command_line.specs.declared.task.Place.{Place}
 use Rattle.command_line.specs.declared.task.Making.{Making}
@@ -33,10 +37,10 @@ pub data Asked : Type 0 where
   shows : Asked
   simulates : Bool → Bool → Asked
   stores : List ℕ → Asked
-  traces : Asked
+  traces : Bool → Asked
   records : Asked
   runs_threads : Asked
-  draws : Asked
+  draws : Bool → Asked
   makes : List ℕ → Made → Option (List ℕ) → Asked
   serves : List ℕ → ℕ × ℕ → ℕ → Option Sealed → Asked
   inspects : List ℕ → Asked
@@ -51,15 +55,25 @@ made making = record { place = placed making.place; slots = making.slots; first 
 abbrev pub sealed : Sealing → Sealed
 sealed sealing = record { key = string_bytes sealing.key; cluster = string_bytes sealing.cluster }
 
+-- whether the run that is judged may go on
+abbrev pub is_ongoing : Stage → Bool
+is_ongoing Over = false
+is_ongoing Ongoing = true
+
+-- whether a page is drawn, and no picture
+abbrev pub is_page : Form → Bool
+is_page form.Picture = false
+is_page form.Page = true
+
 abbrev pub asked_batch : Batch → Asked
 asked_batch (Answer place) = answers (placed place)
 asked_batch Show = shows
 asked_batch (Sim details) = simulates details.names details.nodes
 asked_batch (Store path) = stores (string_bytes path)
-asked_batch Trace = traces
+asked_batch (Trace stage) = traces (is_ongoing stage)
 asked_batch Record = records
 asked_batch Threads = runs_threads
-asked_batch Draw = draws
+asked_batch (Draw form) = draws (is_page form)
 
 abbrev pub asked : Task → Asked
 asked (task.Batch batch) = asked_batch batch
@@ -156,10 +170,10 @@ asked_by name arguments =
     if bytes_eq name (codes "show") then Some shows else
     if bytes_eq name (codes "sim") then Some (simulates (is_set (arguments (codes "names"))) (is_set (arguments (codes "nodes")))) else
     if bytes_eq name (codes "store") then option_map stores (arguments (codes "PATH")) else
-    if bytes_eq name (codes "trace") then Some traces else
+    if bytes_eq name (codes "trace") then Some (traces (is_set (arguments (codes "ongoing")))) else
     if bytes_eq name (codes "record") then Some records else
     if bytes_eq name (codes "threads") then Some runs_threads else
-    if bytes_eq name (codes "draw") then Some draws else
+    if bytes_eq name (codes "draw") then Some (draws (is_set (arguments (codes "html")))) else
     if bytes_eq name (codes "format") then format_of arguments else
     if bytes_eq name (codes "node") then node_of arguments else
     if bytes_eq name (codes "inspect") then option_map inspects (arguments (codes "FILE")) else

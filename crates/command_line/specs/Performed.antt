@@ -1,5 +1,5 @@
 -- What a command that reads its whole input prints, and what is wrong with its input.
-use Rattle.std.specs.Prelude.{◌≡◌, ℕ, List, [], Option}
+use Rattle.std.specs.Prelude.{ℕ, List, Option}
 use Rattle.console_text.specs.Ends.{IsFixed, IsWhy, Outcome}
 use Rattle.console_text.specs.declared.ends.Ending.{Ending}
 use Rattle.invite_console.specs.Answer.{answer_text}
@@ -8,7 +8,7 @@ use Rattle.invite_console.specs.Sim.{IsSimOutcome}
 use Rattle.invite_console.specs.Reasons.{answer_flaw, schedule_flaw, show_flaw}
 use Rattle.store_console.specs.Session.{IsSession}
 use Rattle.store_console.specs.Reasons.{session_flaw}
-use Rattle.trace_console.specs.Judged.{IsJudged}
+use Rattle.trace_console.specs.Ongoing.{IsJudgedAt}
 use Rattle.trace_console.specs.Reported.{IsTold}
 use Rattle.invite_console.specs.Recording.{IsRecording}
 use Rattle.threads_console.specs.Printed.{IsThreading}
@@ -23,10 +23,10 @@ IsOutcomeOf (Answer place) = IsFixed (answer_text place.id place.nodes)
 IsOutcomeOf Show = IsFixed show_text
 IsOutcomeOf (Sim details) = IsSimOutcome details
 IsOutcomeOf (Store path) = IsSession
-IsOutcomeOf Trace = IsJudged
+IsOutcomeOf (Trace stage) = IsJudgedAt stage
 IsOutcomeOf Record = IsRecording
 IsOutcomeOf Threads = IsThreading
-IsOutcomeOf Draw = IsDrawn
+IsOutcomeOf (Draw form) = IsDrawn form
 
 -- this is what is wrong with the input, or why its entries are no run; what is wrong with a text that is no trace is printed, and not said again
 abbrev pub IsWhyOf : Batch → Option (List ℕ) → Ending → List ℕ → Type 0
@@ -34,7 +34,7 @@ IsWhyOf (Answer place) = IsWhy (answer_flaw place.id place.nodes)
 IsWhyOf Show = IsWhy show_flaw
 IsWhyOf (Sim details) = IsWhy schedule_flaw
 IsWhyOf (Store path) = IsWhy session_flaw
-IsWhyOf Trace = IsTold
+IsWhyOf (Trace stage) = IsTold
 IsWhyOf Record = IsWhy schedule_flaw
 IsWhyOf Threads = IsWhy plans_flaw
-IsWhyOf Draw = λ input ending why. why ≡ []
+IsWhyOf (Draw form) = IsTold

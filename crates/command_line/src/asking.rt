@@ -1,7 +1,7 @@
 // From the words of the command line to what they ask for.
 ghost use Rattle.std.specs.Prelude.{◌≡◌, IfOk, bytes_eq, codes, option_map, string_bytes};
 ghost use Rattle.clap.specs.Words.{first_value, found_of};
-ghost use Rattle.command_line.specs.Asked.{answers, asked, asked_by, exports, format_of, inspects, is_set, made, making_of, node_of, placed, place_of, round_trip_of, sealed, sealed_by, stores, stride_of};
+ghost use Rattle.command_line.specs.Asked.{answers, asked, asked_by, exports, format_of, inspects, is_ongoing, is_page, is_set, made, making_of, node_of, placed, place_of, round_trip_of, sealed, sealed_by, stores, stride_of};
 
 use crate::task::{Batch, MOST_ROUND_TRIP, Making, Place, ROUND_TRIP, Sealing, Task};
 use clap::ArgMatches;
@@ -11,13 +11,15 @@ use invite_console::Details;
 use line_words::number;
 use node_console::{LEAST_SLOTS, MOST_SLOTS};
 use std::alloc::{AllocError, Global};
+use trace_console::Stage;
+use trace_draw::Form;
 
 /// What the command of this name asks for, with these arguments. None where a number is out of its range.
 pub fn task(alloc: Global, name: &str, words: &ArgMatches<'_>) -> Result<Option<Task>, AllocError>
     // Promise: The command that is run is the one that was named, with its arguments as numbers, and the exit status is that of its
     // ending.
     // Also: perform.
-    // Refuses: one_command_for_another, sim_shows, every_status_zero.
+    // Refuses: one_command_for_another, sim_shows, every_status_zero, picture_for_a_page.
     ensures { IfOk result (λ task. option_map asked task ≡ asked_by name.now (λ id. first_value (found_of words.now) id)) }
 {
     if is(name, "answer") {
@@ -29,13 +31,13 @@ pub fn task(alloc: Global, name: &str, words: &ArgMatches<'_>) -> Result<Option<
     } else if is(name, "store") {
         store(alloc, words)
     } else if is(name, "trace") {
-        Ok(Some(Task::Batch(Batch::Trace)))
+        Ok(Some(Task::Batch(Batch::Trace(stage(words)))))
     } else if is(name, "record") {
         Ok(Some(Task::Batch(Batch::Record)))
     } else if is(name, "threads") {
         Ok(Some(Task::Batch(Batch::Threads)))
     } else if is(name, "draw") {
-        Ok(Some(Task::Batch(Batch::Draw)))
+        Ok(Some(Task::Batch(Batch::Draw(form(words)))))
     } else if is(name, "format") {
         format(alloc, words)
     } else if is(name, "node") {
@@ -62,6 +64,28 @@ fn sim_details(words: &ArgMatches<'_>) -> Details
     Details {
         names: is_set(words, "names"),
         nodes: is_set(words, "nodes"),
+    }
+}
+
+/// Whether the run that is judged is over.
+fn stage(words: &ArgMatches<'_>) -> Stage
+    ensures { is_ongoing result ≡ is_set (first_value (found_of words.now) (codes "ongoing")) }
+{
+    if is_set(words, "ongoing") {
+        Stage::Ongoing
+    } else {
+        Stage::Over
+    }
+}
+
+/// As what a run is to be drawn.
+fn form(words: &ArgMatches<'_>) -> Form
+    ensures { is_page result ≡ is_set (first_value (found_of words.now) (codes "html")) }
+{
+    if is_set(words, "html") {
+        Form::Page
+    } else {
+        Form::Picture
     }
 }
 

@@ -121,6 +121,18 @@ const TABLES: Argument = Argument {
     help: "Prints the nodes in front of each act, too",
 };
 
+const ONGOING: Argument = Argument {
+    name: "ongoing",
+    form: Form::Flag,
+    help: "The run may go on: prints Ongoing and the nodes of the entries that can be taken, where all others wait",
+};
+
+const HTML: Argument = Argument {
+    name: "html",
+    form: Form::Flag,
+    help: "Prints a page of HTML that scrolls and zooms, for long runs, in place of an SVG",
+};
+
 /// The commands in the order of the help.
 const COMMANDS: [Described; 12] = [
     Described {
@@ -175,12 +187,12 @@ const COMMANDS: [Described; 12] = [
         name: "trace",
         about: "Reads a trace, and prints an order in which its entries can have come, or where none goes on",
         more: "A trace is the nodes' histories as JSON (docs/SIMULATION.md).\n\nExample: echo '{\"nodes\":1,\"histories\":[[{\"do\":\"check\",\"sent\":[]}]]}' | invite trace",
-        arguments: &[],
+        arguments: &[ONGOING],
     },
     Described {
         name: "record",
         about: "Reads a schedule, runs it on a simulated cluster, and prints its trace",
-        more: "The trace is what trace reads: the nodes' histories as JSON, in one line (docs/SIMULATION.md).\n\nExample: invite record < schedules/partition_heals.txt",
+        more: "The trace is what trace reads: the nodes' histories as JSON, in one line, with the order in which their entries came (docs/SIMULATION.md).\n\nExample: invite record < schedules/partition_heals.txt",
         arguments: &[],
     },
     Described {
@@ -191,9 +203,9 @@ const COMMANDS: [Described; 12] = [
     },
     Described {
         name: "draw",
-        about: "Reads a trace, and prints a picture of its run",
-        more: "The picture is an SVG: a line for each node, a dot for each entry, an arrow for each message that came (docs/SIMULATION.md).\n\nExample: echo '{\"nodes\":1,\"histories\":[[{\"do\":\"check\",\"sent\":[]}]]}' | invite draw",
-        arguments: &[],
+        about: "Reads a trace, and prints a picture of the run that was recorded",
+        more: "The picture is an SVG: a row for each node, a mark for each entry, an arrow for each message that came, in the order that stands beside the trace, if one does (docs/SIMULATION.md).\n\nExample: echo '{\"nodes\":1,\"histories\":[[{\"do\":\"check\",\"sent\":[]}]]}' | invite draw",
+        arguments: &[HTML],
     },
 ];
 

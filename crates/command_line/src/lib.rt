@@ -94,7 +94,8 @@ fn words(rt: &HostRuntime) -> io::Result<Option<Vec<String>>> {
     }
 }
 
-/// Runs a command over standard input and output, and answers the exit status. Where it didn't end well, says why on standard error.
+/// Runs a command over standard input and output, and answers the exit status. Where there is something to be said of how it ended, it is
+/// said on standard error.
 fn carry_out<T: Threads + Wait + Sync>(rt: &HostRuntime, threads: &T, batch: &Batch) -> u8 {
     let mut input = Source::new(rt.stdin());
     let mut output = Sink::new(rt.stdout());

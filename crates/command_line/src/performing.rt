@@ -56,12 +56,9 @@ fn carry_out<T: Threads + Wait + Sync, R: Read, W: Write>(
         Batch::Show => invite_console::show(alloc, input, output),
         Batch::Sim(details) => invite_console::sim(alloc, *details, input, output),
         Batch::Store(path) => store_console::store(rt, alloc, path.as_str(), input, output),
-        Batch::Trace => trace_console::trace(alloc, input, output),
+        Batch::Trace(stage) => trace_console::trace(alloc, *stage, input, output),
         Batch::Record => invite_console::record(alloc, input, output),
         Batch::Threads => threads_console::threads(threads, alloc, input, output),
-        Batch::Draw => Ended {
-            ending: trace_draw::draw(alloc, input, output),
-            why: Vec::new(alloc),
-        },
+        Batch::Draw(form) => trace_draw::draw(alloc, *form, input, output),
     }
 }

@@ -1,10 +1,10 @@
-// What standard error says where a command didn't end well.
+// What standard error says of how a command ended.
 use crate::performing::Performed;
 use console_text::{Ended, Ending, MAX_READS};
 use std::io;
 use std::io::Write;
 
-/// Why a command didn't end well. What was wrong with an input the command wrote itself: a line, and more of them where entries are no run.
+/// Why a command didn't end well. What was wrong with an input the command wrote itself: a line, and more of them where entries are left.
 #[derive(Drop)]
 pub enum Reason {
     Input(Vec<u8>),
@@ -14,7 +14,8 @@ pub enum Reason {
     Unwritten(Option<io::Error>),
 }
 
-/// Why the command didn't end well, where it didn't. What is wrong with a text that is no trace is printed, and isn't said again.
+/// Why the command didn't end well, where it didn't, or which entries of a run that goes on wait. What is wrong with a text that is no trace is
+/// printed, and isn't said again.
 pub fn reason_of(
     performed: Performed,
     unread: Option<io::Error>,
@@ -23,9 +24,13 @@ pub fn reason_of(
     let Performed { ended, .. } = performed;
     let Ended { ending, why } = ended;
     match ending {
-        Ending::Done => None,
-        Ending::Refused if why.is_empty() => None,
-        Ending::Refused => Some(Reason::Input(why)),
+        Ending::Done | Ending::Refused => {
+            if why.is_empty() {
+                None
+            } else {
+                Some(Reason::Input(why))
+            }
+        }
         Ending::NoMemory => Some(Reason::NoMemory),
         Ending::Unread => Some(Reason::Unread(unread)),
         Ending::Unwritten => Some(Reason::Unwritten(unwritten)),

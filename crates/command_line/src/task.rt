@@ -6,6 +6,8 @@ ghost use Rattle.node_console.specs.declared.making.TheConstants.{LEAST_SLOTS, M
 use file_disk::Stride;
 use group_task::NodeId;
 use invite_console::Details;
+use trace_console::Stage;
+use trace_draw::Form;
 
 /// What a round trip between nodes takes where nothing else is said, and at most, in milliseconds of the clock that ticks tell.
 pub const ROUND_TRIP: u16 = 20;
@@ -36,10 +38,11 @@ pub enum Batch {
     Sim(Details),
     /// Over the file of this path.
     Store(String),
-    Trace,
+    /// Of a run that is over, or of one that may go on.
+    Trace(Stage),
     Record,
     Threads,
-    Draw,
+    Draw(Form),
 }
 
 /// What a file is made for.

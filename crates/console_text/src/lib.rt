@@ -5,7 +5,9 @@ mod ends;
 mod input;
 mod pages;
 mod printing;
+mod progress;
 mod reasons;
+mod sink;
 mod source;
 mod words;
 
@@ -14,5 +16,6 @@ pub use input::read_source;
 pub use pages::{Unprinted, new_page, print_full, print_page, print_part};
 pub use printing::{bad_line, print, print_explained};
 pub use reasons::{line_reason, push_unknown};
-pub use source::{MAX_READS, Sink, Source};
+pub use sink::Sink;
+pub use source::{MAX_READS, Source};
 pub use words::{push_bytes_text, push_hex, push_number, push_text, push_work};

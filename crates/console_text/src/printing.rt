@@ -1,7 +1,9 @@
 ghost use Rattle.std.specs.Prelude.{◌≡◌, ◌++◌, IfOk, codes, decimal};
 ghost use Rattle.console_text.specs.Ends.{HandsOn, PrintsIt, PrintsExplained, outcome_of, refused};
+ghost use Rattle.console_text.specs.Output.{TellsProgress};
 
 use crate::ends::{Ended, Ending, Explained, Printout, Trouble};
+use crate::progress::{Progress, flush_to, write_to};
 use crate::words::{push_number, push_text};
 use std::alloc::{AllocError, Global};
 use std::io::Write;
@@ -13,16 +15,32 @@ pub fn print<W: Write>(output: &mut W, outcome: Result<Printout, Trouble>) -> En
     // Refuses: refusal_ends_well.
     ensures { PrintsIt outcome (W.contents output.old) (W.contents output.new) result }
 {
+    print_to(output, &mut Progress::new(), outcome)
+}
+
+/// The same, while the progress of its writes and flushes is kept.
+fn print_to<W: Write>(
+    output: &mut W,
+    progress: &mut Progress,
+    outcome: Result<Printout, Trouble>,
+) -> Ending
+    ensures prints { PrintsIt outcome (W.contents output.old) (W.contents output.new) result }
+    // Promise: A text is told as unwritten only where a write or a flush of the output failed, and as written only where none did
+    // and a flush came last.
+    // Also: print.
+    // Refuses: unwritten_though_written, never_flushed.
+    ensures told { TellsProgress progress.old progress.new result }
+{
     let (text, ending) = match &outcome {
         Ok(printout) if printout.good => (printout.text.as_slice(), Ending::Done),
         Ok(printout) => (printout.text.as_slice(), Ending::Refused),
         Err(Trouble::NoMemory) => (b"no memory\n".as_slice(), Ending::NoMemory),
         Err(Trouble::Unread) => return Ending::Unread,
     };
-    if output.write_all(text).is_err() || output.flush().is_err() {
-        return Ending::Unwritten;
+    if write_to(output, progress, text) && flush_to(output, progress) {
+        return ending;
     }
-    ending
+    Ending::Unwritten
 }
 
 /// Prints what a command came to, as `print` does, and hands on what was wrong with the input.

@@ -1,4 +1,4 @@
-//! The streams of a command, each of which keeps the error that it failed with.
+//! The input of a command, which keeps the error that it failed with.
 
 ghost use Rattle.std.specs.Prelude.{◌≡◌, ◌<◌, ◌≤◌, ◌+◌, IsOk, IsErr, IfErr, Some, None};
 ghost use Rattle.std.specs.Io.{ReadsAtMost};
@@ -6,7 +6,7 @@ ghost use Rattle.std.specs.Io.KnownBytes.{ReadConsumes};
 ghost use Rattle.console_text.specs.declared.source.TheConstants.{MAX_READS};
 
 use std::io;
-use std::io::{ErrorKind, Read, Write};
+use std::io::{ErrorKind, Read};
 use std::marker::Model;
 
 /// At most so many reads are made of an input. The read that finds its end is one of them.
@@ -80,47 +80,6 @@ impl<R: Read> Read for Source<R> {
         }
         self.left -= 1;
         let result = self.reader.read(buf);
-        if let Err(error) = &result {
-            self.fault = Some(*error);
-        }
-        result
-    }
-}
-
-/// An output that keeps the error of the last write that failed.
-#[derive(Drop)]
-pub struct Sink<W: Write> {
-    writer: W,
-    fault: Option<io::Error>,
-}
-
-impl<W: Write> Sink<W> {
-    pub fn new(writer: W) -> Sink<W> {
-        Sink {
-            writer,
-            fault: None,
-        }
-    }
-
-    /// The error of the last write that failed.
-    pub fn fault(&self) -> Option<io::Error> {
-        self.fault
-    }
-}
-
-impl<W: Write> Write for Sink<W> {
-    ghost contents = { λ a. W.contents a.writer };
-
-    fn write(&mut self, buf: &[u8]) -> io::Result<usize> {
-        let result = self.writer.write(buf);
-        if let Err(error) = &result {
-            self.fault = Some(*error);
-        }
-        result
-    }
-
-    fn flush(&mut self) -> io::Result<()> {
-        let result = self.writer.flush();
         if let Err(error) = &result {
             self.fault = Some(*error);
         }

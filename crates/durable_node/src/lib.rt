@@ -3,6 +3,13 @@
 //! [`DurableNode`] joins the state machine of a node with the store on its disk. Each call answers one entry of the node's history,
 //! as the crate `histories` defines it: the list of what came of a node's events, crashes and recoveries. The laws of all
 //! histories, which stand there, so hold of every node.
+//!
+//! ```
+//! let mut node = DurableNode::down(alloc, id, nodes, disk);
+//! let came = node.recover()?;                                     // mounts the disk; alone in a new group now, unless came.fault() says why not
+//! let came = node.step(&Event::Timer(Timer::Check))?;             // plans the event, writes and syncs its command, commits it
+//! send_all(&came.sent);                                           // only now are there messages
+//! ```
 #![tactic(auto)]
 
 mod advance;

@@ -8,3 +8,4 @@ mod Sims
 mod Outs
 mod Keeping
 mod Endings
+mod Recorded

@@ -3,8 +3,6 @@ use Rattle.std.specs.Prelude.{ℕ, ◌+◌, List, [], ◌∷◌, ◌++◌, codes
 use Rattle.hex.specs.Hex.{encode_lower}
 use Rattle.wire_msg.specs.Envelope.{Envelope}
 use Rattle.wire_msg.specs.Spelling.{spelling}
-use Rattle.node_core.specs.declared.fault.CoreFault.{CoreFault}
-use Rattle.node_core.specs.declared.fault.CoreFault.TheVariants as core
 use Rattle.node_core.specs.declared.fault.Refusal.{Refusal as NodeRefusal}
 use Rattle.node_core.specs.declared.fault.Refusal.TheVariants as node
 use Rattle.sim_net.specs.declared.fault.NetFault.{NetFault}
@@ -16,6 +14,7 @@ use Rattle.runs.specs.declared.outcome.Outcome.TheVariants.{Done, Refused, Fault
 use Rattle.runs.specs.declared.outcome.Refusal.{Refusal}
 use Rattle.runs.specs.declared.outcome.Refusal.TheVariants.{Node, Net, Stranger}
 use Rattle.runs.specs.Reporting.{Moment}
+use Rattle.node_words.specs.Words.{core_name, id_text}
 use Rattle.invite_console.specs.Show.{message_text as text_shown}
 
 -- a message with its number: its bytes in hex, or on a line of its own what it says
@@ -28,14 +27,6 @@ abbrev pub sent_text : Bool → ℕ → List Envelope → List ℕ
 sent_text names number [] = []
 sent_text names number (m ∷ ms) = message_text names number m ++ sent_text names (number + 1) ms
 
-abbrev pub core_name : CoreFault → List ℕ
-core_name core.Stranger = codes "Stranger"
-core_name core.Down = codes "Down"
-core_name (core.NotCoordinator id) = codes "NotCoordinator " ++ decimal id
-core_name core.NotNormal = codes "NotNormal"
-core_name core.UnknownJob = codes "UnknownJob"
-core_name core.NoMemory = codes "no memory"
-
 -- why a node refused: a reader sees no areas
 abbrev pub fault_name : NodeRefusal → List ℕ
 fault_name (node.Core fault) = core_name fault
@@ -47,16 +38,12 @@ abbrev pub net_name : NetFault → List ℕ
 net_name net.NoSuch = codes "NoSuch"
 net_name net.Lost = codes "Lost"
 net_name net.Cut = codes "Cut"
-net_name net.NoMemory = codes "no memory"
+net_name net.NoMemory = codes "NoMemory"
 
 abbrev pub refusal_name : Refusal → List ℕ
 refusal_name (Node fault) = fault_name fault
 refusal_name (Net fault) = net_name fault
 refusal_name Stranger = codes "Stranger"
-
-abbrev pub id_text : Option ℕ → List ℕ
-id_text None = []
-id_text (Some id) = codes " id " ++ decimal id
 
 -- the id of a submitted job, which no other act has
 abbrev pub answer_text : Act → Option ℕ → List ℕ

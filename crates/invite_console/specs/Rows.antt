@@ -6,18 +6,10 @@ use Rattle.std.specs.declared.cmp.Ordering.{Ordering}
 use Rattle.job_model.specs.declared.job.Job.{Job}
 use Rattle.job_model.specs.Durable.{Durable}
 use Rattle.node_core.specs.declared.in_hand.InHand.{InHand}
-use Rattle.node_core.specs.declared.phase.Phase.{Phase}
-use Rattle.node_core.specs.declared.phase.Phase.TheVariants.{Down, Election, Reorganization, Normal}
 use Rattle.node_core.specs.State.{State}
 use Rattle.node_core.specs.Words.{members_of}
 use Rattle.console_text.specs.Ends.{line}
-use Rattle.invite_console.specs.Show.{group_text, ids_text}
-
-abbrev pub phase_text : Phase → List ℕ
-phase_text Down = codes "Down"
-phase_text Election = codes "Election"
-phase_text Reorganization = codes "Reorganization"
-phase_text Normal = codes "Normal"
+use Rattle.node_words.specs.Words.{group_part, ids_text, phase_text}
 
 -- jobs in hand, as the nodes that keep them and their ids there
 abbrev pub held_by : InHand → ℕ × ℕ
@@ -51,9 +43,6 @@ job_ids jobs = map (λ (job : Job). job.id) jobs
 
 abbrev pub head_text : ℕ → State → List ℕ
 head_text id s = codes "node " ++ decimal id ++ codes " " ++ phase_text s.phase
-
-abbrev pub group_part : State → List ℕ
-group_part s = codes " coord " ++ decimal s.coordinator ++ codes " group " ++ group_text s.group
 
 abbrev pub sets_part : State → List ℕ
 sets_part s = codes " up " ++ ids_text s.up ++ codes " members " ++ ids_text (members_of s.task)

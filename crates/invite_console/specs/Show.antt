@@ -10,24 +10,8 @@ use Rattle.wire_msg.specs.declared.body.Body.TheVariants.{AreYouCoordinator, Coo
 use Rattle.wire_msg.specs.Contents.{messages_in, unfinished_in}
 use Rattle.console_text.specs.Ends.{Outcome, line, refused, before}
 use Rattle.console_text.specs.Words.{work_text}
+use Rattle.node_words.specs.Words.{group_text, ids_text, truth_text}
 use Rattle.invite_console.specs.Lines.{over_hex_lines}
-
-abbrev pub truth_text : Bool → List ℕ
-truth_text true = codes "yes"
-truth_text false = codes "no"
-
-abbrev pub group_text : Group → List ℕ
-group_text g = decimal g.creator ++ codes ":" ++ decimal g.count
-
--- numbers, each behind a comma
-abbrev pub more_ids_text : List ℕ → List ℕ
-more_ids_text [] = []
-more_ids_text (id ∷ ids) = codes "," ++ decimal id ++ more_ids_text ids
-
--- numbers joined by commas; a dash stands for none
-abbrev pub ids_text : List ℕ → List ℕ
-ids_text [] = codes "-"
-ids_text (id ∷ ids) = decimal id ++ more_ids_text ids
 
 abbrev pub task_text : Assignment → List ℕ
 task_text task = codes "Ready " ++ group_text task.group ++ codes " members " ++ ids_text task.members

@@ -1,14 +1,15 @@
 //! The words of the lines of a simulation, of which each act has one.
 
 ghost use Rattle.std.specs.Prelude.{◌≡◌, ◌++◌, ◌<◌, IfSome, OnOk, codes, decimal, length, slice_get, true};
-ghost use Rattle.invite_console.specs.Acts.{answer_text, core_name, fault_name, message_text, net_name, refusal_name};
+ghost use Rattle.invite_console.specs.Acts.{answer_text, fault_name, message_text, net_name, refusal_name};
 ghost use Rattle.invite_console.specs.Kept.{act_head, outcome_head};
 
 use crate::showing::push_shown;
 use cluster_sim::{Outcome, Refusal};
 use console_text::{push_hex, push_number, push_text};
 use message_list::MessageList;
-use node_core::{CoreFault, Refusal as NodeRefusal};
+use node_core::Refusal as NodeRefusal;
+use node_words::{push_core_fault, push_id};
 use schedule::Act;
 use sim_net::NetFault;
 use std::alloc::AllocError;
@@ -48,10 +49,7 @@ fn push_answer(text: &mut Vec<u8>, act: &Act, answer: Option<u64>) -> Result<(),
     ensures { OnOk result (text.new.items ≡ text.old.items ++ answer_text act.now answer) }
 {
     match (act, answer) {
-        (Act::Submit(_, _), Some(id)) => {
-            push_text(text, " id ")?;
-            push_number(text, id)
-        }
+        (Act::Submit(_, _), id) => push_id(text, id),
         _ => Ok(()),
     }
 }
@@ -76,30 +74,6 @@ fn push_fault(text: &mut Vec<u8>, why: NodeRefusal) -> Result<(), AllocError>
     }
 }
 
-fn push_core_fault(text: &mut Vec<u8>, fault: CoreFault) -> Result<(), AllocError>
-    ensures { OnOk result (text.new.items ≡ text.old.items ++ core_name fault) }
-{
-    match fault {
-        CoreFault::Stranger => push_text(text, "Stranger"),
-        CoreFault::Down => push_text(text, "Down"),
-        CoreFault::NotCoordinator(id) => push_named_number(
-            text,
-            "NotCoordinator ",
-            u64::from(id.number()),
-        ),
-        CoreFault::NotNormal => push_text(text, "NotNormal"),
-        CoreFault::UnknownJob => push_text(text, "UnknownJob"),
-        CoreFault::NoMemory => push_text(text, "no memory"),
-    }
-}
-
-fn push_named_number(text: &mut Vec<u8>, name: &str, number: u64) -> Result<(), AllocError>
-    ensures { OnOk result (text.new.items ≡ text.old.items ++ (name.now ++ decimal number)) }
-{
-    push_text(text, name)?;
-    push_number(text, number)
-}
-
 fn net_word(fault: NetFault) -> &'static str
     ensures { result.now ≡ net_name fault }
 {
@@ -107,7 +81,7 @@ fn net_word(fault: NetFault) -> &'static str
         NetFault::NoSuch => "NoSuch",
         NetFault::Lost => "Lost",
         NetFault::Cut => "Cut",
-        NetFault::NoMemory => "no memory",
+        NetFault::NoMemory => "NoMemory",
     }
 }
 

@@ -17,7 +17,6 @@ mod running;
 mod session;
 mod showing;
 mod simulating;
-mod words;
 
 pub use answers::{answer, needs_no_disk};
 pub use console_text::Ending;

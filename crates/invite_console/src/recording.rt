@@ -1,23 +1,27 @@
-//! The command `record`: a schedule in, the trace of its run out.
+//! The command `record`: a schedule in, the trace of its run out, with the order of its turns.
 ghost use Rattle.std.specs.Prelude.{◌≡◌, ◌≤◌, ◌+◌, IfOk};
 ghost use Rattle.console_text.specs.Ends.{outcome_of, IsWhy, Prints};
 ghost use Rattle.invite_console.specs.Reasons.{schedule_flaw};
-ghost use Rattle.invite_console.specs.Recording.{IsRecording};
+ghost use Rattle.invite_console.specs.Recording.{IsRecordText, IsRecording};
+ghost use Rattle.schedule.specs.Limits.{IsWithinLimits};
+ghost use Rattle.schedule.specs.Text.{plan};
 
 use crate::reasons::bad_schedule;
 use console_text::{
     Ended, Explained, Printout, Source, Trouble, print_explained, push_text, read_source,
 };
 use line_words::LineFault;
-use run_trace::trace_of;
-use schedule::read_schedule;
+use run_trace::record_of;
+use schedule::{Schedule, read_schedule};
 use std::alloc::{AllocError, Global};
 use std::io::{Read, Write};
-use trace_text::write;
+use trace_text::{WriteFault, write_ordered};
 
-/// Reads a schedule, runs it on a simulated cluster, and prints the trace of the run as one line of JSON.
+/// Reads a schedule, runs it on a simulated cluster, and prints the trace of the run with the order of its turns as one line of JSON.
 pub fn record<R: Read, W: Write>(alloc: Global, input: &mut Source<R>, output: &mut W) -> Ended
-    // Promise: What `record` writes is the text of such a trace, or the first bad line.
+    // Promise: What `record` writes is the text of such a trace with the order of the turns of that very run, in which all entries can be
+    // taken, or the first bad line.
+    // Refuses: record_without_order, order_of_the_checker_recorded.
     ensures prints { Prints IsRecording (R.remaining input.old.reader) (W.contents output.old) (W.contents output.new) result.ending }
     ensures why { IsWhy schedule_flaw (R.remaining input.old.reader) result.ending result.why.items }
     ensures reads { input.old.left ≤ input.new.left + 16777216 }
@@ -36,13 +40,25 @@ fn record_text(alloc: Global, input: &[u8]) -> Result<Explained, AllocError>
 {
     match read_schedule(alloc, input) {
         Ok(schedule) => {
-            let trace = trace_of(alloc, &schedule)?;
-            let mut text = write(alloc, &trace)?;
+            let mut text = recorded(alloc, &schedule)?;
             push_text(&mut text, "\n")?;
             let printout = Printout { text, good: true };
             Ok(printout.without_why(alloc))
         }
         Err(LineFault::BadLine(number)) => bad_schedule(alloc, input, number),
         Err(LineFault::NoMemory) => Err(AllocError),
+    }
+}
+
+/// The trace of a schedule's run with the order of its turns, as text.
+fn recorded(alloc: Global, schedule: &Schedule) -> Result<Vec<u8>, AllocError>
+    requires { IsWithinLimits schedule.now.size schedule.now.acts.items }
+    ensures { IfOk result (λ text. IsRecordText (plan schedule.now.size schedule.now.acts.items) text.items) }
+{
+    let run = record_of(alloc, schedule)?;
+    match write_ordered(alloc, &run.trace, &run.order) {
+        Ok(text) => Ok(text),
+        Err(WriteFault::NoMemory) => Err(AllocError),
+        Err(WriteFault::Unwritable) => unreachable!(),
     }
 }

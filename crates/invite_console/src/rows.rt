@@ -8,15 +8,15 @@ ghost use Rattle.durable_node.specs.Node.{Stands};
 ghost use Rattle.histories.specs.NodeState.{NodeState};
 ghost use Rattle.invite_console.specs.Sim.{AddsRow};
 ghost use Rattle.console_text.specs.Ends.{line};
-ghost use Rattle.invite_console.specs.Show.{ids_text};
-ghost use Rattle.invite_console.specs.Rows.{down_row, group_part, head_text, job_ids, jobs_part, pair_text, pairs_text, phase_text, sets_part, up_row, AreHeld, HasRow};
+ghost use Rattle.node_words.specs.Words.{ids_text};
+ghost use Rattle.invite_console.specs.Rows.{down_row, head_text, job_ids, jobs_part, pair_text, pairs_text, sets_part, up_row, AreHeld, HasRow};
 
-use crate::words::{push_group, push_ids};
 use console_text::{push_number, push_text};
 use durable_node::DurableNode;
 use group_task::{Members, NodeId};
 use job_model::{Job, JobTable};
 use node_core::{InHand, Phase, Vector};
+use node_words::{phase_word, push_group_part, push_ids};
 use sector_disk::MemDisk;
 use std::alloc::{AllocError, Global};
 
@@ -101,26 +101,6 @@ fn push_head(text: &mut Vec<u8>, id: NodeId, vector: &Vector) -> Result<(), Allo
     push_number(text, u64::from(id.number()))?;
     push_text(text, " ")?;
     push_text(text, phase_word(vector.standing.phase))
-}
-
-fn phase_word(phase: Phase) -> &'static str
-    ensures { result.now ≡ phase_text phase }
-{
-    match phase {
-        Phase::Down => "Down",
-        Phase::Election => "Election",
-        Phase::Reorganization => "Reorganization",
-        Phase::Normal => "Normal",
-    }
-}
-
-fn push_group_part(text: &mut Vec<u8>, vector: &Vector) -> Result<(), AllocError>
-    ensures { OnOk result (text.new.items ≡ text.old.items ++ group_part (state_of vector.now)) }
-{
-    push_text(text, " coord ")?;
-    push_number(text, u64::from(vector.standing.coordinator.number()))?;
-    push_text(text, " group ")?;
-    push_group(text, vector.standing.group)
 }
 
 fn push_sets(text: &mut Vec<u8>, vector: &Vector) -> Result<(), AllocError>

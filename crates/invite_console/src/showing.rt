@@ -1,19 +1,19 @@
 ghost use Rattle.std.specs.Prelude.{◌≡◌, ◌≤◌, ◌+◌, ◌++◌, [], IfOk, OnOk, codes};
 ghost use Rattle.console_text.specs.Ends.{line, outcome_of, IsFixed, IsWhy, Prints};
 ghost use Rattle.invite_console.specs.Reasons.{show_flaw};
-ghost use Rattle.invite_console.specs.Show.{body_text, group_text, message_text, rest_text, shown_of, show_text, task_text, truth_text, order_text};
-ghost use Rattle.console_text.specs.Words.{work_text};
+ghost use Rattle.invite_console.specs.Show.{body_text, message_text, rest_text, shown_of, show_text, task_text, order_text};
+ghost use Rattle.node_words.specs.Words.{group_text, truth_text};
 
 use crate::lines::hex_lines;
 use crate::reasons::{bad_hex, with_reason};
-use crate::words::{push_group, push_ids, push_truth};
 use console_text::{
     Ended, Explained, Printout, Source, Trouble, print_explained, push_number, push_text,
-    push_work, read_source,
+    read_source,
 };
 use group_task::{GroupNo, Task};
 use job_model::Work;
 use line_words::LineFault;
+use node_words::{push_group, push_ids, push_truth, push_work_of};
 use std::alloc::{AllocError, Global};
 use std::io::{Read, Write};
 use wire_msg::{Body, Message, decode_front};
@@ -23,7 +23,7 @@ use wire_msg::{Body, Message, decode_front};
 pub fn show<R: Read, W: Write>(alloc: Global, input: &mut Source<R>, output: &mut W) -> Ended
     // Promise: What `show` writes is the stated text of the bytes that were read: a line for each message, `rest N` behind the
     // last, `malformed` in place of what follows a bad frame; bad lines and memory as above.
-    // Refuses: show_without_its_input, wrong_word_shown, yes_for_no, short_rest_not_shown.
+    // Refuses: show_without_its_input, wrong_word_shown, node_words::yes_for_no, short_rest_not_shown.
     ensures prints { Prints (IsFixed show_text) (R.remaining input.old.reader) (W.contents output.old) (W.contents output.new) result.ending }
     ensures why { IsWhy show_flaw (R.remaining input.old.reader) result.ending result.why.items }
     ensures reads { input.old.left ≤ input.new.left + 16777216 }
@@ -161,16 +161,5 @@ fn push_order(text: &mut Vec<u8>, group: GroupNo, id: u64, work: &Work) -> Resul
     push_text(text, " ")?;
     push_number(text, id)?;
     push_text(text, " ")?;
-    push_parts(text, work)
-}
-
-fn push_parts(text: &mut Vec<u8>, work: &Work) -> Result<(), AllocError>
-    ensures { OnOk result (text.new.items ≡ text.old.items ++ work_text work.now.queue work.now.payload work.now.priority) }
-{
-    push_work(
-        text,
-        work.queue.number(),
-        work.payload.as_slice(),
-        work.priority,
-    )
+    push_work_of(text, work)
 }

@@ -4,13 +4,16 @@ ghost use Rattle.line_words.specs.Lines.{bytes_of, line_numbered, lines_of, Cuts
 use crate::digits::decode_pairs;
 use memchr::memchr;
 use std::alloc::{AllocError, Global};
+use thiserror::Error;
 
 /// Why lines were not read.
-#[derive(Clone, Copy, Debug, PartialEq, Eq)]
+#[derive(Clone, Copy, Debug, PartialEq, Eq, Error)]
 pub enum LineFault {
     /// The line of this number can't be read. All lines count, from 1 on.
+    #[error("line {0} can't be read")]
     BadLine(u64),
     /// Memory ran out.
+    #[error("out of memory")]
     NoMemory,
 }
 

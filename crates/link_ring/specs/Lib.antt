@@ -1,3 +1,3 @@
-pub mod Parts
+pub mod Carried
 pub mod Sides
 pub use Rattle.wire_msg.specs.Envelope

@@ -5,6 +5,7 @@
 //! through it; once both are in one thread again, `gather` compares the two lists.
 #![tactic(auto)]
 
+mod carried;
 mod gathering;
 mod opening;
 mod parcel;

@@ -8,8 +8,8 @@ use rtrb::RingBuffer;
 use std::alloc::{AllocError, Global};
 
 /// A link from one node to another, whose ring has slots for so many messages. That many first puts find room, whether or not
-/// anything is taken; with no slot at all each put is handed back. A slot takes 32 bytes, and 450 more, in a ring beside, where a
-/// Ready or a Work was put.
+/// anything is taken; with no slot at all each put is handed back. A slot takes 32 bytes, and a Ready or a Work that is in it a box of
+/// some 450 more.
 pub fn link(
     alloc: Global,
     sender: NodeId,
@@ -24,8 +24,7 @@ pub fn link(
     ensures { IfOk result (λ ends. (ends.0 ≡ unused sender receiver capacity) × (ends.1 ≡ unused sender receiver capacity)) }
 {
     let (producer, consumer) = RingBuffer::new(alloc, capacity)?;
-    let (bodies_in, bodies_out) = RingBuffer::new(alloc, capacity)?;
-    let put_end = PutEnd::new(alloc, sender, receiver, producer, bodies_in);
-    let take_end = TakeEnd::new(alloc, sender, receiver, consumer, bodies_out);
+    let put_end = PutEnd::new(alloc, sender, receiver, producer);
+    let take_end = TakeEnd::new(alloc, sender, receiver, consumer);
     Ok((put_end, take_end))
 }

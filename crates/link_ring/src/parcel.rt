@@ -1,117 +1,67 @@
-//! A message as the two rings of a link hold it.
+//! A message as the ring of a link holds it.
 
-ghost use Rattle.std.specs.Prelude.{◌≡◌, ◌≢◌, ◌↔◌, IsTrue, Some, None};
-ghost use Rattle.link_ring.specs.Parts.{part_of, short_body};
+ghost use Rattle.std.specs.Prelude.{◌≡◌, ◌≢◌};
+ghost use Rattle.link_ring.specs.Carried.{carried, IsWhole};
 
+use crate::carried::Carried;
 use group_task::NodeId;
+use std::boxed::Box;
 use std::marker::Model;
 use std::mem::size_of;
-use wire_msg::{Body, Message, Short};
+use wire_msg::Message;
 
 /// A message as a slot holds it.
 #[derive(Drop)]
 pub(crate) struct Parcel {
     sender: NodeId,
     receiver: NodeId,
-    // none for a long body, which stands in the ring beside
-    short: Option<Short>,
+    body: Carried,
 }
 
 // each slot is touched once before the first is used again
 const _: () = prove!(size_of::<Parcel>() <= 32);
 
 impl Model for Parcel {
-    ghost use Rattle.std.specs.Prelude.{◌≢◌, IfSome, option_map};
-    ghost use Rattle.wire_msg.specs.Kinds.{said, IsShort};
-    ghost use Rattle.link_ring.specs.Parts.{Part};
+    ghost use Rattle.std.specs.Prelude.{◌≢◌};
+    ghost use Rattle.wire_msg.specs.Envelope.{Envelope};
+    ghost use Rattle.link_ring.specs.Carried.{carried, IsWhole};
 
-    ghost Value = { Part };
+    ghost Value = { Envelope };
 
-    ghost view = { λ a. record { sender = a.sender; receiver = a.receiver; body = option_map said a.short } };
+    ghost view = { λ a. record { sender = a.sender; receiver = a.receiver; body = carried a.body } };
 
-    ghost invariant = { λ a. (a.sender ≢ a.receiver) × IfSome a.short IsShort };
-}
-
-/// A body that takes much room: the task of a Ready, or the job of a Work, whose payload alone has room for 400 bytes.
-#[derive(Drop)]
-pub(crate) struct Long {
-    body: Body,
-}
-
-impl Model for Long {
-    ghost use Rattle.std.specs.Prelude.{◌≡◌, None};
-    ghost use Rattle.wire_msg.specs.declared.body.Body.{Body};
-    ghost use Rattle.link_ring.specs.Parts.{short_body};
-
-    ghost Value = { Body };
-
-    ghost view = { λ a. a.body };
-
-    ghost invariant = { λ a. short_body a.body ≡ None };
-}
-
-impl Long {
-    /// Whether a body is a long one.
-    #[inline]
-    pub(crate) fn is_long(body: &Body) -> bool
-        ensures { IsTrue result ↔ (short_body body.now ≡ None) }
-    {
-        matches!(body, Body::Ready(_) | Body::Work { .. })
-    }
-
-    /// A body that is a long one.
-    #[inline]
-    pub(crate) fn of(body: &Body) -> Long
-        requires { short_body body.now ≡ None }
-        ensures { result ≡ body.now }
-    {
-        Long { body: *body }
-    }
+    ghost invariant = { λ a. (a.sender ≢ a.receiver) × IsWhole a.body };
 }
 
 impl Parcel {
-    /// The message, for a slot.
+    /// The message between two nodes that are known to differ, for a slot.
     #[inline]
-    pub(crate) fn of(message: &Message) -> Parcel
-        ensures { result ≡ part_of message.now }
+    pub(crate) fn between(sender: NodeId, receiver: NodeId, body: Carried) -> Parcel
+        requires differ { sender ≢ receiver }
+        requires whole { IsWhole body }
+        ensures { result ≡ record { sender = sender; receiver = receiver; body = carried body } }
     {
         Parcel {
-            sender: message.sender(),
-            receiver: message.receiver(),
-            short: message.body().short(),
+            sender,
+            receiver,
+            body,
         }
     }
 
-    /// Whether its body stands in the ring beside.
+    /// The message.
     #[inline]
-    pub(crate) fn is_beside(&self) -> bool
-        ensures { IsTrue result ↔ (self.now.body ≡ None) }
-    {
-        self.short.is_none()
-    }
-
-    /// The message, whose body is a short one.
-    #[tactic(auto, using(crate::proofs::Parted::said_short))]
     pub(crate) fn open(self) -> Message
-        requires { self.body ≢ None }
-        ensures same { part_of result ≡ self }
-        ensures short { short_body result.body ≡ Some result.body }
+        ensures { result ≡ self }
     {
         let Parcel {
             sender,
             receiver,
-            short,
+            body,
         } = self;
-        Message::between(sender, receiver, short.unwrap().body())
-    }
-
-    /// The message, whose body stood beside.
-    pub(crate) fn join(self, long: Long) -> Message
-        requires { self.body ≡ None }
-        ensures same { part_of result ≡ self }
-        ensures body { result.body ≡ long }
-        ensures long { short_body result.body ≡ None }
-    {
-        Message::between(self.sender, self.receiver, long.body)
+        let body = match body {
+            Carried::Short(short) => short.body(),
+            Carried::Long(long) => Box::into_inner(long),
+        };
+        Message::between(sender, receiver, body)
     }
 }

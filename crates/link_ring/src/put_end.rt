@@ -1,9 +1,9 @@
 ghost use Rattle.std.specs.Prelude.{◌≡◌, ◌<◌, ◌≤◌, ◌+◌, ◌++◌, [], length, max, false, true, IfSome, IfNone, IsNone, IsTrue, OnOk, OnErr};
 ghost use Rattle.rtrb.specs.Ring.{sent, known_free, producer_capacity};
-ghost use Rattle.link_ring.specs.Parts.{long_body};
 ghost use Rattle.link_ring.specs.Sides.{unused, with_message, with_room};
 
-use crate::parcel::{Long, Parcel};
+use crate::carried::Spares;
+use crate::parcel::Parcel;
 use group_task::NodeId;
 use message_list::MessageList;
 use rtrb::Producer;
@@ -17,22 +17,21 @@ pub struct PutEnd {
     sender: NodeId,
     receiver: NodeId,
     producer: Producer<Parcel>,
-    bodies: Producer<Long>,
+    spares: Spares,
     put: MessageList,
 }
 
 impl Model for PutEnd {
-    ghost use Rattle.std.specs.Prelude.{◌≡◌, ◌≤◌, ◌+◌, [], length, map};
+    ghost use Rattle.std.specs.Prelude.{◌≡◌, ◌≤◌, ◌+◌, ◌-◌, [], length, min, vec_len};
     ghost use Rattle.rtrb.specs.Ring.{sent, known_free, producer_capacity};
-    ghost use Rattle.link_ring.specs.Parts.{bodies_of, part_of};
     ghost use Rattle.link_ring.specs.Sides.{Side};
 
     ghost Value = { Side };
 
     ghost view = { λ a. record { sender = a.sender; receiver = a.receiver; capacity = producer_capacity a.producer; messages = a.put.messages; room = a.put.room; seen = [] } };
 
-    // a slot that no message went through is known to be free
-    ghost invariant = { λ a. (sent a.producer ≡ map part_of a.put.messages) × (sent a.bodies ≡ bodies_of a.put.messages) × (producer_capacity a.producer ≤ known_free a.producer + length a.put.messages) × (producer_capacity a.producer ≤ known_free a.bodies + length a.put.messages) };
+    // a slot that no message went through is known to be free, and a box is spare for it where there is room for a message
+    ghost invariant = { λ a. (sent a.producer ≡ a.put.messages) × (producer_capacity a.producer ≤ known_free a.producer + length a.put.messages) × (min a.put.room (producer_capacity a.producer - length a.put.messages) ≤ vec_len a.spares.boxes) };
 }
 
 impl PutEnd {
@@ -42,17 +41,15 @@ impl PutEnd {
         sender: NodeId,
         receiver: NodeId,
         producer: Producer<Parcel>,
-        bodies: Producer<Long>,
     ) -> PutEnd
         requires slots { (sent producer ≡ []) × (known_free producer ≡ producer_capacity producer) }
-        requires bodies { (sent bodies ≡ []) × (known_free bodies ≡ producer_capacity producer) }
         ensures { result ≡ unused sender receiver (producer_capacity producer) }
     {
         PutEnd {
             sender,
             receiver,
             producer,
-            bodies,
+            spares: Spares::new(alloc),
             put: MessageList::new(alloc),
         }
     }
@@ -80,7 +77,8 @@ impl PutEnd {
         &self.put
     }
 
-    /// Makes room for so many more messages, whatever they say. It is room in the list of what was put, not in the ring.
+    /// Makes room for so many more messages, whatever they say. It is room in the list of what was put, not in the ring, and boxes for
+    /// as many long bodies as the ring has slots.
     #[inline]
     pub fn reserve(&mut self, more: usize) -> Result<(), AllocError>
         // Promise: `reserve(n)` makes room for n more messages whatever they say. It is refused only where there isn't that much
@@ -90,6 +88,14 @@ impl PutEnd {
         ensures reserved { OnOk result (self.new ≡ with_room self.old (max self.old.room more)) }
         ensures refused { OnErr result ((self.old.room < more) × (self.new ≡ self.old)) }
     {
+        let slots = self.producer.capacity();
+        if !self.spares.has(more.min(slots)) {
+            // a slot that a message went through may wait for its box
+            let unused = slots.saturating_sub(self.put.len());
+            if self.spares.boxes.len() < more.min(unused) {
+                return Err(AllocError);
+            }
+        }
         self.put.reserve(more)
     }
 
@@ -105,7 +111,7 @@ impl PutEnd {
         ensures full { IfSome result (λ back. (back ≡ message) × (self.new ≡ self.old)) }
         // Promise: No put is handed back before as many messages went through the end as the ring has slots.
         // Also: PutEnd::offer.
-        // Refuses: put_dropped.
+        // Refuses: put_dropped, no_box_for_a_long_body.
         ensures first { length self.old.messages < self.old.capacity → IsNone result }
     {
         if !self.offer(&message) {
@@ -124,10 +130,10 @@ impl PutEnd {
         if self.producer.is_full() {
             return false;
         }
-        if !put_body(&mut self.bodies, message.body()) {
+        let Some(body) = self.spares.pack(message.body()) else {
             return false;
-        }
-        self.producer.push_reserved(Parcel::of(message));
+        };
+        self.producer.push_reserved(Parcel::between(message.sender(), message.receiver(), body));
         self.put.push(message);
         true
     }
@@ -138,21 +144,4 @@ impl PutEnd {
     {
         self.put
     }
-}
-
-/// Puts a body into the ring beside where it is a long one. False where no slot is free for it.
-fn put_body(bodies: &mut Producer<Long>, body: &Body) -> bool
-    ensures put { result ≡ true → sent bodies.new ≡ sent bodies.old ++ long_body body.now }
-    ensures full { result ≡ false → (sent bodies.new ≡ sent bodies.old) × (known_free bodies.new ≡ 0) }
-    ensures slots { known_free bodies.old ≤ known_free bodies.new + 1 }
-    ensures free { result ≡ false → known_free bodies.old ≡ 0 }
-{
-    if !Long::is_long(body) {
-        return true;
-    }
-    if bodies.is_full() {
-        return false;
-    }
-    bodies.push_reserved(Long::of(body));
-    true
 }

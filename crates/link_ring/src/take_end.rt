@@ -1,10 +1,9 @@
-ghost use Rattle.std.specs.Prelude.{◌≡◌, ◌<◌, [], ◌∷◌, length, max, IfSome, IfNone, None, OnOk, OnErr};
+ghost use Rattle.std.specs.Prelude.{◌≡◌, ◌<◌, [], ◌∷◌, ◌++◌, length, max, IfSome, IfNone, IsSome, None, OnOk, OnErr};
 ghost use mathlib.Core.List.{IsPrefix};
-ghost use Rattle.link_ring.specs.Parts.{Popped, whole};
 ghost use Rattle.rtrb.specs.Ring.{received, known_items, consumer_capacity};
 ghost use Rattle.link_ring.specs.Sides.{unused, with_room, TookNext};
 
-use crate::parcel::{Long, Parcel};
+use crate::parcel::Parcel;
 use group_task::NodeId;
 use message_list::MessageList;
 use rtrb::Consumer;
@@ -18,21 +17,19 @@ pub struct TakeEnd {
     sender: NodeId,
     receiver: NodeId,
     consumer: Consumer<Parcel>,
-    bodies: Consumer<Long>,
     taken: MessageList,
 }
 
 impl Model for TakeEnd {
-    ghost use Rattle.std.specs.Prelude.{◌≡◌, map};
+    ghost use Rattle.std.specs.Prelude.{◌≡◌};
     ghost use Rattle.rtrb.specs.Ring.{received, known_items, consumer_capacity};
-    ghost use Rattle.link_ring.specs.Parts.{bodies_of, part_of, whole};
     ghost use Rattle.link_ring.specs.Sides.{Side};
 
     ghost Value = { Side };
 
-    ghost view = { λ a. record { sender = a.sender; receiver = a.receiver; capacity = consumer_capacity a.consumer; messages = a.taken.messages; room = a.taken.room; seen = whole (known_items a.consumer) (known_items a.bodies) } };
+    ghost view = { λ a. record { sender = a.sender; receiver = a.receiver; capacity = consumer_capacity a.consumer; messages = a.taken.messages; room = a.taken.room; seen = known_items a.consumer } };
 
-    ghost invariant = { λ a. (received a.consumer ≡ map part_of a.taken.messages) × (received a.bodies ≡ bodies_of a.taken.messages) };
+    ghost invariant = { λ a. received a.consumer ≡ a.taken.messages };
 }
 
 impl TakeEnd {
@@ -42,17 +39,14 @@ impl TakeEnd {
         sender: NodeId,
         receiver: NodeId,
         consumer: Consumer<Parcel>,
-        bodies: Consumer<Long>,
     ) -> TakeEnd
-        requires slots { (received consumer ≡ []) × (known_items consumer ≡ []) }
-        requires bodies { (received bodies ≡ []) × (known_items bodies ≡ []) }
+        requires { (received consumer ≡ []) × (known_items consumer ≡ []) }
         ensures { result ≡ unused sender receiver (consumer_capacity consumer) }
     {
         TakeEnd {
             sender,
             receiver,
             consumer,
-            bodies,
             taken: MessageList::new(alloc),
         }
     }
@@ -95,7 +89,7 @@ impl TakeEnd {
         // Also: TakeEnd::take_into.
         // Refuses: taken_kept_back, first_seen_not_listed, place_left_empty.
         // Promise: While a message that was seen in the ring is left, a take answers the first of these, and none only where none
-        // is left; a Ready or a Work is seen where its slot and its body are (`specs/Parts`, `whole`).
+        // is left.
         // Also: empty, TakeEnd::take_into.
         // Refuses: take_that_never_looks, first_look_finds_none.
         ensures taken { IfSome result (λ message. TookNext message self.old self.new) }
@@ -115,7 +109,7 @@ impl TakeEnd {
         ensures taken { IfSome place.new (λ message. TookNext message self.old self.new) }
         ensures empty { IfNone place.new ((self.old.seen ≡ []) × (self.new ≡ self.old)) }
     {
-        pop(&mut self.consumer, &mut self.bodies, place);
+        pop(&mut self.consumer, place);
         if let Some(first) = place {
             self.taken.push(first);
         }
@@ -129,45 +123,29 @@ impl TakeEnd {
     }
 }
 
-/// Takes the first message that stands whole in both rings, into a place with no message.
+/// Takes the first message of the ring, into a place with no message.
 #[inline]
-fn pop(consumer: &mut Consumer<Parcel>, bodies: &mut Consumer<Long>, place: &mut Option<Message>)
+fn pop(consumer: &mut Consumer<Parcel>, place: &mut Option<Message>)
     requires none { place.old ≡ None }
     ensures slots { consumer_capacity consumer.new ≡ consumer_capacity consumer.old }
-    ensures taken { IfSome place.new (λ m. Popped m (received consumer.old) (received bodies.old) (received consumer.new) (received bodies.new)) }
-    ensures first { IfSome place.new (λ m. IsPrefix (whole (known_items consumer.old) (known_items bodies.old)) (m ∷ whole (known_items consumer.new) (known_items bodies.new))) }
-    ensures left { IfNone place.new ((received consumer.new ≡ received consumer.old) × (received bodies.new ≡ received bodies.old)) }
-    ensures empty { IfNone place.new ((whole (known_items consumer.old) (known_items bodies.old) ≡ []) × (whole (known_items consumer.new) (known_items bodies.new) ≡ [])) }
+    ensures taken { IfSome place.new (λ m. received consumer.new ≡ received consumer.old ++ m ∷ []) }
+    ensures first { IfSome place.new (λ m. IsPrefix (known_items consumer.old) (m ∷ known_items consumer.new)) }
+    ensures left { IfNone place.new (received consumer.new ≡ received consumer.old) }
+    ensures empty { IfNone place.new ((known_items consumer.old ≡ []) × (known_items consumer.new ≡ [])) }
 {
     if consumer.is_empty() {
         return;
     }
-    pop_seen(consumer, bodies, place);
+    pop_seen(consumer, place);
 }
 
-/// The same where a slot was seen. A long body was put before its slot, and so is found with it. It stands apart, since most looks
-/// find none, and here a whole message is made.
+/// The same where a message was seen. It stands apart, since most looks find none, and here a whole message is made.
 #[inline(never)]
-fn pop_seen(
-    consumer: &mut Consumer<Parcel>,
-    bodies: &mut Consumer<Long>,
-    place: &mut Option<Message>,
-)
-    requires none { place.old ≡ None }
+fn pop_seen(consumer: &mut Consumer<Parcel>, place: &mut Option<Message>)
     requires seen { 0 < length (known_items consumer.old) }
     ensures slots { consumer_capacity consumer.new ≡ consumer_capacity consumer.old }
-    ensures taken { IfSome place.new (λ m. Popped m (received consumer.old) (received bodies.old) (received consumer.new) (received bodies.new)) }
-    ensures first { IfSome place.new (λ m. IsPrefix (whole (known_items consumer.old) (known_items bodies.old)) (m ∷ whole (known_items consumer.new) (known_items bodies.new))) }
-    ensures left { IfNone place.new ((received consumer.new ≡ received consumer.old) × (received bodies.new ≡ received bodies.old)) }
-    ensures empty { IfNone place.new ((whole (known_items consumer.old) (known_items bodies.old) ≡ []) × (whole (known_items consumer.new) (known_items bodies.new) ≡ [])) }
+    ensures taken { IfSome place.new (λ m. (received consumer.new ≡ received consumer.old ++ m ∷ []) × (known_items consumer.old ≡ m ∷ known_items consumer.new)) }
+    ensures some { IsSome place.new }
 {
-    if !consumer.peek_known().is_beside() {
-        *place = Some(consumer.pop_known().open());
-        return;
-    }
-    if bodies.is_empty() {
-        return;
-    }
-    let body = bodies.pop_known();
-    *place = Some(consumer.pop_known().join(body));
+    *place = Some(consumer.pop_known().open());
 }

@@ -1,14 +1,15 @@
--- No event but a dispatch sends two messages to one node.
-use Rattle.std.proofs.Common.{◌≡◌, ◌≢◌, ℕ, zero, suc, ◌+◌, ◌<◌, ◌≤◌, ◌==◌, min, Bool, true, false, not, ◌&&◌, ◌||◌, List, [], ◌∷◌, ◌++◌, map, length, refl, sym, ap, ◌∙◌, subst, arith, eqb, ltb}
+-- No event but a dispatch sends two messages to one node, and a dispatch sends no more than there are pending jobs.
+use Rattle.std.proofs.Common.{◌≡◌, ℕ, zero, suc, ◌+◌, ◌<◌, ◌≤◌, ◌==◌, Bool, true, false, not, ◌&&◌, List, [], ◌∷◌, ◌++◌, map, length, Option, Some, None, refl, sym, ap, ◌∙◌, subst, arith}
 use Rattle.std.specs.Prelude.{if◌then◌else◌, nat_lt, ⊤}
 use Rattle.std.specs.List.{filter}
 use Rattle.std.proofs.lemmas.Bool.Decides.{nat_tests}
 use Rattle.std.proofs.lemmas.List.{length-append}
-use Rattle.std.proofs.Math.Nat.{le-min}
+use Rattle.std.proofs.lemmas.Option.{same_Some}
 use Rattle.group_task.specs.Group.{Group, same_group}
 use Rattle.group_task.specs.Ids.{has, with_id, without_id, either_of, ids_below, RisesWithin, IsSet}
 use Rattle.group_task.specs.declared.node.TheConstants.{NODES}
 use Rattle.job_model.specs.declared.job.Job.{Job}
+use Rattle.job_model.specs.Durable.{Durable}
 use Rattle.wire_msg.specs.Envelope.{Envelope}
 use Rattle.wire_msg.specs.declared.body.Body.{Body}
 use Rattle.wire_msg.specs.declared.body.Body.TheVariants as says
@@ -17,10 +18,13 @@ use Rattle.node_core.specs.declared.event.Event.TheVariants as on
 use Rattle.node_core.specs.declared.timer.Timer.{Timer}
 use Rattle.node_core.specs.declared.timer.Timer.TheVariants as timer
 use Rattle.node_core.specs.State.{State, is_down, is_election, is_reorganization, is_normal}
-use Rattle.node_core.specs.Start.{alone}
 use Rattle.node_core.specs.Effect.{Effect, quietly}
 use Rattle.node_core.specs.Words.{letter, to_each, is_empty, leads, members_of, owner, holds, own_group, task_of}
-use Rattle.node_core.specs.Timers.{timed, merges, awaits_ready, follows}
+use Rattle.node_core.specs.declared.phase.Phase.{Phase}
+use Rattle.node_core.specs.declared.phase.Phase.TheVariants as phase
+use Rattle.node_core.specs.Priorities.{by_priority}
+use Rattle.node_core.specs.Timers.{timed, merges, awaits_ready, follows, is_own, orders}
+use Rattle.node_core.proofs.PublicLaws.{few_by_priority}
 use Rattle.node_core.specs.Messages.{delivered, was_probed, takes_invitation, passed_on, is_told}
 use Rattle.node_core.specs.Operator.{submit, finish}
 use Rattle.node_core.specs.Effects.{effect_of}
@@ -34,7 +38,8 @@ use Rattle.histories.specs.Fates.{what_of}
 use Rattle.durable_node.specs.Node.{Node}
 use Rattle.node_lock.specs.Asking.{Hand}
 use Rattle.node_lock.specs.Doing.{Did, StandsForSome}
-use Rattle.node_lock.specs.Sending.{addressed_to, most_to}
+use Rattle.durable_node.specs.Stepping.{most_by}
+use Rattle.node_lock.specs.Sending.{addressed_to, most_from, most_to}
 use Rattle.node_lock.proofs.Carried.{addressed-append}
 use Rattle.node_lock.proofs.Comings.{turn_comes}
 
@@ -261,30 +266,80 @@ fewer j (m ∷ ms) = by_test (m.receiver == j) (fewer j ms)
     by_test true rest = omega (arith, rest)
     by_test false rest = omega (arith, rest)
 
-both : (n most : ℕ) → n ≤ most → n ≤ 1 → n ≤ min most 1
-both n most all one = le-min all one
+-- ---- a dispatch
 
-at_most : (n most : ℕ) (event : Event) → n ≤ most → (IsSingle event → n ≤ 1) → n ≤ most_to event most
-at_most n most (on.Timer timer.Check) all one = both n most all (one tt)
-at_most n most (on.Timer timer.Merge) all one = both n most all (one tt)
-at_most n most (on.Timer timer.Accept) all one = both n most all (one tt)
-at_most n most (on.Timer timer.Ready) all one = both n most all (one tt)
-at_most n most (on.Timer timer.Coord) all one = both n most all (one tt)
-at_most n most (on.Timer timer.Dispatch) all one = all
-at_most n most (on.Deliver m) all one = both n most all (one tt)
-at_most n most (on.Submit work) all one = both n most all (one tt)
-at_most n most (on.Finish origin id) all one = both n most all (one tt)
-at_most n most on.Recover all one = both n most all (one tt)
+few_orders : (self : ℕ) (s : State) (jobs : List Job) → length (orders self s jobs) ≤ length jobs
+few_orders self s [] = omega arith
+few_orders self s (job ∷ jobs) = by_test (not (is_own self s job)) (few_orders self s jobs)
+  where
+    by_test : (b : Bool) → length (orders self s jobs) ≤ length jobs
+        → length (map (λ (x : Job). letter self (owner s x.work.queue) (says.Work s.group x.id x.work)) (if b then job ∷ filter (λ x. not (is_own self s x)) jobs else filter (λ x. not (is_own self s x)) jobs)) ≤ suc (length jobs)
+    by_test true h = omega (arith, h)
+    by_test false h = omega (arith, h)
 
--- to each node an event sends no more than it may
-pub sends_few : (old new : Node Memory) (event : Event) (fate : Fate) (sent : List Envelope) (most : ℕ) → StandsForSome old → Did old event (what_of event fate) sent new → length sent ≤ most → IsSet old.state.up × IsSet old.state.found
-    → (j : ℕ) → length (addressed_to j sent) ≤ most_to event most
-sends_few old new event fate sent most stands did few sets j =
-    let s = stands.0 in
-    let is : old.state ≡ s.state = stands.1.state in
-    let came = turn_comes old new (Hand event) (what_of event fate) sent did s stands.1 in
-    let one : IsSingle event → length (addressed_to j sent) ≤ 1 = λ single.
-    subst (λ (ms : List Envelope). length (addressed_to j ms) ≤ 1) (sym came.is_sent)
-    (fate_once old.nodes old.id j s event fate (subst (λ (v : State). IsSet v.up) is sets.0) (subst (λ (v : State). IsSet v.found) is sets.1) single) in
-    let shorter = fewer j sent in
-    at_most (length (addressed_to j sent)) most event (omega (arith, shorter, few)) one
+up_where_normal : (p : Phase) → is_normal p ≡ true → is_down p ≡ false
+up_where_normal phase.Down is = absurd cc
+up_where_normal phase.Election is = refl
+up_where_normal phase.Reorganization is = refl
+up_where_normal phase.Normal is = refl
+
+-- no more messages than there are pending jobs
+dispatch_few : (nodes self n answer : ℕ) (pending : List Job) (s : State) → (is_down s.phase ≡ false → length pending ≤ n) → length (timed nodes self pending timer.Dispatch answer s).sent ≤ n
+unfolding timed
+dispatch_few nodes self n answer pending s few = by_test _ (let a = few_orders self s (by_priority pending) in let b = few_by_priority pending in omega (arith, a, b)) (is_normal s.phase) refl
+  where
+    by_test : (x : Effect) → length x.sent ≤ length pending → (b : Bool) → is_normal s.phase ≡ b → length (if b then x else quietly s).sent ≤ n
+    by_test x h true is = let c = few (up_where_normal s.phase is) in omega (arith, h, c)
+    by_test x h false is = omega arith
+
+dispatch_fate : (nodes self n : ℕ) (s : NodeState) (fate : Fate) → (is_down s.state.phase ≡ false → length s.durable.pending ≤ n) → length (sent_at self nodes s (what_of (on.Timer timer.Dispatch) fate)) ≤ n
+dispatch_fate nodes self n s fate.Done few = dispatch_few nodes self n (answer_to s.durable (wants_at self nodes s (on.Timer timer.Dispatch))) s.durable.pending s.state few
+dispatch_fate nodes self n s (fate.Refused why) few = omega arith
+dispatch_fate nodes self n s fate.Faulted few = omega arith
+dispatch_fate nodes self n s (fate.Recovered kept) few = omega arith
+dispatch_fate nodes self n s fate.MountFailed few = omega arith
+dispatch_fate nodes self n s (fate.RaiseFailed kept) few = omega arith
+dispatch_fate nodes self n s (fate.RaiseRefused kept) few = omega arith
+
+at_most : (n pending : ℕ) (event : Event) → (event ≡ on.Timer timer.Dispatch → n ≤ pending) → (IsSingle event → n ≤ 1) → n ≤ most_from event pending
+at_most n pending (on.Timer timer.Check) all one = one tt
+at_most n pending (on.Timer timer.Merge) all one = one tt
+at_most n pending (on.Timer timer.Accept) all one = one tt
+at_most n pending (on.Timer timer.Ready) all one = one tt
+at_most n pending (on.Timer timer.Coord) all one = one tt
+at_most n pending (on.Timer timer.Dispatch) all one = all refl
+at_most n pending (on.Deliver m) all one = one tt
+at_most n pending (on.Submit work) all one = one tt
+at_most n pending (on.Finish origin id) all one = one tt
+at_most n pending on.Recover all one = one tt
+
+pub sends_few : (old new : Node Memory) (event : Event) (fate : Fate) (sent : List Envelope) → StandsForSome old → Did old event (what_of event fate) sent new → length sent ≤ most_by old.nodes old.kept → IsSet old.state.up × IsSet old.state.found
+    → (j : ℕ) → length (addressed_to j sent) ≤ most_to event old.kept
+sends_few old new event fate sent stands did few sets j = by_kept old.kept refl few
+  where
+    s : NodeState
+    s = stands.0
+
+    is : old.state ≡ s.state
+    is = stands.1.state
+
+    came : sent ≡ sent_at old.id old.nodes s (what_of event fate)
+    came = (turn_comes old new (Hand event) (what_of event fate) sent did s stands.1).is_sent
+
+    one : IsSingle event → length (addressed_to j sent) ≤ 1
+    one single = subst (λ (ms : List Envelope). length (addressed_to j ms) ≤ 1) (sym came)
+        (fate_once old.nodes old.id j s event fate (subst (λ (v : State). IsSet v.up) is sets.0) (subst (λ (v : State). IsSet v.found) is sets.1) single)
+
+    by_kept : (kept : Option Durable) → old.kept ≡ kept → length sent ≤ most_by old.nodes kept → length (addressed_to j sent) ≤ most_to event kept
+    by_kept None none few = let shorter = fewer j sent in omega (arith, shorter, few)
+    by_kept (Some d) some few = at_most (length (addressed_to j sent)) (length d.pending) event all one
+      where
+        same : is_down s.state.phase ≡ false → length s.durable.pending ≤ length d.pending
+        same up = let kept = same_Some s.durable d (sym (stands.1.up (subst (λ (v : State). is_down v.phase ≡ false) (sym is) up)).0 ∙ some) in subst (λ (x : Durable). length s.durable.pending ≤ length x.pending) kept (omega arith)
+
+        all : event ≡ on.Timer timer.Dispatch → length (addressed_to j sent) ≤ length d.pending
+        all dispatch =
+            let few : length (sent_at old.id old.nodes s (what_of event fate)) ≤ length d.pending = subst (λ (e : Event). length (sent_at old.id old.nodes s (what_of e fate)) ≤ length d.pending) (sym dispatch) (dispatch_fate old.nodes old.id (length d.pending) s fate same) in
+            let shorter = fewer j sent in
+            let long = ap length came in
+            omega (arith, shorter, few, long)

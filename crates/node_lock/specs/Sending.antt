@@ -1,7 +1,8 @@
 -- What goes onto the links.
-use Rattle.std.specs.Prelude.{◌≡◌, ℕ, ◌<◌, ◌≤◌, ◌==◌, ◌⊎◌, List, [], ◌∷◌, ◌++◌, length, min, slice_index_or, if◌then◌else◌, Option, Some, None}
+use Rattle.std.specs.Prelude.{◌≡◌, ℕ, ◌<◌, ◌≤◌, ◌==◌, ◌⊎◌, List, [], ◌∷◌, ◌++◌, length, slice_index_or, if◌then◌else◌, Option, Some, None}
 use Rattle.std.specs.List.{filter}
 use mathlib.Core.List.{IsPrefix}
+use Rattle.job_model.specs.Durable.{Durable}
 use Rattle.wire_msg.specs.Envelope.{Envelope}
 use Rattle.node_core.specs.declared.event.Event.{Event}
 use Rattle.node_core.specs.declared.event.Event.TheVariants as on
@@ -34,10 +35,15 @@ pub record SentOn (sent : List Envelope) (old new : List Side) : Type 0 where
   pub len : length new ≡ length old
   pub each : (k : ℕ) (d : Side) → k < length old → SentTo sent (slice_index_or old k d) (slice_index_or new k d)
 
--- how many messages to one node an event may send that sends so many at most: a dispatch all of them, and any other one
-abbrev pub most_to : Event → ℕ → ℕ
-most_to (on.Timer Dispatch) most = most
-most_to event most = min most 1
+-- how many messages to one node an event may send where so many jobs are pending: a dispatch one for each, and any other event one
+abbrev pub most_from : Event → ℕ → ℕ
+most_from (on.Timer Dispatch) pending = pending
+most_from event pending = 1
+
+-- and at a node that keeps this: one that is Down keeps nothing, and sends nothing
+abbrev pub most_to : Event → Option Durable → ℕ
+most_to event None = 0
+most_to event (Some d) = most_from event (length d.pending)
 
 -- there is room for n more messages on each link
 abbrev pub HasRoomFor : ℕ → List Side → Type 0

@@ -20,14 +20,17 @@ use node_core::Event;
 use sector_disk::MemDisk;
 use std::alloc::{AllocError, Global};
 use std::marker::Model;
+use thiserror::Error;
 use wire_msg::Message;
 
 /// Why a turn was not taken.
-#[derive(Clone, Copy, PartialEq, Eq, Debug)]
+#[derive(Clone, Copy, PartialEq, Eq, Debug, Error)]
 pub enum HeldFault {
     /// The history has [`MOST_ENTRIES`] turns.
+    #[error("the history is full")]
     HistoryFull,
     /// There is no memory. A message that was already taken from a link waits, and is what the repeated poll gives.
+    #[error("out of memory")]
     NoMemory,
 }
 

@@ -11,6 +11,7 @@ use crate::held::{Held, HeldFault};
 use crate::worker::Worker;
 use group_task::NodeId;
 use std::sync::{Mutex, Wait};
+use thiserror::Error;
 
 /// The worker's next turn at a node whose lock is held, with what is true of the node before it and after it.
 fn turn_kept<G: Gate>(
@@ -72,13 +73,16 @@ pub trait Gate: Sync {
 }
 
 /// Why a worker stopped.
-#[derive(Clone, Copy, PartialEq, Eq, Debug)]
+#[derive(Clone, Copy, PartialEq, Eq, Debug, Error)]
 pub enum TurnFault {
     /// The history has as many turns as it can.
+    #[error("the history is full")]
     HistoryFull,
     /// There is no memory. The turn may be taken once more.
+    #[error("out of memory")]
     NoMemory,
     /// The gate doesn't let the worker pass: nothing was changed.
+    #[error("the gate is shut")]
     GateShut,
 }
 

@@ -5,7 +5,7 @@ ghost use Rattle.durable_node.specs.Stepping.{most_by};
 ghost use Rattle.histories.specs.Fates.{what_of};
 ghost use Rattle.node_lock.specs.declared.held.HeldFault.TheVariants.{NoMemory};
 ghost use Rattle.node_lock.specs.Doing.{Did, StandsForSome};
-ghost use Rattle.node_lock.specs.Sending.{addressed_to, most_to};
+ghost use Rattle.node_lock.specs.Sending.{addressed_to, most_from, most_to};
 
 use crate::held::HeldFault;
 use durable_node::{Came, DurableNode};
@@ -30,7 +30,7 @@ pub(crate) fn perform(
     // job, for any other event one.
     // Also: most_to.
     // Refuses: dispatch_has_room_for_one.
-    ensures each { IfOk result (λ r. (j : ℕ) → length (addressed_to j r.1.items) ≤ most_to event.now (most_by node.old.nodes node.old.kept)) }
+    ensures each { IfOk result (λ r. (j : ℕ) → length (addressed_to j r.1.items) ≤ most_to event.now node.old.kept) }
     ensures memory { IfErr result (λ fault. (fault ≡ NoMemory) × (node.new ≡ record node.old { mounted = None })) }
 {
     note_sets(node);
@@ -53,12 +53,23 @@ fn note_sets(node: &DurableNode<MemDisk>)
     let _ = standing.found.len();
 }
 
-/// How many messages to one node an event may send that sends so many at most: a dispatch one for each pending job, and any other event one.
-pub(crate) fn most_to(event: &Event, most: usize) -> usize
-    ensures { result ≡ most_to event.now most }
+/// How many messages to one node an event may send: a dispatch one for each pending job, and any other event one. A node that is Down
+/// sends none.
+pub(crate) fn most_to(event: &Event, node: &DurableNode<MemDisk>) -> usize
+    ensures { result ≡ most_to event.now node.now.kept }
+{
+    match node.durable() {
+        Some((_, table)) => most_from(event, table.pending().len()),
+        None => 0,
+    }
+}
+
+/// How many it may send where so many jobs are pending.
+fn most_from(event: &Event, pending: usize) -> usize
+    ensures { result ≡ most_from event.now pending }
 {
     match event {
-        Event::Timer(Timer::Dispatch) => most,
-        _ => most.min(1),
+        Event::Timer(Timer::Dispatch) => pending,
+        _ => 1,
     }
 }

@@ -61,11 +61,10 @@ fn make_room(
     ensures same { SameSides puts.old.items puts.new.items }
     ensures room { OnOk result ((0 < history.new.room) × (0 < history.new.events)) }
     ensures sends { OnOk result (most_by node.now.nodes node.now.kept ≤ history.new.sends) }
-    ensures puts { OnOk result (HasRoomFor (most_to event.now (most_by node.now.nodes node.now.kept)) puts.new.items) }
+    ensures puts { OnOk result (HasRoomFor (most_to event.now node.now.kept) puts.new.items) }
 {
-    let most = node.most();
-    history.reserve(most)?;
-    reserve_puts(puts, most_to(event, most))
+    history.reserve(node.most())?;
+    reserve_puts(puts, most_to(event, node))
 }
 
 /// A turn that hands no event to the node and leaves it as it is.

@@ -37,13 +37,13 @@ use Rattle.node_session.specs.declared.asked.Unsealed.TheVariants as unsealed
 use Rattle.node_session.specs.declared.ended.Ended.{Ended}
 use Rattle.node_session.specs.declared.ended.Ended.TheVariants as end
 use Rattle.node_session.specs.Changes.{changes, drop_line, drop_news, drops, drops_by, gone_at, gone_by, gone_line, gone_news, group_by, group_line, group_news, held_by, held_text, is_finish, pair_in, take_line, take_news, takes}
-use Rattle.node_session.specs.Words.{event_word, group_text, ids_text, more_ids_text, phase_text, truth_text}
+use Rattle.node_words.specs.Words.{core_name, event_word, group_part, group_text, id_text, ids_text, more_ids_text, phase_text, truth_text}
 use Rattle.node_session.specs.Turns.{Turn, after_turn, cause, end_of, sent_in}
 use Rattle.node_session.specs.Chains.{Outcome, IsNone, MayCome, after_turns, line_end, next}
 use Rattle.node_session.specs.Lines.{At, Comes, after_by, answer_by, plain_answer}
 use Rattle.node_session.specs.Seals.{Seals, Brought, NoBytes, Strange, Garbled, Opened, asked_under, brought_by, brought_word, is_fresh, life_of, numbered, sealed_behind, sealed_lines, taken_brought, taken_fresh, taken_sealed, taken_under, taken_words, written}
 use Rattle.node_session.specs.Sending.{SendsSealed, again, counted_under, handed_by, is_send, plain_sends, sealed_sends, sealed_so_far, send_of, sends_in, sends_under, sent_turns}
-use Rattle.node_session.specs.Text.{answer, answer_text, asks_part, bad_line, closing, core_name, denial_line, event_closing, event_end, fault_name, fired_by, fired_news, group_part, hand_line, id_text, jobs_by, jobs_lines, jobs_part, keeps_by, keeps_news, next_line, no_news, ok_line, pending_line, refused_line, send_line, send_lines, sets_part, state_by, state_line, tick_end, turn_text, turns_text, up_line}
+use Rattle.node_session.specs.Text.{answer, answer_text, asks_part, bad_line, closing, denial_line, event_closing, event_end, fault_name, fired_by, fired_news, hand_line, jobs_by, jobs_lines, jobs_part, keeps_by, keeps_news, next_line, no_news, ok_line, pending_line, refused_line, send_line, send_lines, sets_part, state_by, state_line, tick_end, turn_text, turns_text, up_line}
 use Rattle.node_session.proofs.Rows.{both_lines, none_first, none_of, number_line, one_line, other_word, work_line}
 use Rattle.node_session.proofs.Sends.{Piece, Quiet, Sends, AreQuiet, messages_of, none_so, numbered_so, plain_so, sealed_so, text_of}
 

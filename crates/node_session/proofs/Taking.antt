@@ -22,7 +22,7 @@ use Rattle.node_session.specs.Asked.{alone_asked, asked_of, asked_words, complet
 use Rattle.histories.specs.What.{event_of}
 use Rattle.histories.specs.declared.what.What.TheVariants.{Rests, Crashed}
 use Rattle.node_session.specs.Turns.{Turn, Goes, Unmounted, Begins, IsFired, MayComeOf, MayCompact, after_turn, cause}
-use Rattle.node_session.specs.Words.{event_word}
+use Rattle.node_words.specs.Words.{event_word}
 use Rattle.node_session.specs.Chains.{Outcome, AreTimely, IsNone, IsOne, MayCome, after_turns}
 use Rattle.node_session.specs.Lines.{At, Comes, after_by, after_line, plain_answer}
 use Rattle.node_session.specs.Seals.{Brought, NoBytes, Strange, Garbled, Opened, Seals, asked_brought, asked_fresh, asked_sealed, asked_under, asked_words_under, brought_bytes, brought_by, brought_message, brought_opened, brought_word, is_fresh, life_of, no_stamp, opened_under, sealed_behind, taken_brought, taken_fresh, taken_under, taken_words}

@@ -8,7 +8,7 @@ use Rattle.node_core.specs.TimerWords.{timer_named}
 use Rattle.line_words.specs.Words.{number_of, words_of}
 use Rattle.line_words.specs.Lines.{bytes_of}
 use Rattle.schedule.specs.Fields.{node_of, queue_of, priority_of, payload_of}
-use Rattle.node_session.specs.Words.{event_word}
+use Rattle.node_words.specs.Words.{event_word}
 use Rattle.node_session.specs.declared.asked.Asked.{Asked}
 use Rattle.node_session.specs.declared.asked.Asked.TheVariants as ask
 

@@ -11,7 +11,7 @@ use Rattle.node_core.specs.State.{State, is_down}
 use Rattle.node_core.specs.Words.{holds, members_of}
 use Rattle.node_session.specs.declared.ended.Ended.{Ended}
 use Rattle.node_session.specs.declared.ended.Ended.TheVariants as end
-use Rattle.node_session.specs.Words.{group_text, ids_text, phase_text}
+use Rattle.node_words.specs.Words.{group_text, ids_text, phase_text}
 
 -- ---- the group
 

@@ -1,5 +1,4 @@
 pub mod Asked
-pub mod Words
 pub mod Turns
 pub mod Chains
 pub mod Changes

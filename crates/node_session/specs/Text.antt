@@ -9,8 +9,6 @@ use Rattle.wire_msg.specs.Envelope.{Envelope}
 use Rattle.wire_msg.specs.Spelling.{spelling}
 use Rattle.node_core.specs.declared.event.Event.{Event}
 use Rattle.node_core.specs.declared.event.Event.TheVariants as on
-use Rattle.node_core.specs.declared.fault.CoreFault.{CoreFault}
-use Rattle.node_core.specs.declared.fault.CoreFault.TheVariants as core
 use Rattle.node_core.specs.declared.in_hand.InHand.{InHand}
 use Rattle.node_core.specs.State.{State, is_down}
 use Rattle.node_core.specs.Words.{members_of}
@@ -24,20 +22,12 @@ use Rattle.node_session.specs.declared.asked.Unsealed.{Unsealed}
 use Rattle.node_session.specs.declared.asked.Unsealed.TheVariants.{Forged, Stale}
 use Rattle.node_session.specs.declared.ended.Ended.{Ended}
 use Rattle.node_session.specs.declared.ended.Ended.TheVariants as end
-use Rattle.node_session.specs.Words.{event_word, group_text, ids_text, phase_text, truth_text}
+use Rattle.node_words.specs.Words.{core_name, event_word, group_part, id_text, ids_text, phase_text, truth_text}
 use Rattle.node_session.specs.Turns.{Turn, after_turn, cause, end_of, sent_in}
 use Rattle.node_session.specs.Chains.{Outcome, after_turns, line_end}
 use Rattle.node_session.specs.Changes.{changes, gone_news, held_text, is_finish}
 
 -- ---- words
-
-abbrev pub core_name : CoreFault → List ℕ
-core_name core.Stranger = codes "Stranger"
-core_name core.Down = codes "Down"
-core_name (core.NotCoordinator id) = codes "NotCoordinator " ++ decimal id
-core_name core.NotNormal = codes "NotNormal"
-core_name core.UnknownJob = codes "UnknownJob"
-core_name core.NoMemory = codes "NoMemory"
 
 abbrev pub fault_name : NodeFault → List ℕ
 fault_name (node.Core fault) = core_name fault
@@ -137,10 +127,6 @@ unsealed_name Stale = codes "Stale"
 abbrev pub refused_line : ℕ → Unsealed → List ℕ
 refused_line n why = codes "refused " ++ decimal n ++ codes " " ++ unsealed_name why ++ codes "\n"
 
-abbrev pub id_text : Option ℕ → List ℕ
-id_text None = []
-id_text (Some id) = codes " id " ++ decimal id
-
 -- the id of a submitted job, which nothing else says
 abbrev pub answer_text : Event → Option ℕ → List ℕ
 answer_text (on.Submit work) answer = id_text answer
@@ -155,9 +141,6 @@ event_closing n event (end.Done answer) = ok_line n (answer_text event answer)
 event_closing n event (end.Denied fault) = denial_line n fault
 
 -- ---- the state and the jobs
-
-abbrev pub group_part : State → List ℕ
-group_part s = codes " coord " ++ decimal s.coordinator ++ codes " group " ++ group_text s.group
 
 abbrev pub sets_part : State → List ℕ
 sets_part s =

@@ -1,12 +1,13 @@
 // The line that closes the answer to a request.
-ghost use Rattle.std.specs.Prelude.{◌≡◌, ◌++◌, [], OnOk, decimal};
-ghost use Rattle.node_session.specs.Text.{answer_text, bad_line, closing, core_name, denial_line, denial_word, event_closing, fault_name, ok_line, refused_line, unsealed_name};
+ghost use Rattle.std.specs.Prelude.{◌≡◌, ◌++◌, [], OnOk};
+ghost use Rattle.node_session.specs.Text.{answer_text, bad_line, closing, denial_line, denial_word, event_closing, fault_name, ok_line, refused_line, unsealed_name};
 
 use crate::asked::Unsealed;
 use crate::ended::Ended;
 use console_text::{push_number, push_text};
 use durable_node::NodeFault;
-use node_core::{CoreFault, Event};
+use node_core::Event;
+use node_words::{push_core_fault, push_id, push_named_number};
 use std::alloc::AllocError;
 
 /// Adds how request `number` ended, which asked this event.
@@ -82,10 +83,7 @@ fn push_answer(text: &mut Vec<u8>, event: &Event, answer: Option<u64>) -> Result
     ensures { OnOk result (text.new.items ≡ text.old.items ++ answer_text event.now answer) }
 {
     match (event, answer) {
-        (Event::Submit(_), Some(id)) => {
-            push_text(text, " id ")?;
-            push_number(text, id)
-        }
+        (Event::Submit(_), id) => push_id(text, id),
         _ => Ok(()),
     }
 }
@@ -121,26 +119,4 @@ fn push_fault(text: &mut Vec<u8>, fault: NodeFault) -> Result<(), AllocError>
         NodeFault::Damaged(sector) => push_named_number(text, "Damaged ", sector),
         NodeFault::TooSmall => push_text(text, "TooSmall"),
     }
-}
-
-fn push_core_fault(text: &mut Vec<u8>, fault: CoreFault) -> Result<(), AllocError>
-    ensures { OnOk result (text.new.items ≡ text.old.items ++ core_name fault) }
-{
-    match fault {
-        CoreFault::Stranger => push_text(text, "Stranger"),
-        CoreFault::Down => push_text(text, "Down"),
-        CoreFault::NotCoordinator(id) => {
-            push_named_number(text, "NotCoordinator ", u64::from(id.number()))
-        }
-        CoreFault::NotNormal => push_text(text, "NotNormal"),
-        CoreFault::UnknownJob => push_text(text, "UnknownJob"),
-        CoreFault::NoMemory => push_text(text, "NoMemory"),
-    }
-}
-
-fn push_named_number(text: &mut Vec<u8>, name: &str, number: u64) -> Result<(), AllocError>
-    ensures { OnOk result (text.new.items ≡ text.old.items ++ (name.now ++ decimal number)) }
-{
-    push_text(text, name)?;
-    push_number(text, number)
 }

@@ -1,10 +1,10 @@
 // The line before what an event brings that a tick or a loss made.
 ghost use Rattle.std.specs.Prelude.{◌≡◌, ◌++◌, OnOk};
 ghost use Rattle.node_session.specs.Text.{fired_line};
-ghost use Rattle.node_session.specs.Words.{event_word};
 
 use console_text::push_text;
 use node_core::Event;
+use node_words::event_word;
 use std::alloc::AllocError;
 
 pub(crate) fn push_fired(text: &mut Vec<u8>, event: &Event) -> Result<(), AllocError>
@@ -13,16 +13,4 @@ pub(crate) fn push_fired(text: &mut Vec<u8>, event: &Event) -> Result<(), AllocE
     push_text(text, "fired ")?;
     push_text(text, event_word(event))?;
     push_text(text, "\n")
-}
-
-fn event_word(event: &Event) -> &'static str
-    ensures { result.now ≡ event_word event.now }
-{
-    match event {
-        Event::Timer(timer) => timer.word(),
-        Event::Deliver(_) => "deliver",
-        Event::Submit(_) => "submit",
-        Event::Finish(_, _) => "finish",
-        Event::Recover => "recover",
-    }
 }

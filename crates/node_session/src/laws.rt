@@ -42,8 +42,9 @@ pub fn no_stamp_twice()
 
 /// Under a key each `send` line of an answer is the sealing of a message that the step hands out, with a stamp of its own.
 pub fn sends_sealed()
-    // Promise: The `send` lines of an answer are those of the messages that the step hands out, in their order: each is the sealing of its
-    // message under the first key, with this life and the next number; without a key it is the message itself.
+    // Promise: The `send` lines of an answer are those of the messages that the step hands out, in their order, where what is handed out
+    // are messages of the protocol: each is the sealing of its message under the first key, with this life and the next number; without a
+    // key it is the message itself.
     // Also: Session::feed.
     // Refuses: another_message_sealed, stamp_used_twice, fallen_node_sends.
     ensures { SendsSealed }

@@ -14,7 +14,6 @@ mod sending;
 mod session;
 mod showing;
 mod unread;
-mod words;
 
 pub use asked::{Asked, Unsealed, read_line};
 pub use ended::Ended;

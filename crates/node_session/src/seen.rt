@@ -6,10 +6,10 @@ ghost use Rattle.node_session.specs.Changes.{changes, drop_news, drops, gone_by,
 
 use crate::ended::Ended;
 use crate::showing::push_held;
-use crate::words::{phase_word, push_group, push_ids};
 use console_text::{push_number, push_text};
 use group_task::NodeId;
 use node_core::{Event, Hand, InHand, Phase, Vector};
+use node_words::{phase_word, push_group, push_ids};
 use std::alloc::{AllocError, Global};
 use std::marker::Model;
 use wire_msg::Body;

@@ -176,7 +176,7 @@ impl<D: SectorDisk + Drop> Session<D> {
         // takes_what_was_held, gone_before_it_is_done, no_memory_goes_on.
         // Promise: A tick or a loss names each event that it makes; a recovery writes what is kept; a tick sends again what the
         // node sent and still waits for, once a round trip.
-        // Refuses: fired_as_another, sent_again_without_end, pace::sent_again_at_once.
+        // Refuses: node_words::fired_as_another, sent_again_without_end, pace::sent_again_at_once.
         // Promise: Behind the line that says that the device failed nothing is answered.
         // Refuses: device_goes_on.
         // Promise: What was fed decides the text, however it was cut, and what was written of it may be cleared; what isn't a whole

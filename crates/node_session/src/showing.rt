@@ -6,15 +6,14 @@ ghost use Rattle.node_core.specs.State.{is_down, state_of};
 ghost use Rattle.durable_node.specs.Node.{Stands};
 ghost use Rattle.histories.specs.NodeState.{NodeState};
 ghost use Rattle.node_session.specs.Changes.{held_text};
-ghost use Rattle.console_text.specs.Words.{work_text};
-ghost use Rattle.node_session.specs.Text.{asks_part, group_part, hand_line, jobs_lines, jobs_part, keeps_by, keeps_line, keeps_news, pending_line, sets_part, state_line, up_line};
+ghost use Rattle.node_session.specs.Text.{asks_part, hand_line, jobs_lines, jobs_part, keeps_by, keeps_line, keeps_news, pending_line, sets_part, state_line, up_line};
 
 use crate::ended::Ended;
-use crate::words::{phase_word, push_group, push_ids, push_truth};
-use console_text::{push_number, push_text, push_work};
+use console_text::{push_number, push_text};
 use durable_node::DurableNode;
-use job_model::{Job, JobTable, Work};
+use job_model::{Job, JobTable};
 use node_core::{Event, InHand, Phase, Vector};
+use node_words::{phase_word, push_group_part, push_ids, push_truth, push_work_of};
 use sector_disk::SectorDisk;
 use std::alloc::AllocError;
 
@@ -105,7 +104,7 @@ fn push_kept(text: &mut Vec<u8>, job: &Job) -> Result<(), AllocError>
     push_text(text, "pending ")?;
     push_number(text, job.id)?;
     push_text(text, " ")?;
-    push_parts(text, &job.work)?;
+    push_work_of(text, &job.work)?;
     push_text(text, "\n")
 }
 
@@ -128,18 +127,7 @@ pub(crate) fn push_held(text: &mut Vec<u8>, job: &InHand) -> Result<(), AllocErr
     push_text(text, " ")?;
     push_number(text, job.id)?;
     push_text(text, " ")?;
-    push_parts(text, &job.work)
-}
-
-fn push_parts(text: &mut Vec<u8>, work: &Work) -> Result<(), AllocError>
-    ensures { OnOk result (text.new.items ≡ text.old.items ++ work_text work.now.queue work.now.payload work.now.priority) }
-{
-    push_work(
-        text,
-        work.queue.number(),
-        work.payload.as_slice(),
-        work.priority,
-    )
+    push_work_of(text, &job.work)
 }
 
 fn push_up(
@@ -157,15 +145,6 @@ fn push_up(
     push_asks(text, vector)?;
     push_jobs(text, vector, count, table)?;
     push_text(text, "\n")
-}
-
-fn push_group_part(text: &mut Vec<u8>, vector: &Vector) -> Result<(), AllocError>
-    ensures { OnOk result (text.new.items ≡ text.old.items ++ group_part (state_of vector.now)) }
-{
-    push_text(text, " coord ")?;
-    push_number(text, u64::from(vector.standing.coordinator.number()))?;
-    push_text(text, " group ")?;
-    push_group(text, vector.standing.group)
 }
 
 fn push_sets(text: &mut Vec<u8>, vector: &Vector) -> Result<(), AllocError>

@@ -1,6 +1,7 @@
 // What comes of an act.
 use node_core::Refusal as NodeRefusal;
 use sim_net::NetFault;
+use thiserror::Error;
 
 /// What came of an act.
 #[derive(Clone, Copy, Debug, PartialEq, Eq)]
@@ -19,10 +20,13 @@ pub enum Outcome {
 }
 
 /// Why an act was refused.
-#[derive(Clone, Copy, Debug, PartialEq, Eq)]
+#[derive(Clone, Copy, Debug, PartialEq, Eq, Error)]
 pub enum Refusal {
+    #[error(transparent)]
     Node(NodeRefusal),
+    #[error(transparent)]
     Net(NetFault),
     /// It names a node outside the cluster.
+    #[error("a node outside the cluster")]
     Stranger,
 }

@@ -7,7 +7,8 @@ use Rattle.line_words.specs.Lines.{lines_of}
 use Rattle.group_task.specs.declared.node.TheConstants.{NODES}
 use Rattle.schedule.specs.declared.act.Act.{Act}
 use Rattle.schedule.specs.declared.size.Size.{Size}
-use Rattle.schedule.specs.declared.size.TheConstants.{LEAST_SLOTS, MOST_SLOTS, MOST_ACTS}
+use Rattle.disk_sector.specs.declared.layout.TheConstants.{LEAST_SLOTS, MOST_SLOTS}
+use Rattle.schedule.specs.declared.size.TheConstants.{MOST_ACTS}
 use Rattle.schedule.specs.Fields.{kept_if, number_between}
 use Rattle.schedule.specs.Acts.{act_of, of_two}
 use Rattle.schedule.specs.Text.{Plan, plan, size, named_size, size_of, in_front, acts_from, with_acts, behind_size, plan_from, plan_of}

@@ -3,7 +3,8 @@ use Rattle.std.specs.Prelude.{List, length, ◌≤◌}
 use Rattle.group_task.specs.declared.node.TheConstants.{NODES}
 use Rattle.schedule.specs.declared.act.Act.{Act}
 use Rattle.schedule.specs.declared.size.Size.{Size}
-use Rattle.schedule.specs.declared.size.TheConstants.{LEAST_SLOTS, MOST_SLOTS, MOST_ACTS}
+use Rattle.disk_sector.specs.declared.layout.TheConstants.{LEAST_SLOTS, MOST_SLOTS}
+use Rattle.schedule.specs.declared.size.TheConstants.{MOST_ACTS}
 
 -- a cluster that can be opened, and so many acts that can be run in it
 pub record IsWithinLimits (size : Size) (acts : List Act) : Type 0 where

@@ -1,10 +1,10 @@
 use crate::act::Act;
 
-/// How many slots a journal has at least.
-pub const LEAST_SLOTS: u64 = 4;
+/// For how many messages a link between two nodes that run in threads has room at least.
+pub const LEAST_CAPACITY: u64 = 1;
 
-/// How many slots a journal has at most.
-pub const MOST_SLOTS: u64 = 4096;
+/// For how many messages such a link has room at most.
+pub const MOST_CAPACITY: u64 = 65_536;
 
 /// How many acts a schedule has at most.
 pub const MOST_ACTS: u64 = 65_536;
@@ -14,7 +14,7 @@ pub const MOST_ACTS: u64 = 65_536;
 pub struct Size {
     /// How many nodes it has: 1 to 128.
     pub nodes: u8,
-    /// How many slots each node's journal has: 4 to 4,096.
+    /// How many slots each node's journal has: from `LEAST_SLOTS` to `MOST_SLOTS`.
     pub slots: u64,
 }
 

@@ -1,5 +1,12 @@
 //! Messages that only those can make who know the key of their cluster: each goes with a stamp and its HMAC-SHA256 behind it. It doesn't hide what
 //! a message says. Who has taken a message keeps its stamp, and takes no other of that sender that isn't above it.
+//!
+//! ```
+//! let key = cluster_key(alloc, secret, nodes, b"orders")?;
+//! key.seal(&mut message, Stamp { life, number })?;                // the stamp and a tag are behind the bytes now
+//! let opened = key.open(&message)?;                               // None: not sealed under this key, or spoiled
+//! let is_new = opened.stamp.is_above(last);                       // else it was recorded, and is sent again
+//! ```
 #![tactic(auto)]
 
 mod cluster;

@@ -15,6 +15,18 @@ IsVerdict hs (NotARun node index) =
     (past : List ℕ) × IsLegal hs past × IsLeast hs past × IsStuck hs past × (index ≡ taken node past) × (index < length (history hs node))
     × ((m : ℕ) → m < node → taken m past ≡ length (history hs m))
 
+-- the order of the run, where the verdict is one
+abbrev pub IsOrderOf : Verdict → List ℕ → Type 0
+IsOrderOf (Run run) order = order ≡ run.items
+IsOrderOf (NotARun node index) order = Unit {0}
+
+-- the entries that can be taken are, in this order: at each turn that of the least node that could, until none could
+pub record AreTaken (hs : List (List Claim)) (verdict : Verdict) (order : List ℕ) : Type 0 where
+  pub legal : IsLegal hs (reverse order)
+  pub least : IsLeast hs (reverse order)
+  pub stuck : IsStuck hs (reverse order)
+  pub run : IsOrderOf verdict order
+
 -- some order of the histories is a run
 abbrev pub IsRun : List (List Claim) → Type 0
 IsRun hs = (order : List ℕ) × IsLegal hs order × IsComplete hs order

@@ -3,7 +3,7 @@ ghost use Rattle.group_task.specs.Ids.{has, without_id};
 ghost use Rattle.trace_check.specs.Desks.{Fits};
 ghost use Rattle.trace_check.specs.Leftovers.{AreLeftovers};
 ghost use Rattle.trace_check.specs.Orders.{history};
-ghost use Rattle.trace_check.specs.Verdicts.{IsVerdict, DecidesRun};
+ghost use Rattle.trace_check.specs.Verdicts.{AreTaken, IsVerdict, IsOrderOf, DecidesRun};
 
 use crate::desk::{Desk, Judgement, Seat, judge, post_all};
 use crate::leaving::leftovers;
@@ -35,6 +35,8 @@ pub fn check(alloc: Global, trace: &Trace) -> Result<Verdict, AllocError>
 pub struct Examined {
     pub verdict: Verdict,
     pub left: Vec<Leftover>,
+    /// The nodes in the order in which their entries were taken, until no entry more could be.
+    pub taken: Vec<NodeId>,
 }
 
 /// The verdict, as `check` gives it, and why no order takes all entries where none does.
@@ -42,11 +44,20 @@ pub fn examine(alloc: Global, trace: &Trace) -> Result<Examined, AllocError>
     ensures verdict { IfOk result (λ examined. IsVerdict trace.now examined.verdict) }
     ensures decides { IfOk result (λ examined. DecidesRun trace.now examined.verdict) }
     ensures left { IfOk result (λ examined. AreLeftovers trace.now examined.left.items) }
+    // Promise: The order is handed on in which the entries were taken that can be: that of the verdict where it is a run, else a legal
+    // one after which no entry more can be taken.
+    // Refuses: run_taken_in_another_order, last_turn_left_out.
+    ensures taken { IfOk result (λ examined. AreTaken trace.now examined.verdict examined.taken.items) }
 {
     let desk = taken(alloc, trace)?;
     let left = leftovers(alloc, trace, &desk)?;
+    let taken = desk.order.to_vec(alloc)?;
     let verdict = decided(trace, desk);
-    Ok(Examined { verdict, left })
+    Ok(Examined {
+        verdict,
+        left,
+        taken,
+    })
 }
 
 /// A check at its end: no entry more can be taken.
@@ -160,6 +171,7 @@ fn decided(trace: &Trace, desk: Desk<'_>) -> Verdict
     requires none { desk.ready ≡ [] }
     ensures verdict { IsVerdict trace.now result }
     ensures decides { DecidesRun trace.now result }
+    ensures order { IsOrderOf result desk.entry.order.items }
 {
     verdict(trace, desk)
 }
@@ -168,7 +180,8 @@ fn decided(trace: &Trace, desk: Desk<'_>) -> Verdict
 fn verdict(trace: &Trace, desk: Desk<'_>) -> Verdict
     requires fits { Fits trace.now desk }
     requires none { desk.ready ≡ [] }
-    ensures { IsVerdict trace.now result }
+    ensures verdict { IsVerdict trace.now result }
+    ensures order { IsOrderOf result desk.entry.order.items }
 {
     for number in 0..trace.nodes() {
         let id = NodeId::numbered(number);

@@ -1,4 +1,12 @@
 //! Traces of a cluster, and whether some order of their entries is a run.
+//!
+//! ```
+//! let trace = trace_text::read(alloc, text)?;
+//! match check(alloc, &trace)? {
+//!     Verdict::Run(order) => {}                                   // the nodes in the order in which their entries were taken
+//!     Verdict::NotARun(node, index) => {}                         // the least node with entries left, and its next; `examine` says why
+//! }
+//! ```
 #![tactic(auto)]
 
 mod checking;

@@ -2,7 +2,8 @@
 #![tactic(auto)]
 
 mod judging;
+mod ongoing;
 mod reporting;
 
-pub use judging::{bad_printout, trace, verdict_printout};
-pub use reporting::report;
+pub use judging::{Stage, bad_printout, trace, verdict_printout};
+pub use reporting::{push_leftover, push_message, report};

@@ -46,7 +46,7 @@ fn push_look(text: &mut Vec<u8>, left: &[Leftover]) -> Result<(), AllocError>
 }
 
 /// Whether an entry waits.
-fn waits(holdup: &Holdup) -> bool
+pub(crate) fn waits(holdup: &Holdup) -> bool
     ensures { result ≡ waits holdup.now }
 {
     match holdup {
@@ -94,8 +94,8 @@ fn push_leftovers(
     Ok(())
 }
 
-/// Adds the line of an entry that is left.
-fn push_leftover(
+/// Adds the line of an entry that is left, behind the end of the line before.
+pub fn push_leftover(
     alloc: Global,
     text: &mut Vec<u8>,
     trace: &Trace,
@@ -203,7 +203,8 @@ fn push_messages(alloc: Global, text: &mut Vec<u8>, messages: &[Message]) -> Res
     Ok(())
 }
 
-fn push_message(alloc: Global, text: &mut Vec<u8>, message: &Message) -> Result<(), AllocError>
+/// Adds a message in hex digits, behind a space.
+pub fn push_message(alloc: Global, text: &mut Vec<u8>, message: &Message) -> Result<(), AllocError>
     ensures { OnOk result (text.new.items ≡ text.old.items ++ message_text message.now) }
 {
     let Ok(bytes) = encode(alloc, message) else {

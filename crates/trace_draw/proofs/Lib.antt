@@ -1,5 +1,10 @@
-mod Lines
-mod Orders
-mod Senders
+mod Lists
 mod Seats
+mod Mails
+mod Steps
+mod Sources
+mod Poses
+mod Lefts
+mod Wholes
+mod Names
 mod Texts

@@ -8,45 +8,16 @@ use Rattle.trace_check.specs.Claims.{Claim, after_claim}
 use Rattle.trace_check.specs.Orders.{history, taken, state_of, MayTake}
 use Rattle.trace_check.specs.Twins.{Twin}
 use Rattle.trace_check.proofs.PublicLaws.{twin_in, turns, none_past}
-use Rattle.trace_draw.specs.declared.turns.Seat.{Seat}
-use Rattle.trace_draw.specs.declared.turn.Turn.{Turn}
-use Rattle.trace_draw.specs.Turns.{AreSeats, AreFirst, IsTurn, seat_at}
-
--- ---- lists
-
-set_length : (xs : List Seat) (i : ℕ) (v : Seat) → length (slice_set xs i v) ≡ length xs
-set_length [] i v = refl
-set_length (x ∷ xs) zero v = refl
-set_length (x ∷ xs) (suc i) v = ap suc (set_length xs i v)
-
--- the element that was set, or another one
-set_at : (xs : List Seat) (i : ℕ) (v : Seat) (k : ℕ) (t : Seat) → slice_get (slice_set xs i v) k ≡ Some t → ((k ≡ i) × (t ≡ v)) ⊎ ((k ≢ i) × (slice_get xs k ≡ Some t))
-set_at [] i v k t at = absurd cc
-set_at (x ∷ xs) zero v zero t at = inl (refl, sym (same_Some v t at))
-set_at (x ∷ xs) zero v (suc k) t at = inr (λ same. absurd cc, at)
-set_at (x ∷ xs) (suc i) v zero t at = inr (λ same. absurd cc, at)
-set_at (x ∷ xs) (suc i) v (suc k) t at = elim (set_at xs i v k t at) [ inl here ↦ inl (ap suc here.0, here.1) | inr other ↦ inr (λ same. other.0 (omega (arith, same)), other.1) ]
-
-last_or_before : {A : Type 0} (xs : List A) (v t : A) (n : ℕ) → slice_get (xs ++ v ∷ []) n ≡ Some t → (slice_get xs n ≡ Some t) ⊎ ((n ≡ length xs) × (t ≡ v))
-last_or_before [] v t zero at = inr (refl, sym (same_Some v t at))
-last_or_before [] v t (suc n) at = absurd cc
-last_or_before (x ∷ xs) v t zero at = inl at
-last_or_before (x ∷ xs) v t (suc n) at = elim (last_or_before xs v t n at) [ inl before ↦ inl before | inr now ↦ inr (ap suc now.0, now.1) ]
-
--- ---- turns
-
-pub turns_more : (hs : List (List Claim)) (order : List ℕ) (ts : List Turn) (t : Turn) → AreFirst hs order ts → IsTurn hs order (length ts) t → AreFirst hs order (ts ++ t ∷ [])
-turns_more hs order ts t each is k u at = elim (last_or_before ts t u k at) [
-  | inl early ↦ each k u early
-  | inr now ↦ subst (λ (v : Turn). IsTurn hs order k v) (sym now.1) (subst (λ (j : ℕ). IsTurn hs order j t) (sym now.0) is)
-]
+use Rattle.trace_draw.specs.declared.walk.Seat.{Seat}
+use Rattle.trace_draw.specs.Walks.{AreSeats, seat_at}
+use Rattle.trace_draw.proofs.Lists.{set_length, set_at, last_or_before}
 
 -- ---- nodes
 
 pub taken_same : (n : ℕ) (past : List ℕ) → taken n (n ∷ past) ≡ taken n past + 1
 taken_same n past = let same : (n == n) ≡ true = grind (arith, nat_tests) in rw same refl
 
-taken_other : (k n : ℕ) (past : List ℕ) → k ≢ n → taken k (n ∷ past) ≡ taken k past
+pub taken_other : (k n : ℕ) (past : List ℕ) → k ≢ n → taken k (n ∷ past) ≡ taken k past
 taken_other k n past other = elim (cases_Bool (n == k)) [ inl same ↦ absurd (other (sym (eqb-true n k same))) | inr apart ↦ rw apart refl ]
 
 -- a node after its turn

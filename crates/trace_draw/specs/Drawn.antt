@@ -1,38 +1,72 @@
 -- What the command `draw` prints.
-use Rattle.std.specs.Prelude.{ℕ, ◌≡◌, List, true, length, Option, Result, Ok, Err}
+use Rattle.std.specs.Prelude.{ℕ, ◌≡◌, ◌⊎◌, List, [], reverse, Bool, true, false, Option, Some, None, Result, Ok, Err}
 use Rattle.console_text.specs.Ends.{Outcome, refused}
+use Rattle.trace_check.specs.declared.leftover.Leftover.{Leftover}
+use Rattle.trace_check.specs.declared.order.Order.{Order}
 use Rattle.trace_check.specs.declared.trace.Verdict.{Verdict}
 use Rattle.trace_check.specs.declared.trace.Verdict.TheVariants.{Run, NotARun}
 use Rattle.trace_check.specs.Claims.{Claim}
-use Rattle.trace_check.specs.Verdicts.{IsVerdict, DecidesRun}
+use Rattle.trace_check.specs.Leftovers.{AreLeftovers}
+use Rattle.trace_check.specs.Orders.{IsLegal, IsComplete}
+use Rattle.trace_check.specs.Verdicts.{IsVerdict, DecidesRun, AreTaken}
 use Rattle.trace_text.specs.declared.fault.Spot.{Spot}
+use Rattle.trace_text.specs.Ordered.{Ordered, order_of, ordered_by}
 use Rattle.trace_text.specs.Wholes.{trace_of}
-use Rattle.trace_console.specs.Judged.{verdict_printed, bad_trace}
-use Rattle.trace_draw.specs.declared.turn.Turn.{Turn}
-use Rattle.trace_draw.specs.Turns.{AreTurns}
+use Rattle.trace_console.specs.Judged.{bad_trace}
+use Rattle.trace_draw.specs.declared.drawing.Form.{Form}
+use Rattle.trace_draw.specs.declared.drawing.Form.TheVariants as form
+use Rattle.trace_draw.specs.declared.turn.Plot.{Plot}
+use Rattle.trace_draw.specs.Page.{page_text}
 use Rattle.trace_draw.specs.Picture.{picture}
+use Rattle.trace_draw.specs.Turns.{IsPlot}
 
--- the text is the picture of the run that these histories are in this order
-pub record IsPicture (hs : List (List Claim)) (order text : List ℕ) : Type 0 where
-  pub turns : List Turn
-  pub are_turns : AreTurns hs order turns
-  pub is_text : text ≡ picture (length hs) turns
+-- what is drawn, as a picture or as a page
+abbrev pub drawn_as : Form → List (List Claim) → Plot → List Leftover → List ℕ
+drawn_as form.Picture hs p left = picture hs p left
+drawn_as form.Page hs p left = page_text hs p left
 
--- the picture of a run; of no run what `trace` prints
-abbrev pub DrawsVerdict : List (List Claim) → Verdict → Outcome → Type 0
-DrawsVerdict hs (Run order) outcome = (outcome.good ≡ true) × IsPicture hs order.items outcome.text
-DrawsVerdict hs (NotARun node index) outcome = outcome ≡ verdict_printed (NotARun node index)
+-- the text shows the turns of this order, and the entries that are left
+pub record Shows (form : Form) (hs : List (List Claim)) (order : Order) (recorded : Bool) (left : List Leftover) (text : List ℕ) : Type 0 where
+  pub plot : Plot
+  pub is_plot : IsPlot hs order recorded plot
+  pub is_text : text ≡ drawn_as form hs plot left
 
--- what is drawn for a verdict on these histories, which decides whether some order of them is a run
-pub record IsDrawing (hs : List (List Claim)) (outcome : Outcome) : Type 0 where
+-- all entries can be taken in this order
+abbrev pub IsRunIn : List (List Claim) → List ℕ → Type 0
+IsRunIn hs order = IsLegal hs (reverse order) × IsComplete hs (reverse order)
+
+-- the run that was recorded is drawn, in the order and with the messages' numbers that the record gives
+pub record DrawsRecorded (form : Form) (hs : List (List Claim)) (given : Ordered) (outcome : Outcome) : Type 0 where
+  pub order : Order
+  pub is_order : ordered_by order ≡ given
+  pub good : outcome.good ≡ true
+  pub shows : Shows form hs order true [] outcome.text
+
+abbrev pub is_run : Verdict → Bool
+is_run (Run order) = true
+is_run (NotARun node index) = false
+
+-- what can be taken is drawn, in the order that the checker takes it, and what is left
+pub record DrawsTaken (form : Form) (hs : List (List Claim)) (outcome : Outcome) : Type 0 where
   pub verdict : Verdict
+  pub order : Order
+  pub left : List Leftover
   pub is_verdict : IsVerdict hs verdict
   pub decides : DecidesRun hs verdict
-  pub drawn : DrawsVerdict hs verdict outcome
+  pub taken : AreTaken hs verdict order.nodes.items
+  pub unnumbered : order.messages.items ≡ []
+  pub are_left : AreLeftovers hs left
+  pub good : outcome.good ≡ is_run verdict
+  pub shows : Shows form hs order false left outcome.text
 
-abbrev pub IsDrawnBy : Result (List (List Claim)) (Option Spot) → Outcome → Type 0
-IsDrawnBy (Ok hs) outcome = IsDrawing hs outcome
-IsDrawnBy (Err spot) outcome = outcome ≡ refused (bad_trace spot)
+-- the order that the text gives is drawn where all entries can be taken in it, and only there
+abbrev pub IsDrawing : Form → List (List Claim) → Option Ordered → Outcome → Type 0
+IsDrawing form hs None outcome = DrawsTaken form hs outcome
+IsDrawing form hs (Some given) outcome = (IsRunIn hs given.0 × DrawsRecorded form hs given outcome) ⊎ ((IsRunIn hs given.0 → ⊥) × DrawsTaken form hs outcome)
 
-abbrev pub IsDrawn : List ℕ → Outcome → Type 0
-IsDrawn text outcome = IsDrawnBy (trace_of text) outcome
+abbrev pub IsDrawnBy : Form → Option Ordered → Result (List (List Claim)) (Option Spot) → Outcome → Type 0
+IsDrawnBy form given (Ok hs) outcome = IsDrawing form hs given outcome
+IsDrawnBy form given (Err spot) outcome = outcome ≡ refused (bad_trace spot)
+
+abbrev pub IsDrawn : Form → List ℕ → Outcome → Type 0
+IsDrawn form text outcome = IsDrawnBy form (order_of text) (trace_of text) outcome

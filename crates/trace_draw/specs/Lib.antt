@@ -1,3 +1,13 @@
+pub mod Stays
 pub mod Turns
+pub mod Walks
+pub mod Poses
+pub mod Untaken
+pub mod Mails
+pub mod Labels
+pub mod Places
+pub mod Bands
+pub mod Signs
 pub mod Picture
+pub mod Page
 pub mod Drawn

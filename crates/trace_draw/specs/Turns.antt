@@ -1,83 +1,150 @@
 -- What is drawn of a run of a trace's entries, turn by turn.
-use Rattle.std.specs.Prelude.{ℕ, ◌≡◌, ◌<◌, ◌+◌, if◌then◌else◌, List, [], ◌∷◌, length, reverse, take, slice_get, Option, Some, None}
-use Rattle.group_task.specs.Group.{Group, same_group}
+use Rattle.std.specs.Prelude.{ℕ, ◌≡◌, ◌<◌, ◌≤◌, ◌+◌, ◌++◌, ◌⊎◌, ◌↔◌, IsTrue, Bool, true, List, [], ◌∷◌, length, map, slice_get, Option, Some, None}
+use Rattle.group_task.specs.Ids.{has}
 use Rattle.wire_msg.specs.Envelope.{Envelope}
-use Rattle.node_core.specs.declared.phase.Phase.{Phase}
-use Rattle.node_core.specs.declared.phase.Phase.TheVariants.{Down, Election, Reorganization, Normal}
-use Rattle.histories.specs.Lists.{IsAmong}
-use Rattle.histories.specs.NodeState.{NodeState}
+use Rattle.trace_check.specs.declared.order.Order.{Order}
 use Rattle.trace_check.specs.Claims.{Claim, brought_by}
-use Rattle.trace_check.specs.Orders.{history, taken, state_of}
-use Rattle.trace_check.specs.Desks.{twin_at}
+use Rattle.trace_check.specs.Followed.{before}
+use Rattle.trace_check.specs.Orders.{history, taken}
+use Rattle.trace_draw.specs.declared.mail.Sending.{Sending}
+use Rattle.trace_draw.specs.declared.turn.Plot.{Plot}
 use Rattle.trace_draw.specs.declared.turn.Point.{Point}
+use Rattle.trace_draw.specs.declared.turn.Source.{Source}
 use Rattle.trace_draw.specs.declared.turn.Turn.{Turn}
-use Rattle.trace_draw.specs.declared.turns.Seat.{Seat}
-
--- the group that a node is in; none where it is down
-abbrev pub group_by : Phase → Group → Option Group
-group_by Down group = None
-group_by Election group = Some group
-group_by Reorganization group = Some group
-group_by Normal group = Some group
-
-abbrev pub group_in : NodeState → Option Group
-group_in s = group_by s.state.phase s.state.group
-
--- the group after a turn, unless it was that before
-abbrev pub new_group : Option Group → Option Group → Option Group
-new_group was None = None
-new_group None (Some new) = Some new
-new_group (Some old) (Some new) = if same_group old new then None else Some new
-
--- the nodes of the turns before this one, the newest first
-abbrev pub before : List ℕ → ℕ → List ℕ
-before order number = reverse (take number order)
+use Rattle.trace_draw.specs.Stays.{AreStays}
 
 -- the turn of this number takes this entry of this node
 pub record Takes (hs : List (List Claim)) (order : List ℕ) (number n : ℕ) (c : Claim) : Type 0 where
   pub node : slice_get order number ≡ Some n
   pub entry : slice_get (history hs n) (taken n (before order number)) ≡ Some c
 
--- the turn of this number sends the message
-pub record Sends (hs : List (List Claim)) (order : List ℕ) (m : Envelope) (number n : ℕ) : Type 0 where
-  pub claim : Claim
-  pub takes : Takes hs order number n claim
-  pub among : IsAmong m claim.sent
+-- ---- sendings
 
--- of the turns before the one of this number, this one was the last that sent the message
-pub record IsLastSender (hs : List (List Claim)) (order : List ℕ) (number : ℕ) (m : Envelope) (p : Point) : Type 0 where
-  pub before : p.turn < number
-  pub sends : Sends hs order m p.turn p.node
-  pub last : (k n : ℕ) → p.turn < k → k < number → Sends hs order m k n → ⊥
+abbrev pub sent_of : Option Claim → List Envelope
+sent_of None = []
+sent_of (Some c) = c.sent
+
+-- the sendings of a turn, from this place of its messages on
+abbrev pub sendings_of : Point → ℕ → List Envelope → List Sending
+sendings_of at place [] = []
+sendings_of at place (m ∷ ms) = record { message = m; at = at; place = place } ∷ sendings_of at (place + 1) ms
+
+-- all sendings of these turns, of which the newest is the first, in the order in which they came: the number of one is its place here
+abbrev pub sendings : List (List Claim) → List ℕ → List Sending
+sendings hs [] = []
+sendings hs (n ∷ past) = sendings hs past ++ sendings_of (record { turn = length past; node = n }) 0 (sent_of (slice_get (history hs n) (taken n past)))
+
+-- the sending of this number is one of this message
+pub record IsSending (all : List Sending) (m : Envelope) (number : ℕ) (s : Sending) : Type 0 where
+  pub there : slice_get all number ≡ Some s
+  pub same : s.message ≡ m
+
+pub record WasSent (all : List Sending) (m : Envelope) : Type 0 where
+  pub number : ℕ
+  pub sending : Sending
+  pub is : IsSending all m number sending
+
+-- it is the last one, and it is known whether it is alone
+pub record IsLast (all : List Sending) (m : Envelope) (number : ℕ) (alone : Bool) : Type 0 where
+  pub sending : Sending
+  pub is : IsSending all m number sending
+  pub last : (k : ℕ) (other : Sending) → IsSending all m k other → k ≤ number
+  pub only : IsTrue alone ↔ ((k : ℕ) (other : Sending) → IsSending all m k other → k ≡ number)
+
+-- the record's number is that of a sending of the message
+pub record IsNamed (all : List Sending) (m : Envelope) (named : Option ℕ) : Type 0 where
+  pub number : ℕ
+  pub names : named ≡ Some number
+  pub sending : Sending
+  pub is : IsSending all m number sending
+
+-- ---- sources
+
+abbrev pub source_at : Sending → Bool → Source
+source_at s sure = record { at = s.at; place = s.place; sure = sure }
+
+-- the last sending of the message, sure where there is no other
+pub record IsLastSource (all : List Sending) (m : Envelope) (source : Source) : Type 0 where
+  pub number : ℕ
+  pub is : IsLast all m number source.sure
+  pub at : source ≡ source_at is.sending source.sure
+
+-- the sending that the record names, where it is one of the message, and sure; else the last one
+abbrev pub IsSource : List Sending → Envelope → Option ℕ → Source → Type 0
+IsSource all m named source = ((is : IsNamed all m named) × (source ≡ source_at is.sending true)) ⊎ ((IsNamed all m named → ⊥) × IsLastSource all m source)
 
 -- where the message that was brought comes from, if one was
-abbrev pub ComeFrom : List (List Claim) → List ℕ → ℕ → List Envelope → Option Point → Type 0
-ComeFrom hs order number ms None = ms ≡ []
-ComeFrom hs order number ms (Some p) = (m : Envelope) × (ms ≡ m ∷ []) × IsLastSender hs order number m p
+abbrev pub ComeFrom : List Sending → List Envelope → Option ℕ → Option Source → Type 0
+ComeFrom all ms named None = ms ≡ []
+ComeFrom all ms named (Some source) = (m : Envelope) × (ms ≡ m ∷ []) × IsSource all m named source
 
--- what is drawn of the turn of this number, which takes this entry
-pub record IsTurnOf (hs : List (List Claim)) (order : List ℕ) (number : ℕ) (c : Claim) (t : Turn) : Type 0 where
-  pub takes : Takes hs order number t.at.node c
+abbrev pub named_by : Option (Option ℕ) → Option ℕ
+named_by None = None
+named_by (Some named) = named
+
+-- the number that the record gives for a turn, if it does
+abbrev pub named_at : List (Option ℕ) → ℕ → Option ℕ
+named_at messages number = named_by (slice_get messages number)
+
+-- of the turn of this number: only what was sent before it can have been brought
+abbrev pub IsSourceOf : List (List Claim) → Order → ℕ → Claim → Option Source → Type 0
+IsSourceOf hs order number c source = ComeFrom (sendings hs (before order.nodes.items number)) (brought_by c.deed) (named_at order.messages.items number) source
+
+abbrev pub IsSourceAt : List (List Claim) → Order → ℕ → Option Source → Type 0
+IsSourceAt hs order number source = (n : ℕ) (c : Claim) → Takes hs order.nodes.items number n c → IsSourceOf hs order number c source
+
+abbrev pub AreSources : List (List Claim) → Order → List (Option Source) → Type 0
+AreSources hs order sources = (length sources ≡ length order.nodes.items) × ((k : ℕ) (source : Option Source) → slice_get sources k ≡ Some source → IsSourceAt hs order k source)
+
+-- ---- what was never brought
+
+-- some turn was brought the message that this turn sent at this place of its messages
+pub record IsTaken (sources : List (Option Source)) (number place : ℕ) : Type 0 where
+  pub later : ℕ
+  pub source : Source
+  pub brought : slice_get sources later ≡ Some (Some source)
+  pub turn : source.at.turn ≡ number
+  pub place_is : source.place ≡ place
+
+-- of these messages, sent by the turn of this number, one for this node was never brought
+pub record IsLeft (sources : List (Option Source)) (number : ℕ) (sent : List Envelope) (n : ℕ) : Type 0 where
+  pub place : ℕ
+  pub message : Envelope
+  pub at : slice_get sent place ≡ Some message
+  pub receiver : message.receiver ≡ n
+  pub untaken : IsTaken sources number place → ⊥
+
+abbrev pub AreLeft : List (Option Source) → ℕ → List Envelope → List ℕ → Type 0
+AreLeft sources number sent ids = (n : ℕ) → (has ids n ≡ true) ↔ IsLeft sources number sent n
+
+abbrev pub AreLeftAt : List (List Claim) → List ℕ → List (Option Source) → ℕ → List ℕ → Type 0
+AreLeftAt hs order sources number ids = (n : ℕ) (c : Claim) → Takes hs order number n c → AreLeft sources number c.sent ids
+
+abbrev pub AreUntaken : List (List Claim) → List ℕ → List (Option Source) → List (List ℕ) → Type 0
+AreUntaken hs order sources all = (length all ≡ length order) × ((k : ℕ) (ids : List ℕ) → slice_get all k ≡ Some ids → AreLeftAt hs order sources k ids)
+
+-- ---- turns
+
+-- what is drawn of the turn of this number, which takes this entry, where the turns have these sources
+pub record IsTurnOf (hs : List (List Claim)) (order : Order) (sources : List (Option Source)) (number : ℕ) (c : Claim) (t : Turn) : Type 0 where
+  pub takes : Takes hs order.nodes.items number t.at.node c
   pub number_is : t.at.turn ≡ number
-  pub index : t.index ≡ taken t.at.node (before order number)
+  pub index : t.index ≡ taken t.at.node (before order.nodes.items number)
   pub deed : t.deed ≡ c.deed
-  pub from : ComeFrom hs order number (brought_by c.deed) t.from
-  pub group : t.group ≡ new_group (group_in (state_of hs t.at.node t.index)) (group_in (state_of hs t.at.node (t.index + 1)))
+  pub from : IsSourceOf hs order number c t.from
+  pub untaken : AreLeft sources number c.sent t.untaken
 
-abbrev pub IsTurn : List (List Claim) → List ℕ → ℕ → Turn → Type 0
-IsTurn hs order number t = (c : Claim) × IsTurnOf hs order number c t
+abbrev pub IsTurn : List (List Claim) → Order → List (Option Source) → ℕ → Turn → Type 0
+IsTurn hs order sources number t = (c : Claim) × IsTurnOf hs order sources number c t
 
--- each of these is drawn for the turn of its place in the order
-abbrev pub AreFirst : List (List Claim) → List ℕ → List Turn → Type 0
-AreFirst hs order turns = (k : ℕ) (t : Turn) → slice_get turns k ≡ Some t → IsTurn hs order k t
+abbrev pub sources_of : List Turn → List (Option Source)
+sources_of turns = map (λ (t : Turn). t.from) turns
 
--- and there is one for each turn
-abbrev pub AreTurns : List (List Claim) → List ℕ → List Turn → Type 0
-AreTurns hs order turns = (length turns ≡ length order) × AreFirst hs order turns
+-- each turn of the order is drawn, in its place
+abbrev pub AreTurns : List (List Claim) → Order → List Turn → Type 0
+AreTurns hs order turns = (length turns ≡ length order.nodes.items) × ((k : ℕ) (t : Turn) → slice_get turns k ≡ Some t → IsTurn hs order (sources_of turns) k t)
 
--- a node after these turns, the newest first
-abbrev pub seat_at : List (List Claim) → List ℕ → ℕ → Seat
-seat_at hs past n = record { replica = twin_at hs past n; index = taken n past }
-
-abbrev pub AreSeats : List (List Claim) → List ℕ → List Seat → Type 0
-AreSeats hs past seats = (length seats ≡ length hs) × ((n : ℕ) (s : Seat) → slice_get seats n ≡ Some s → s ≡ seat_at hs past n)
+pub record IsPlot (hs : List (List Claim)) (order : Order) (recorded : Bool) (p : Plot) : Type 0 where
+  pub turns : AreTurns hs order p.turns.items
+  pub stays : AreStays hs order.nodes.items p.stays.items
+  pub recorded_is : p.recorded ≡ recorded

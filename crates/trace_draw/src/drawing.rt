@@ -1,52 +1,163 @@
-ghost use Rattle.std.specs.Prelude.{◌≡◌, ◌≤◌, ◌+◌, IfOk};
+ghost use Rattle.std.specs.Prelude.{◌≡◌, ◌≤◌, ◌+◌, [], reverse, option_map, IfOk};
 ghost use Rattle.console_text.specs.Ends.{Prints, outcome_of};
-ghost use Rattle.trace_draw.specs.Drawn.{IsDrawn, IsDrawing};
+ghost use Rattle.trace_check.specs.Orders.{IsLegal, IsComplete};
+ghost use Rattle.trace_console.specs.Reported.{IsReport, IsReported, IsTold};
+ghost use Rattle.trace_text.specs.Ordered.{ordered_by};
+ghost use Rattle.trace_draw.specs.Drawn.{DrawsRecorded, DrawsTaken, IsDrawing, IsDrawn, IsRunIn, drawn_as, is_run};
 
+use crate::paging::page;
 use crate::svg::picture;
+use crate::turn::Plot;
 use crate::turns::plot;
-use console_text::{Ending, Printout, Source, Trouble, print, read_source};
+use console_text::{Ended, Explained, Printout, Source, Trouble, print_explained, read_source};
 use std::alloc::{AllocError, Global};
 use std::io::{Read, Write};
-use trace_check::{Trace, Verdict, check};
-use trace_console::{bad_printout, verdict_printout};
-use trace_text::{TraceFault, read};
+use trace_check::{Examined, Leftover, Order, Trace, Verdict, examine, is_order};
+use trace_console::{bad_printout, report};
+use trace_text::{TraceFault, read, read_order};
 
-/// Reads a trace, and prints the picture of the run that its entries are, in the order that `trace` prints. Where they are none, or the
-/// text is no trace, it prints what `trace` does.
-pub fn draw<R: Read, W: Write>(alloc: Global, input: &mut Source<R>, output: &mut W) -> Ending
-    // Promise: What `draw` writes is the picture of the run that `check` gave, or what `trace` writes.
-    // Refuses: old_group_is_drawn, picture_ends_badly, any_turn_is_its_sender, arrows_in_place_of_marks, arrow_begins_at_its_end.
-    ensures prints { Prints IsDrawn (R.remaining input.old.reader) (W.contents output.old) (W.contents output.new) result }
+/// As what a run is drawn.
+#[derive(Clone, Copy, Debug, PartialEq, Eq)]
+pub enum Form {
+    /// An SVG.
+    Picture,
+    /// A page of HTML, which scrolls and zooms.
+    Page,
+}
+
+/// Reads a trace, and draws it: in the order that is recorded beside it where all entries can be taken in that, else in the order in which
+/// the checker takes them. Where no order takes all, what was taken is drawn, and what is left with its reason; the ending and what is handed
+/// on are then those of `trace`. A text that is no trace is answered as `trace` does.
+pub fn draw<R: Read, W: Write>(
+    alloc: Global,
+    form: Form,
+    input: &mut Source<R>,
+    output: &mut W,
+) -> Ended
+    // Promise: `draw` draws the run that was recorded: in the order that stands beside the trace exactly where all entries can be taken in
+    // it, and the picture says which order it is in.
+    // Refuses: order_of_the_checker_drawn, other_order_said_to_be_recorded, picture_ends_badly.
+    // Promise: A message that a turn was brought comes from the sending that the record names, where that is one of the same message that
+    // came before; else from the last such sending, which is said to be sure exactly where it is the only one.
+    // Refuses: arrow_from_the_wrong_turn, record_believed_without_a_look, first_of_many_is_sure.
+    // Promise: A node's stays are the longest spans in which it stands the same way, and cover all turns.
+    // Refuses: stay_never_ends.
+    // Promise: At a turn the nodes are marked for which it sent a message that no turn was brought.
+    // Refuses: taken_message_marked.
+    // Promise: Of a trace that is no run what can be taken is drawn, and each entry that is left, and `draw` ends as `trace` does.
+    // Refuses: no_run_drawn_as_a_run, nothing_is_left.
+    ensures prints { Prints (IsDrawn form) (R.remaining input.old.reader) (W.contents output.old) (W.contents output.new) result.ending }
+    ensures why { IsTold (R.remaining input.old.reader) result.ending result.why.items }
     ensures reads { input.old.left ≤ input.new.left + 16777216 }
 {
     let outcome = match read_source(alloc, input) {
-        Ok(bytes) => draw_text(alloc, &bytes).map_err(Trouble::from),
+        Ok(bytes) => draw_text(alloc, form, &bytes).map_err(Trouble::from),
         Err(trouble) => Err(trouble),
     };
-    print(output, outcome)
+    print_explained(alloc, output, outcome)
 }
 
-/// What `draw` prints for an input.
-fn draw_text(alloc: Global, text: &[u8]) -> Result<Printout, AllocError>
-    ensures { IfOk result (λ printout. IsDrawn text.now (outcome_of printout)) }
+/// What `draw` prints for an input, and what it says of it.
+fn draw_text(alloc: Global, form: Form, text: &[u8]) -> Result<Explained, AllocError>
+    ensures printed { IfOk result (λ explained. IsDrawn form text.now (outcome_of explained.printout)) }
+    ensures why { IfOk result (λ explained. IsReported text.now explained.why.items) }
 {
     match read(alloc, text) {
-        Ok(trace) => draw_trace(alloc, &trace),
-        Err(TraceFault::BadTrace(spot)) => bad_printout(alloc, spot),
+        Ok(trace) => {
+            let order = read_order(alloc, text)?;
+            draw_trace(alloc, form, &trace, &order)
+        }
+        Err(TraceFault::BadTrace(spot)) => {
+            let printout = bad_printout(alloc, spot)?;
+            Ok(printout.without_why(alloc))
+        }
         Err(TraceFault::NoMemory) => Err(AllocError),
     }
 }
 
-fn draw_trace(alloc: Global, trace: &Trace) -> Result<Printout, AllocError>
-    ensures { IfOk result (λ printout. IsDrawing trace.now (outcome_of printout)) }
+/// What is drawn of a trace beside which this order stands.
+fn draw_trace(
+    alloc: Global,
+    form: Form,
+    trace: &Trace,
+    order: &Option<Order>,
+) -> Result<Explained, AllocError>
+    ensures printed { IfOk result (λ explained. IsDrawing form trace.now (option_map ordered_by order.now) (outcome_of explained.printout)) }
+    ensures why { IfOk result (λ explained. IsReport trace.now explained.why.items) }
 {
-    let verdict = check(alloc, trace)?;
-    match &verdict {
-        Verdict::Run(order) => {
-            let turns = plot(alloc, trace, order)?;
-            let text = picture(alloc, trace.nodes(), &turns)?;
-            Ok(Printout { text, good: true })
-        }
-        Verdict::NotARun(_, _) => verdict_printout(alloc, &verdict),
+    let Some(order) = order else {
+        return draw_taken(alloc, form, trace);
+    };
+    if is_order(alloc, trace, &order.nodes)? {
+        draw_recorded(alloc, form, trace, order)
+    } else {
+        draw_taken(alloc, form, trace)
+    }
+}
+
+/// The run that was recorded.
+fn draw_recorded(
+    alloc: Global,
+    form: Form,
+    trace: &Trace,
+    order: &Order,
+) -> Result<Explained, AllocError>
+    requires { IsRunIn trace.now order.now.nodes.items }
+    ensures printed { IfOk result (λ explained. DrawsRecorded form trace.now (ordered_by order.now) (outcome_of explained.printout)) }
+    ensures why { IfOk result (λ explained. IsReport trace.now explained.why.items) }
+{
+    let plot = plot(alloc, trace, order, true)?;
+    let text = drawn_as(alloc, form, trace, &plot, &[])?;
+    let printout = Printout { text, good: true };
+    Ok(printout.without_why(alloc))
+}
+
+/// What can be taken, and what is left.
+fn draw_taken(alloc: Global, form: Form, trace: &Trace) -> Result<Explained, AllocError>
+    ensures printed { IfOk result (λ explained. DrawsTaken form trace.now (outcome_of explained.printout)) }
+    ensures why { IfOk result (λ explained. IsReport trace.now explained.why.items) }
+{
+    let Examined {
+        verdict,
+        left,
+        taken,
+    } = examine(alloc, trace)?;
+    let order = Order {
+        nodes: taken,
+        messages: Vec::new(alloc),
+    };
+    let plot = plot(alloc, trace, &order, false)?;
+    let text = drawn_as(alloc, form, trace, &plot, &left)?;
+    let why = report(alloc, trace, &left)?;
+    let good = is_run(&verdict);
+    Ok(Explained {
+        printout: Printout { text, good },
+        why,
+    })
+}
+
+/// Whether all entries can be taken.
+fn is_run(verdict: &Verdict) -> bool
+    ensures { result ≡ is_run verdict.now }
+{
+    match verdict {
+        Verdict::Run(_) => true,
+        Verdict::NotARun(_, _) => false,
+    }
+}
+
+/// The picture or the page.
+fn drawn_as(
+    alloc: Global,
+    form: Form,
+    trace: &Trace,
+    plot: &Plot,
+    left: &[Leftover],
+) -> Result<Vec<u8>, AllocError>
+    ensures { IfOk result (λ text. text.items ≡ drawn_as form trace.now plot.now left.now) }
+{
+    match form {
+        Form::Picture => picture(alloc, trace, plot, left),
+        Form::Page => page(alloc, trace, plot, left),
     }
 }

@@ -1,58 +1,119 @@
 //! The picture of a run, as an SVG text.
-ghost use Rattle.std.specs.Prelude.{◌≡◌, ◌≤◌, ◌++◌, IfOk, OnOk, length};
+ghost use Rattle.std.specs.Prelude.{◌≡◌, ◌≤◌, ◌/◌, ◌++◌, IfOk, OnOk, decimal, length};
 ghost use Rattle.group_task.specs.declared.node.TheConstants.{NODES};
-ghost use Rattle.trace_draw.specs.Picture.{head, style, lines_below, marks, arrows, picture};
+ghost use Rattle.trace_draw.specs.Places.{are_few};
+ghost use Rattle.trace_draw.specs.Picture.{all_left, arrows, drawn, frame, left_said, legend, marks, names_below, order_said, picture, width_by};
 
-use crate::signs::{push_arrow, push_down, push_life, push_mark, push_name, push_width};
-use crate::turn::Turn;
+use crate::bands::push_stays;
+use crate::places::{are_few, push_height, push_width, push_width_left};
+use crate::signs::{push_again, push_arrow, push_left, push_mark, push_name};
+use crate::style::{LEFT, LEGEND, POSSIBLE, RECORDED, STYLE};
+use crate::turn::{Plot, Turn};
 use console_text::push_text;
 use group_task::NodeId;
 use std::alloc::{AllocError, Global};
+use trace_check::{Leftover, Trace};
 
-/// The picture of the turns of so many nodes: a line for each node, in their order from the top, and for each turn from the left a mark on
-/// the line of its node, with an arrow to it from the turn that sent what it was brought.
-pub fn picture(alloc: Global, nodes: u8, turns: &[Turn]) -> Result<Vec<u8>, AllocError>
-    requires { nodes ≤ NODES }
-    ensures { IfOk result (λ text. text.items ≡ picture nodes turns.now) }
+/// The picture of a run. Time goes from left to right, by turns, and each node has a row: how it stands is a band in the colour of its
+/// group with a line whose form is its phase; each turn is a mark on it, with an arrow to it from the turn that sent what it was brought.
+/// Entries that are left stand behind the last turn.
+pub fn picture(
+    alloc: Global,
+    trace: &Trace,
+    plot: &Plot,
+    left: &[Leftover],
+) -> Result<Vec<u8>, AllocError>
+    // Promise: A picture has a band for each stay of a node that is up, in the colour of its group, and on it a line whose form is its
+    // phase; a mark for each turn; an arrow to each turn that was brought a message, from the turn that sent it, and said so where that
+    // isn't sure; a stub where messages came to none; and each entry that is left, with its reason. It says which order it shows.
+    // Refuses: arrows_in_place_of_marks, arrow_begins_at_its_end, election_drawn_as_normal, unsure_arrow_drawn_as_sure,
+    // untaken_messages_not_drawn, another_order_said, one_reason_for_all.
+    ensures { IfOk result (λ text. text.items ≡ picture trace.now plot.now left.now) }
 {
     let mut text = Vec::new(alloc);
-    push_head(&mut text, nodes, turns.len())?;
-    push_lines(&mut text, nodes, turns.len())?;
-    push_arrows(&mut text, turns)?;
-    push_marks(&mut text, turns)?;
+    push_frame(&mut text, trace.nodes(), plot.turns.len(), left)?;
+    push_legend(&mut text, plot.recorded, left)?;
+    push_drawn(alloc, &mut text, trace, plot, left)?;
     push_text(&mut text, "</svg>\n")?;
     Ok(text)
 }
 
-#[tactic(auto, unfolding(crate::specs::Picture::head))]
-fn push_head(text: &mut Vec<u8>, nodes: u8, turns: usize) -> Result<(), AllocError>
-    ensures { OnOk result (text.new.items ≡ text.old.items ++ head nodes turns) }
+#[tactic(auto, unfolding(crate::specs::Picture::frame))]
+fn push_frame(
+    text: &mut Vec<u8>,
+    nodes: u8,
+    turns: usize,
+    left: &[Leftover],
+) -> Result<(), AllocError>
+    ensures { OnOk result (text.new.items ≡ text.old.items ++ frame nodes turns left.now) }
 {
     push_text(text, "<svg xmlns=\"http://www.w3.org/2000/svg\" width=\"")?;
-    push_width(text, turns)?;
+    push_width_by(text, turns, left)?;
     push_text(text, "\" height=\"")?;
-    push_down(text, nodes)?;
-    push_style(text)
+    push_height(text, nodes)?;
+    push_text(text, STYLE)
 }
 
-/// Adds how all is drawn, and what dots, arrows and colours mean.
-#[tactic(auto, unfolding(crate::specs::Picture::style))]
-fn push_style(text: &mut Vec<u8>) -> Result<(), AllocError>
-    ensures { OnOk result (text.new.items ≡ text.old.items ++ style) }
+fn push_width_by(text: &mut Vec<u8>, turns: usize, left: &[Leftover]) -> Result<(), AllocError>
+    ensures { OnOk result (text.new.items ≡ text.old.items ++ width_by turns left.now) }
 {
-    push_text(
-        text,
-        "\" font-family=\"sans-serif\" font-size=\"11\" text-anchor=\"middle\">\n<style>.life{stroke:#bbb}.message{stroke:#47a;marker-end:url(#tip)}.done{fill:#333}.rest{fill:#bbb}.fail{fill:#c22}.rise,.group{fill:#183}.deed{text-anchor:start;transform:translate(3px,-7px) rotate(-35deg)}text{paint-order:stroke;stroke:#fff;stroke-width:3px}</style>\n<defs><marker id=\"tip\" orient=\"auto\" refX=\"12\" refY=\"3\" markerWidth=\"9\" markerHeight=\"6\"><path d=\"M0 0L8 3L0 6z\" fill=\"#47a\"/></marker></defs>\n<rect width=\"100%\" height=\"100%\" fill=\"#fff\"/>\n<text x=\"16\" y=\"18\" style=\"text-anchor:start\">dot: an entry; arrow: a message that came</text>\n<text x=\"16\" y=\"33\" class=\"group\" style=\"text-anchor:start\">green: the group that a node is in from here on</text>\n",
-    )
+    if left.is_empty() {
+        push_width(text, turns)
+    } else {
+        push_width_left(text, turns)
+    }
 }
 
-fn push_lines(text: &mut Vec<u8>, nodes: u8, turns: usize) -> Result<(), AllocError>
+#[tactic(auto, unfolding(crate::specs::Picture::legend))]
+fn push_legend(text: &mut Vec<u8>, recorded: bool, left: &[Leftover]) -> Result<(), AllocError>
+    ensures { OnOk result (text.new.items ≡ text.old.items ++ legend recorded left.now) }
+{
+    push_text(text, LEGEND)?;
+    push_order(text, recorded)?;
+    push_left_said(text, left)
+}
+
+pub(crate) fn push_order(text: &mut Vec<u8>, recorded: bool) -> Result<(), AllocError>
+    ensures { OnOk result (text.new.items ≡ text.old.items ++ order_said recorded) }
+{
+    push_text(text, if recorded { RECORDED } else { POSSIBLE })
+}
+
+fn push_left_said(text: &mut Vec<u8>, left: &[Leftover]) -> Result<(), AllocError>
+    ensures { OnOk result (text.new.items ≡ text.old.items ++ left_said left.now) }
+{
+    if left.is_empty() {
+        return Ok(());
+    }
+    push_text(text, LEFT)
+}
+
+#[tactic(auto, unfolding(crate::specs::Picture::drawn))]
+fn push_drawn(
+    alloc: Global,
+    text: &mut Vec<u8>,
+    trace: &Trace,
+    plot: &Plot,
+    left: &[Leftover],
+) -> Result<(), AllocError>
+    ensures { OnOk result (text.new.items ≡ text.old.items ++ drawn trace.now plot.now left.now) }
+{
+    let turns = plot.turns.len();
+    push_stays(text, &plot.stays)?;
+    push_names(text, trace.nodes(), turns)?;
+    push_arrows(text, &plot.turns)?;
+    push_marks(text, &plot.turns)?;
+    push_all_left(alloc, text, trace, turns, left)
+}
+
+fn push_names(text: &mut Vec<u8>, nodes: u8, turns: usize) -> Result<(), AllocError>
     requires { nodes ≤ NODES }
-    ensures { OnOk result (text.new.items ≡ text.old.items ++ lines_below turns nodes) }
+    ensures { OnOk result (text.new.items ≡ text.old.items ++ names_below turns nodes) }
 {
     for number in 0..nodes {
-        push_life(text, number, turns)?;
-        push_name(text, NodeId::numbered(number))?;
+        let node = NodeId::numbered(number);
+        push_name(text, node)?;
+        push_again(text, node, turns)?;
     }
     Ok(())
 }
@@ -69,8 +130,24 @@ fn push_arrows(text: &mut Vec<u8>, turns: &[Turn]) -> Result<(), AllocError>
 fn push_marks(text: &mut Vec<u8>, turns: &[Turn]) -> Result<(), AllocError>
     ensures { OnOk result (text.new.items ≡ text.old.items ++ marks turns.now) }
 {
+    let few = are_few(turns.len());
     for turn in turns {
-        push_mark(text, turn)?;
+        push_mark(text, few, turn)?;
+    }
+    Ok(())
+}
+
+fn push_all_left(
+    alloc: Global,
+    text: &mut Vec<u8>,
+    trace: &Trace,
+    turns: usize,
+    left: &[Leftover],
+) -> Result<(), AllocError>
+    ensures { OnOk result (text.new.items ≡ text.old.items ++ all_left trace.now turns left.now) }
+{
+    for leftover in left {
+        push_left(alloc, text, trace, turns, leftover)?;
     }
     Ok(())
 }

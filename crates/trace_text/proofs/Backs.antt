@@ -45,7 +45,7 @@ messages_back (m ∷ ms) fits =
 
 -- ---- numbers
 
-below_back : (limit n : ℕ) → n < limit → below limit n ≡ Some n
+pub below_back : (limit n : ℕ) → n < limit → below limit n ≡ Some n
 below_back limit n h = rw (lt-ltb n limit h)
 
 abbrev ranking : Bool → ℕ → Option Data
@@ -149,7 +149,7 @@ entries_back node i (c ∷ h) fits named =
     ap (λ (o : Option Claim). first_entry node i o (entries_from node (i + 1) (items_of (map entry_data h)))) (claim_back c fits.0 named.0)
     ∙ ap (λ (r : Result (List Claim) (Option Spot)). first_entry node i (Some c) r) (entries_back node (i + 1) h fits.1 named.1)
 
-histories_back : (node : ℕ) (hs : List (List Claim)) → TraceFits hs → Each (λ (h : List Claim). Each (λ (c : Claim). HasName c.deed) h) hs → histories_from node (items_of (map history_data hs)) ≡ Ok hs
+pub histories_back : (node : ℕ) (hs : List (List Claim)) → TraceFits hs → Each (λ (h : List Claim). Each (λ (c : Claim). HasName c.deed) h) hs → histories_from node (items_of (map history_data hs)) ≡ Ok hs
 histories_back node [] fits named = refl
 histories_back node (h ∷ hs) fits named =
     ap (λ (r : Result (List Claim) (Option Spot)). first_history r (histories_from (node + 1) (items_of (map history_data hs)))) (entries_back node 0 h fits.0 named.0)
@@ -157,11 +157,11 @@ histories_back node (h ∷ hs) fits named =
 
 -- ---- the whole
 
-as_many : (hs : List (List Claim)) → count_items (items_of (map history_data hs)) ≡ length hs
+pub as_many : (hs : List (List Claim)) → count_items (items_of (map history_data hs)) ≡ length hs
 as_many [] = refl
 as_many (h ∷ hs) = ap suc (as_many hs)
 
-are_lists : (hs : List (List Claim)) → all_lists (items_of (map history_data hs)) ≡ true
+pub are_lists : (hs : List (List Claim)) → all_lists (items_of (map history_data hs)) ≡ true
 are_lists [] = refl
 are_lists (h ∷ hs) = are_lists hs
 

@@ -75,7 +75,7 @@ entries_of (c ∷ h) =
 history_of : (h : List Claim) → json_tokens (outline (history_data h)) ≡ history_tokens h
 history_of h = ap (λ (ts : List Token). token.begin_array ∷ ts) (entries_of h)
 
-histories_of : (hs : List (List Claim)) → items_tokens (items_outline (items_of (map history_data hs))) ≡ histories_tokens hs ++ token.end_array ∷ []
+pub histories_of : (hs : List (List Claim)) → items_tokens (items_outline (items_of (map history_data hs))) ≡ histories_tokens hs ++ token.end_array ∷ []
 histories_of [] = refl
 histories_of (h ∷ hs) =
     ap (λ (ts : List Token). ts ++ items_tokens (items_outline (items_of (map history_data hs)))) (history_of h) ∙ ap (λ (ts : List Token). history_tokens h ++ ts) (histories_of hs)

@@ -72,7 +72,7 @@ entries_read (c ∷ h) fits =
     ap (λ (o : Option Data). option_and_then (λ (d : Data). option_map (item d) (of_items (items_outline (items_of (map entry_data h))))) o) (entry_read c.deed c.sent fits.0.0)
     ∙ ap (λ (o : Option Items). option_map (item (entry_data c)) o) (entries_read h fits.1)
 
-histories_read : (hs : List (List Claim)) → TraceFits hs → of_items (items_outline (items_of (map history_data hs))) ≡ Some (items_of (map history_data hs))
+pub histories_read : (hs : List (List Claim)) → TraceFits hs → of_items (items_outline (items_of (map history_data hs))) ≡ Some (items_of (map history_data hs))
 histories_read [] fits = refl
 histories_read (h ∷ hs) fits =
     ap (λ (o : Option Items). option_and_then (λ (d : Data). option_map (item d) (of_items (items_outline (items_of (map history_data hs))))) (option_map array o)) (entries_read h fits.0)
@@ -116,7 +116,7 @@ entries_flat : (h : List Claim) → tree.items_depth (items_outline (items_of (m
 entries_flat [] = omega arith
 entries_flat (c ∷ h) = let first = entry_flat c in let rest = entries_flat h in omega (arith, first, rest)
 
-histories_flat : (hs : List (List Claim)) → tree.items_depth (items_outline (items_of (map history_data hs))) ≤ 3
+pub histories_flat : (hs : List (List Claim)) → tree.items_depth (items_outline (items_of (map history_data hs))) ≤ 3
 histories_flat [] = omega arith
 histories_flat (h ∷ hs) = let first = entries_flat h in let rest = histories_flat hs in omega (arith, first, rest)
 
@@ -125,7 +125,7 @@ trace_flat hs = let inside = histories_flat hs in omega (arith, inside)
 
 -- ---- the text
 
-value_read : (text : List ℕ) (j : json.Json) (d : Data) → json.value max_depth (tokens text) ≡ Some (j, []) → of_json j ≡ Some d → read text ≡ Some d
+pub value_read : (text : List ℕ) (j : json.Json) (d : Data) → json.value max_depth (tokens text) ≡ Some (j, []) → of_json j ≡ Some d → read text ≡ Some d
 value_read text j d is means = ap (λ (r : Option (json.Json × List Token)). option_and_then of_json (option_and_then (λ (p : json.Json × List Token). json.if_last p.0 p.1) r)) is ∙ means
 
 reads_back : (hs : List (List Claim)) (text : List ℕ) → tokens text ≡ trace_tokens hs → IsUtf8 text → length hs ≤ NODES → TraceFits hs → IsWritable hs → trace_of text ≡ Ok hs

@@ -1,5 +1,5 @@
 -- Which traces are read back as they were written.
-use Rattle.std.specs.Prelude.{◌<◌, ◌≤◌, ◌^◌, List, length, ⊤}
+use Rattle.std.specs.Prelude.{◌<◌, ◌≤◌, ◌^◌, List, length, Result, Ok, Err, ⊤}
 use Rattle.group_task.specs.declared.node.TheConstants.{NODES}
 use Rattle.job_model.specs.declared.payload.TheConstants.{PAYLOAD_CAPACITY}
 use Rattle.job_model.specs.declared.queue.TheConstants.{QUEUES}
@@ -11,6 +11,8 @@ use Rattle.histories.specs.Lists.{Each}
 use Rattle.trace_check.specs.declared.trace.Deed.{Deed}
 use Rattle.trace_check.specs.declared.trace.Deed.TheVariants as deed
 use Rattle.trace_check.specs.Claims.{Claim}
+use Rattle.trace_text.specs.declared.fault.WriteFault.{WriteFault}
+use Rattle.trace_text.specs.declared.fault.WriteFault.TheVariants.{NoMemory, Unwritable}
 
 -- ---- the numbers of a trace are in their ranges
 
@@ -52,7 +54,16 @@ HasName (deed.Done event) = IsNamed event
 HasName (deed.Faulted event) = IsNamed event
 HasName d = ⊤
 
+abbrev pub AreNamed : List Claim → Type 0
+AreNamed h = Each (λ (c : Claim). HasName c.deed) h
+
 -- the trace can be written: it has a node, and each of its entries a name
 pub record IsWritable (hs : List (List Claim)) : Type 0 where
   pub some : 1 ≤ length hs
-  pub named : Each (λ (h : List Claim). Each (λ (c : Claim). HasName c.deed) h) hs
+  pub named : Each AreNamed hs
+
+-- it was refused for this, and not for want of memory
+abbrev pub IsUnwritable : {A : Type 0} → Result A WriteFault → Type 0
+IsUnwritable (Ok text) = ⊥
+IsUnwritable (Err NoMemory) = ⊥
+IsUnwritable (Err Unwritable) = ⊤

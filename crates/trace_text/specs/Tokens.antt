@@ -76,3 +76,10 @@ abbrev pub trace_tokens : List (List Claim) → List Token
 trace_tokens hs =
     token.begin_object ∷ token.key (codes "histories") ∷ token.begin_array
     ∷ (histories_tokens hs ++ token.end_array ∷ token.key (codes "nodes") ∷ token.number (decimal (length hs)) ∷ token.end_object ∷ [])
+
+-- the same, with this text of its order
+abbrev pub ordered_tokens : List (List Claim) → List ℕ → List Token
+ordered_tokens hs text =
+    token.begin_object ∷ token.key (codes "histories") ∷ token.begin_array
+    ∷ (histories_tokens hs
+    ++ token.end_array ∷ token.key (codes "nodes") ∷ token.number (decimal (length hs)) ∷ token.key (codes "order") ∷ token.string text ∷ token.end_object ∷ [])

@@ -1,10 +1,10 @@
-ghost use Rattle.std.specs.Prelude.{◌≡◌, [], ◌∷◌, length, ◌≤◌, codes, decimal, IfOk, OnOk, Ok, ◌<◌, ◌^◌};
+ghost use Rattle.std.specs.Prelude.{◌≡◌, [], ◌∷◌, length, ◌≤◌, codes, decimal, IfOk, OnOk, Ok, ◌↔◌, ◌<◌, ◌^◌};
 ghost use Rattle.hex.specs.Hex.{encode_lower};
 ghost use Rattle.json.specs.Token.{begin_array, begin_object, end_array, end_object, key, string, number};
 ghost use Rattle.serde_json.specs.Written.{compact_text};
 ghost use Rattle.trace_check.specs.Traces.{claim_seen};
 ghost use Rattle.trace_text.specs.Tokens.{Adds, deed_tokens, event_tokens, priority_tokens, rank_tokens, work_tokens, message_tokens, head_tokens, end_tokens, entry_tokens, history_tokens, histories_tokens, trace_tokens};
-ghost use Rattle.trace_text.specs.Fits.{WorkFits, EventFits, DeedFits, ClaimFits, TraceFits, IsWritable};
+ghost use Rattle.trace_text.specs.Fits.{WorkFits, EventFits, DeedFits, ClaimFits, TraceFits, IsUnwritable, IsWritable};
 ghost use Rattle.trace_text.specs.Wholes.{trace_of};
 ghost use Rattle.trace_text.specs.Written.{trace_data, deed_name, event_name, fault_name};
 ghost use Rattle.wire_msg.specs.Spelling.{spelling, AreBytes, IsMessage};
@@ -12,6 +12,8 @@ ghost use Rattle.job_model.specs.declared.queue.TheConstants.{QUEUES};
 ghost use Rattle.histories.specs.Lists.{Each};
 ghost use Rattle.group_task.specs.declared.node.TheConstants.{NODES};
 
+use crate::fault::WriteFault;
+use crate::writable::is_writable;
 use job_model::Work;
 use json::Writer;
 use node_core::Event;
@@ -20,13 +22,27 @@ use trace_check::{Deed, EntryView, History, RecoverFault, Sent, Trace};
 use wire_msg::{Message, encode};
 
 /// The text of a trace: the compact text of its JSON value, in which the members of an object stand in the order of their keys.
-/// A trace of no node has no text that is read back, nor has one with an entry that is `Done` or `Faulted` of Recover.
-pub fn write(alloc: Global, trace: &Trace) -> Result<Vec<u8>, AllocError>
+pub fn write(alloc: Global, trace: &Trace) -> Result<Vec<u8>, WriteFault>
     // Promise: A trace is written as the compact text of the JSON value that the definitions give it, the keys of each object in
     // order.
     // Refuses: kept_written_the_wrong_way, message_written_as_its_payload.
     ensures text { IfOk result (λ text. text.items ≡ compact_text (trace_data trace.now)) }
-    // Promise: What is written is read back as the same trace, if it has a node and writes no recovery as an event.
+    // Promise: What is written is read back as the same trace.
+    ensures reads_back { IfOk result (λ text. trace_of text.items ≡ Ok trace.now) }
+    // Promise: A trace is refused exactly where it has no node, or writes a recovery as an event.
+    // Also: write_ordered.
+    // Refuses: recovery_written_as_an_event, no_node_written.
+    ensures refused { IsUnwritable result ↔ (IsWritable trace.now → ⊥) }
+{
+    if !is_writable(trace) {
+        return Err(WriteFault::Unwritable);
+    }
+    let text = write_text(alloc, trace)?;
+    Ok(text)
+}
+
+fn write_text(alloc: Global, trace: &Trace) -> Result<Vec<u8>, AllocError>
+    ensures text { IfOk result (λ text. text.items ≡ compact_text (trace_data trace.now)) }
     ensures reads_back { IfOk result (λ text. IsWritable trace.now → trace_of text.items ≡ Ok trace.now) }
 {
     let mut out = Writer::new(Vec::new(alloc));
@@ -64,12 +80,23 @@ fn begin_list(out: &mut Writer, name: &str) -> Result<(), AllocError>
 pub(crate) fn write_nodes(out: &mut Writer, nodes: u8) -> Result<(), AllocError>
     ensures { OnOk result (Adds out.old out.new (end_array ∷ key (codes "nodes") ∷ number (decimal nodes) ∷ end_object ∷ [])) }
 {
-    out.end_array()?;
-    write_number(out, "nodes", u64::from(nodes))?;
+    end_histories(out, nodes)?;
     out.end_object()
 }
 
-fn write_histories(alloc: Global, out: &mut Writer, histories: &[History]) -> Result<(), AllocError>
+/// Ends the histories, and writes how many nodes there are, with the whole left open.
+pub(crate) fn end_histories(out: &mut Writer, nodes: u8) -> Result<(), AllocError>
+    ensures { OnOk result (Adds out.old out.new (end_array ∷ key (codes "nodes") ∷ number (decimal nodes) ∷ [])) }
+{
+    out.end_array()?;
+    write_number(out, "nodes", u64::from(nodes))
+}
+
+pub(crate) fn write_histories(
+    alloc: Global,
+    out: &mut Writer,
+    histories: &[History],
+) -> Result<(), AllocError>
     ensures text { OnOk result (Adds out.old out.new (histories_tokens histories.now)) }
     ensures fits { OnOk result (TraceFits histories.now) }
 {

@@ -1,5 +1,14 @@
 //! Messages between nodes, and their bytes: each message has one spelling (docs/FORMATS.md), and a stream of them
 //! may be cut into pieces anywhere.
+//!
+//! ```
+//! let ask = Message::new(alice, bob, Body::AreYouCoordinator)?;   // None: a message has two ends
+//! let bytes = encode(alloc, &ask)?;
+//! assert!(decode(&bytes) == Ok(ask));
+//!
+//! let mut stream = Stream::new(alloc);
+//! stream.feed(&piece, &mut messages)?;                            // adds the messages that are whole by now, and keeps the rest
+//! ```
 #![tactic(auto)]
 
 mod body;

@@ -1,5 +1,5 @@
 use Rattle.std.proofs.Common.{◌≡◌, ◌++◌, drop}
-use Rattle.invite_console.specs.Show.{ids_text, more_ids_text}
+use Rattle.node_words.specs.Words.{ids_text, more_ids_text}
 use Rattle.invite_console.specs.Rows.{job_ids}
 use Rattle.invite_console.proofs.rows.push_job_ids.Given as goal
 

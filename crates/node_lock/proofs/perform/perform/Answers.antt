@@ -6,7 +6,7 @@ use Rattle.durable_node.specs.Faults.{answered}
 use Rattle.durable_node.specs.Reading.{ReadsDisk}
 use Rattle.durable_node.specs.Refusing.{Answers}
 use Rattle.durable_node.specs.Remounting.{IsMountedBy, Remounted}
-use Rattle.durable_node.specs.Stepping.{AreaGoesOn, CountsOf, most_by}
+use Rattle.durable_node.specs.Stepping.{AreaGoesOn, CountsOf}
 use Rattle.node_lock.proofs.Once.{sends_few}
 use Rattle.node_lock.proofs.perform.perform.Goals as goal
 
@@ -31,4 +31,4 @@ returns-in-Ok-clause-did c =
     }
 
 pub returns-in-Ok-clause-each : goal.returns-in-Ok-clause-each
-returns-in-Ok-clause-each c = sends_few _ c.forget.new.self c.args.event.now c.in-Ok.came.fate c.in-Ok.came.sent.items (most_by c.args.node.now.nodes c.args.node.now.kept) c.requires.stands (returns-in-Ok-clause-did c) c.in-Ok.ensures.few c.note_sets.ensures
+returns-in-Ok-clause-each c = sends_few _ c.forget.new.self c.args.event.now c.in-Ok.came.fate c.in-Ok.came.sent.items c.requires.stands (returns-in-Ok-clause-did c) c.in-Ok.ensures.few c.note_sets.ensures

@@ -35,8 +35,8 @@ loop-number-preserved c = λ n less.
           )
     ]
 
-pub returns : goal.returns
-returns c =
+pub returns-clause-verdict : goal.returns-clause-verdict
+returns-clause-verdict c =
     let hs = c.args.trace.now in
     let past = reverse c.args.desk.order.items in (
       c.requires.fits.legal,
@@ -47,8 +47,8 @@ returns c =
       ],
     )
 
-pub returns-then-is_some : goal.returns-then-is_some
-returns-then-is_some c =
+pub returns-then-is_some-clause-verdict : goal.returns-then-is_some-clause-verdict
+returns-then-is_some-clause-verdict c =
     let hs = c.args.trace.now in
     let d = c.args.desk in
     let past = reverse d.order.items in

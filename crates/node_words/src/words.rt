@@ -1,0 +1,124 @@
+ghost use Rattle.std.specs.Prelude.{◌≡◌, ◌++◌, OnOk, decimal};
+ghost use Rattle.console_text.specs.Words.{work_text};
+ghost use Rattle.node_core.specs.State.{state_of};
+ghost use Rattle.node_words.specs.Words.{core_name, event_word, group_part, group_text, id_text, ids_text, phase_text, truth_text};
+
+use console_text::{push_number, push_text, push_work};
+use group_task::{GroupNo, Members};
+use job_model::Work;
+use node_core::{CoreFault, Event, Phase, Vector};
+use std::alloc::AllocError;
+
+/// Adds `yes` or `no`.
+pub fn push_truth(text: &mut Vec<u8>, answer: bool) -> Result<(), AllocError>
+    ensures { OnOk result (text.new.items ≡ text.old.items ++ truth_text answer) }
+{
+    push_text(text, if answer { "yes" } else { "no" })
+}
+
+/// Adds a group's number: its creator, a colon, its count.
+pub fn push_group(text: &mut Vec<u8>, group: GroupNo) -> Result<(), AllocError>
+    ensures { OnOk result (text.new.items ≡ text.old.items ++ group_text group) }
+{
+    push_number(text, u64::from(group.creator().number()))?;
+    push_text(text, ":")?;
+    push_number(text, group.count())
+}
+
+/// Adds ids joined by commas; a dash stands for none.
+pub fn push_ids(text: &mut Vec<u8>, ids: Members) -> Result<(), AllocError>
+    ensures { OnOk result (text.new.items ≡ text.old.items ++ ids_text ids) }
+{
+    let mut left = ids.iter();
+    let Some(first) = left.next() else {
+        return push_text(text, "-");
+    };
+    push_number(text, u64::from(first.number()))?;
+    for id in left {
+        push_text(text, ",")?;
+        push_number(text, u64::from(id.number()))?;
+    }
+    Ok(())
+}
+
+/// The word of a phase.
+pub fn phase_word(phase: Phase) -> &'static str
+    ensures { result.now ≡ phase_text phase }
+{
+    match phase {
+        Phase::Down => "Down",
+        Phase::Election => "Election",
+        Phase::Reorganization => "Reorganization",
+        Phase::Normal => "Normal",
+    }
+}
+
+/// Adds the coordinator and the group of a node that is up.
+pub fn push_group_part(text: &mut Vec<u8>, vector: &Vector) -> Result<(), AllocError>
+    ensures { OnOk result (text.new.items ≡ text.old.items ++ group_part (state_of vector.now)) }
+{
+    push_text(text, " coord ")?;
+    push_number(text, u64::from(vector.standing.coordinator.number()))?;
+    push_text(text, " group ")?;
+    push_group(text, vector.standing.group)
+}
+
+/// The word of an event, as requests and traces have it.
+pub fn event_word(event: &Event) -> &'static str
+    ensures { result.now ≡ event_word event.now }
+{
+    match event {
+        Event::Timer(timer) => timer.word(),
+        Event::Deliver(_) => "deliver",
+        Event::Submit(_) => "submit",
+        Event::Finish(_, _) => "finish",
+        Event::Recover => "recover",
+    }
+}
+
+/// Adds why the state machine refused an event.
+pub fn push_core_fault(text: &mut Vec<u8>, fault: CoreFault) -> Result<(), AllocError>
+    ensures { OnOk result (text.new.items ≡ text.old.items ++ core_name fault) }
+{
+    match fault {
+        CoreFault::Stranger => push_text(text, "Stranger"),
+        CoreFault::Down => push_text(text, "Down"),
+        CoreFault::NotCoordinator(id) => {
+            push_named_number(text, "NotCoordinator ", u64::from(id.number()))
+        }
+        CoreFault::NotNormal => push_text(text, "NotNormal"),
+        CoreFault::UnknownJob => push_text(text, "UnknownJob"),
+        CoreFault::NoMemory => push_text(text, "NoMemory"),
+    }
+}
+
+/// Adds a name, and behind it a number.
+pub fn push_named_number(text: &mut Vec<u8>, name: &str, number: u64) -> Result<(), AllocError>
+    ensures { OnOk result (text.new.items ≡ text.old.items ++ (name.now ++ decimal number)) }
+{
+    push_text(text, name)?;
+    push_number(text, number)
+}
+
+/// Adds the id of a submitted job, if there is one.
+pub fn push_id(text: &mut Vec<u8>, id: Option<u64>) -> Result<(), AllocError>
+    ensures { OnOk result (text.new.items ≡ text.old.items ++ id_text id) }
+{
+    let Some(id) = id else {
+        return Ok(());
+    };
+    push_text(text, " id ")?;
+    push_number(text, id)
+}
+
+/// Adds a job's queue, its payload and its priority.
+pub fn push_work_of(text: &mut Vec<u8>, work: &Work) -> Result<(), AllocError>
+    ensures { OnOk result (text.new.items ≡ text.old.items ++ work_text work.now.queue work.now.payload work.now.priority) }
+{
+    push_work(
+        text,
+        work.queue.number(),
+        work.payload.as_slice(),
+        work.priority,
+    )
+}

@@ -1,0 +1,43 @@
+-- Where a message was sent.
+use Rattle.std.proofs.Common.{◌≡◌, ◌≤◌, ◌<◌, ℕ, suc, Bool, true, false, List, [], ◌∷◌, ◌++◌, length, slice_get, Option, Some, None, inl, inr, refl, sym, ap, ◌∙◌, subst, arith}
+use Rattle.std.proofs.lemmas.Option.{same_Some, slice_get_within}
+use Rattle.wire_msg.specs.Envelope.{Envelope}
+use Rattle.trace_draw.specs.declared.mail.Latest.{Latest}
+use Rattle.trace_draw.specs.declared.mail.Sending.{Sending}
+use Rattle.trace_draw.specs.declared.turn.Source.{Source}
+use Rattle.trace_draw.specs.Mails.{IsLatest}
+use Rattle.trace_draw.specs.Turns.{IsLast, IsLastSource, IsNamed, IsSending, WasSent, source_at}
+
+pub none_there : (ms : List Envelope) → slice_get ms 0 ≡ None → ms ≡ []
+none_there [] none = refl
+none_there (m ∷ ms) none = absurd cc
+
+pub one_there : (ms : List Envelope) (m : Envelope) → length ms ≤ 1 → slice_get ms 0 ≡ Some m → ms ≡ m ∷ []
+one_there [] m few at = absurd cc
+one_there (x ∷ []) m few at = ap (λ (e : Envelope). e ∷ []) (same_Some x m at)
+one_there (x ∷ y ∷ ms) m few at = absurd (omega (arith, few))
+
+-- the sending that stands at the number of the last one
+pub last_found : (all : List Sending) (m : Envelope) (o : Option Latest) (l : Latest) (s : Sending) → IsLatest all m o → o ≡ Some l → slice_get all l.number ≡ Some s → IsLastSource all m (record { at = s.at; place = s.place; sure = l.alone })
+last_found all m None l s is same there = absurd cc
+last_found all m (Some k) l s is same there =
+    let one : k ≡ l = same_Some k l same in
+    let last : IsLast all m l.number l.alone = subst (λ (x : Latest). IsLast all m x.number x.alone) one is in
+    record { number = l.number; is = last; at = ap (λ (x : Sending). source_at x l.alone) (same_Some s last.sending (sym there ∙ last.is.there)) }
+
+pub last_within : (all : List Sending) (m : Envelope) (o : Option Latest) (l : Latest) → IsLatest all m o → o ≡ Some l → l.number < length all
+last_within all m None l is same = absurd cc
+last_within all m (Some k) l is same = subst (λ (x : Latest). x.number < length all) (same_Some k l same) (slice_get_within all k.number is.sending is.is.there)
+
+-- where one was sent, a last one is known
+pub last_known : (all : List Sending) (m : Envelope) (o : Option Latest) → IsLatest all m o → WasSent all m → o ≡ None → ⊥
+last_known all m o is was none = subst (λ (x : Option Latest). IsLatest all m x) none is was
+
+pub named_found : (all : List Sending) (m : Envelope) (named : Option ℕ) (number : ℕ) (s : Sending) → named ≡ Some number → slice_get all number ≡ Some s → s.message ≡ m
+    → (is : IsNamed all m named) × (record { at = s.at; place = s.place; sure = true } ≡ source_at is.sending true)
+named_found all m named number s names there same = (record { number = number; names = names; sending = s; is = record { there = there; same = same } }, refl)
+
+pub other_named : (all : List Sending) (m : Envelope) (named : Option ℕ) (number : ℕ) (s : Sending) → named ≡ Some number → slice_get all number ≡ Some s → (s.message ≡ m → ⊥) → IsNamed all m named → ⊥
+other_named all m named number s names there other is =
+    let number_is : is.number ≡ number = same_Some is.number number (sym is.names ∙ names) in
+    other (ap (λ (x : Sending). x.message) (same_Some s is.sending (sym there ∙ ap (λ (k : ℕ). slice_get all k) (sym number_is) ∙ is.is.there)) ∙ is.is.same)

@@ -1,0 +1,15 @@
+use Rattle.std.proofs.Common.{◌≡◌, ℕ, ◌+◌, List, length, take, slice_get, Option, Some, refl, sym, ap, ◌∙◌, subst}
+use Rattle.std.proofs.Math.Seq.{take-length}
+use Rattle.std.proofs.lemmas.Option.{slice_get_read}
+use Rattle.trace_draw.specs.declared.turn.Source.{Source}
+use Rattle.trace_draw.specs.Untaken.{ArePlaces}
+use Rattle.trace_draw.proofs.Lists.{take_more}
+use Rattle.trace_draw.proofs.untaken.taken_places.Goals as goal
+
+pub loop-turn-preserved : goal.loop-turn-preserved
+loop-turn-preserved c =
+    let sources = c.args.sources.now in
+    let turn = c.loop-turn.turn in
+    let source = c.index-sources-turn.result in
+    let at = slice_get_read sources (length sources) turn source refl c.loop-turn-test.true c.index-sources-turn.is in
+    subst (λ (ss : List (Option Source)). ArePlaces ss c.add_place.new.places) (sym (take_more sources turn source at)) (c.in_ok-add_place.ensures (take turn sources) c.loop-turn.invariant)

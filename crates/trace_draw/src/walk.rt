@@ -1,0 +1,104 @@
+//! The nodes, brought through the entries of a run turn by turn.
+ghost use Rattle.std.specs.Prelude.{◌≡◌, ◌<◌, ◌≤◌, ◌+◌, ℕ, [], length, map, reverse, take, slice_get, Some, IfOk, OnOk, IsTrue, MatchOption};
+ghost use Rattle.trace_check.specs.Followed.{before};
+ghost use Rattle.trace_check.specs.Orders.{IsLegal};
+ghost use Rattle.trace_draw.specs.Stays.{members_of, stand_of};
+ghost use Rattle.trace_draw.specs.Walks.{AreFirst, AreSeats, AreSteps};
+
+use crate::step::Step;
+use crate::turn::Stand;
+use group_task::{Members, NodeId, Task};
+use node_core::Phase;
+use std::alloc::{AllocError, Global};
+use trace_check::{Replica, Trace};
+
+/// A node of the trace, after the turns so far, and the index of its next entry.
+#[derive(Drop)]
+pub(crate) struct Seat {
+    pub(crate) replica: Replica,
+    pub(crate) index: usize,
+}
+
+/// The turns of a run.
+pub(crate) fn steps(alloc: Global, trace: &Trace, order: &[NodeId]) -> Result<Vec<Step>, AllocError>
+    requires { IsLegal trace.now (reverse order.now) }
+    ensures { IfOk result (λ steps. AreSteps trace.now order.now steps.items) }
+{
+    let mut seats = open(alloc, trace)?;
+    let mut steps = Vec::new(alloc);
+    for turn in 0..order.len() {
+        take_turn(trace, order, turn, &mut seats, &mut steps)?;
+    }
+    Ok(steps)
+}
+
+/// All nodes, before the first turn.
+fn open(alloc: Global, trace: &Trace) -> Result<Vec<Seat>, AllocError>
+    ensures { IfOk result (λ seats. AreSeats trace.now [] seats.items) }
+{
+    let nodes = trace.nodes();
+    let mut seats = Vec::new(alloc);
+    for number in 0..nodes {
+        let replica = Replica::new(alloc, NodeId::numbered(number), nodes)?;
+        seats.push(Seat { replica, index: 0 })?;
+    }
+    Ok(seats)
+}
+
+/// The turn of this number.
+fn take_turn(
+    trace: &Trace,
+    order: &[NodeId],
+    turn: usize,
+    seats: &mut Vec<Seat>,
+    steps: &mut Vec<Step>,
+) -> Result<(), AllocError>
+    requires more { turn < length order.now }
+    requires legal { IsLegal trace.now (reverse order.now) }
+    requires seats { AreSeats trace.now (before order.now turn) seats.old.items }
+    requires count { length steps.old.items ≡ turn }
+    requires steps { AreFirst trace.now order.now steps.old.items }
+    ensures seats { OnOk result (AreSeats trace.now (before order.now (turn + 1)) seats.new.items) }
+    ensures count { OnOk result (length steps.new.items ≡ turn + 1) }
+    ensures steps { OnOk result (AreFirst trace.now order.now steps.new.items) }
+{
+    let node = order[turn];
+    let seat = &mut seats[usize::from(node.number())];
+    let index = seat.index;
+    let Some(entry) = trace.entry(node, index) else {
+        unreachable!()
+    };
+    if !seat.replica.take(&entry)? {
+        unreachable!()
+    }
+    seat.index += 1;
+    let stand = stand_of(&seat.replica);
+    steps.push(Step { index, stand })?;
+    Ok(())
+}
+
+/// How a node stands; None where it is down.
+pub(crate) fn stand_of(replica: &Replica) -> Option<Stand>
+    ensures { result ≡ stand_of replica.now.node.state }
+{
+    let standing = &replica.vector().standing;
+    match standing.phase {
+        Phase::Down => None,
+        phase => Some(Stand {
+            phase,
+            group: standing.group,
+            coordinator: standing.coordinator,
+            members: members_of(&standing.task),
+        }),
+    }
+}
+
+/// The members of a task; none where there is no task.
+fn members_of(task: &Option<Task>) -> Members
+    ensures { result ≡ members_of task.now }
+{
+    match task {
+        Some(task) => task.members(),
+        None => Members::new(),
+    }
+}
