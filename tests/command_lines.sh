@@ -115,7 +115,7 @@ refused sim --names=1
 refused show --names
 refused store
 refused store a b
-refused trace 1
+refused trace --ongoing=1
 refused record 1
 refused threads 1
 refused draw 1
@@ -237,6 +237,32 @@ says $'no order takes all entries: look first at node 0, entry 0\nnode 0: entry 
 prints 1 '{"nodes":2,"histories":[[{"do":"crash","sent":["010100010000"]}],[]]}' 'NotARun 0 0\n' trace
 prints 1 '{"nodes":1,"histories":[[{"do":"none","sent":[]},{"do":"none"}]]}\n' 'bad trace 0 1\n' trace
 prints 1 '' 'bad trace\n' trace
+
+# A run in files: the nodes of each come behind those of the files before it.
+echo '{"nodes":1,"histories":[[{"do":"check","sent":["010100010000"]},{"do":"deliver","msg":"01020100000101","sent":[]}]]}' >"$room/asks"
+echo '{"nodes":1,"histories":[[{"do":"deliver","msg":"010100010000","sent":["01020100000101"]}]]}' >"$room/answers"
+echo '{"nodes":1,"histories":[[]]}' >"$room/rests"
+echo '{"nodes":2,"histories":[[],[{"do":"crash","sent":[]}]]}' >"$room/falls"
+echo '{"nodes":2,"histories":[[],[{"do":"none","sent":[]},{"do":"none"}]]}' >"$room/bad"
+printf '{"nodes":128,"histories":[%s[]]}' "$(printf '[],%.0s' {1..127})" >"$room/most"
+prints 0 '' 'Run 0 1 0\n' trace "$room/asks" "$room/answers"
+prints 0 '' 'Run 1 3\n' trace "$room/falls" "$room/falls"
+says $'no order takes all entries: look first at node 0, entry 0\nnode 0: entry 0 (deliver) can\'t be: it is for node 1\nnode 1: entry 0 (check) can\'t be: it would send 010101000000'
+prints 1 '' 'NotARun 0 0\n' trace "$room/answers" "$room/asks"
+says $'no order takes all entries: each that is left waits for a message that none sent\nnode 0: entry 1 waits for 01020100000101'
+prints 0 '' 'Ongoing 0\n' trace "$room/asks" --ongoing "$room/rests"
+says "$room/bad: history 1: entry 1 can't be read"
+prints 1 '' 'bad trace 3 1\n' trace "$room/falls" "$room/bad" "$room/in"
+says "$room/in: this is no trace"
+prints 1 '' 'bad trace\n' trace "$room/asks" "$room/in" "$room/bad"
+says 'the files have more than 128 nodes'
+prints 1 '' 'bad trace\n' trace "$room/most" "$room/asks"
+prints 0 '' 'Run\n' trace "$room/most"
+says "$room/none: can't read: No such file or directory (os error 2)"
+prints 1 '' '' trace "$room/asks" "$room/none"
+says "$room: can't read: Is a directory (os error 21)"
+prints 1 '' '' trace "$room"
+
 prints 0 'cluster 2 8\ncheck 0\ndeliver 0\n' '{"histories":[[{"do":"check","sent":["010100010000"]}],[{"do":"deliver","msg":"010100010000","sent":["01020100000101"]}]],"nodes":2,"order":"0 - 1 0"}\n' record
 says 'line 2: no such act: chek'
 prints 1 'cluster 2 8\nchek 0\n' 'bad line 2\n' record

@@ -2,10 +2,13 @@
 
     tests/more_edits.sh [CRATE..]           tries the edits of these crates, or all
     tests/more_edits.sh --sample N SEED     tries N of all, drawn by the seed
+    tests/more_edits.sh --kept WORDS..      tries over what rt check kept; WORDS as above
     tests/more_edits.sh --apply [CRATE..]   says at once, without the prover, which edits don't fit the sources that they turn, those of crates/NAME/must-fail among them
 
 With --jobs J before these words J checks run side by side, whatever memory they take; without it as many as processors and memory hold. rt ci tries the edits in a
 copy of the repository that has the crates that they turn, those below and no other edits: it takes over what the gate proved, and proves a crate once more for all its edits.
+With --kept as the first word rt check tries them, in copies of the crates over what it kept in crates/NAME/out, where each then takes 10 to 30 s: for that, rt all check
+comes first, and copies take up to 200 MB a crate for each check that runs.
 Each edit is printed behind what refused it:
 
     goal      a goal of a function that it turns
@@ -24,6 +27,7 @@ import shutil
 import subprocess
 import sys
 import tempfile
+from concurrent.futures import ThreadPoolExecutor
 
 sys.dont_write_bytecode = True
 from crate_copy import TOP, lay, lines_of_crates, text_of
@@ -118,8 +122,63 @@ def kind_of(crate, edit, said):
     return "goal" if is_own else "other"
 
 
+def refusal(crate, name, folder):
+    """Tries an edit of a crate by rt check in its copy, and returns what rt must-fail would say of it."""
+    at, changed = f"{folder}/crates/{crate}", {}
+    for file, old, new in pairs_in(f"{EDITS}/{crate}/{name}")[0]:
+        text = changed.get(file) or text_of(f"{at}/{file}")
+        if text.count(old) != 1:
+            return "BAD EDIT: it doesn't fit"
+        changed[file] = text.replace(old, new)
+    before = {file: text_of(f"{at}/{file}") for file in changed}
+    write(at, changed)
+    ran = subprocess.run(["rt", "check", "--jobs", "1"], cwd=at, stdin=subprocess.DEVNULL, stdout=subprocess.PIPE, stderr=subprocess.STDOUT, errors="replace")
+    write(at, before)
+    lines = ran.stdout.split("\n")
+    if any(it.startswith("logic=proved") for it in lines):
+        return "NOT REFUSED"
+    if not any(it.startswith("logic=not-proved") for it in lines):
+        return "BAD EDIT: " + next((it for it in lines if ": error" in it), "it did not reach the prover")
+    told = [it for it in lines if re.match(r"(note: )?(\./)?\S+?:\d+:\d+: ", it)]
+    goals = [it for it in told if "it is not proved that" in it or "is not proved" in it]
+    return f"refused, as it must be: {([*goals, *told] or [''])[0][:160]}"
+
+
+def write(folder, texts):
+    for file, text in texts.items():
+        with open(f"{folder}/{file}", "w", encoding="utf-8") as it:
+            it.write(text)
+
+
+def tried_over_kept(crate, names):
+    """Tries a crate's edits over what rt check kept, and returns what rt says of each."""
+    with tempfile.TemporaryDirectory() as folder:
+        lay(f"{folder}/repository", [crate])
+        for below in os.listdir(f"{folder}/repository/crates"):
+            if os.path.isdir(f"{TOP}/crates/{below}/out"):
+                shutil.copytree(f"{TOP}/crates/{below}/out", f"{folder}/repository/crates/{below}/out", symlinks=True)
+        clean = subprocess.run(["rt", "check", "--jobs", "1"], cwd=f"{folder}/repository/crates/{crate}", stdin=subprocess.DEVNULL, capture_output=True, text=True)
+        if clean.returncode:
+            return {(crate, name): f"BAD EDIT: {crate} itself isn't proved" for name in names}
+        said = {}
+        for name in names:
+            said[crate, name] = refusal(crate, name, f"{folder}/repository")
+            print(f"tried {crate}/{name}", file=sys.stderr, flush=True)
+        return said
+
+
+def attempt_over_kept(chosen, jobs):
+    """Tries the chosen edits over what rt check kept, crate by crate, the one with the most edits first."""
+    crates = sorted({crate for crate, _ in chosen}, key=lambda it: -sum(crate == it for crate, _ in chosen))
+    said = {}
+    with ThreadPoolExecutor(int(jobs or os.cpu_count())) as pool:
+        for one in pool.map(lambda it: tried_over_kept(it, [name for crate, name in chosen if crate == it]), crates):
+            said.update(one)
+    return tell(chosen, said)
+
+
 def attempt(chosen, jobs):
-    """Tries the chosen edits, prints what refused each, and counts them."""
+    """Tries the chosen edits by rt ci, prints what refused each, and counts them."""
     said = {}
     with tempfile.TemporaryDirectory() as folder:
         lay(f"{folder}/repository", [crate for crate, _ in chosen])
@@ -134,6 +193,11 @@ def attempt(chosen, jobs):
                     said[at[1], at[2]] = line[at.end() :].strip()
                 elif not re.match(r"fn \S+: proved$|statements |logic |\d+ passed, ", line):
                     print(line, end="", flush=True)
+    return tell(chosen, said)
+
+
+def tell(chosen, said):
+    """Prints what refused each edit, and counts them."""
     counts = dict.fromkeys(KINDS, 0)
     for crate, name in chosen:
         why = said.get((crate, name), "")
@@ -148,14 +212,16 @@ def attempt(chosen, jobs):
 
 
 def main(words):
-    jobs = None
+    jobs, tries = None, attempt
+    if words[:1] == ["--kept"]:
+        tries, words = attempt_over_kept, words[1:]
     if words[:1] == ["--jobs"] and len(words) > 1 and re.fullmatch(r"[1-9]\d*", words[1]):
         jobs, words = words[1], words[2:]
     every = [(crate, name) for crate in names_in(EDITS) for name in names_in(f"{EDITS}/{crate}")]
     if words[:1] == ["--sample"]:
         if len(words) != 3 or not words[1].isdigit() or not 0 < int(words[1]) <= len(every):
             stop(f"--sample takes how many of the {len(every)} edits to draw, and a seed")
-        return attempt(sorted(random.Random(words[2]).sample(every, int(words[1]))), jobs)
+        return tries(sorted(random.Random(words[2]).sample(every, int(words[1]))), jobs)
     crates = words[1:] if words[:1] == ["--apply"] else words
     lost = [it for it in crates if not os.path.isdir(f"{TOP}/crates/{it}") or not re.fullmatch(r"\w+", it)]
     if lost:
@@ -165,7 +231,7 @@ def main(words):
     lost = [it for it in crates if not names_in(f"{EDITS}/{it}")]
     if lost:
         stop(f"no edits in tests/more_edits: {lost[0]}")
-    return attempt([it for it in every if not crates or it[0] in crates], jobs)
+    return tries([it for it in every if not crates or it[0] in crates], jobs)
 
 
 if __name__ == "__main__":

@@ -4,9 +4,9 @@
     trace_rows.py PROGRAM
 
 A text that is no trace of a run is given to `trace` and to `draw`, which print the same for it; each trace that a run is expected to have is judged
-too. The status and what stands on standard error are compared as well. What is expected was written by hand, from the pages under docs/. The last
+too. Each trace is judged once more as files, with the history of one node in each. The status and what stands on standard error are compared as well. What is expected was written by hand, from the pages under docs/. The last
 line counts the checks."""
-import os, re, subprocess, sys
+import json, os, re, subprocess, sys, tempfile
 from typing import NamedTuple
 
 TOP = os.path.join(os.path.dirname(os.path.abspath(__file__)), "..")
@@ -21,6 +21,7 @@ class Row(NamedTuple):
     status: int
     printed: tuple
     said: bytes = b""
+    files: tuple = ()
 
 
 ASKED = r'{"nodes":2,"histories":[[{"do":"check","sent":["010100010000"]},{"do":"deliver","msg":"01020100000101","sent":[]}],[{"do":"deliver","msg":"010100010000","sent":["01020100000101"]}]]}'
@@ -519,10 +520,36 @@ REASONS = re.compile(
 )
 
 
+def texts_of(row):
+    """The texts of one node each that make the trace of a row; the trace itself, where it has one node or isn't any."""
+    if row.printed == (b"bad trace\n",):
+        return [row.fed]
+    histories = json.loads(row.fed)["histories"]
+    if len(histories) == 1:
+        return [row.fed]
+    return [json.dumps({"nodes": 1, "histories": [history]}).encode() for history in histories]
+
+
+def in_files(row, room):
+    """A row of `trace`, with its trace in files."""
+    paths = []
+    for node, text in enumerate(texts_of(row)):
+        paths.append(os.path.join(room, f"node{node}.json"))
+        with open(paths[-1], "wb") as file:
+            file.write(text)
+    said = row.said
+    if row.printed == (b"bad trace\n",):
+        said = f"invite: {paths[0]}: this is no trace\n".encode()
+    elif row.printed[0].startswith(b"bad trace"):
+        node, entry = map(int, row.printed[0].split()[2:])
+        said = f"invite: {paths[node]}: history 0: entry {entry} can't be read\n".encode()
+    return row._replace(fed=b"", said=said, files=tuple(paths))
+
+
 def problem_of(program, row):
     """What is wrong with what the program makes of a row; an empty text if nothing is."""
     try:
-        ended = subprocess.run([program, *row.command.split()], input=row.fed, capture_output=True, timeout=600)
+        ended = subprocess.run([program, *row.command.split(), *row.files], input=row.fed, capture_output=True, timeout=600)
     except subprocess.TimeoutExpired:
         return "no end within a minute"
     if ended.returncode != row.status:
@@ -544,12 +571,15 @@ def main(program):
         print(f"trace_rows.py: there is no program {program}\n0 passed, 1 failed")
         return 1
     passed = failed = 0
-    for row in all_rows():
-        problem = problem_of(program, row)
-        passed += not problem
-        failed += bool(problem)
-        if problem:
-            print(f"trace_rows.py: {row.command}, {row.name}: {problem}")
+    with tempfile.TemporaryDirectory() as room:
+        for given in all_rows():
+            rows = [given, in_files(given, room)] if given.command.startswith("trace") else [given]
+            for row in rows:
+                problem = problem_of(program, row)
+                passed += not problem
+                failed += bool(problem)
+                if problem:
+                    print(f"trace_rows.py: {row.command}, {row.name}{', in files' if row.files else ''}: {problem}")
     print(f"{passed} passed, {failed} failed")
     return 0 if failed == 0 and passed > 0 else 1
 

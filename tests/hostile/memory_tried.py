@@ -179,10 +179,11 @@ def try_little_room(tried, folder):
     limited(["sim"], b"cluster 128 4\n" + b"check 0\n" * 60_000, 80, 1, none)
     limited(["sim"], two + jobs + b"dispatch 0\n" * 100, 40, 1, none)
     limited(["sim"], b"cluster 128 4096\n", 100, 1, none)
-    for megabytes in (24, 20):
-        limited(["trace"], b'{"nodes":1,"histories":[[' + entries + b"]]}", megabytes, 1, none)
-    # one that isn't a trace is read once more, by a tree
-    limited(["trace"], b'{"nodes":1,"histories":[[' + entries + b',{"do":1}]]}', 80, 1, none)
+    # a text that is no trace takes no more than one that is
+    for last in (b"", b',{"do":1}'):
+        for megabytes in (24, 20):
+            limited(["trace"], b'{"nodes":1,"histories":[[' + entries + last + b"]]}", megabytes, 1, none)
+    limited(["trace"], b'{"nodes":1,"histories":[[' + entries + b',{"do":1}]]}', 80, 1, b"bad trace 0 200000\n")
     limited(["show"], b"a" * (40 * MEGABYTE), 20, 1, none)
     limited(["answer", "0", "3"], b"010101000000\n" * MEGABYTE, 20, 1, none)
     limited(["store", store], b"format 4\nmount\n" + b"list\n" * MEGABYTE, 20, 1, none)
@@ -210,6 +211,10 @@ def try_memory(tried):
         for name, text in rows.TRACES.items():
             if tried.is_long or name != "circle":
                 try_batches(refusing, ["trace"], text.encode(), 0 if name in ("run", "all kinds") else 1, name)
+        path = os.path.join(folder, "trace.json")
+        with open(path, "w", encoding="utf-8") as file:
+            file.write(rows.TRACES["run"])
+        try_batches(refusing, ["trace", path], b"", 0, "trace of a file")
         try_batches(refusing, ["draw"], rows.TRACES["run"].encode(), 0, "draw")
         try_batches(refusing, ["record"], b"cluster 2 8\ncheck 0\ndeliver 0\n", 0, "record")
         try_batches(refusing, ["threads"], b"cluster 1 4\nlinks 1\n0 clock check\n0 clock accept\n", 0, "threads")

@@ -86,8 +86,9 @@ def try_words(streams):
     """What is no command line ends with status 2, however strange its words are; a path may be anything."""
     tried, long = streams.tried, "1" * 100_000
     for words in (["answer", long, "3"], ["answer", "0", long], ["answer", "", "3"], ["answer", "0", "\u0663"], ["answer", "0", "3\n"], [""], ["show", ""], ["sim\n"], ["SHOW"], [long], ["--"], ["-"], ["answer", "-0", "3"],
-                  ["node", "a", "0", "3", ""], ["format", "a", "4", "0", "3", "0", ""], ["trace", long], ["node", "a", "3", "3"], ["store", "a", "b"], ["show", "--version"], ["-h"], ["help", "show"]):
+                  ["node", "a", "0", "3", ""], ["format", "a", "4", "0", "3", "0", ""], ["node", "a", "3", "3"], ["store", "a", "b"], ["show", "--version"], ["-h"], ["help", "show"]):
         streams.tried.mark(strange(tried, words, (2,)), [word[:40] for word in words])
+    streams.tried.mark(strange(tried, ["trace", long], (1,)), ["trace", long[:40]])
     streams.tried.mark(strange(tried, ["--version"], (0,)), ["--version"])
     for words in ([b"answer", b"\xff", b"3"], [b"\xff"], [b"show", b"\xff\xfe"]):
         streams.tried.mark(strange(tried, words, (2,)), words)

@@ -26,7 +26,6 @@ use Rattle.runs.specs.declared.tried.TriedAt.{TriedAt}
 use Rattle.cluster_sim.specs.Names.{node_named}
 use Rattle.cluster_sim.proofs.Answering.{untouched_areas}
 use Rattle.cluster_sim.proofs.Names.{step_named}
-use Rattle.runs.specs.Headline.{NoneWorn}
 use Rattle.runs.specs.Growth.{IsLeft}
 use Rattle.cluster_sim.specs.World.{AreasRise, AreasWithin, IsUntouched, WorldView, DeedOf, Performed, StandsFor, Shows, ReportsDeed}
 use Rattle.cluster_sim.specs.Cluster.{AreCounted, IsCluster, Reports, GoesOn, command_in, pending_room, cluster_with, report_in, moment_in, tried_as, tried_at, mounting_at, mounted_now, listed, with_deed}
@@ -67,10 +66,6 @@ same_report : (kept : KeptReport) (nodes slots : ℕ) (w : World) (more : List E
 same_report kept nodes slots w more left =
     let same = same_sent kept.moments.items w.net.sent (w.net.sent ++ more) (left_numbered nodes slots w (report_in kept w.net.sent) more left) in
     λ i. record (report_in kept w.net.sent) { moments = same i }
-
--- with an act that isn't refused so
-grown_unworn : (nodes : ℕ) (w : World) (a : Act) (step : Step) (r : Report) → NoneWorn r → act_outcome nodes w a step ≢ Refused (OfNode Worn) → NoneWorn (grown nodes w a step r)
-grown_unworn nodes w a step r before last = all_more (λ (k : ℕ) (m : Moment). m.outcome ≢ Refused (OfNode Worn)) r.moments (moment_of nodes w a step) before last
 
 -- ---- one act, at the node that it names
 
@@ -192,39 +187,38 @@ module _ (old new : WorldView) (w : World) (a : Act) (deed : Deed) (n : ℕ) (wa
     grows : report_in kept' new.net.sent ≡ grown (length w.states) w a p.acted.step (report_in kept old.net.sent)
     grows = is ∙ ap (with_deed new.net.sent n before a deed node) same_before ∙ report_is (report_in kept old.net.sent) before so_many
 
-    pub goes_on : GoesOn w a deed.outcome (cluster_with old kept) (cluster_with new kept')
-    goes_on =
+    pub goes_on : length (cluster_with old kept).report.moments + 3 < 2 ^ 64 → deed.outcome ≢ Refused (OfNode Worn) → GoesOn w a deed.outcome (cluster_with old kept) (cluster_with new kept')
+    goes_on short unworn =
         let nodes = length w.states in
         let step = p.acted.step in
         let r = report_in kept old.net.sent in
         let left : IsLeft nodes new.slots w r = subst (λ (k : ℕ). IsLeft k new.slots w r) stands.count (subst (λ (k : ℕ). IsLeft (length old.nodes) k w r) (sym same_slots) reports.left) in
+        let grew = runs_grow nodes new.slots w r a step left p.acted.next (omega (arith, short)) (subst (λ (o : Outcome). o ≢ Refused (OfNode Worn)) p.acted.outcome_is unworn) in
         record {
           step = step;
-          next = p.acted.next;
+          is_step = grew.0;
           outcome_is = p.acted.outcome_is;
           grows = grows;
           reports = record {
             stands = p.acted.stands;
-            left = rw (grows, same_count ∙ stands.count) (runs_grow nodes new.slots w r a step left p.acted.next);
+            left = rw (grows, same_count ∙ stands.count) grew.1;
           };
         }
 
     pub cluster_on : (counts counts' : List ℕ) → AreCounted (length old.nodes) (cluster_with old kept).report.commands counts → slice_get counts n ≡ Some before
         → ((is_some_option deed.tried ≡ true) × (counts' ≡ slice_set counts n (before + 1))) ⊎ ((is_some_option deed.tried ≡ false) × (counts' ≡ counts))
-        → AreasRise old new deed.outcome → AreasWithin (length (cluster_with old kept).report.moments + 2) old.nodes → NoneWorn (cluster_with old kept).report → length (cluster_with old kept).report.moments + 3 < 2 ^ 64
+        → AreasRise old new deed.outcome → AreasWithin (length (cluster_with old kept).report.moments + 2) old.nodes → length (cluster_with old kept).report.moments + 3 < 2 ^ 64
         → IsCluster (cluster_with new kept') counts'
-    cluster_on counts counts' counted at_count either rises within unworn short =
+    cluster_on counts counts' counted at_count either rises within short =
         let r = report_in kept old.net.sent in
         let whole = (step_reported r).whole in
         let commands : (report_in kept' new.net.sent).commands ≡ r.commands ++ listed (tried_at n (tried_as (command_in a deed.tried) deed.acked)) = ap (λ (x : Report). x.commands) is in
         record {
           last = _;
-          reports = goes_on.reports;
+          reports = (goes_on short ((rises (length r.moments + 2) within).1 (omega (arith, short)))).reports;
           counted = rw (same_count, commands, whole.is) (counted_on (length old.nodes) n before r.commands counts counts' deed.tried deed.acked whole.command whole.which counted at_count either);
           areas = subst (λ (x : Report). AreasWithin (length x.moments + 2) new.nodes) (sym grows)
               (subst (λ (k : ℕ). AreasWithin k new.nodes) (omega (arith, length-append r.moments (moment_of (length w.states) w a p.acted.step ∷ []))) (rises (length r.moments + 2) within).0);
-          unworn = subst NoneWorn (sym grows) (grown_unworn (length w.states) w a p.acted.step r unworn
-              (subst (λ (o : Outcome). o ≢ Refused (OfNode Worn)) p.acted.outcome_is ((rises (length r.moments + 2) within).1 (omega (arith, short)))));
         }
 
 -- an act for which there was no memory leaves all of it true
@@ -242,5 +236,4 @@ cluster_still old new kept kept' at counts is same_kept same_slots stands untouc
       };
       counted = subst (λ (n : ℕ). AreCounted n (report_in kept' new.net.sent).commands counts) (sym same.count) (subst (λ (x : Report). AreCounted (length old.nodes) x.commands counts) (sym report_same) is.counted);
       areas = subst (λ (x : Report). AreasWithin (length x.moments + 2) new.nodes) (sym report_same) (untouched_areas at _ old new same is.areas);
-      unworn = subst NoneWorn (sym report_same) is.unworn;
     }

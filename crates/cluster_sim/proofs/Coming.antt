@@ -25,7 +25,7 @@ use Rattle.runs.specs.Acts.{what_outcome, IsCompaction}
 use Rattle.schedule.specs.declared.act.Act.{Act}
 use Rattle.schedule.specs.declared.act.Act.TheVariants as act
 use Rattle.cluster_sim.specs.Outcomes.{came_outcome, compaction_outcome}
-use Rattle.cluster_sim.specs.World.{MayHaveForgotten, IsOfSize, IsSame, IsCounted, Comes, is_mounting, bare}
+use Rattle.cluster_sim.specs.World.{MayHaveForgotten, IsOfSize, IsSame, IsCounted, Comes, is_mounting, fate_in, bare}
 use Rattle.cluster_sim.specs.declared.deed.Deed.{Deed}
 use Rattle.durable_node.specs.Compacting.{CompactionAnswers, IsMovedNode, IsFallenNode, StaysKept}
 use Rattle.durable_node.specs.Refusing.{AnswersTo, compaction_refusal, is_last}
@@ -70,10 +70,13 @@ left_so old new last event came (inr forgot) id nodes counts steps =
     let later = counts_and_forgets old.disk new.disk last.disk (answered (Ok came)) (λ i. (forgot i).disk) counts in
     (same_by old last _ ((λ i. (forgot i).id) ∙ id) ((λ i. (forgot i).nodes) ∙ nodes) later, steps_and_forgets old new last event came forgot steps, later)
 
+fate_is : (event : Event) (fate : Fate) → Some fate ≡ fate_in (what_of event fate)
+fate_is event fate = grind arith
+
 pub comes_by : (event : Event) (old new : Node Memory) (net net' : Network) (came : Came) (deed : Deed) → IsSome old.disk → Steps state_of old new event came
-    → deed.tried ≡ came.tried → deed.acked ≡ came.answer → deed.mounted ≡ is_mounting (what_of event came.fate) → deed.outcome ≡ came_outcome came.fate (length net.sent) came → net' ≡ after_all_sent net came.sent.items
+    → deed.fate ≡ Some came.fate → deed.tried ≡ came.tried → deed.acked ≡ came.answer → deed.mounted ≡ is_mounting (what_of event came.fate) → deed.outcome ≡ came_outcome came.fate (length net.sent) came → net' ≡ after_all_sent net came.sent.items
     → (slots : ℕ) (s : NodeState) (a : Act) → slots ≤ 4096 → IsOfSize slots old.disk → Stands state_of old s → Comes slots old.id old.nodes a (IsOf event) s deed new net net'
-comes_by event old new net net' came deed has steps tried acked mounted outcome_is sent slots s a most size stands =
+comes_by event old new net net' came deed has steps fate tried acked mounted outcome_is sent slots s a most size stands =
     let was = some_of old.disk has in
     let step = steps was.0 s was.1 stands (λ _. refl) in
     let does = step.0 in
@@ -84,7 +87,7 @@ comes_by event old new net net' came deed has steps tried acked mounted outcome_
       possible = does.possible;
       of_slots = subst (λ (n : ℕ). IsOfSlots n old.id old.nodes s (what_of event came.fate)) (ap slots_for (size was.0 was.1) ∙ sized) does.of_slots;
       outcome_is = outcome_is ∙ what_outcome_is (slots_for (state_of was.0).sectors) old.id old.nodes (length net.sent) s a event came new.mounted came.fate does;
-      reports = record { tried = tried ∙ does.tried.which; acked = acked ∙ does.answer; mounted = mounted };
+      reports = record { fate = fate ∙ fate_is event came.fate; tried = tried ∙ does.tried.which; acked = acked ∙ does.answer; mounted = mounted };
       sent = sent ∙ (λ i. after_all_sent net (does.sent i));
       mounted = does.mounted;
       stands = step.1;
@@ -121,9 +124,9 @@ outcome_so self nodes first n s _ result is up = absurd is
 pub compacted_comes : (slots n id nodes : ℕ) (s : NodeState) (o : Outcome) (new : Node Memory) (net : Network) (what : What) → IsCompaction s what → IsPossible id nodes s what
     → o ≡ what_outcome id nodes (length net.sent) s what (act.Compact n) → new.mounted ≡ None → Stands state_of new (after id nodes s what) → Comes slots id nodes (act.Compact n) (IsCompaction s) s (bare o) new net net
 compacted_comes slots n id nodes s o new net (Rests rest) is may shown none stands =
-    record { what = Rests rest; is = is; possible = may; of_slots = tt; outcome_is = shown; reports = record { tried = refl; acked = refl; mounted = refl }; sent = sym (none_sent net); mounted = none; stands = stands }
+    record { what = Rests rest; is = is; possible = may; of_slots = tt; outcome_is = shown; reports = record { fate = refl; tried = refl; acked = refl; mounted = refl }; sent = sym (none_sent net); mounted = none; stands = stands }
 compacted_comes slots n id nodes s o new net Crashed is may shown none stands =
-    record { what = Crashed; is = is; possible = may; of_slots = tt; outcome_is = shown; reports = record { tried = refl; acked = refl; mounted = refl }; sent = sym (none_sent net); mounted = none; stands = stands }
+    record { what = Crashed; is = is; possible = may; of_slots = tt; outcome_is = shown; reports = record { fate = refl; tried = refl; acked = refl; mounted = refl }; sent = sym (none_sent net); mounted = none; stands = stands }
 compacted_comes slots n id nodes s o new net _ is may shown none stands = absurd is
 
 -- nothing is mounted

@@ -102,7 +102,7 @@ no_err (Err e) none = absurd (none e refl)
 
 -- nothing is done, for this reason
 pub denied : (w : World) (a : Act) (n : ℕ) (why : Refusal) (Q : Step → Type 0) (view : WorldView) → StandsFor view w → Q (Denies n why) → Makes a Q w (bare (outcome.Refused why)) view
-denied w a n why Q view stands is = record { step = Denies n why; is = is; allowed = tt; of_slots = tt; outcome_is = refl; shows = tt; reports = (refl, refl); stands = stands }
+denied w a n why Q view stands is = record { step = Denies n why; is = is; allowed = tt; of_slots = tt; outcome_is = refl; shows = tt; reports = (refl, refl, refl); stands = stands }
 
 pub denies : (w : World) (a : Act) (n : ℕ) (why : Refusal) (view : WorldView) → StandsFor view w → IsStepOf (length w.states) w a (Denies n why) → Performed w a (bare (outcome.Refused why)) view
 denies w a n why view stands of = performed {E = ℕ} (IsStepOf (length w.states) w a) w a (Ok _) view (λ step at. at) (denied w a n why _ view stands of)
@@ -120,7 +120,7 @@ wired w a view now net net' o viewed stood same_sent is next =
       of_slots = tt;
       outcome_is = is ∙ (λ i. outcome.Done None (length (sent i)) 0);
       shows = tt;
-      reports = (refl, refl);
+      reports = (refl, refl, refl);
       stands = record { count = stands.count; net = (next stands).1; each = stands.each };
     })
 

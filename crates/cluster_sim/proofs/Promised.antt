@@ -1,21 +1,17 @@
 -- What is promised of a report.
-use Rattle.std.proofs.Common.{◌≡◌, ℕ, ◌+◌, ◌<◌, ◌^◌, List, [], ◌∷◌, ◌++◌, length, sym, ◌∙◌, ap, arith, false, Result, Ok, Err, IfOk, is_err}
-use Rattle.std.proofs.lemmas.List.{length-map, map-append}
+use Rattle.std.proofs.Common.{◌≡◌, ℕ, List, [], ◌∷◌, ◌++◌, length, sym, ◌∙◌, ap, false, Result, Ok, Err, IfOk, is_err}
+use Rattle.std.proofs.lemmas.List.{map-append}
 use Rattle.schedule.specs.declared.act.Act.{Act}
 use Rattle.runs.specs.declared.outcome.Outcome.{Outcome}
 use Rattle.runs.specs.World.{World}
 use Rattle.runs.specs.Reporting.{Moment, moment_of}
 use Rattle.runs.specs.Growth.{acts_in}
-use Rattle.runs.specs.Headline.{Headline, NoneWorn}
-use Rattle.histories.specs.Counts.{IsShort}
+use Rattle.runs.specs.Headline.{Headline}
 use Rattle.cluster_sim.specs.Cluster.{ClusterView, Reports, GoesOn, HasRun}
 use Rattle.runs.proofs.PublicLaws.{left_keeps, step_length}
 
-pub promised : (c : ClusterView) (w : World) → Reports c w → length c.report.moments + 1 < 2 ^ 64 → NoneWorn c.report → Headline (length c.world.nodes) c.world.slots (acts_in c.report) c.report
-promised c w reports short unworn =
-    let len : length (acts_in c.report) ≡ length c.report.moments = length-map c.report.moments (λ (m : Moment). m.act) in
-    let few : IsShort (acts_in c.report) = omega (arith, len, short) in
-    left_keeps (length c.world.nodes) c.world.slots w c.report reports.left few unworn
+pub promised : (c : ClusterView) (w : World) → Reports c w → Headline (length c.world.nodes) c.world.slots (acts_in c.report) c.report
+promised c w reports = left_keeps (length c.world.nodes) c.world.slots w c.report reports.left
 
 -- ---- one act after another
 

@@ -25,15 +25,18 @@ use Rattle.runs.specs.Step.{Step, world_after}
 use Rattle.runs.specs.Acts.{act_outcome}
 use Rattle.runs.specs.Reporting.{Moment, MountedAt, Report, own_commands, group_of, grown}
 use Rattle.runs.specs.declared.tried.TriedAt.{TriedAt}
-use Rattle.runs.specs.Growth.{acts_in, IsLeft, IsNext}
-use Rattle.runs.specs.Headline.{NoneWorn}
+use Rattle.runs.specs.ExactRuns.{IsExactStep}
+use Rattle.runs.specs.Growth.{acts_in, IsLeft}
 use Rattle.runs.specs.Numbered.{sent_under}
 use Rattle.cluster_sim.specs.World.{AreasWithin, WorldView, StandsFor}
 
 -- ---- a report, as code keeps it
 
 abbrev pub mounted_of : Mounted → MountedAt
-mounted_of m = record { node = m.node; mounting = record { before = m.before; state = record { counter = m.count; next = m.next; pending = m.pending.items } } }
+mounted_of m = record {
+  node = m.node;
+  mounting = record { before = m.before; state = record { counter = m.count; next = m.next; pending = m.pending.items } };
+}
 
 -- the messages of a moment are those of its numbers, of all that were sent
 abbrev pub moment_in : List Envelope → KeptMoment → Moment
@@ -139,7 +142,7 @@ pub record Reports (c : ClusterView) (w : World) : Type 0 where
 -- the act had one of its steps, and run and report went on by it
 pub record GoesOn (w : World) (act : Act) (outcome : Outcome) (old new : ClusterView) : Type 0 where
   pub step : Step
-  pub next : IsNext (length w.states) new.world.slots w act step
+  pub is_step : IsExactStep (length w.states) new.world.slots w act step
   pub outcome_is : outcome ≡ act_outcome (length w.states) w act step
   pub grows : new.report ≡ grown (length w.states) w act step old.report
   pub reports : Reports new (world_after (length w.states) w step)
@@ -156,7 +159,6 @@ pub record IsCluster (c : ClusterView) (counts : List ℕ) : Type 0 where
   pub counted : AreCounted (length c.world.nodes) c.report.commands counts
   -- each act raises the number of an area by one at most
   pub areas : AreasWithin (length c.report.moments + 2) c.world.nodes
-  pub unworn : NoneWorn c.report
 
 -- how many jobs a node may take in hand in one step, where its disk has so many slots
 abbrev pub pending_room : ℕ → Bool → Option Durable → ℕ

@@ -17,6 +17,8 @@ use Rattle.schedule.specs.declared.act.Act.{Act}
 use Rattle.cluster_sim.specs.declared.deed.Deed.{Deed}
 use Rattle.durable_node.specs.Stepping.{answer_at, command_at}
 use Rattle.histories.specs.Fates.{attempt_of}
+use Rattle.histories.specs.declared.fate.Fate.{Fate}
+use Rattle.histories.specs.declared.fate.Fate.TheVariants as fate
 use Rattle.runs.specs.declared.outcome.Outcome.{Outcome}
 use Rattle.runs.specs.declared.outcome.Outcome.TheVariants as outcome
 use Rattle.runs.specs.declared.outcome.Refusal.TheVariants.{Node as OfNode}
@@ -93,12 +95,25 @@ is_mounting MountFailed = false
 is_mounting (RaiseFailed kept) = true
 is_mounting (RaiseRefused kept) = true
 
--- an act in which no node called its disk for a command, nor mounted it
+-- what came of an event, without the event
+abbrev pub fate_in : What → Option Fate
+fate_in (Did event) = Some fate.Done
+fate_in (Refused event why) = Some (fate.Refused why)
+fate_in (Faulted event) = Some fate.Faulted
+fate_in (Rests rest) = None
+fate_in Crashed = None
+fate_in (Recovered kept) = Some (fate.Recovered kept)
+fate_in MountFailed = Some fate.MountFailed
+fate_in (RaiseFailed kept) = Some (fate.RaiseFailed kept)
+fate_in (RaiseRefused kept) = Some (fate.RaiseRefused kept)
+
+-- an act in which no event came to a node
 abbrev pub bare : Outcome → Deed
-bare o = record { outcome = o; tried = None; acked = None; mounted = false }
+bare o = record { outcome = o; fate = None; tried = None; acked = None; mounted = false }
 
 -- the node says this of its disk
 pub record DeedOf (id nodes : ℕ) (s : NodeState) (what : What) (deed : Deed) : Type 0 where
+  pub fate : deed.fate ≡ fate_in what
   pub tried : deed.tried ≡ option_map attempt_of (command_at id nodes s what)
   pub acked : deed.acked ≡ answer_at id nodes s what
   pub mounted : deed.mounted ≡ is_mounting what
@@ -168,7 +183,7 @@ pub record Acted (w : World) (act : Act) (outcome : Outcome) (new : WorldView) :
 -- what the node of a step says of its disk: where no node takes it, nothing
 abbrev pub ReportsDeed : World → Step → Deed → Type 0
 ReportsDeed w (Takes n number what) deed = (s : NodeState) → slice_get w.states n ≡ Some s → DeedOf n (length w.states) s what deed
-ReportsDeed w step deed = (deed.tried ≡ None) × (deed.mounted ≡ false)
+ReportsDeed w step deed = (deed.tried ≡ None) × (deed.mounted ≡ false) × (deed.fate ≡ None)
 
 -- a step of this kind led from what the cluster stood for to what it stands for now, and so it is reported of this act
 pub record Makes (a : Act) (Q : Step → Type 0) (w : World) (deed : Deed) (new : WorldView) : Type 0 where

@@ -10,7 +10,7 @@ ghost use Rattle.runs.specs.declared.outcome.Outcome.TheVariants as outcomes;
 ghost use Rattle.runs.specs.declared.outcome.Refusal.TheVariants.{Node as OfNode};
 ghost use Rattle.runs.specs.Growth.{acts_in};
 ghost use Rattle.cluster_sim.specs.Names.{node_named};
-ghost use Rattle.runs.specs.Headline.{Headline, NoneWorn};
+ghost use Rattle.runs.specs.Headline.{Headline};
 ghost use Rattle.runs.specs.Reporting.{report_of};
 ghost use Rattle.cluster_sim.specs.declared.report.Moment.{Moment as KeptMoment};
 ghost use Rattle.runs.specs.World.{World as RunWorld, start};
@@ -133,7 +133,6 @@ impl Cluster {
     fn into_parts(self) -> (Report, Net)
         ensures report { report_in result.0 self.world.net.sent ≡ self.report }
         ensures net { result.1.network ≡ self.world.net }
-        ensures unworn { NoneWorn self.report }
     {
         let Cluster { world, report, .. } = self;
         (report, world.into_net())

@@ -1,11 +1,13 @@
 // What comes of an act at a node.
-use histories::Attempt;
+use histories::{Attempt, Fate};
 use runs::Outcome;
 
-/// What came of an act, and what its node says of its disk.
+/// What came of an act, as its node told it.
 #[derive(Clone, Copy)]
-pub(crate) struct Deed {
+pub struct Deed {
     pub outcome: Outcome,
+    /// What came of the event that the act is, or brings. None where no event came to a node.
+    pub fate: Option<Fate>,
     /// Which command the node tried on its disk, if it tried one.
     pub tried: Option<Attempt>,
     /// The answer of that command. None where the device failed in it.

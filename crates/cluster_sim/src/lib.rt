@@ -21,6 +21,7 @@ mod report;
 mod world;
 
 pub use cluster::{Cluster, run};
+pub use deed::Deed;
 pub use report::{Moment, Mounted, Report};
 pub use runs::{Outcome, Refusal, TriedAt};
 pub use world::World;

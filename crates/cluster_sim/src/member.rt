@@ -62,6 +62,7 @@ pub(crate) fn handle(
     send_all(net, &came.sent);
     Ok(Deed {
         outcome: outcome_of(&came, first),
+        fate: Some(came.fate),
         tried: came.tried,
         acked: came.answer,
         mounted: is_mounting(came.fate),

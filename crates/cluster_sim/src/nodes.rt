@@ -123,6 +123,7 @@ impl Nodes {
         if place >= self.nodes.len() {
             return Ok(Deed {
                 outcome: Outcome::Refused(Refusal::Stranger),
+                fate: None,
                 tried: None,
                 acked: None,
                 mounted: false,

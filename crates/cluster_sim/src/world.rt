@@ -92,9 +92,12 @@ impl World {
         }
     }
 
-    /// One act, with what its node says of its disk.
-    pub(crate) fn perform(&mut self, act: &Act) -> Result<Deed, AllocError>
+    /// The same, with all that its node told of it.
+    pub fn perform(&mut self, act: &Act) -> Result<Deed, AllocError>
         ensures slots { self.new.slots ≡ self.old.slots }
+        // Promise: What is told of an act is what came of it: the fate of the event at its node, the command that the node tried with
+        // its answer, and whether it mounted its disk.
+        // Refuses: told_of_another_mounting.
         ensures acted { (w : RunWorld) → StandsFor self.old w → IfOk result (λ deed. Performed w act.now deed self.new) }
         ensures memory { (w : RunWorld) → StandsFor self.old w → OnErr result (StandsFor self.new w) }
         ensures untouched { (w : RunWorld) → StandsFor self.old w → OnErr result (IsUntouched (node_named (length self.old.nodes) self.old.net.sent act.now) self.old self.new) }
@@ -111,6 +114,7 @@ impl World {
         }
         Ok(Deed {
             outcome: self.nodes.apply(act),
+            fate: None,
             tried: None,
             acked: None,
             mounted: false,
@@ -171,6 +175,7 @@ impl World {
             Ok(receiver) => self.nodes.take(receiver, &self.delivery),
             Err(fault) => Ok(Deed {
                 outcome: Outcome::Refused(Refusal::Net(fault)),
+                fate: None,
                 tried: None,
                 acked: None,
                 mounted: false,

@@ -1,12 +1,14 @@
 -- What the words of a command line ask for.
-use Rattle.std.specs.Prelude.{ℕ, List, ◌==◌, nat_le, nat_lt, Bool, true, false, bytes_eq, codes, if◌then◌else◌, option_map, Option, Some, None, string_bytes}
+use Rattle.std.specs.Prelude.{ℕ, List, [], map, ◌==◌, nat_le, nat_lt, Bool, true, false, bytes_eq, codes, if◌then◌else◌, option_map, Option, Some, None, string_bytes}
+use Rattle.clap.specs.Words.{matched_of, raw_values}
+use Rattle.clap.specs.declared.parser.matches.Found.{Found}
 use Rattle.file_disk.specs.declared.stride.Stride.{Stride}
 use Rattle.file_disk.specs.declared.stride.Stride.TheVariants.{Packed, Spaced}
 use Rattle.group_task.specs.declared.node.TheConstants.{NODES}
-use Rattle.node_console.specs.declared.making.TheConstants.{LEAST_SLOTS, MOST_SLOTS}
+use Rattle.disk_sector.specs.declared.layout.TheConstants.{LEAST_SLOTS, MOST_SLOTS}
 use Rattle.line_words.specs.Words.{number_of}
-use Rattle.trace_console.specs.declared.judging.Stage.{Stage}
-use Rattle.trace_console.specs.declared.judging.Stage.TheVariants.{Over, Ongoing}
+use Rattle.trace_draw.specs.declared.judging.Stage.{Stage}
+use Rattle.trace_draw.specs.declared.judging.Stage.TheVariants.{Over, Ongoing}
 use Rattle.trace_draw.specs.declared.drawing.Form.{Form}
 use Rattle.trace_draw.specs.declared.drawing.Form.TheVariants as form
 use Rattle.command_line.specs.declared.task.TheConstants.{MOST_ROUND_TRIP, ROUND_TRIP}
@@ -37,7 +39,8 @@ pub data Asked : Type 0 where
   shows : Asked
   simulates : Bool → Bool → Asked
   stores : List ℕ → Asked
-  traces : Bool → Asked
+  -- whether the run may go on, and the files that its records stand in: none where they are read from standard input
+  traces : Bool → List (List ℕ) → Asked
   records : Asked
   runs_threads : Asked
   draws : Bool → Asked
@@ -70,7 +73,7 @@ asked_batch (Answer place) = answers (placed place)
 asked_batch Show = shows
 asked_batch (Sim details) = simulates details.names details.nodes
 asked_batch (Store path) = stores (string_bytes path)
-asked_batch (Trace stage) = traces (is_ongoing stage)
+asked_batch (Trace stage) = traces (is_ongoing stage) []
 asked_batch Record = records
 asked_batch Threads = runs_threads
 asked_batch (Draw form) = draws (is_page form)
@@ -81,11 +84,24 @@ asked (task.Format path making jobs) = makes (string_bytes path) (made making) (
 asked (task.Node path place round_trip sealing) = serves (string_bytes path) (placed place) round_trip (option_map sealed sealing)
 asked (task.Inspect path) = inspects (string_bytes path)
 asked (task.Export path) = exports (string_bytes path)
+asked (task.Trace stage files) = traces (is_ongoing stage) (map string_bytes files.items)
 
 -- ---- arguments, by their names
 
 abbrev pub Arguments : Type 0
 Arguments = List ℕ → Option (List ℕ)
+
+-- the values of an argument that may be given more than once
+abbrev pub Lists : Type 0
+Lists = List ℕ → List (List ℕ)
+
+abbrev pub values_in : Option (List (List ℕ)) → List (List ℕ)
+values_in None = []
+values_in (Some values) = values
+
+-- all values that were read for it
+abbrev pub values_of : Found → List ℕ → List (List ℕ)
+values_of found id = values_in (option_map raw_values (matched_of found id))
 
 abbrev pub number_in : Option (List ℕ) → Option ℕ
 number_in None = None
@@ -164,13 +180,13 @@ node_of arguments = serves_by (arguments (codes "FILE")) (place_of arguments) (r
     (sealed_by (arguments (codes "key")) (arguments (codes "cluster")))
 
 -- what the command of a name asks for; nothing, where a number is out of its range
-abbrev pub asked_by : List ℕ → Arguments → Option Asked
-asked_by name arguments =
+abbrev pub asked_by : List ℕ → Arguments → Lists → Option Asked
+asked_by name arguments lists =
     if bytes_eq name (codes "answer") then option_map answers (place_of arguments) else
     if bytes_eq name (codes "show") then Some shows else
     if bytes_eq name (codes "sim") then Some (simulates (is_set (arguments (codes "names"))) (is_set (arguments (codes "nodes")))) else
     if bytes_eq name (codes "store") then option_map stores (arguments (codes "PATH")) else
-    if bytes_eq name (codes "trace") then Some (traces (is_set (arguments (codes "ongoing")))) else
+    if bytes_eq name (codes "trace") then Some (traces (is_set (arguments (codes "ongoing"))) (lists (codes "FILE"))) else
     if bytes_eq name (codes "record") then Some records else
     if bytes_eq name (codes "threads") then Some runs_threads else
     if bytes_eq name (codes "draw") then Some (draws (is_set (arguments (codes "html")))) else

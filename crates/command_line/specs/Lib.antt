@@ -1,2 +1,5 @@
 pub mod Asked
+pub mod Ends
+pub mod Keys
+pub mod Label
 pub mod Performed

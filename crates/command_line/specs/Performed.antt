@@ -8,8 +8,8 @@ use Rattle.invite_console.specs.Sim.{IsSimOutcome}
 use Rattle.invite_console.specs.Reasons.{answer_flaw, schedule_flaw, show_flaw}
 use Rattle.store_console.specs.Session.{IsSession}
 use Rattle.store_console.specs.Reasons.{session_flaw}
-use Rattle.trace_console.specs.Ongoing.{IsJudgedAt}
-use Rattle.trace_console.specs.Reported.{IsTold}
+use Rattle.trace_draw.specs.Ongoing.{IsJudgedAt}
+use Rattle.trace_draw.specs.Reported.{IsTold}
 use Rattle.invite_console.specs.Recording.{IsRecording}
 use Rattle.threads_console.specs.Printed.{IsThreading}
 use Rattle.threads_console.specs.Reasons.{plans_flaw}

@@ -1,26 +1,25 @@
 // From the words of the command line to what they ask for.
-ghost use Rattle.std.specs.Prelude.{◌≡◌, IfOk, bytes_eq, codes, option_map, string_bytes};
+ghost use Rattle.std.specs.Prelude.{◌≡◌, IfOk, Some, bytes_eq, codes, map, option_map, string_bytes};
 ghost use Rattle.clap.specs.Words.{first_value, found_of};
-ghost use Rattle.command_line.specs.Asked.{answers, asked, asked_by, exports, format_of, inspects, is_ongoing, is_page, is_set, made, making_of, node_of, placed, place_of, round_trip_of, sealed, sealed_by, stores, stride_of};
+ghost use Rattle.command_line.specs.Asked.{answers, asked, asked_by, exports, format_of, inspects, is_ongoing, is_page, is_set, made, making_of, node_of, placed, place_of, round_trip_of, sealed, sealed_by, stores, stride_of, traces, values_of};
 
 use crate::task::{Batch, MOST_ROUND_TRIP, Making, Place, ROUND_TRIP, Sealing, Task};
 use clap::ArgMatches;
+use disk_sector::{LEAST_SLOTS, MOST_SLOTS};
 use file_disk::Stride;
 use group_task::{NODES, NodeId};
 use invite_console::Details;
 use line_words::number;
-use node_console::{LEAST_SLOTS, MOST_SLOTS};
 use std::alloc::{AllocError, Global};
-use trace_console::Stage;
-use trace_draw::Form;
+use trace_draw::{Form, Stage};
 
 /// What the command of this name asks for, with these arguments. None where a number is out of its range.
 pub fn task(alloc: Global, name: &str, words: &ArgMatches<'_>) -> Result<Option<Task>, AllocError>
     // Promise: The command that is run is the one that was named, with its arguments as numbers, and the exit status is that of its
     // ending.
     // Also: perform.
-    // Refuses: one_command_for_another, sim_shows, every_status_zero, picture_for_a_page.
-    ensures { IfOk result (λ task. option_map asked task ≡ asked_by name.now (λ id. first_value (found_of words.now) id)) }
+    // Refuses: one_command_for_another, sim_shows, every_status_zero, picture_for_a_page, files_passed_over.
+    ensures { IfOk result (λ task. option_map asked task ≡ asked_by name.now (λ id. first_value (found_of words.now) id) (λ id. values_of (found_of words.now) id)) }
 {
     if is(name, "answer") {
         Ok(answer(words))
@@ -31,7 +30,7 @@ pub fn task(alloc: Global, name: &str, words: &ArgMatches<'_>) -> Result<Option<
     } else if is(name, "store") {
         store(alloc, words)
     } else if is(name, "trace") {
-        Ok(Some(Task::Batch(Batch::Trace(stage(words)))))
+        trace(alloc, words)
     } else if is(name, "record") {
         Ok(Some(Task::Batch(Batch::Record)))
     } else if is(name, "threads") {
@@ -65,6 +64,39 @@ fn sim_details(words: &ArgMatches<'_>) -> Details
         names: is_set(words, "names"),
         nodes: is_set(words, "nodes"),
     }
+}
+
+/// The run of the files that are named, or of standard input where none is.
+fn trace(alloc: Global, words: &ArgMatches<'_>) -> Result<Option<Task>, AllocError>
+    ensures { IfOk result (λ task. option_map asked task
+        ≡ Some (traces (is_set (first_value (found_of words.now) (codes "ongoing"))) (values_of (found_of words.now) (codes "FILE")))) }
+{
+    let stage = stage(words);
+    let files = files(alloc, words)?;
+    if files.is_empty() {
+        return Ok(Some(Task::Batch(Batch::Trace(stage))));
+    }
+    Ok(Some(Task::Trace(stage, files)))
+}
+
+/// The files that are named.
+fn files(alloc: Global, words: &ArgMatches<'_>) -> Result<Vec<String>, AllocError>
+    ensures { IfOk result (λ files. map string_bytes files.items ≡ values_of (found_of words.now) (codes "FILE")) }
+{
+    match words.get_strs("FILE") {
+        Some(named) => texts_of(alloc, named),
+        None => Ok(Vec::new(alloc)),
+    }
+}
+
+fn texts_of(alloc: Global, words: &[&str]) -> Result<Vec<String>, AllocError>
+    ensures { IfOk result (λ texts. map string_bytes texts.items ≡ map (λ word. word.now) words.now) }
+{
+    let mut texts = Vec::new(alloc);
+    for word in words {
+        texts.push(String::from_str(alloc, word)?)?;
+    }
+    Ok(texts)
 }
 
 /// Whether the run that is judged is over.

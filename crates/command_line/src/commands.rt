@@ -12,6 +12,8 @@ enum Form {
     Word,
     /// A word at its place, which may be left out.
     MayBeLeftOut,
+    /// Words at its place, as many as there are, or none.
+    Several,
     /// `--` and its name, without a value.
     Flag,
     /// `--` and its name, with a value.
@@ -59,6 +61,12 @@ const LOOKED_AT: Argument = Argument {
     name: "FILE",
     form: Form::Word,
     help: "The file of a node or of a store",
+};
+
+const JUDGED: Argument = Argument {
+    name: "FILE",
+    form: Form::Several,
+    help: "A file of the run, in place of standard input: the nodes of each come behind those of the files before it",
 };
 
 const PATH: Argument = Argument {
@@ -186,8 +194,8 @@ const COMMANDS: [Described; 12] = [
     Described {
         name: "trace",
         about: "Reads a trace, and prints an order in which its entries can have come, or where none goes on",
-        more: "A trace is the nodes' histories as JSON (docs/SIMULATION.md).\n\nExample: echo '{\"nodes\":1,\"histories\":[[{\"do\":\"check\",\"sent\":[]}]]}' | invite trace",
-        arguments: &[ONGOING],
+        more: "A trace is the nodes' histories as JSON. It is read from standard input, or from files that have some of the nodes each, in their order (docs/SIMULATION.md).\n\nExample: echo '{\"nodes\":1,\"histories\":[[{\"do\":\"check\",\"sent\":[]}]]}' | invite trace",
+        arguments: &[JUDGED, ONGOING],
     },
     Described {
         name: "record",
@@ -217,7 +225,7 @@ pub fn command<'a>(alloc: Global) -> Result<Command<'a>, AllocError> {
         )
         .version(VERSION)
         .after_help(
-            "Each command but format, inspect and export reads standard input. invite COMMAND --help says what, with an example.",
+            "Each command but format, inspect and export reads standard input, trace where no file is named. invite COMMAND --help says what, with an example.",
         )
         .subcommand_required(true)
         .disable_help_subcommand(true);
@@ -246,6 +254,7 @@ fn made<'a>(alloc: Global, argument: &Argument) -> Result<Arg<'a>, AllocError> {
     match argument.form {
         Form::Word => Ok(named.required(true)),
         Form::MayBeLeftOut => Ok(named),
+        Form::Several => Ok(named.num_args(1..)),
         Form::Flag => Ok(named.long(argument.name).action(ArgAction::SetTrue)),
         Form::Valued => Ok(named.long(argument.name)),
         Form::Beside(value, other) => named

@@ -1,5 +1,6 @@
-//! The command line of the program `invite`. The commands themselves are those of `invite_console`, `store_console`, `file_console`,
-//! `node_console`, `trace_console`, `trace_draw` and `threads_console`, over standard input and output.
+//! The command line of the program `invite`, and the commands of a node: `format` makes its file, and `node` serves it over that, lines in and
+//! lines out. The other commands are those of `invite_console`, `store_console`, `trace_draw` and `threads_console`, over
+//! standard input and output.
 //!
 //! It stands apart from the program, since a program is proved over the code of all that it reaches, and a library over the interfaces
 //! of what it uses.
@@ -9,18 +10,29 @@ ghost use Rattle.std.specs.Prelude.{◌≤◌, ◌+◌, length, IfOk};
 
 mod asking;
 mod commands;
+mod keys;
+mod label;
+mod making;
 mod performing;
+mod reading;
 mod reasons;
+mod serving;
+mod status;
 mod task;
 
 use commands::command;
-use console_text::{Ended, Sink, Source, Trouble, read_source};
+use console_text::{Ended, MAX_READS, Sink, Source, Trouble, read_source};
+use disk_sector::{LEAST_SLOTS, MOST_SLOTS};
 use group_task::NODES;
 use job_model::JobTable;
+use keys::Keys;
 use line_words::LineFault;
-use node_console::{Keys, LEAST_SLOTS, MOST_SLOTS, Status};
-use performing::{Performed, perform};
+use making::format_file;
+use performing::perform;
+use reading::{file_to_read, image_of};
 use reasons::{Reason, explain, reason_of};
+use serving::serve_file;
+use status::Status;
 use std::fs::File;
 use std::io;
 use std::io::{ErrorKind, Read};
@@ -28,6 +40,7 @@ use std::process::ExitCode;
 use std::sync::Wait;
 use std::thread::Threads;
 use task::{Batch, MOST_ROUND_TRIP, Making, Place, Sealing, Task};
+use trace_draw::{Stage, TraceFile};
 
 /// The exit status of a command line that can't be read, or asks for help.
 const UNREADABLE: u8 = 2;
@@ -70,6 +83,7 @@ fn obey<T: Threads + Wait + Sync>(rt: &HostRuntime, threads: &T) -> io::Result<u
         ),
         Ok(Task::Inspect(path)) => look(rt, path.as_str(), Shown::All),
         Ok(Task::Export(path)) => look(rt, path.as_str(), Shown::Jobs),
+        Ok(Task::Trace(stage, paths)) => judge(rt, stage, &paths),
         Err(status) => Ok(status),
     }
 }
@@ -101,10 +115,63 @@ fn carry_out<T: Threads + Wait + Sync>(rt: &HostRuntime, threads: &T, batch: &Ba
     let mut output = Sink::new(rt.stdout());
     let performed = perform(rt, threads, rt.alloc(), batch, &mut input, &mut output);
     let status = performed.status;
-    if let Some(reason) = reason_of(performed, input.fault(), output.fault()) {
+    if let Some(reason) = reason_of(performed.ended, input.fault(), output.fault()) {
         let _ = explain(rt, reason);
     }
     status
+}
+
+/// Judges the run whose records stand in the files of these paths, and answers the exit status.
+fn judge(rt: &HostRuntime, stage: Stage, paths: &[String]) -> io::Result<u8> {
+    let mut files = Vec::new(rt.alloc());
+    for path in paths {
+        let name = path.as_str();
+        let Some(text) = text_of(rt, name)? else {
+            return Ok(1);
+        };
+        files.push(TraceFile { name, text })?;
+    }
+    let mut output = Sink::new(rt.stdout());
+    let ended = trace_draw::trace_files(rt.alloc(), stage, &files, &mut output);
+    tell(rt, ended, None, output.fault())
+}
+
+/// All bytes of the file of this path. None, and a word on standard error, where it can't be read.
+fn text_of(rt: &HostRuntime, path: &str) -> io::Result<Option<Vec<u8>>> {
+    let mut input = match File::open(rt, path) {
+        Ok(file) => Source::new(file),
+        Err(error) => {
+            eprintln!(rt; "invite: {path}: can't read: {error}")?;
+            return Ok(None);
+        }
+    };
+    match read_source(rt.alloc(), &mut input) {
+        Ok(bytes) => Ok(Some(bytes)),
+        Err(Trouble::NoMemory) => Err(io::Error::from(ErrorKind::OutOfMemory)),
+        Err(Trouble::Unread) => {
+            match input.fault() {
+                Some(error) => eprintln!(rt; "invite: {path}: can't read: {error}")?,
+                None => eprintln!(rt;
+                    "invite: {path}: can't read: it has no end within {MAX_READS} reads"
+                )?,
+            }
+            Ok(None)
+        }
+    }
+}
+
+/// Says on standard error what there is to be said of how a command ended, and answers the exit status.
+fn tell(
+    rt: &HostRuntime,
+    ended: Ended,
+    unread: Option<io::Error>,
+    unwritten: Option<io::Error>,
+) -> io::Result<u8> {
+    let status = ended.ending.status();
+    if let Some(reason) = reason_of(ended, unread, unwritten) {
+        explain(rt, reason)?;
+    }
+    Ok(status)
 }
 
 /// Serves a node, and answers the exit status.
@@ -124,7 +191,7 @@ fn node(
     };
     let mut input = rt.stdin();
     let mut output = Sink::new(rt.stdout());
-    let status = node_console::serve_file(
+    let status = serve_file(
         rt,
         rt.alloc(),
         path,
@@ -148,14 +215,14 @@ fn node(
 /// Makes the file of a node, with the jobs of the lines of another file where that is named, and answers the exit status.
 fn format(rt: &HostRuntime, path: &str, making: &Making, jobs: &Option<String>) -> io::Result<u8> {
     let jobs = match jobs {
-        None => file_console::no_jobs(rt.alloc(), making.first),
+        None => store_console::no_jobs(rt.alloc(), making.first),
         Some(lines) => match listed(rt, lines.as_str(), making)? {
             Ok(jobs) => jobs,
             Err(status) => return Ok(status),
         },
     };
     let place = making.place;
-    let status = node_console::format_file(
+    let status = format_file(
         rt,
         path,
         making.slots,
@@ -175,7 +242,7 @@ fn listed(rt: &HostRuntime, path: &str, making: &Making) -> io::Result<Result<Jo
     let read = if path == "-" {
         bytes_of(rt, Source::new(rt.stdin()))?
     } else {
-        match node_console::file_to_read(rt, path) {
+        match file_to_read(rt, path) {
             Ok(file) => bytes_of(rt, Source::new(file))?,
             Err(status) => return Ok(Err(explain_status(rt, path, status)?)),
         }
@@ -183,7 +250,7 @@ fn listed(rt: &HostRuntime, path: &str, making: &Making) -> io::Result<Result<Jo
     let Some(bytes) = read else {
         return Ok(Err(1));
     };
-    match file_console::read_jobs(rt.alloc(), making.slots, making.first, &bytes) {
+    match store_console::read_jobs(rt.alloc(), making.slots, making.first, &bytes) {
         Ok(jobs) => Ok(Ok(jobs)),
         Err(LineFault::NoMemory) => Err(io::Error::from(ErrorKind::OutOfMemory)),
         Err(LineFault::BadLine(number)) => {
@@ -216,11 +283,11 @@ enum Shown {
 
 /// Reads a file and prints what it holds, and answers the exit status.
 fn look(rt: &HostRuntime, path: &str, shown: Shown) -> io::Result<u8> {
-    let file = match node_console::file_to_read(rt, path) {
+    let file = match file_to_read(rt, path) {
         Ok(file) => file,
         Err(status) => return explain_status(rt, path, status),
     };
-    match node_console::image_of(rt.alloc(), &file) {
+    match image_of(rt.alloc(), &file) {
         Ok(None) => shown_of(rt, Source::new(file), shown),
         Ok(Some(bytes)) => shown_of(rt, Source::new(bytes.as_slice()), shown),
         Err(error) if error.kind() == ErrorKind::OutOfMemory => Err(error),
@@ -239,19 +306,11 @@ fn shown_of<R: Read + Drop>(
 ) -> io::Result<u8> {
     let mut output = Sink::new(rt.stdout());
     let ending = match shown {
-        Shown::All => file_console::inspect(rt.alloc(), &mut input, &mut output),
-        Shown::Jobs => file_console::export(rt.alloc(), &mut input, &mut output),
+        Shown::All => store_console::inspect(rt.alloc(), &mut input, &mut output),
+        Shown::Jobs => store_console::export(rt.alloc(), &mut input, &mut output),
     };
-    let status = ending.status();
     let why = Vec::new(rt.alloc());
-    let performed = Performed {
-        ended: Ended { ending, why },
-        status,
-    };
-    if let Some(reason) = reason_of(performed, input.fault(), output.fault()) {
-        explain(rt, reason)?;
-    }
-    Ok(status)
+    tell(rt, Ended { ending, why }, input.fault(), output.fault())
 }
 
 /// Where a command of a node didn't end well, says why on standard error, in one line. Answers the exit status.
@@ -304,10 +363,7 @@ fn hint(rt: &HostRuntime, words: &[String]) -> io::Result<()> {
         return Ok(());
     }
     let name = words[1].as_str();
-    if matches!(
-        name,
-        "show" | "sim" | "trace" | "record" | "threads" | "draw"
-    ) {
+    if matches!(name, "show" | "sim" | "record" | "threads" | "draw") {
         println!(rt; "\n{name} reads standard input, as in: invite {name} < FILE")?;
     }
     Ok(())

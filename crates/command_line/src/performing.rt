@@ -56,7 +56,7 @@ fn carry_out<T: Threads + Wait + Sync, R: Read, W: Write>(
         Batch::Show => invite_console::show(alloc, input, output),
         Batch::Sim(details) => invite_console::sim(alloc, *details, input, output),
         Batch::Store(path) => store_console::store(rt, alloc, path.as_str(), input, output),
-        Batch::Trace(stage) => trace_console::trace(alloc, *stage, input, output),
+        Batch::Trace(stage) => trace_draw::trace(alloc, *stage, input, output),
         Batch::Record => invite_console::record(alloc, input, output),
         Batch::Threads => threads_console::threads(threads, alloc, input, output),
         Batch::Draw(form) => trace_draw::draw(alloc, *form, input, output),

@@ -1,5 +1,4 @@
 // What standard error says of how a command ended.
-use crate::performing::Performed;
 use console_text::{Ended, Ending, MAX_READS};
 use std::io;
 use std::io::Write;
@@ -17,11 +16,10 @@ pub enum Reason {
 /// Why the command didn't end well, where it didn't, or which entries of a run that goes on wait. What is wrong with a text that is no trace is
 /// printed, and isn't said again.
 pub fn reason_of(
-    performed: Performed,
+    ended: Ended,
     unread: Option<io::Error>,
     unwritten: Option<io::Error>,
 ) -> Option<Reason> {
-    let Performed { ended, .. } = performed;
     let Ended { ending, why } = ended;
     match ending {
         Ending::Done | Ending::Refused => {

@@ -1,13 +1,12 @@
 // What the command line asks for.
 ghost use Rattle.std.specs.Prelude.{◌<◌, ◌≤◌};
 ghost use Rattle.group_task.specs.declared.node.TheConstants.{NODES};
-ghost use Rattle.node_console.specs.declared.making.TheConstants.{LEAST_SLOTS, MOST_SLOTS};
+ghost use Rattle.disk_sector.specs.declared.layout.TheConstants.{LEAST_SLOTS, MOST_SLOTS};
 
 use file_disk::Stride;
 use group_task::NodeId;
 use invite_console::Details;
-use trace_console::Stage;
-use trace_draw::Form;
+use trace_draw::{Form, Stage};
 
 /// What a round trip between nodes takes where nothing else is said, and at most, in milliseconds of the clock that ticks tell.
 pub const ROUND_TRIP: u16 = 20;
@@ -28,6 +27,8 @@ pub enum Task {
     Inspect(String),
     /// The jobs of the file of this path are to be printed.
     Export(String),
+    /// A run whose records stand in the files of these paths is to be judged.
+    Trace(Stage, Vec<String>),
 }
 
 /// A command that reads its whole input first.

@@ -1,6 +1,7 @@
 ghost use Rattle.std.specs.Prelude.{◌≡◌};
 
 use std::alloc::{AllocError, Global};
+use thiserror::Error;
 
 /// How a command ended.
 #[derive(Clone, Copy, Debug, PartialEq, Eq)]
@@ -18,11 +19,12 @@ pub enum Ending {
 }
 
 /// Why a command has nothing to print for an input.
-#[derive(Clone, Copy, Debug, PartialEq, Eq)]
+#[derive(Clone, Copy, Debug, Drop, PartialEq, Eq, Error)]
 pub enum Trouble {
-    /// Memory ran out.
+    #[error("no memory")]
     NoMemory,
     /// A read failed, or the input had no end within the reads that are made of it.
+    #[error("the input can't be read")]
     Unread,
 }
 

@@ -39,3 +39,17 @@ fn owners_of_queues(rt: HostRuntime) {
     check_owner(&rt, members(&[5]), 15, 5);
     check_owner(&rt, members(&[1, 4, 9]), 8, 9);
 }
+
+#[test]
+fn a_set_is_collected_and_gone_over(rt: HostRuntime) {
+    let ids = [9u8, 1, 9, 4];
+    let collected: Members = ids
+        .iter()
+        .filter_map(|number| NodeId::new(*number))
+        .collect(rt.alloc())
+        .expect(&rt, "a set takes no memory");
+    assert!(rt; collected == members(&[1, 4, 9]));
+    for id in &collected {
+        assert!(rt; ids.contains(&id.number()));
+    }
+}

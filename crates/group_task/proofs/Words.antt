@@ -1,5 +1,5 @@
 -- Words of bits and rising lists stand for each other.
-use Rattle.std.proofs.Common.{◌≡◌, ℕ, zero, suc, ◌+◌, ◌*◌, ◌/◌, ◌%◌, ◌^◌, ◌<◌, ◌≤◌, true, false, cond, eqb, ltb, ◌||◌, List, [], ◌∷◌, length, not, refl, sym, ap, ◌∙◌, subst, arith, inl, inr}
+use Rattle.std.proofs.Common.{◌≡◌, ℕ, zero, suc, ◌+◌, ◌*◌, ◌/◌, ◌%◌, ◌^◌, ◌<◌, ◌≤◌, true, false, cond, eqb, ltb, ◌||◌, List, [], ◌∷◌, ◌++◌, length, not, refl, sym, ap, ◌∙◌, subst, arith, inl, inr}
 use Rattle.std.specs.Int.{bit_at, bit_not, w128, trailing_zeros}
 use Rattle.std.specs.Int.Bits.{bit_and, bit_or}
 use Rattle.std.specs.Int.Count.{ones, count_trailing_zeros}
@@ -13,7 +13,7 @@ use Rattle.std.proofs.lemmas.Nat.Bits.{bit_at_or, bit_at-lt, bit_at_lowest, bit_
 use Rattle.std.proofs.Math.Nat.{div-div-eq-div-mul, pow-suc, div-eq_of_lt}
 use Rattle.group_task.specs.declared.node.TheConstants.{NODES}
 use Rattle.group_task.specs.Bits.{ids_from, ids_of, word_of, word_of-ids_of}
-use Rattle.group_task.specs.Ids.{has, RisesWithin, IsSet, with_id, without_id, either_of, are_below}
+use Rattle.group_task.specs.Ids.{has, RisesWithin, IsSet, with_id, with_all, without_id, either_of, are_below}
 
 -- ---- the list rises
 
@@ -255,3 +255,9 @@ length-rising low limit (x ∷ xs) le r = omega (arith, length-rising (x + 1) li
 
 pub few_members : (xs : List ℕ) → IsSet xs → length xs ≤ NODES
 few_members xs r = omega (arith, length-rising 0 NODES xs (omega arith) r)
+
+-- ---- sets that are gathered
+
+pub with_all_more : (ids : List ℕ) (xs : List ℕ) (id : ℕ) → with_all ids (xs ++ id ∷ []) ≡ with_id (with_all ids xs) id
+with_all_more ids [] id = refl
+with_all_more ids (x ∷ xs) id = with_all_more (with_id ids x) xs id

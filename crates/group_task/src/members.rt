@@ -4,6 +4,7 @@ ghost use Rattle.group_task.specs.Ids.{IsSet, has, with_id, without_id, either_o
 ghost use Rattle.group_task.specs.declared.node.TheConstants.{NODES};
 
 use crate::node::NodeId;
+use std::alloc::{AllocError, Global};
 use std::marker::Model;
 
 /// A set of nodes, which contracts see as the rising list of its identifiers.
@@ -217,6 +218,53 @@ impl Eq for Members {
     ghost use Rattle.std.proofs.lemmas.Cmp.{nat_list_eq_equiv};
 
     ghost laws = { nat_list_eq_equiv };
+}
+
+impl IntoIterator for Members {
+    type Item = NodeId;
+
+    type IntoIter = Iter;
+
+    ghost into_iter_gives = { λ s r. r ≡ s };
+
+    #[inline]
+    fn into_iter(self) -> Iter {
+        self.iter()
+    }
+}
+
+impl<'a> IntoIterator for &'a Members {
+    type Item = NodeId;
+
+    type IntoIter = Iter;
+
+    ghost into_iter_gives = { λ s r. r ≡ s.now };
+
+    #[inline]
+    fn into_iter(self) -> Iter {
+        self.iter()
+    }
+}
+
+/// A set takes no memory, so collecting never fails; the allocator is what the trait has.
+impl FromIterator<NodeId> for Members {
+    ghost use Rattle.group_task.specs.Ids.{with_all};
+
+    type Alloc = Global;
+
+    ghost from_iter_gives = { λ ids made. made ≡ with_all [] ids };
+
+    #[tactic(auto, using(crate::proofs::Words::with_all_more))]
+    fn from_iter<U: IntoIterator<Item = NodeId>>(
+        _alloc: Global,
+        iter: U,
+    ) -> Result<Members, AllocError> {
+        let mut made = Members::new();
+        for id in iter {
+            made.insert(id);
+        }
+        Ok(made)
+    }
 }
 
 /// The nodes of a set, from the least identifier on.

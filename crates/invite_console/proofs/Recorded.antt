@@ -1,5 +1,5 @@
 -- The trace of a run that was recorded can be written, and so can the order of its turns.
-use Rattle.std.proofs.Common.{◌≡◌, ◌<◌, ◌≤◌, ℕ, zero, suc, List, [], ◌∷◌, length, map, refl, sym, ap, ◌∙◌, subst, arith}
+use Rattle.std.proofs.Common.{◌≡◌, ◌<◌, ◌≤◌, ℕ, zero, suc, ◌+◌, List, [], ◌∷◌, length, map, refl, sym, ap, ◌∙◌, subst, arith}
 use Rattle.wire_msg.specs.Envelope.{Envelope}
 use Rattle.node_core.specs.declared.event.Event.{Event}
 use Rattle.node_core.specs.declared.event.Event.TheVariants as on
@@ -51,7 +51,7 @@ trace_named (h ∷ hs) = (history_named h, trace_named hs)
 
 as_many : (n many nodes : ℕ) (steps : List Step) → length (trace_in (histories_from n many nodes steps)) ≡ many
 as_many n zero nodes steps = refl
-as_many n (suc many) nodes steps = ap suc (as_many (suc n) many nodes steps)
+as_many n (suc many) nodes steps = ap suc (as_many (n + 1) many nodes steps)
 
 even_steps : (steps : List Step) → length (nodes_in steps) ≡ length (messages_in steps)
 even_steps [] = refl

@@ -19,7 +19,7 @@ use Rattle.runs.specs.World.{World, node_in, start}
 use Rattle.node_core.specs.declared.fault.Refusal.TheVariants.{Worn}
 use Rattle.runs.specs.declared.outcome.Outcome.TheVariants.{Refused}
 use Rattle.runs.specs.declared.outcome.Refusal.TheVariants.{Node as OfNode}
-use Rattle.runs.proofs.PublicLaws.{all_more, step_adds, step_length, length_openings}
+use Rattle.runs.proofs.PublicLaws.{step_adds, step_length, length_openings}
 use Rattle.runs.specs.Step.{Step, Takes, Changes, Denies, step_sent, world_after}
 use Rattle.runs.specs.Acts.{what_outcome, act_outcome}
 use Rattle.runs.specs.Run.{IsAllowed}
@@ -104,17 +104,17 @@ further grow details nodes slots old new acts a outcome text headed behind so ac
     let risen = rises w so.stands (length ms + 2) so.areas in
     let other : act_outcome nodes w a act.step ≢ Refused (OfNode Worn) =
     subst (λ (o : Outcome). o ≢ Refused (OfNode Worn)) outcome_is (risen.1 (omega (arith, short, numbered acts ms so.acts_are))) in
+    let grew = grow nodes slots w so.report a act.step so.left next (omega (arith, short, numbered acts ms so.acts_are)) other in
     record {
       world = world_after nodes w act.step;
       report = grown nodes w a act.step so.report;
-      left = grow nodes slots w so.report a act.step so.left next;
+      left = grew.1;
       count = step_length nodes w act.step ∙ so.count;
       slots_are = same ∙ so.slots_are;
       stands = stands;
       areas = subst (λ (k : ℕ). AreasWithin k new.nodes) (omega (arith, length-append ms (moment_of nodes w a act.step ∷ []))) risen.0;
-      unworn = all_more (λ (k : ℕ) (m : Moment). m.outcome ≢ Refused (OfNode Worn)) ms (moment_of nodes w a act.step) so.unworn other;
       acts_are = map-append (λ (m : Moment). m.act) so.report.moments (moment_of nodes w a act.step ∷ []) ∙ ap (λ (xs : List Act). xs ++ a ∷ []) so.acts_are;
-      printed = one_more old new w so.report a act.step text headed behind so.printed next
+      printed = one_more old new w so.report a act.step text headed behind so.printed grew.0
           (record {
             stands = stands;
             operates = subst (λ (o : Outcome). Operates a old new o) outcome_is operates;
@@ -164,7 +164,6 @@ begins opens details nodes slots view same stands unarmed areas = record {
   slots_are = same;
   stands = stands;
   areas = areas;
-  unworn = λ k m at. absurd cc;
   acts_are = refl;
   printed = nothing view stands unarmed;
 }
@@ -178,7 +177,6 @@ ends details nodes slots view acts text all so rows = record {
   report = so.report;
   left = so.left;
   acts_are = so.acts_are;
-  unworn = so.unworn;
   front = text;
   printed = so.printed;
   ended = rows so.world so.stands;

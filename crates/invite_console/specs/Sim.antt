@@ -7,8 +7,8 @@ use Rattle.schedule.specs.Text.{Plan, plan_of}
 use Rattle.runs.specs.World.{World, start}
 use Rattle.runs.specs.Step.{Step, world_after}
 use Rattle.runs.specs.Reporting.{Report, grown, moment_of, report_of}
-use Rattle.runs.specs.Headline.{NoneWorn}
-use Rattle.runs.specs.Growth.{IsLeft, IsNext, acts_in}
+use Rattle.runs.specs.ExactRuns.{IsExactStep}
+use Rattle.runs.specs.Growth.{IsLeft, acts_in}
 use Rattle.cluster_sim.specs.Acting.{IsActed}
 use Rattle.cluster_sim.specs.World.{AreasWithin, AreUnarmed, WorldView, StandsFor}
 use Rattle.console_text.specs.Ends.{Outcome, line, refused}
@@ -44,20 +44,19 @@ pub data PrintsSoFar (details : Details) (nodes slots : ℕ) : WorldView → Wor
   nothing : (view : WorldView) → StandsFor view (start nodes) → AreUnarmed view.nodes
       → PrintsSoFar details nodes slots view (start nodes) (report_of nodes [] []) []
   one_more : (view view' : WorldView) (w : World) (r : Report) (a : Act) (step : Step) (text headed behind : List ℕ)
-      → PrintsSoFar details nodes slots view w r text → IsNext nodes slots w a step → IsActed nodes view view' w a step
+      → PrintsSoFar details nodes slots view w r text → IsExactStep nodes slots w a step → IsActed nodes view view' w a step
       → AddsNodes details.nodes w.states text headed
       → behind ≡ headed ++ moment_line details.names (length r.moments) (moment_of nodes w a step)
       → PrintsSoFar details nodes slots view' (world_after nodes w step) (grown nodes w a step r) behind
 
 -- Some run of these acts is printed act by act, and then the nodes as it leaves them. Whatever is promised of every run of a
--- schedule is promised of this one, and none of its acts is refused because the areas of a disk are used up.
+-- schedule is promised of this one (`left`), and nothing is used up in it.
 pub record PrintsRun (details : Details) (nodes slots : ℕ) (acts : List Act) (text : List ℕ) : Type 0 where
   pub view : WorldView
   pub world : World
   pub report : Report
   pub left : IsLeft nodes slots world report
   pub acts_are : acts_in report ≡ acts
-  pub unworn : NoneWorn report
   pub front : List ℕ
   pub printed : PrintsSoFar details nodes slots view world report front
   pub ended : AddsRows 0 world.states front text
@@ -82,7 +81,6 @@ pub record IsSoFar (details : Details) (nodes slots : ℕ) (view : WorldView) (a
   pub stands : StandsFor view world
   -- each act raises the number of an area by one at most
   pub areas : AreasWithin (length report.moments + 2) view.nodes
-  pub unworn : NoneWorn report
   pub acts_are : acts_in report ≡ acts
   pub printed : PrintsSoFar details nodes slots view world report text
 

@@ -5,7 +5,6 @@ use Rattle.std.proofs.lemmas.List.Elements.{filter-append}
 use Rattle.std.proofs.lemmas.Bool.Decides.{nat_tests}
 use Rattle.wire_msg.specs.Envelope.{Envelope}
 use Rattle.link_ring.specs.Sides.{Side}
-use Rattle.node_lock.specs.HeldView.{AreEnds, IsOther}
 use Rattle.node_lock.specs.Sending.{addressed_to, PutsSome, SameLink, SentTo, SentOn}
 
 pub puts_append : (cap : ℕ) (xs ms ys ns zs : List Envelope) → PutsSome cap xs ms ys → PutsSome cap ys ns zs → PutsSome cap xs (ms ++ ns) zs
@@ -58,13 +57,6 @@ pub sent_elsewhere : (m : Envelope) (side : Side) → m.receiver ≢ side.receiv
 sent_elsewhere m side to = record { same = record { sender = refl; receiver = refl; capacity = refl }; messages = subst (λ (l : List Envelope). PutsSome side.capacity side.messages l side.messages) (sym (addressed_no side.receiver m to)) refl }
 
 -- ---- room
-
--- the ends of links are those of the same nodes
-pub ends_since : (id : ℕ) (ms : List Envelope) (old new : List Side) → AreEnds id old → SentOn ms old new → AreEnds id new
-ends_since id ms old new ends s k d lt =
-    let len = s.len in
-    let lt' : k < length old = omega (arith, lt, len) in
-    subst (IsOther id k) (sym (s.each k d lt').same.receiver) (ends k d lt')
 
 pub rest_split : (j : ℕ) (sent : List Envelope) (i : ℕ) (m : Envelope) → i < length sent → m ≡ get_or sent i m → length (addressed_to j (drop i sent)) ≡ length (addressed_to j (m ∷ [])) + length (addressed_to j (drop (i + 1) sent))
 rest_split j sent i m lt is =

@@ -18,14 +18,11 @@ use Rattle.node_store.specs.Store.{slots_for}
 use Rattle.durable_node.specs.Arming.{armed_disk}
 use Rattle.durable_node.specs.Forgetting.{forgotten_disk}
 use Rattle.durable_node.proofs.PublicLaws.{steps_and_forgets}
-use Rattle.durable_node.specs.declared.fault.NodeFault.{NodeFault}
-use Rattle.durable_node.specs.declared.fault.NodeFault.TheVariants as fault
 use Rattle.durable_node.specs.Node.{Node, Stands}
-use Rattle.durable_node.specs.Stepping.{IsUnmountable, Stuck}
 use Rattle.node_lock.specs.declared.order.Order.{Order}
 use Rattle.node_lock.specs.declared.order.Order.TheVariants as order
 use Rattle.node_lock.specs.Asking.{Asked, Hand, Rest, Arm, Crash, asked_in, asked_by}
-use Rattle.node_lock.specs.Doing.{Did, Gives, HasSectors, StandsForSome, TurnDid}
+use Rattle.node_lock.specs.Doing.{Did, Gives, HasSectors, TurnDid}
 use Rattle.node_lock.specs.History.{listed}
 
 some_of : {A : Type 0} (o : Option A) → IsSome o → (a : A) × (o ≡ Some a)
@@ -115,16 +112,3 @@ none_of_order (order.Crash fill) w is = ap (λ (x : What). brought (event_of x))
 none_of_order order.Recover w is = none_by on.Recover w refl is
 
 -- ---- want of memory
-
-strange : (old new : Node Memory) (event : Event) → IsSome old.disk → StandsForSome old → IsUnmountable state_of old new event → ⊥
-strange old new event has s is = let disk = some_of old.disk has in is.strange disk.0 s.0 disk.1 s.1 refl
-
--- the disk of a node that stands for a state can be mounted, so a step that came to nothing lacked memory
-pub stuck_is : (old new : Node Memory) (event : Event) (f : NodeFault) → IsSome old.disk → StandsForSome old → Stuck state_of old new event f → new ≡ record old { mounted = None }
-stuck_is old new event (fault.Core f) has s is = is.1
-stuck_is old new event fault.Full has s is = absurd is
-stuck_is old new event fault.Exhausted has s is = absurd is
-stuck_is old new event fault.Device has s is = absurd is
-stuck_is old new event fault.NotFormatted has s is = absurd (strange old new event has s is)
-stuck_is old new event (fault.Damaged sector) has s is = absurd (strange old new event has s is)
-stuck_is old new event fault.TooSmall has s is = absurd (strange old new event has s is)

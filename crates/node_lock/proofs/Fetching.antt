@@ -1,5 +1,5 @@
 -- What a poll takes.
-use Rattle.std.proofs.Common.{◌≡◌, ℕ, ◌+◌, ◌<◌, ◌==◌, cond, Option, Some, None, IfSome, IfNone, OnOk, Result, Ok, Err, is_err, List, [], ◌∷◌, ◌++◌, length, slice_index, slice_index_or, slice_set, Bool, true, false, refl, ap, sym, ◌∙◌, subst, inl, inr, arith}
+use Rattle.std.proofs.Common.{◌≡◌, ℕ, ◌<◌, ◌==◌, cond, Option, Some, None, IfSome, IfNone, OnOk, Result, Ok, Err, is_err, List, [], ◌∷◌, ◌++◌, length, slice_index, slice_index_or, slice_set, Bool, true, false, refl, ap, sym, ◌∙◌, subst, inl, inr, arith}
 use Rattle.std.proofs.lemmas.List.{append-nil, get_or_read, get_or-set_other, length-set}
 use Rattle.std.proofs.lemmas.Grind.{get_or-set_at}
 use Rattle.std.proofs.lemmas.Bool.{cases_eq}
@@ -147,7 +147,3 @@ entered h n e f old new k g run plans history waiting index gives =
       },
       g.same.sender,
     )
-
--- the place of another node's link is among the links
-pub place_in : (own nodes place from links : ℕ) → IsOther own place from → from < nodes → own < nodes → links + 1 ≡ nodes → place < links
-place_in own nodes place from links o f m e = grind (arith, o.0, o.1)

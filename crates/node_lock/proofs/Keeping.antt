@@ -14,7 +14,7 @@ use Rattle.histories.proofs.PublicLaws.{history_goes_on}
 use Rattle.node_lock.specs.declared.run.Run.{Run}
 use Rattle.node_lock.specs.declared.worker.Worker.{Worker}
 use Rattle.node_lock.specs.Asking.{Asked}
-use Rattle.node_lock.specs.Doing.{Gives, StandsForSome, TurnDid}
+use Rattle.node_lock.specs.Doing.{Gives, TurnDid}
 use Rattle.node_lock.specs.Path.{Path}
 use Rattle.node_lock.specs.Planned.{no_turns}
 use Rattle.node_lock.specs.Sending.{PutsSome, addressed_to, SameLink, SameSides, SentTo, SentOn}
@@ -59,10 +59,6 @@ put_link_more run ts t p q h s =
     }
 
 -- ---- the state, after one turn more
-
--- the node stands for what its history replays to
-pub stands_in : (h : HeldView) → Kept h → StandsForSome h.node
-stands_in h k = (replay h.run.node h.run.nodes (opening h.run.node) (entries_of h.history), k.replay.stands)
 
 -- the ends of its links are in the order of the other nodes
 pub ends_in : (h : HeldView) → Kept h → AreEnds h.node.id h.puts

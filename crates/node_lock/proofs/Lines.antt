@@ -1,8 +1,7 @@
 -- A turn that was kept is that turn again, and stays so whatever is kept after it.
-use Rattle.std.proofs.Common.{◌≡◌, ℕ, zero, suc, ◌+◌, ◌-◌, ◌<◌, ◌≤◌, List, [], ◌∷◌, ◌++◌, length, take, drop, map, All, slice_get, Option, Some, None, option_map, Bool, true, false, refl, sym, ap, ◌∙◌, subst, arith}
-use Rattle.std.proofs.lemmas.List.{map-append, length-append, length-drop, length-take, length-take-le}
-use Rattle.std.proofs.Math.Nat.{min-le_left}
-use Rattle.std.proofs.lemmas.Option.{slice_get_past, slice_get-map, same_Some}
+use Rattle.std.proofs.Common.{◌≡◌, ℕ, zero, suc, ◌+◌, ◌-◌, ◌<◌, ◌≤◌, List, [], ◌∷◌, ◌++◌, length, take, drop, map, All, slice_get, Option, Some, get_or, option_map, Bool, true, false, refl, sym, ap, ◌∙◌, subst, arith}
+use Rattle.std.proofs.lemmas.List.{map-append, length-append}
+use Rattle.std.proofs.lemmas.Option.{slice_get-map, slice_get_read, same_Some}
 use Rattle.std.proofs.lemmas.List.Elements.{All-head, All-tail, All-push, All-weaker}
 use Rattle.wire_msg.specs.Envelope.{Envelope}
 use Rattle.node_core.specs.declared.event.Event.{Event}
@@ -18,8 +17,9 @@ use Rattle.node_lock.specs.declared.line.KeptWhat.{KeptWhat}
 use Rattle.node_lock.specs.declared.line.KeptWhat.TheVariants as kept
 use Rattle.node_lock.specs.declared.line.Line.{Line}
 use Rattle.node_lock.specs.History.{Turn}
-use Rattle.node_lock.specs.Kept.{IsQuietAt, IsHandledAt, what_quiet, what_came, what_in, part, turn_in, WhatStands, LineStands}
-use Rattle.node_lock.proofs.Events.{get_same, get_again, part_same, part_again}
+use Rattle.node_lock.specs.Kept.{IsQuietAt, IsHandledAt, what_quiet, what_came, what_in, turn_in, WhatStands, LineStands}
+use Rattle.trace_check.specs.Kept.{part}
+use Rattle.trace_check.proofs.PublicLaws.{get_same, get_again, part_same, part_again, part_length}
 
 abbrev pub line_by : Worker → ℕ → KeptWhat → ℕ → ℕ → Line
 line_by worker index t start end = record { worker = worker; index = index; what = t; start = start; end = end }
@@ -105,31 +105,6 @@ quiet_at ls ms es place l q at is_kept same = record {
   sent = ap (λ (k : ℕ). take k (drop l.start ms)) (let none : l.end - l.start ≡ 0 = omega (arith, same) in none);
 }
 
--- ---- the messages of a turn, by their place
-
-get_drop : (ms : List Envelope) (start i : ℕ) → slice_get (drop start ms) i ≡ slice_get ms (start + i)
-get_drop ms zero i = ap (λ (k : ℕ). slice_get ms k) (let same : i ≡ zero + i = omega arith in same)
-get_drop [] (suc start) i = refl
-get_drop (m ∷ ms) (suc start) i = get_drop ms start i ∙ ap (λ (k : ℕ). slice_get (m ∷ ms) k) (let same : suc (start + i) ≡ suc start + i = omega arith in same)
-
-get_take : (ms : List Envelope) (n i : ℕ) → i < n → slice_get (take n ms) i ≡ slice_get ms i
-get_take ms zero i within = absurd (omega (arith, within))
-get_take [] (suc n) i within = refl
-get_take (m ∷ ms) (suc n) zero within = refl
-get_take (m ∷ ms) (suc n) (suc i) within = get_take ms n i (omega (arith, within))
-
-pub part_within : (ms : List Envelope) (start end place : ℕ) → place < end - start → slice_get (part start end ms) place ≡ slice_get ms (start + place)
-part_within ms start end place within = get_take (drop start ms) (end - start) place within ∙ get_drop ms start place
-
-pub part_past : (ms : List Envelope) (start end place : ℕ) → end - start ≤ place → slice_get (part start end ms) place ≡ None
-part_past ms start end place past =
-    let few : length (part start end ms) ≤ end - start = subst (λ (k : ℕ). k ≤ end - start) (sym (length-take (end - start) (drop start ms))) (min-le_left (end - start) (length (drop start ms))) in
-    slice_get_past (part start end ms) place (omega (arith, few, past))
-
-pub part_length : (ms : List Envelope) (start end : ℕ) → start ≤ end → end ≤ length ms → length (part start end ms) ≡ end - start
-part_length ms start end first last =
-    let left = length-drop start ms in length-take-le (end - start) (drop start ms) (omega (arith, first, last, left))
-
 -- ---- a turn that handed over an event, or sent some, is not quiet
 
 abbrev is_quiet : What → Bool
@@ -154,6 +129,10 @@ came_in (e ∷ es) (suc place) f within = came_in es place f (omega (arith, with
 quiet_of : (q : Quiet) → is_quiet (what_quiet q) ≡ true
 quiet_of quiet.Rested = refl
 quiet_of quiet.Crashed = refl
+
+-- the line that is read at a place
+pub line_read : (read ls : List Line) (place : ℕ) (l : Line) → read ≡ ls → place < length read → l ≡ get_or read place l → slice_get ls place ≡ Some l
+line_read read ls place l is within at = subst (λ (xs : List Line). slice_get xs place ≡ Some l) is (slice_get_read read (length read) place l refl within at)
 
 stands_at : (P : Line → Type 0) (ls : List Line) (place : ℕ) (l : Line) → All P ls → slice_get ls place ≡ Some l → P l
 stands_at P [] place l all at = absurd (let bad = at in cc)

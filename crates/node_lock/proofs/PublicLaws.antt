@@ -1,7 +1,7 @@
 -- What proofs of other crates may cite of this one: its other lemmas are its own.
 
--- An event that was kept is that event again, and stays so whatever is kept after it.
-pub use Rattle.node_lock.proofs.Events.{get_again, get_same}
+-- A list that grew at its end.
+pub use Rattle.trace_check.proofs.PublicLaws.{get_again, get_same}
 -- A turn keeps what is always true.
 pub use Rattle.node_lock.proofs.Keeping.{from_nothing}
 -- What is written down of a turn is what came of it.

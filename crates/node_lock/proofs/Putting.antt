@@ -1,13 +1,13 @@
 -- A message goes onto the link to its receiver.
-use Rattle.std.proofs.Common.{◌≡◌, ◌≢◌, ℕ, ◌+◌, ◌<◌, ◌≤◌, List, [], ◌∷◌, length, slice_index_or, slice_set, refl, ap, sym, ◌∙◌, subst, inl, inr, arith}
+use Rattle.std.proofs.Common.{◌≡◌, ℕ, ◌<◌, List, [], ◌∷◌, length, slice_index_or, slice_set, ap, sym, ◌∙◌, subst, inl, inr, arith}
 use Rattle.std.proofs.lemmas.List.{get_or_read, get_or-set_other, length-set}
 use Rattle.std.proofs.lemmas.Grind.{get_or-set_at}
 use Rattle.std.proofs.lemmas.Bool.{cases_eq}
 use Rattle.wire_msg.specs.Envelope.{Envelope}
 use Rattle.link_ring.specs.Sides.{Side}
 use Rattle.node_lock.specs.HeldView.{AreEnds, IsOther}
-use Rattle.node_lock.specs.Sending.{PutsSome, HasRoomFor, HasRoomToSend, SameLink, SameSides, SentTo, SentOn, addressed_to}
-use Rattle.node_lock.proofs.Carried.{addressed_yes, sent_here, sent_elsewhere}
+use Rattle.node_lock.specs.Sending.{PutsSome, SameLink, SameSides, SentTo, SentOn}
+use Rattle.node_lock.proofs.Carried.{sent_here, sent_elsewhere}
 
 -- the link at this place is the one to the message's receiver
 pub record LeadsTo (m : Envelope) (place : ℕ) (sides : List Side) (was : Side) : Type 0 where
@@ -31,26 +31,6 @@ sent_at m place sides was new l same put = record {
   ];
 }
 
-pub room_at : (m : Envelope) (place : ℕ) (sides : List Side) (was new : Side) → LeadsTo m place sides was → was.room ≤ new.room + 1
-    → (k : ℕ) (d : Side) → k < length sides → (slice_index_or sides k d).room ≤ (slice_index_or (slice_set sides place new) k d).room + length (addressed_to (slice_index_or sides k d).receiver (m ∷ []))
-room_at m place sides was new l room k d within = elim (cases_eq k place) [
-  | inl at ↦ (
-      let here : slice_index_or (slice_set sides place new) k d ≡ new = get_or-set_at sides place k new d at l.within in
-      let old : slice_index_or sides k d ≡ was = ap (λ (i : ℕ). slice_index_or sides i d) at ∙ sym (get_or_read sides place was l.within l.is d) in
-      let one : length (addressed_to was.receiver (m ∷ [])) ≡ 1 = ap length (addressed_yes was.receiver m (sym l.to)) in
-      let all : was.room ≤ new.room + length (addressed_to was.receiver (m ∷ [])) = omega (arith, room, one) in
-      subst (λ (s : Side). s.room ≤ (slice_index_or (slice_set sides place new) k d).room + length (addressed_to s.receiver (m ∷ []))) (sym old)
-      (subst (λ (s : Side). was.room ≤ s.room + length (addressed_to was.receiver (m ∷ []))) (sym here) all))
-  | inr far ↦ (
-      let there : slice_index_or (slice_set sides place new) k d ≡ slice_index_or sides k d = get_or-set_other sides place k new d far in
-      let same = slice_index_or sides k d in
-      subst (λ (s : Side). same.room ≤ s.room + length (addressed_to same.receiver (m ∷ []))) (sym there) (omega arith))
-]
-
--- no link leads to the message's receiver
-pub sent_nowhere : (m : Envelope) (sides : List Side) → ((k : ℕ) (d : Side) → k < length sides → (slice_index_or sides k d).receiver ≢ m.receiver) → SentOn (m ∷ []) sides sides
-sent_nowhere m sides far = record { len = refl; each = λ k d within. sent_elsewhere m (slice_index_or sides k d) (λ same. far k d within (sym same)) }
-
 -- ---- before a turn's messages are put
 
 pub ends_same : (id : ℕ) (old new : List Side) → AreEnds id old → SameSides old new → AreEnds id new
@@ -58,9 +38,3 @@ ends_same id old new ends same k d lt =
     let len = same.len in
     let lt' : k < length old = omega (arith, lt, len) in
     subst (IsOther id k) (sym (same.each k d lt').0.receiver) (ends k d lt')
-
-pub room_to_send : (n : ℕ) (sent : List Envelope) (sides : List Side) → ((j : ℕ) → length (addressed_to j sent) ≤ n) → HasRoomFor n sides → HasRoomToSend sent sides
-room_to_send n sent sides few room k d lt =
-    let each = few (slice_index_or sides k d).receiver in
-    let free = room k d lt in
-    omega (arith, each, free)

@@ -1,9 +1,7 @@
 -- A turn that was taken is the next of its worker's plan, and keeps what is always true.
-use Rattle.std.proofs.Common.{◌≡◌, ℕ, ◌<◌, List, [], Option, Some, None, IsSome, IfSome, IfNone, length, slice_index_or, refl, ap, sym, ◌∙◌}
+use Rattle.std.proofs.Common.{◌≡◌, ℕ, ◌<◌, List, [], Option, Some, None, IsSome, IfSome, IfNone, length, slice_index_or, refl}
 use Rattle.wire_msg.specs.Envelope.{Envelope}
 use Rattle.node_lock.specs.Sending.{Brings, SameSides, SentOn}
-use Rattle.sector_disk.specs.Memory.{Memory}
-use Rattle.durable_node.specs.Node.{Node}
 use Rattle.link_ring.specs.Sides.{Side}
 use Rattle.histories.specs.What.{Entry, brought, event_of}
 use Rattle.node_lock.specs.declared.worker.Worker.{Worker}
@@ -61,10 +59,6 @@ pub waits_since : (place : ℕ) (arrived was : Option Envelope) (old new : List 
     → WaitsSince old new was arrived
 waits_since place None was old new none some = none
 waits_since place (Some m) was old new none some = (place, some)
-
--- where nothing is mounted, it is shown so
-pub mounted_only : (old new : Node Memory) → new ≡ record old { mounted = None } → new ≡ record old { mounted = new.mounted }
-mounted_only old new is = is ∙ ap (λ f. record old { mounted = f }) (sym (ap (λ (d : Node Memory). d.mounted) is))
 
 -- no turn was taken
 pub unserved_by : (h n : HeldView) → n.run ≡ h.run → n.plans ≡ h.plans → n.turns ≡ h.turns → TookNone (site h.node h.puts h.history) (site n.node n.puts n.history) → WaitsSince h.takes n.takes h.waiting n.waiting

@@ -1,5 +1,5 @@
 -- How the turns of a history are kept: a short line for each, and the events and the messages that they sent in lists beside.
-use Rattle.std.specs.Prelude.{ℕ, ◌≡◌, ◌-◌, ◌<◌, ◌≤◌, ⊤, List, [], take, drop, Option, Some, None, slice_get}
+use Rattle.std.specs.Prelude.{ℕ, ◌≡◌, ◌<◌, ◌≤◌, ⊤, List, [], Option, Some, None, slice_get}
 use Rattle.wire_msg.specs.Envelope.{Envelope}
 use Rattle.node_core.specs.declared.event.Event.{Event}
 use Rattle.histories.specs.declared.fate.Fate.{Fate}
@@ -7,6 +7,7 @@ use Rattle.histories.specs.declared.what.What.{What}
 use Rattle.histories.specs.declared.what.What.TheVariants as what
 use Rattle.histories.specs.declared.what.Rest.TheVariants.{Nothing}
 use Rattle.histories.specs.Fates.{what_of}
+use Rattle.trace_check.specs.Kept.{part}
 use Rattle.node_lock.specs.declared.line.Quiet.{Quiet}
 use Rattle.node_lock.specs.declared.line.Quiet.TheVariants as quiet
 use Rattle.node_lock.specs.declared.line.KeptWhat.{KeptWhat}
@@ -35,10 +36,6 @@ what_came (Some event) fate = what_of event fate
 abbrev pub what_in : List Event → KeptWhat → What
 what_in events (kept.Came place fate) = what_came (slice_get events place) fate
 what_in events (kept.Quiet q) = what_quiet q
-
--- the part from start up to end
-abbrev pub part : ℕ → ℕ → List Envelope → List Envelope
-part start end ms = take (end - start) (drop start ms)
 
 -- the turn that a line says, by the list of messages and that of events
 abbrev pub turn_in : List Envelope → List Event → Line → Turn

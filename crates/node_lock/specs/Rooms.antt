@@ -2,7 +2,7 @@
 use Rattle.std.specs.Prelude.{◌+◌, ◌*◌, ◌≤◌, length, All, vec_len, vec_capacity}
 use Rattle.job_model.specs.declared.payload.TheConstants.{PAYLOAD_CAPACITY}
 use Rattle.node_lock.specs.declared.event_list.EventList.TheInside.{Inside}
-use Rattle.node_lock.specs.Events.{EventStands}
+use Rattle.trace_check.specs.Kept.{EventStands}
 
 pub record IsKept (a : Inside) : Type 0 where
   pub read : All (EventStands (length a.messages.messages) (length a.payloads.items)) a.kept.items

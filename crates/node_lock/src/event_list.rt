@@ -1,29 +1,13 @@
-//! Lists of events. An event has over 400 bytes, since the longest message has to fit in it, so what is longer than a few bytes
-//! stands in lists beside.
+//! Lists of events, kept as the entries of a trace keep them.
 
-ghost use Rattle.std.specs.Prelude.{◌≡◌, ◌≤◌, ◌<◌, ◌+◌, ◌-◌, [], ◌∷◌, ◌++◌, length, max, vec_len, vec_capacity, slice_get, Some, OnOk, OnErr};
-ghost use Rattle.job_model.specs.declared.payload.TheConstants.{PAYLOAD_CAPACITY};
-ghost use Rattle.histories.specs.What.{brought};
-ghost use Rattle.node_lock.specs.Events.{kept_event, payload_of, event_said, EventStands};
+ghost use Rattle.std.specs.Prelude.{◌≡◌, ◌<◌, ◌-◌, [], ◌∷◌, ◌++◌, length, max, slice_get, Some, OnOk, OnErr};
 
-use group_task::NodeId;
-use job_model::{PAYLOAD_CAPACITY, Payload, Queue, Work};
+use job_model::PAYLOAD_CAPACITY;
 use message_list::MessageList;
-use node_core::{Event, Timer};
+use node_core::Event;
 use std::alloc::{AllocError, Global};
 use std::marker::Model;
-
-/// An event as it is kept.
-#[derive(Clone, Copy)]
-pub enum KeptEvent {
-    Timer(Timer),
-    /// The message stands at this place of its list.
-    Deliver(usize),
-    /// The payload begins at this place of all payloads, and has so many bytes; a queue and a priority.
-    Submit(usize, u16, Queue, u8),
-    Finish(NodeId, u64),
-    Recover,
-}
+use trace_check::{KeptEvent, event_said, keep_event, read_event};
 
 /// Events in the order in which they were added.
 ///
@@ -39,7 +23,8 @@ pub struct EventList {
 
 impl Model for EventList {
     ghost use Rattle.std.specs.Prelude.{map};
-    ghost use Rattle.node_lock.specs.Events.{EventsKept, event_said};
+    ghost use Rattle.node_lock.specs.Events.{EventsKept};
+    ghost use Rattle.trace_check.specs.Kept.{event_said};
 
     ghost Value = { EventsKept };
 
@@ -116,61 +101,6 @@ impl EventList {
         let Some(kept) = self.kept.get(place) else {
             unreachable!()
         };
-        *event = event_said(&self.messages, &self.payloads, *kept);
-    }
-}
-
-/// Keeps an event, in the room that is there.
-fn keep_event(messages: &mut MessageList, payloads: &mut Vec<u8>, event: &Event) -> KeptEvent
-    requires room { 1 ≤ messages.old.room }
-    requires bytes { vec_len payloads.old + PAYLOAD_CAPACITY ≤ vec_capacity payloads.old }
-    ensures value { result ≡ kept_event (length messages.old.messages) (length payloads.old.items) event.now }
-    ensures messages { messages.new.messages ≡ messages.old.messages ++ brought (Some event.now) }
-    ensures left { messages.old.room ≤ messages.new.room + 1 }
-    ensures payloads { payloads.new.items ≡ payloads.old.items ++ payload_of event.now }
-    ensures few { length (payload_of event.now) ≤ PAYLOAD_CAPACITY }
-    ensures long { vec_len payloads.new ≤ vec_len payloads.old + PAYLOAD_CAPACITY }
-    ensures capacity { vec_capacity payloads.old ≤ vec_capacity payloads.new }
-{
-    match event {
-        Event::Timer(timer) => KeptEvent::Timer(*timer),
-        Event::Deliver(message) => {
-            let place = messages.len();
-            messages.push(message);
-            KeptEvent::Deliver(place)
-        }
-        Event::Submit(work) => {
-            let start = payloads.len();
-            let _ = payloads.extend_from_slice(work.payload.as_slice());
-            let len = work.payload.len() as u16;
-            KeptEvent::Submit(start, len, work.queue, work.priority)
-        }
-        Event::Finish(origin, id) => KeptEvent::Finish(*origin, *id),
-        Event::Recover => KeptEvent::Recover,
-    }
-}
-
-/// The event that was kept.
-fn event_said(messages: &MessageList, payloads: &[u8], event: KeptEvent) -> Event
-    requires { EventStands (length messages.now.messages) (length payloads.now) event }
-    ensures { result ≡ event_said messages.now.messages payloads.now event }
-{
-    match event {
-        KeptEvent::Timer(timer) => Event::Timer(timer),
-        KeptEvent::Deliver(place) => match messages.get(place) {
-            Some(message) => Event::Deliver(message),
-            None => unreachable!(),
-        },
-        KeptEvent::Submit(start, len, queue, priority) => {
-            let bytes = &payloads[start..start + usize::from(len)];
-            let payload = Payload::new(bytes).unwrap();
-            Event::Submit(Work {
-                queue,
-                priority,
-                payload,
-            })
-        }
-        KeptEvent::Finish(origin, id) => Event::Finish(origin, id),
-        KeptEvent::Recover => Event::Recover,
+        read_event(&self.messages, &self.payloads, *kept, event);
     }
 }

@@ -1,8 +1,7 @@
 //! The history of a node: what came of the turns of its workers.
 
-ghost use Rattle.std.specs.Prelude.{◌≡◌, ◌≤◌, ◌<◌, ◌+◌, ◌↔◌, List, [], ◌∷◌, ◌++◌, length, slice_get, None, Some, IfSome, IsNone, IsTrue, OnOk, OnErr};
+ghost use Rattle.std.specs.Prelude.{◌≡◌, ◌≤◌, ◌<◌, List, [], ◌∷◌, ◌++◌, length, slice_get, None, Some, IfSome, IsNone, OnOk};
 ghost use Rattle.histories.specs.Fates.{what_of};
-ghost use Rattle.wire_msg.specs.Spelling.{Spells};
 ghost use Rattle.node_core.specs.declared.event.Event.{Event};
 ghost use Rattle.wire_msg.specs.Envelope.{Envelope};
 ghost use Rattle.node_lock.specs.Kept.{IsHandledAt, IsQuietAt, WhatStands, what_in, what_quiet};
@@ -17,6 +16,7 @@ use message_list::MessageList;
 use node_core::Event;
 use std::alloc::{AllocError, Global};
 use std::marker::Model;
+use trace_check::{Sent, keep_messages};
 use wire_msg::Message;
 
 /// The turns that were taken at a node, in their order. A poll that took nothing, an event that was refused and an order that
@@ -155,11 +155,7 @@ impl History {
             return None;
         };
         self.events.read(at, event);
-        Some(Sent {
-            messages: &self.sent,
-            start: line.start,
-            end: line.end,
-        })
+        Some(Sent::part(&self.sent, line.start, line.end))
     }
 
     /// The turn at this place.
@@ -172,22 +168,8 @@ impl History {
             worker: line.worker,
             index: line.index,
             what: what_in(&self.events, line.what),
-            sent: Sent {
-                messages: &self.sent,
-                start: line.start,
-                end: line.end,
-            },
+            sent: Sent::part(&self.sent, line.start, line.end),
         })
-    }
-}
-
-/// Keeps messages, in the room that is there.
-fn keep_messages(messages: &mut MessageList, sent: &[Message])
-    requires { length sent.now ≤ messages.old.room }
-    ensures { messages.new.messages ≡ messages.old.messages ++ sent.now }
-{
-    for message in sent {
-        messages.push(message);
     }
 }
 
@@ -216,68 +198,4 @@ pub struct Entry<'a> {
     pub what: What,
     /// The messages that the node sent, those that a full link lost among them.
     pub sent: Sent<'a>,
-}
-
-/// The messages that a turn sent, in their order, lent.
-#[derive(Drop)]
-pub struct Sent<'a> {
-    messages: &'a MessageList,
-    start: usize,
-    end: usize,
-}
-
-impl<'a> Model for Sent<'a> {
-    ghost use Rattle.std.specs.Prelude.{◌≤◌, List, length};
-    ghost use Rattle.node_lock.specs.Kept.{part};
-    ghost use Rattle.wire_msg.specs.Envelope.{Envelope};
-
-    ghost Value = { List Envelope };
-
-    ghost view = { λ a. part a.start a.end a.messages.now.messages };
-
-    ghost invariant = { λ a. (a.start ≤ a.end) × (a.end ≤ length a.messages.now.messages) };
-}
-
-impl<'a> Sent<'a> {
-    /// How many messages there are.
-    #[tactic(auto, using(crate::proofs::Lines::part_length))]
-    pub fn len(&self) -> usize
-        ensures { result ≡ length self.now }
-    {
-        self.end - self.start
-    }
-
-    /// Whether there is none.
-    pub fn is_empty(&self) -> bool
-        ensures { IsTrue result ↔ (self.now ≡ []) }
-    {
-        self.len() == 0
-    }
-
-    /// The message at this place.
-    pub fn get(&self, place: usize) -> Option<Message>
-        ensures { result ≡ slice_get self.now place }
-    {
-        if place < self.end - self.start {
-            self.messages.get(self.start + place)
-        } else {
-            None
-        }
-    }
-
-    /// Writes the spelling of the message at this place in place of what `bytes` held.
-    #[tactic(auto, using(crate::proofs::Lines::part_length))]
-    pub fn spell(&self, place: usize, bytes: &mut Vec<u8>) -> Result<(), AllocError>
-        requires { place < length self.now }
-        // Promise: The spelling of a message that a turn sent is written in place of what stood there.
-        // Refuses: spelled_from_an_earlier_turn.
-        ensures spelled { IfSome (slice_get self.now place) (λ message. OnOk result (Spells message bytes.new.items)) }
-        ensures refused { OnErr result (bytes.new.items ≡ []) }
-    {
-        let many = self.end - self.start;
-        if place >= many {
-            unreachable!()
-        }
-        self.messages.spell(self.start + place, bytes)
-    }
 }

@@ -20,11 +20,12 @@ mod turn;
 mod worker;
 
 pub use held::{Held, HeldFault, MOST_ENTRIES, Parts};
-pub use history::{Entry, History, Sent};
+pub use history::{Entry, History};
 pub use laws::limits;
 pub use line::Quiet;
 pub use lock::{Gate, NodeLock, TurnFault};
 pub use order::{Fill, Order};
 pub use plans::Plans;
 pub use run::Run;
+pub use trace_check::Sent;
 pub use worker::{Turns, Worker};

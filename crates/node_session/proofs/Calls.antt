@@ -12,7 +12,7 @@ use Rattle.node_session.specs.Turns.{Turn, after_turn, end_of, IsFired, IsTimely
 use Rattle.pace.specs.Waiting.{Waits}
 use Rattle.node_session.specs.Chains.{AreGoing, AreTimely, IsOne, after_turns, last_end, waits_turn, waits_turns}
 use Rattle.node_session.specs.Text.{fired_by, fired_line, fired_news, turn_text, turns_text, no_news}
-use Rattle.node_session.specs.Serving.{Progress, IsNodeOf, Turns, Calls}
+use Rattle.node_session.specs.Serving.{Progress, IsNodeOf, Turned, Turns, Calls}
 
 -- ---- one more turn behind others
 
@@ -66,10 +66,14 @@ node_then disks old mid new a b = record {
       record { now = e.now; is = e.is; sectors = e.sectors ∙ d.sectors; honest = e.honest ∙ d.honest });
 }
 
+-- what is so of the node by its id and how many nodes there are is so of the one that it was
+pub at_node : {Disk : Type 0} (P : ℕ → ℕ → Type 0) (old mid : Node Disk) → mid.id ≡ old.id → mid.nodes ≡ old.nodes → P mid.id mid.nodes → P old.id old.nodes
+at_node P old mid id nodes p = subst (λ (n : ℕ). P old.id n) nodes (subst (λ (n : ℕ). P n mid.nodes) id p)
+
 -- ---- calls
 
-pub one_call : {Disk : Type 0} (disks : Disk → DiskState) (old new : Progress Disk) (May : ℕ → NodeState → Turn → Type 0) (before ended : Ended) → Turns disks old new May ended
-    → Calls disks old new no_news (λ slots s turns. IsOne (May slots s) turns) before ended
+pub one_call : {Disk : Type 0} (disks : Disk → DiskState) (old new : Progress Disk) (May : ℕ → ℕ → ℕ → NodeState → Turn → Type 0) (before ended : Ended) → Turns disks old new May ended
+    → Calls disks old new no_news (λ i n slots s turns. IsOne (May i n slots s) turns) before ended
 one_call disks old new May before ended a = record {
   node = a.node;
   same = a.same;
@@ -85,7 +89,7 @@ one_call disks old new May before ended a = record {
       });
 }
 
-pub no_call : {Disk : Type 0} (disks : Disk → DiskState) (p : Progress Disk) (before : Ended) → Calls disks p p fired_news (AreTimely p.node.id p.node.nodes) before before
+pub no_call : {Disk : Type 0} (disks : Disk → DiskState) (p : Progress Disk) (before : Ended) → Calls disks p p fired_news AreTimely before before
 no_call disks p before = record {
   node = node_refl disks p.node;
   same = refl;
@@ -97,55 +101,40 @@ both_texts a b c x y first second = second ∙ (ap (λ (t : List ℕ). t ++ y) f
 
 -- one more, behind the line that names its event
 pub call_more : {Disk : Type 0} (disks : Disk → DiskState) (old mid new : Progress Disk) (event : Event) (said : List ℕ) (before between ended : Ended) → IsFired event → said ≡ mid.text ++ fired_line event
-    → Calls disks old mid fired_news (AreTimely old.node.id old.node.nodes) before between → Turns disks (record mid { text = said }) new (MayComeOf mid.node.id mid.node.nodes event) ended
-    → Calls disks old new fired_news (AreTimely old.node.id old.node.nodes) before ended
+    → Calls disks old mid fired_news AreTimely before between → Turns disks (record mid { text = said }) new (λ i n. MayComeOf i n event) ended
+    → Calls disks old new fired_news AreTimely before ended
 call_more {Disk} disks old mid new event said before between ended fired fires a b = record {
   node = node_then disks old.node mid.node new.node a.node b.node;
   same = b.same ∙ ap (λ (p : Progress Disk). record p { node = new.node; text = new.text; waits = new.waits }) a.same;
   called = λ was s is stands. (let x = a.called was s is stands in
       let d = a.node.disk was is in
       let t = after_turns old.node.id old.node.nodes s x.turns in
-      let y = b.turned d.now t d.is x.stands in
-      let id = a.node.id in
-      let nodes = a.node.nodes in
-      let may : MayComeOf old.node.id old.node.nodes event (slots_for (disks was).sectors) t y.turn =
-      subst (λ (n : ℕ). MayComeOf old.node.id old.node.nodes event (slots_for n) t y.turn) d.sectors
-      (subst (λ (n : ℕ). MayComeOf old.node.id n event (slots_for (disks d.now).sectors) t y.turn) nodes
-      (subst (λ (n : ℕ). MayComeOf n mid.node.nodes event (slots_for (disks d.now).sectors) t y.turn) id y.may)) in
-      let turn : new.text ≡ said ++ turn_text old.node.id old.node.nodes t y.turn =
-      y.text ∙ (ap (λ (n : ℕ). said ++ turn_text n mid.node.nodes t y.turn) id ∙ ap (λ (n : ℕ). said ++ turn_text old.node.id n t y.turn) nodes) in
+      let y = at_node (λ i n. Turned disks (record mid { text = said }) new i n (λ i n. MayComeOf i n event) ended d.now t) old.node mid.node a.node.id a.node.nodes (b.turned d.now t d.is x.stands) in
+      let may : MayComeOf old.node.id old.node.nodes event (slots_for (disks was).sectors) t y.turn = subst (λ (n : ℕ). MayComeOf old.node.id old.node.nodes event (slots_for n) t y.turn) d.sectors y.may in
       let more : new.text ≡ mid.text ++ (fired_news y.turn ++ turn_text old.node.id old.node.nodes t y.turn) =
       both_texts mid.text said new.text (fired_news y.turn) (turn_text old.node.id old.node.nodes t y.turn)
-      (fires ∙ ap (λ (l : List ℕ). mid.text ++ l) (fired_so old.node.id old.node.nodes (slots_for (disks was).sectors) t event y.turn may)) turn in
+      (fires ∙ ap (λ (l : List ℕ). mid.text ++ l) (fired_so old.node.id old.node.nodes (slots_for (disks was).sectors) t event y.turn may)) y.text in
       record {
         turns = x.turns ++ y.turn ∷ [];
         may = timely_more old.node.id old.node.nodes (slots_for (disks was).sectors) s x.turns y.turn x.may (record { event = event; fired = fired; may = may });
         honest = λ honest. going_more x.turns y.turn (x.honest honest) (y.honest (d.honest ∙ honest));
-        stands = subst (λ (u : NodeState). Stands disks new.node u) (sym (after_more old.node.id old.node.nodes s x.turns y.turn))
-            (subst (λ (n : ℕ). Stands disks new.node (after_turn old.node.id n t y.turn)) nodes
-            (subst (λ (n : ℕ). Stands disks new.node (after_turn n mid.node.nodes t y.turn)) id y.stands));
-        ended_so = (y.ended_so ∙ (ap (λ (n : ℕ). end_of n mid.node.nodes t y.turn) id ∙ ap (λ (n : ℕ). end_of old.node.id n t y.turn) nodes))
-            ∙ sym (end_more old.node.id old.node.nodes before s x.turns y.turn);
+        stands = subst (λ (u : NodeState). Stands disks new.node u) (sym (after_more old.node.id old.node.nodes s x.turns y.turn)) y.stands;
+        ended_so = y.ended_so ∙ sym (end_more old.node.id old.node.nodes before s x.turns y.turn);
         text = both_texts old.text mid.text new.text (turns_text fired_news old.node.id old.node.nodes s x.turns) (fired_news y.turn ++ turn_text old.node.id old.node.nodes t y.turn) x.text more
             ∙ ap (λ (z : List ℕ). old.text ++ z) (sym (text_more fired_news old.node.id old.node.nodes s x.turns y.turn));
-        waits = (y.waits ∙ (ap (λ (n : ℕ). waits_turn n mid.node.nodes t y.turn mid.waits) id ∙ (ap (λ (n : ℕ). waits_turn old.node.id n t y.turn mid.waits) nodes
-            ∙ ap (λ (w : Waits). waits_turn old.node.id old.node.nodes t y.turn w) x.waits))) ∙ sym (waits_more old.node.id old.node.nodes s x.turns y.turn old.waits);
+        waits = (y.waits ∙ ap (λ (w : Waits). waits_turn old.node.id old.node.nodes t y.turn w) x.waits) ∙ sym (waits_more old.node.id old.node.nodes s x.turns y.turn old.waits);
       });
 }
 
 -- as the code does it: what is due is looked at, which changes nothing, it is named, and made
 pub due_more : {Disk : Type 0} (disks : Disk → DiskState) (old mid due here new : Progress Disk) (event : Event) (before between ended : Ended) → IsFired event → due ≡ mid
     → here ≡ record due { text = due.text ++ fired_line event }
-    → Calls disks old mid fired_news (AreTimely old.node.id old.node.nodes) before between → Turns disks here new (MayComeOf here.node.id here.node.nodes event) ended
-    → Calls disks old new fired_news (AreTimely old.node.id old.node.nodes) before ended
+    → Calls disks old mid fired_news AreTimely before between → Turns disks here new (λ i n. MayComeOf i n event) ended
+    → Calls disks old new fired_news AreTimely before ended
 due_more {Disk} disks old mid due here new event before between ended fired is named a b =
     call_more disks old mid new event (mid.text ++ fired_line event) before between ended fired refl a
-    (subst (λ (p : Progress Disk). Turns disks p new (MayComeOf p.node.id p.node.nodes event) ended)
+    (subst (λ (p : Progress Disk). Turns disks p new (λ i n. MayComeOf i n event) ended)
     (named ∙ ap (λ (p : Progress Disk). record p { text = p.text ++ fired_line event }) is) b)
-
-pub none_more : {Disk : Type 0} (disks : Disk → DiskState) (old mid here : Progress Disk) (before between : Ended) → here ≡ mid
-    → Calls disks old mid fired_news (AreTimely old.node.id old.node.nodes) before between → Calls disks old here fired_news (AreTimely old.node.id old.node.nodes) before between
-none_more {Disk} disks old mid here before between is a = subst (λ (p : Progress Disk). Calls disks old p fired_news (AreTimely old.node.id old.node.nodes) before between) (sym is) a
 
 pub if_ok : {T E : Type 0} (r : Result T E) (P Q : T → Type 0) → ((x : T) → P x → Q x) → IfOk r P → IfOk r Q
 if_ok (Ok x) P Q f h = f x h

@@ -22,10 +22,9 @@ use Rattle.sealed_msg.specs.Stamps.{is_above}
 use Rattle.line_words.specs.Lines.{lines_of}
 use Rattle.line_words.specs.Words.{words_of}
 use Rattle.wire_msg.specs.Envelope.{Envelope}
-use Rattle.node_session.specs.declared.asked.Asked.{Asked}
 use Rattle.node_session.specs.Turns.{Turn, Goes, Unmounted, Begins}
 use Rattle.node_session.specs.Chains.{Outcome, AllGoing, AreGoing, after_turns}
-use Rattle.node_session.specs.Lines.{At, AreOf, Comes, after_asked, after_by, after_line, after_lines, plain_answer}
+use Rattle.node_session.specs.Lines.{At, AreOf, Comes, after_by, after_line, after_lines, plain_answer}
 use Rattle.node_session.specs.Seals.{Brought, NoBytes, Strange, Garbled, Opened, Seals, asked_under, brought_by, brought_word, is_fresh, life_by, life_of, message_in, no_stamp, number_by, numbered, sealed_behind, taken_brought, taken_fresh, taken_under, taken_words}
 use Rattle.node_session.specs.Stamping.{Climbs, Life, AreLives, NoStampTwice, life_begun, life_left, stamps_asked, stamps_by, stamps_given, stamps_in, stamps_of, stamps_over}
 use Rattle.node_session.proofs.Histories.{ArePossible, asked_possible}

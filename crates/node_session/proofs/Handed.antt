@@ -1,7 +1,7 @@
 -- An answer is made of lines: those of the messages that are handed out, and others that hand out nothing.
 use Rattle.std.proofs.Common.{◌≡◌, ℕ, ◌+◌, ◌==◌, ◌&&◌, Bool, true, false, List, [], ◌∷◌, ◌++◌, map, refl, sym, ap, ◌∙◌, subst, append_assoc, append-nil, arith, Option, Some, None}
 use Rattle.std.proofs.lemmas.Bool.{and_parts}
-use Rattle.std.specs.Prelude.{All, bytes_eq, codes, decimal, if◌then◌else◌, length}
+use Rattle.std.specs.Prelude.{All, codes, decimal, if◌then◌else◌, length}
 use Rattle.std.specs.List.{flat_map}
 use Rattle.line_words.specs.Lines.{is_line_feed, lines_of}
 use Rattle.line_words.specs.Words.{is_space, words_of}
@@ -34,9 +34,10 @@ use Rattle.node_session.specs.declared.asked.Asked.{Asked}
 use Rattle.node_session.specs.declared.asked.Asked.TheVariants as ask
 use Rattle.node_session.specs.declared.asked.Unsealed.{Unsealed}
 use Rattle.node_session.specs.declared.asked.Unsealed.TheVariants as unsealed
+use Rattle.node_session.specs.declared.seen.Told.{Told}
 use Rattle.node_session.specs.declared.ended.Ended.{Ended}
 use Rattle.node_session.specs.declared.ended.Ended.TheVariants as end
-use Rattle.node_session.specs.Changes.{changes, drop_line, drop_news, drops, drops_by, gone_at, gone_by, gone_line, gone_news, group_by, group_line, group_news, held_by, held_text, is_finish, pair_in, take_line, take_news, takes}
+use Rattle.node_session.specs.Changes.{changes, drop_line, drop_news, drops, drops_by, gone_at, gone_by, gone_line, gone_news, group_by, group_line, group_news, held_by, held_text, is_finish, pair_in, same_told, take_line, take_news, takes, told_of}
 use Rattle.node_words.specs.Words.{core_name, event_word, group_part, group_text, id_text, ids_text, more_ids_text, phase_text, truth_text}
 use Rattle.node_session.specs.Turns.{Turn, after_turn, cause, end_of, sent_in}
 use Rattle.node_session.specs.Chains.{Outcome, IsNone, MayCome, after_turns, line_end, next}
@@ -143,15 +144,15 @@ spaced x y first second = both_lines (x ++ codes " ") y (both_lines x (codes " "
 group_words : (g : Group) → one_line (group_text g)
 group_words g = both_lines (decimal g.creator ++ codes ":") (decimal g.count) (both_lines (decimal g.creator) (codes ":") (number_line g.creator) refl) (number_line g.count)
 
-group_made : (b : Bool) (s : State) → IsMade (group_by b s) []
-group_made true s = said (codes "group Down") [] refl refl
-group_made false s =
-    let text = phase_text s.phase ++ codes " " ++ decimal s.coordinator ++ codes " " ++ group_text s.group ++ codes " " ++ ids_text (members_of s.task) in
-    said (codes "group ") text (spaced (phase_text s.phase ++ codes " " ++ decimal s.coordinator ++ codes " " ++ group_text s.group) (ids_text (members_of s.task))
-    (spaced (phase_text s.phase ++ codes " " ++ decimal s.coordinator) (group_text s.group) (spaced (phase_text s.phase) (decimal s.coordinator) (phase_line s.phase) (number_line s.coordinator)) (group_words s.group)) (ids_line (members_of s.task))) refl
+group_made : (b : Bool) (t : Told) → IsMade (group_by b t) []
+group_made true t = said (codes "group Down") [] refl refl
+group_made false t =
+    let text = phase_text t.phase ++ codes " " ++ decimal t.coordinator ++ codes " " ++ group_text t.group ++ codes " " ++ ids_text t.members in
+    said (codes "group ") text (spaced (phase_text t.phase ++ codes " " ++ decimal t.coordinator ++ codes " " ++ group_text t.group) (ids_text t.members)
+    (spaced (phase_text t.phase ++ codes " " ++ decimal t.coordinator) (group_text t.group) (spaced (phase_text t.phase) (decimal t.coordinator) (phase_line t.phase) (number_line t.coordinator)) (group_words t.group)) (ids_line t.members)) refl
 
-news_made : (old new : State) → IsMade (group_news (group_line old) (group_line new)) []
-news_made old new = by_test (bytes_eq (group_line old) (group_line new))
+news_made : (old new : Told) → IsMade (group_news old new) []
+news_made old new = by_test (same_told old new)
   where
     by_test : (b : Bool) → IsMade (if b then [] else group_line new) []
     by_test true = nothing
@@ -180,7 +181,7 @@ drops_made new (pair ∷ pairs) = both (drop_news new pair) (drops new pairs) []
 
 changes_made : (finished : Bool) (old new : State) → IsMade (changes finished old new) []
 changes_made finished old new =
-    both (group_news (group_line old) (group_line new)) (takes (map held_by old.hand) new.hand ++ drops_by finished new.hand (map held_by old.hand)) [] [] (news_made old new)
+    both (group_news (told_of old) (told_of new)) (takes (map held_by old.hand) new.hand ++ drops_by finished new.hand (map held_by old.hand)) [] [] (news_made (told_of old) (told_of new))
     (both (takes (map held_by old.hand) new.hand) (drops_by finished new.hand (map held_by old.hand)) [] [] (takes_made (map held_by old.hand) new.hand) (by_finish finished))
   where
     by_finish : (b : Bool) → IsMade (drops_by b new.hand (map held_by old.hand)) []
@@ -254,15 +255,6 @@ core_line (core.NotCoordinator id) = number_line id
 core_line core.NotNormal = refl
 core_line core.UnknownJob = refl
 core_line core.NoMemory = refl
-
-fault_line : (fault : NodeFault) → one_line (fault_name fault)
-fault_line (node.Core fault) = core_line fault
-fault_line node.Full = refl
-fault_line node.Exhausted = refl
-fault_line node.Device = refl
-fault_line node.NotFormatted = refl
-fault_line (node.Damaged sector) = number_line sector
-fault_line node.TooSmall = refl
 
 refused_row : (n : ℕ) (why : List ℕ) → one_line why → IsMade (codes "refused " ++ decimal n ++ codes " " ++ why ++ codes "\n") []
 refused_row n why one = said (codes "refused ") (decimal n ++ codes " " ++ why) (spaced (decimal n) why (number_line n) one) refl

@@ -16,7 +16,7 @@ use Rattle.durable_node.specs.declared.came.Came.{Came}
 use Rattle.durable_node.specs.Node.{Node, Stands, IsLeft}
 use Rattle.histories.specs.NodeState.{NodeState}
 use Rattle.histories.specs.declared.what.What.{What}
-use Rattle.histories.specs.declared.what.What.TheVariants.{Did, Refused, Faulted, Rests, Crashed, Recovered, MountFailed, RaiseFailed, RaiseRefused}
+use Rattle.histories.specs.declared.what.What.TheVariants.{Rests, Crashed, Recovered, RaiseFailed, RaiseRefused}
 use Rattle.histories.specs.declared.what.Rest.{Rest}
 use Rattle.histories.specs.declared.what.Rest.TheVariants.{Nothing, Compacted, CompactDown, CompactWorn}
 use Rattle.histories.specs.What.{event_of}
@@ -52,12 +52,8 @@ record Happens {Disk : Type 0} (disks : Disk → DiskState) (slots : ℕ) (old n
 ends : (slots self nodes : ℕ) (s : NodeState) (event : Event) (came : Came) (given : Option Durable) (fate : Fate) → Does slots self nodes s event came given (what_of event fate)
     → (ended_by (answered_as came (fault_of fate)) ≡ end_at self nodes s (what_of event fate)) × (sent_by (answered_as came (fault_of fate)) ≡ sent_at self nodes s (what_of event fate))
 ends slots self nodes s event came given fate.Done does = (ap end.Done does.answer, does.sent)
-ends slots self nodes s event came given (fate.Refused fault) does = (refl, refl)
-ends slots self nodes s event came given fate.Faulted does = (refl, refl)
 ends slots self nodes s event came given (fate.Recovered kept) does = (ap end.Done does.answer, does.sent)
-ends slots self nodes s event came given fate.MountFailed does = (refl, refl)
-ends slots self nodes s event came given (fate.RaiseFailed kept) does = (refl, refl)
-ends slots self nodes s event came given (fate.RaiseRefused kept) does = (refl, refl)
+ends slots self nodes s event came given fate does = (refl, refl)
 
 -- a disk of a history is one that can be mounted
 not_stuck : {Disk : Type 0} (disks : Disk → DiskState) (old new : Node Disk) (event : Event) (fault : NodeFault) (was : Disk) (s : NodeState) → Stuck disks old new event fault → fault ≢ node.Core NoMemory
@@ -212,7 +208,7 @@ pub event_turns : {Disk : Type 0} (disks : Disk → DiskState) (old : Progress D
     → CountsOf disks old.node.disk node'.disk (answered reply)
     → waits ≡ waits_behind (Some event) (sent_by (answered reply)) node'.state old.waits
     → sent ≡ old.text ++ send_lines (sent_by (answered reply)) → changed ≡ sent ++ changes (is_finish (Some event)) old.node.state node'.state → text ≡ changed ++ gone_news (Some event) (ended_by (answered reply))
-    → Turns disks old (record old { node = node'; text = text; waits = waits }) (MayComeOf old.node.id old.node.nodes event) (ended_by (answered reply))
+    → Turns disks old (record old { node = node'; text = text; waits = waits }) (λ i n. MayComeOf i n event) (ended_by (answered reply))
 event_turns {Disk} disks old node' event reply waits sent changed text id nodes steps stuck memory mounting fallen counts waited first second third = record {
   node = same_node disks old.node node' (answered reply) id nodes counts;
   same = refl;
@@ -247,10 +243,10 @@ pub turn_so : {Disk : Type 0} (disks : Disk → DiskState) (old here : Progress 
     → seen ≡ sight_of before → before ≡ here.node.state → after ≡ node'.state → finished ≡ is_finish (Some event) → ended ≡ ended_by (answered reply)
     → behind ≡ node'.state → waits ≡ waits_behind (Some event) (sent_by (answered reply)) behind here.waits
     → sent ≡ here.text ++ send_lines (sent_by (answered reply)) → ((s : State) → seen ≡ sight_of s → changed ≡ sent ++ changes finished s after) → text ≡ changed ++ gone_news (Some event) ended
-    → Turns disks old (record here { node = node'; text = text; waits = waits }) (MayComeOf old.node.id old.node.nodes event) ended
+    → Turns disks old (record here { node = node'; text = text; waits = waits }) (λ i n. MayComeOf i n event) ended
 turn_so {Disk} disks old here node' event reply ended finished seen before after behind waits sent changed text is id nodes steps stuck memory mounting fallen counts sees was now finish ends_so then waited first second third =
-    subst (λ (p : Progress Disk). Turns disks p (record here { node = node'; text = text; waits = waits }) (MayComeOf p.node.id p.node.nodes event) ended) is
-    (subst (λ (e : Ended). Turns disks here (record here { node = node'; text = text; waits = waits }) (MayComeOf here.node.id here.node.nodes event) e) (sym ends_so)
+    subst (λ (p : Progress Disk). Turns disks p (record here { node = node'; text = text; waits = waits }) (λ i n. MayComeOf i n event) ended) is
+    (subst (λ (e : Ended). Turns disks here (record here { node = node'; text = text; waits = waits }) (λ i n. MayComeOf i n event) e) (sym ends_so)
     (event_turns disks here node' event reply waits sent changed text id nodes steps stuck memory mounting fallen counts
     (waited ∙ ap (λ (v : State). waits_behind (Some event) (sent_by (answered reply)) v here.waits) then) first
     (second before sees ∙ (ap (λ (b : Bool). sent ++ changes b before after) finish ∙ (ap (λ (v : State). sent ++ changes (is_finish (Some event)) v after) was
@@ -274,15 +270,9 @@ rest_of_compaction self nodes slots s CompactDown result said = record { of = tt
 rest_of_compaction self nodes slots s CompactWorn result said = record { of = tt; of_slots = tt; ended = ap compaction_end said; silent = refl; causeless = refl }
 
 of_compaction : {A : Type 0} (self nodes slots : ℕ) (s : NodeState) (what : What) (result : Result A NodeFault) → CompactionAnswers what result → OfCompaction self nodes slots s what result
-of_compaction self nodes slots s (Did e) result said = absurd said
-of_compaction self nodes slots s (Refused e fault) result said = absurd said
-of_compaction self nodes slots s (Faulted e) result said = absurd said
 of_compaction self nodes slots s (Rests rest) result said = rest_of_compaction self nodes slots s rest result said
 of_compaction self nodes slots s Crashed result said = record { of = tt; of_slots = tt; ended = ap compaction_end said; silent = refl; causeless = refl }
-of_compaction self nodes slots s (Recovered kept) result said = absurd said
-of_compaction self nodes slots s MountFailed result said = absurd said
-of_compaction self nodes slots s (RaiseFailed kept) result said = absurd said
-of_compaction self nodes slots s (RaiseRefused kept) result said = absurd said
+of_compaction self nodes slots s what result said = absurd said
 
 silent_text : (x y : State) (ended : Ended) → changes false x y ≡ call_text None [] x y ended
 silent_text x y (end.Done None) = sym (append-nil (changes false x y))
@@ -292,7 +282,7 @@ silent_text x y (end.Denied fault) = sym (append-nil (changes false x y))
 pub compaction_turns : {Disk A : Type 0} (disks : Disk → DiskState) (old : Progress Disk) (node' : Node Disk) (result : Result A NodeFault) (waits : Waits) (text : List ℕ)
     → node'.id ≡ old.node.id → node'.nodes ≡ old.node.nodes → Compacts disks old.node node' result → CountsOf disks old.node.disk node'.disk result
     → waits ≡ waits_behind None [] node'.state old.waits → text ≡ old.text ++ changes false old.node.state node'.state
-    → Turns disks old (record old { node = node'; text = text; waits = waits }) (MayCompact old.node.id old.node.nodes) (compaction_end result)
+    → Turns disks old (record old { node = node'; text = text; waits = waits }) MayCompact (compaction_end result)
 compaction_turns {Disk} disks old node' result waits text id nodes compacts counts waited said = record {
   node = same_node disks old.node node' result id nodes counts;
   same = refl;
@@ -325,9 +315,9 @@ pub compaction_so : {Disk A : Type 0} (disks : Disk → DiskState) (old here : P
     → seen ≡ sight_of before → before ≡ here.node.state → after ≡ node'.state → ended ≡ compaction_end result
     → behind ≡ node'.state → waits ≡ waits_behind None [] behind here.waits
     → ((s : State) → seen ≡ sight_of s → text ≡ here.text ++ changes false s after)
-    → Turns disks old (record here { node = node'; text = text; waits = waits }) (MayCompact old.node.id old.node.nodes) ended
+    → Turns disks old (record here { node = node'; text = text; waits = waits }) MayCompact ended
 compaction_so {Disk} disks old here node' result ended seen before after behind waits text is id nodes compacts counts sees was now ends_so then waited said =
-    subst (λ (p : Progress Disk). Turns disks p (record here { node = node'; text = text; waits = waits }) (MayCompact p.node.id p.node.nodes) ended) is
-    (subst (λ (e : Ended). Turns disks here (record here { node = node'; text = text; waits = waits }) (MayCompact here.node.id here.node.nodes) e) (sym ends_so)
+    subst (λ (p : Progress Disk). Turns disks p (record here { node = node'; text = text; waits = waits }) MayCompact ended) is
+    (subst (λ (e : Ended). Turns disks here (record here { node = node'; text = text; waits = waits }) MayCompact e) (sym ends_so)
     (compaction_turns disks here node' result waits text id nodes compacts counts (waited ∙ ap (λ (v : State). waits_behind None [] v here.waits) then)
     (said before sees ∙ (ap (λ (v : State). here.text ++ changes false v after) was ∙ ap (λ (v : State). here.text ++ changes false here.node.state v) now))))

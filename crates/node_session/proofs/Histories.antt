@@ -47,15 +47,11 @@ none_possible self nodes slots s [] may = tt
 none_possible self nodes slots s (t ∷ turns) may = absurd may
 
 pub asked_possible : (self nodes slots : ℕ) (s : NodeState) (a : Asked) (turns : List Turn) → MayCome self nodes slots s a turns → AreGoing turns → ArePossible self nodes slots s turns
-asked_possible self nodes slots s ask.Nothing turns may going = none_possible self nodes slots s turns may
 asked_possible self nodes slots s (ask.Event event) turns may going = one_possible self nodes slots s event turns may going
 asked_possible self nodes slots s ask.Compact turns may going = compact_possible self nodes slots s turns may
 asked_possible self nodes slots s (ask.Tick now) turns may going = timely_possible self nodes slots s turns may going
 asked_possible self nodes slots s (ask.Lost id) turns may going = timely_possible self nodes slots s turns may going
-asked_possible self nodes slots s ask.State turns may going = none_possible self nodes slots s turns may
-asked_possible self nodes slots s ask.Jobs turns may going = none_possible self nodes slots s turns may
-asked_possible self nodes slots s ask.Bad turns may going = none_possible self nodes slots s turns may
-asked_possible self nodes slots s (ask.Refused why) turns may going = none_possible self nodes slots s turns may
+asked_possible self nodes slots s asked turns may going = none_possible self nodes slots s turns may
 
 -- entries in front of others that follow
 abbrev IsHistory : ℕ → ℕ → ℕ → NodeState → List Entry → NodeState → Type 0
@@ -97,15 +93,10 @@ timely_begun : (self nodes slots : ℕ) (s : NodeState) (mounted : Durable) (wha
 timely_begun self nodes slots s mounted what may = may.0.may.3
 
 begun_possible : (self nodes slots : ℕ) (s : NodeState) (a : Asked) (mounted : Durable) (what : What) → MayCome self nodes slots s a (Begins mounted what ∷ []) → IsPossible self nodes (begun self mounted) what
-begun_possible self nodes slots s ask.Nothing mounted what may = absurd may
 begun_possible self nodes slots s (ask.Event event) mounted what may = may.3
-begun_possible self nodes slots s ask.Compact mounted what may = absurd may
 begun_possible self nodes slots s (ask.Tick now) mounted what may = timely_begun self nodes slots s mounted what may
 begun_possible self nodes slots s (ask.Lost id) mounted what may = timely_begun self nodes slots s mounted what may
-begun_possible self nodes slots s ask.State mounted what may = absurd may
-begun_possible self nodes slots s ask.Jobs mounted what may = absurd may
-begun_possible self nodes slots s ask.Bad mounted what may = absurd may
-begun_possible self nodes slots s (ask.Refused why) mounted what may = absurd may
+begun_possible self nodes slots s asked mounted what may = absurd may
 
 line_begun : (self nodes slots : ℕ) (b : Bool) (a : At) (l : List ℕ) (mounted : Durable) (what : What) (due : Option ℕ) → Comes self nodes slots b a.state (asked_under a.seal l) (one_turn (Begins mounted what) due)
     → IsPossible self nodes (begun self mounted) what × ((after_by self nodes b a l (one_turn (Begins mounted what) due)).state ≡ after_begun self nodes a.state mounted what)

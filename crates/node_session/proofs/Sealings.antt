@@ -36,13 +36,6 @@ numbered_further life n m left line behind all cut is counts =
     ap (λ (k : ℕ). numbered life k (lines_of behind)) counts
     ∙ (sym (numbered_more life n line (lines_of behind) (some_line behind)) ∙ (ap (numbered life n) (sym cut) ∙ is))
 
--- what is left behind the last line feed
-pub sealed_last : (key : List ℕ) (life : Option ℕ) (n : ℕ) (left : List ℕ) → lines_of left ≡ left ∷ [] → sealed_lines key life n (lines_of left) ≡ left
-sealed_last key life n left one = ap (sealed_lines key life n) one
-
-pub numbered_last : (life : Option ℕ) (n : ℕ) (left : List ℕ) → lines_of left ≡ left ∷ [] → numbered life n (lines_of left) ≡ n
-numbered_last life n left one = ap (numbered life n) one
-
 pub line_so : (key : List ℕ) (life : Option ℕ) (l n next : ℕ) (line : List ℕ) (m : Option (List ℕ)) (message : List ℕ) → life ≡ Some l → m ≡ Some message → next ≡ n + 1
     → line_by key life n line m ≡ line ++ encode_lower (seal_of key message (record { life = l; number = next })) ++ codes "\n"
 line_so key life l n next line m message lives is counts =

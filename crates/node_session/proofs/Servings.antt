@@ -1,14 +1,13 @@
 -- Lines that are answered, one after another.
-use Rattle.std.proofs.Common.{◌≡◌, ℕ, List, [], ◌∷◌, ◌++◌, Bool, true, false, refl, sym, ap, ◌∙◌, subst, append_assoc, append-nil, length, take, drop, ◌+◌, Some, None, Option, Result, Ok, Err}
+use Rattle.std.proofs.Common.{◌≡◌, ℕ, List, [], ◌∷◌, ◌++◌, Bool, true, false, refl, sym, ap, ◌∙◌, subst, append_assoc, append-nil, length, take, drop, ◌+◌, None, Option, Result, Ok, Err}
 use Rattle.std.proofs.Math.Seq.{take-append_seam, drop-append_seam}
-use Rattle.std.specs.Prelude.{IsTrue, OnOk}
+use Rattle.std.specs.Prelude.{OnOk}
 use Rattle.sector_disk.specs.Disk.{DiskState}
 use Rattle.node_store.specs.Store.{slots_for}
 use Rattle.durable_node.specs.Node.{Stands}
 use Rattle.histories.specs.NodeState.{NodeState}
 use Rattle.node_session.specs.declared.asked.Asked.{Asked}
 use Rattle.node_session.specs.declared.asked.Asked.TheVariants as ask
-use Rattle.node_session.specs.declared.asked.Unsealed.{Unsealed}
 use Rattle.node_session.specs.declared.ended.Ended.{Ended}
 use Rattle.node_session.specs.declared.ended.Ended.TheVariants as end
 use Rattle.node_session.specs.Seals.{Seals, asked_under, life_of, sealed_behind, taken_under, written}
@@ -16,11 +15,11 @@ use Rattle.node_core.specs.declared.event.Event.{Event}
 use Rattle.node_core.specs.State.{State, is_down}
 use Rattle.node_session.specs.Turns.{Turn, MayComeOf, MayCompact}
 use Rattle.pace.specs.Waiting.{Waits, sent_again, waits_on}
-use Rattle.node_session.specs.Chains.{Outcome, AreGoing, AreTimely, MayCome, IsTold, IsToldBy, after_turns, is_failed, line_end, next, waits_begun, waits_turns}
+use Rattle.node_session.specs.Chains.{Outcome, AreTimely, IsAtOnce, MayCome, IsTold, IsToldBy, after_turns, is_failed, line_end, next, waits_begun, waits_turns}
 use Rattle.node_session.specs.Lines.{At, AreOf, Comes, after_by, after_asked, after_lines, answer_by, answers, plain_answer, written_answer}
-use Rattle.node_session.specs.Text.{answer, bad_line, closing, event_closing, fired_news, jobs_lines, keeps_news, next_line, ok_line, refused_line, send_lines, state_line, turns_text, no_news}
-use Rattle.node_session.specs.Serving.{Progress, Replied, Replies, Serves, Calls, Turns, IsNodeOf, at_of}
-use Rattle.node_session.proofs.Calls.{node_refl, node_then, one_call}
+use Rattle.node_session.specs.Text.{answer, answer_at_once, closing, event_closing, fired_news, keeps_news, next_line, send_lines, turns_text, no_news}
+use Rattle.node_session.specs.Serving.{Progress, Called, Calls, IsNodeOf, Replies, Served, Serves, Turns, at_of}
+use Rattle.node_session.proofs.Calls.{at_node, node_refl, node_then, one_call}
 use Rattle.node_session.proofs.Lines.{of_both, after_both, going_both, answers_both}
 
 both_texts : (a b c x y : List ℕ) → b ≡ a ++ x → c ≡ b ++ y → c ≡ a ++ (x ++ y)
@@ -32,22 +31,15 @@ serves_then {Disk} disks old mid new ls ms a b = record {
   node = node_then disks old.node mid.node new.node a.node b.node;
   served = λ was s is stands. (let d = a.node.disk was is in
       let x = a.served was s is stands in
-      let y = b.served d.now x.state d.is x.stands in
+      let y = at_node (λ i n. Served disks mid new i n ms d.now x.state) old.node mid.node a.node.id a.node.nodes (b.served d.now x.state d.is x.stands) in
       let id = old.node.id in
       let nodes = old.node.nodes in
       let start = at_of old s in
       let between = after_lines id nodes start ls x.all in
       let came : AreOf id nodes (slots_for (disks was).sectors) between ms y.all =
-      subst (λ (n : ℕ). AreOf id nodes (slots_for n) between ms y.all) d.sectors
-      (subst (λ (n : ℕ). AreOf n nodes (slots_for (disks d.now).sectors) between ms y.all) a.node.id
-      (subst (λ (n : ℕ). AreOf mid.node.id n (slots_for (disks d.now).sectors) between ms y.all) a.node.nodes
-      (subst (λ (t : At). AreOf mid.node.id mid.node.nodes (slots_for (disks d.now).sectors) t ms y.all) x.left y.came))) in
-      let left : at_of new y.state ≡ after_lines id nodes between ms y.all =
-      y.left ∙ (ap (λ (t : At). after_lines mid.node.id mid.node.nodes t ms y.all) x.left
-      ∙ (ap (λ (n : ℕ). after_lines n mid.node.nodes between ms y.all) a.node.id ∙ ap (λ (n : ℕ). after_lines id n between ms y.all) a.node.nodes)) in
-      let text : new.text ≡ mid.text ++ answers id nodes between ms y.all =
-      y.text ∙ (ap (λ (t : At). mid.text ++ answers mid.node.id mid.node.nodes t ms y.all) x.left
-      ∙ (ap (λ (n : ℕ). mid.text ++ answers n mid.node.nodes between ms y.all) a.node.id ∙ ap (λ (n : ℕ). mid.text ++ answers id n between ms y.all) a.node.nodes)) in
+      subst (λ (n : ℕ). AreOf id nodes (slots_for n) between ms y.all) d.sectors (subst (λ (t : At). AreOf id nodes (slots_for (disks d.now).sectors) t ms y.all) x.left y.came) in
+      let left : at_of new y.state ≡ after_lines id nodes between ms y.all = y.left ∙ ap (λ (t : At). after_lines id nodes t ms y.all) x.left in
+      let text : new.text ≡ mid.text ++ answers id nodes between ms y.all = y.text ∙ ap (λ (t : At). mid.text ++ answers id nodes t ms y.all) x.left in
       record {
         all = x.all ++ y.all;
         came = of_both id nodes (slots_for (disks was).sectors) start ls ms x.all y.all x.came came;
@@ -171,7 +163,7 @@ tells disks mid seen now due is told = λ t stands. subst (λ (s : State). IsTol
 called_line : {Disk : Type 0} (disks : Disk → DiskState) (old here mid : Progress Disk) (heading : Turn → List ℕ) (a : Asked) (number : ℕ) (again : List ℕ) (ended : Ended) (due : Option ℕ) (close : NodeState → List ℕ) (begun text : List ℕ)
     → next old.count a ≡ old.count + 1 → number ≡ old.count + 1
     → begun ≡ old.text ++ again → here ≡ record old { count = number; text = begun; waits = waits_begun a old.waits }
-    → Calls disks here mid heading (λ slots s turns. MayCome here.node.id here.node.nodes slots s a turns) (end.Done None) ended
+    → Calls disks here mid heading (λ i n slots s turns. MayCome i n slots s a turns) (end.Done None) ended
     → IsClosed disks mid close text → Tells disks mid a due → Answers heading number old.waits a again ended due close
     → Replies disks old (record mid { stopped = is_failed ended; text = text }) a
 called_line {Disk} disks old here mid heading a number again ended due close begun text one counts begins is calls said told closes =
@@ -180,33 +172,22 @@ called_line {Disk} disks old here mid heading a number again ended due close beg
     record {
       node = subst (λ n. IsNodeOf disks n mid.node) same calls.node;
       seal = ap (λ (p : Progress Disk). p.seal) calls.same ∙ ap (λ p. p.seal) is;
-      replied = λ was s at stands. (let x = calls.called was s (ap (λ n. n.disk) same ∙ at) (subst (λ n. Stands disks n s) (sym same) stands) in
-          let id : here.node.id ≡ old.node.id = ap (λ n. n.id) same in
-          let nodes : here.node.nodes ≡ old.node.nodes = ap (λ n. n.nodes) same in
+      replied = λ was s at stands. (let x = subst (λ n. Called disks here mid n.id n.nodes heading (λ i n slots s turns. MayCome i n slots s a turns) (end.Done None) ended was s) same
+          (calls.called was s (ap (λ n. n.disk) same ∙ at) (subst (λ n. Stands disks n s) (sym same) stands)) in
           let t = after_turns old.node.id old.node.nodes s x.turns in
           let turns_said = turns_text heading old.node.id old.node.nodes s x.turns in
-          let ended_so : ended ≡ line_end old.node.id old.node.nodes s x.turns =
-          x.ended_so ∙ (ap (λ (n : ℕ). line_end n here.node.nodes s x.turns) id ∙ ap (λ (n : ℕ). line_end old.node.id n s x.turns) nodes) in
-          let mid_text : mid.text ≡ begun ++ turns_said =
-          x.text ∙ (ap (λ p. p.text ++ turns_text heading here.node.id here.node.nodes s x.turns) is
-          ∙ (ap (λ (n : ℕ). begun ++ turns_text heading n here.node.nodes s x.turns) id ∙ ap (λ (n : ℕ). begun ++ turns_text heading old.node.id n s x.turns) nodes)) in
-          let left : Stands disks mid.node t =
-          subst (λ (n : ℕ). Stands disks mid.node (after_turns old.node.id n s x.turns)) nodes
-          (subst (λ (n : ℕ). Stands disks mid.node (after_turns n here.node.nodes s x.turns)) id x.stands) in
           record {
             turns = x.turns;
             due = due;
-            told = told t left;
-            may = subst (λ (n : ℕ). MayCome old.node.id n (slots_for (disks was).sectors) s a x.turns) nodes
-                (subst (λ (n : ℕ). MayCome n here.node.nodes (slots_for (disks was).sectors) s a x.turns) id x.may);
+            told = told t x.stands;
+            may = x.may;
             honest = x.honest;
-            stands = left;
-            stopped = ap is_failed ended_so;
+            stands = x.stands;
+            stopped = ap is_failed x.ended_so;
             count = counted ∙ sym one;
-            text = both_texts old.text begun text again (turns_said ++ close t) begins (both_texts begun mid.text text turns_said (close t) mid_text (said t left))
-                ∙ ap (λ (u : List ℕ). old.text ++ u) (sym (ap (λ (n : ℕ). answer old.node.id old.node.nodes n s old.waits a (record { turns = x.turns; due = due })) (one ∙ sym counts) ∙ closes old.node.id old.node.nodes s x.turns ended_so));
-            waits = x.waits ∙ (ap (λ p. waits_turns here.node.id here.node.nodes s x.turns p.waits) is
-                ∙ (ap (λ (n : ℕ). waits_turns n here.node.nodes s x.turns (waits_begun a old.waits)) id ∙ ap (λ (n : ℕ). waits_turns old.node.id n s x.turns (waits_begun a old.waits)) nodes));
+            text = both_texts old.text begun text again (turns_said ++ close t) begins (both_texts begun mid.text text turns_said (close t) (x.text ∙ ap (λ p. p.text ++ turns_said) is) (said t x.stands))
+                ∙ ap (λ (u : List ℕ). old.text ++ u) (sym (ap (λ (n : ℕ). answer old.node.id old.node.nodes n s old.waits a (record { turns = x.turns; due = due })) (one ∙ sym counts) ∙ closes old.node.id old.node.nodes s x.turns x.ended_so));
+            waits = x.waits ∙ ap (λ p. waits_turns old.node.id old.node.nodes s x.turns p.waits) is;
           });
     }
 
@@ -214,7 +195,7 @@ called_line {Disk} disks old here mid heading a number again ended due close beg
 called_so : {Disk : Type 0} (disks : Disk → DiskState) (old here mid stop : Progress Disk) (heading : Turn → List ℕ) (a : Asked) (number : ℕ) (again : List ℕ) (ended : Ended) (due : Option ℕ) (close : NodeState → List ℕ) (begun text : List ℕ)
     → next old.count a ≡ old.count + 1 → number ≡ old.count + 1
     → begun ≡ old.text ++ again → here ≡ record old { count = number; text = begun; waits = waits_begun a old.waits }
-    → Calls disks here mid heading (λ slots s turns. MayCome here.node.id here.node.nodes slots s a turns) (end.Done None) ended
+    → Calls disks here mid heading (λ i n slots s turns. MayCome i n slots s a turns) (end.Done None) ended
     → stop ≡ record mid { stopped = is_failed ended } → IsClosed disks stop close text → Tells disks stop a due → Answers heading number old.waits a again ended due close
     → Replies disks old (record stop { text = text }) a
 called_so {Disk} disks old here mid stop heading a number again ended due close begun text one counts begins is calls marked said told closes =
@@ -223,27 +204,27 @@ called_so {Disk} disks old here mid stop heading a number again ended due close 
     (subst (λ (p : Progress Disk). IsClosed disks p close text) marked said) (subst (λ (p : Progress Disk). Tells disks p a due) marked told) closes)
 
 pub event_line : {Disk : Type 0} (disks : Disk → DiskState) (old here mid stop : Progress Disk) (event : Event) (number : ℕ) (ended : Ended) (kept text : List ℕ)
-    → number ≡ old.count + 1 → here ≡ record old { count = number } → Turns disks here mid (MayComeOf here.node.id here.node.nodes event) ended
+    → number ≡ old.count + 1 → here ≡ record old { count = number } → Turns disks here mid (λ i n. MayComeOf i n event) ended
     → stop ≡ record mid { stopped = is_failed ended } → ((t : NodeState) → Stands disks stop.node t → kept ≡ stop.text ++ keeps_news event ended t)
     → text ≡ kept ++ event_closing number event ended → Replies disks old (record stop { text = text }) (ask.Event event)
 event_line disks old here mid stop event number ended kept text counts is turns marked keeps said =
     called_so disks old here mid stop no_news (ask.Event event) number [] ended None (λ t. keeps_news event ended t ++ event_closing number event ended) old.text text refl counts (sym (append-nil old.text)) is
-    (one_call disks here mid (MayComeOf here.node.id here.node.nodes event) (end.Done None) ended turns) marked
+    (one_call disks here mid (λ i n. MayComeOf i n event) (end.Done None) ended turns) marked
     (λ t stands. both_texts stop.text kept text (keeps_news event ended t) (event_closing number event ended) (keeps t stands) said) (λ t stands. refl)
     (λ self nodes s turns so. ap (λ (e : Ended). turns_text no_news self nodes s turns ++ (keeps_news event e (after_turns self nodes s turns) ++ event_closing number event e)) (sym so))
 
 pub compact_line : {Disk : Type 0} (disks : Disk → DiskState) (old here mid stop : Progress Disk) (number : ℕ) (ended : Ended) (text : List ℕ)
-    → number ≡ old.count + 1 → here ≡ record old { count = number } → Turns disks here mid (MayCompact here.node.id here.node.nodes) ended
+    → number ≡ old.count + 1 → here ≡ record old { count = number } → Turns disks here mid MayCompact ended
     → stop ≡ record mid { stopped = is_failed ended } → text ≡ stop.text ++ closing number ended → Replies disks old (record stop { text = text }) ask.Compact
 compact_line disks old here mid stop number ended text counts is turns marked said =
     called_so disks old here mid stop no_news ask.Compact number [] ended None (λ t. closing number ended) old.text text refl counts (sym (append-nil old.text)) is
-    (one_call disks here mid (MayCompact here.node.id here.node.nodes) (end.Done None) ended turns) marked (λ t stands. said) (λ t stands. refl)
+    (one_call disks here mid MayCompact (end.Done None) ended turns) marked (λ t stands. said) (λ t stands. refl)
     (λ self nodes s turns so. ap (λ (e : Ended). turns_text no_news self nodes s turns ++ closing number e) (sym so))
 
 pub tick_line : {Disk : Type 0} (disks : Disk → DiskState) (old first here mid stop : Progress Disk) (now number : ℕ) (ended : Ended) (due : Option ℕ) (told text : List ℕ)
     → number ≡ old.count + 1 → first ≡ record old { count = number }
     → here ≡ record first { text = first.text ++ send_lines (sent_again now first.waits); waits = waits_on now first.waits }
-    → Calls disks here mid fired_news (AreTimely here.node.id here.node.nodes) (end.Done None) ended
+    → Calls disks here mid fired_news AreTimely (end.Done None) ended
     → stop ≡ record mid { stopped = is_failed ended } → Tells disks stop (ask.Tick now) due → told ≡ stop.text ++ next_line due → text ≡ told ++ closing number ended
     → Replies disks old (record stop { text = text }) (ask.Tick now)
 tick_line {Disk} disks old first here mid stop now number ended due told text counts is sends calls marked tells names said =
@@ -252,7 +233,7 @@ tick_line {Disk} disks old first here mid stop now number ended due told text co
     (λ self nodes s turns so. ap (λ (e : Ended). send_lines (sent_again now old.waits) ++ (turns_text fired_news self nodes s turns ++ (next_line due ++ closing number e))) (sym so))
 
 pub loss_line : {Disk : Type 0} (disks : Disk → DiskState) (old here mid stop : Progress Disk) (node number : ℕ) (ended : Ended) (text : List ℕ)
-    → number ≡ old.count + 1 → here ≡ record old { count = number } → Calls disks here mid fired_news (AreTimely here.node.id here.node.nodes) (end.Done None) ended
+    → number ≡ old.count + 1 → here ≡ record old { count = number } → Calls disks here mid fired_news AreTimely (end.Done None) ended
     → stop ≡ record mid { stopped = is_failed ended } → text ≡ stop.text ++ closing number ended → Replies disks old (record stop { text = text }) (ask.Lost node)
 loss_line disks old here mid stop node number ended text counts is calls marked said =
     called_so disks old here mid stop fired_news (ask.Lost node) number [] ended None (λ t. closing number ended) old.text text refl counts (sym (append-nil old.text)) is calls marked (λ t stands. said) (λ t stands. refl)
@@ -287,39 +268,32 @@ pub on_ok : {T E P Q : Type 0} (r : Result T E) → (P → Q) → OnOk r P → O
 on_ok (Ok x) f h = f h
 on_ok (Err e) f h = tt
 
--- a request that can't be read
-pub line_is_bad : {Disk : Type 0} (disks : Disk → DiskState) (old here : Progress Disk) (number : ℕ) (text : List ℕ) → old.stopped ≡ false → number ≡ old.count + 1
-    → here ≡ record old { count = number } → text ≡ here.text ++ bad_line number → Replies disks old (record here { text = text }) ask.Bad
-line_is_bad disks old here number text runs counts is said =
-    quiet_line disks old (record here { text = text }) ask.Bad runs (λ self nodes slots s. (tt, refl)) (ap (λ p. p.node) is) (ap (λ p. p.stopped) is ∙ runs) (ap (λ p. p.count) is ∙ counts) (ap (λ p. p.waits) is) (ap (λ p. p.seal) is)
-    (λ s stands. said ∙ (ap (λ p. p.text ++ bad_line number) is ∙ ap (λ (n : ℕ). old.text ++ bad_line n) counts))
+-- what is so of a request that makes no call
+record MakesNone (a : Asked) : Type 0 where
+  pub may : (self nodes slots : ℕ) (s : NodeState) → MayCome self nodes slots s a [] × IsTold a s None
+  pub counts : (n : ℕ) → next n a ≡ n + 1
+  pub waits : (w : Waits) → waits_begun a w ≡ w
+  pub answer : (self nodes n : ℕ) (s : NodeState) (w : Waits) (came : Outcome) → answer self nodes n s w a came ≡ answer_at_once n s a
 
--- the state
-pub state_answered : {Disk : Type 0} (disks : Disk → DiskState) (old here : Progress Disk) (number : ℕ) (mid text : List ℕ) → old.stopped ≡ false → number ≡ old.count + 1
-    → here ≡ record old { count = number } → ((s : NodeState) → Stands disks here.node s → mid ≡ here.text ++ state_line s) → text ≡ mid ++ ok_line number []
-    → Replies disks old (record here { text = text }) ask.State
-state_answered disks old here number mid text runs counts is said ended =
-    quiet_line disks old (record here { text = text }) ask.State runs (λ self nodes slots s. (tt, refl)) (ap (λ p. p.node) is) (ap (λ p. p.stopped) is ∙ runs) (ap (λ p. p.count) is ∙ counts) (ap (λ p. p.waits) is) (ap (λ p. p.seal) is)
-    (λ s stands. both_texts old.text mid text (state_line s) (ok_line (old.count + 1) [])
-    (said s (subst (λ n. Stands disks n s) (sym (ap (λ p. p.node) is)) stands) ∙ ap (λ p. p.text ++ state_line s) is)
-    (ended ∙ ap (λ (n : ℕ). mid ++ ok_line n []) counts))
+makes_none : (a : Asked) → IsAtOnce a → MakesNone a
+makes_none ask.State once = record { may = λ self nodes slots s. (tt, refl); counts = λ n. refl; waits = λ w. refl; answer = λ self nodes n s w came. refl }
+makes_none ask.Jobs once = record { may = λ self nodes slots s. (tt, refl); counts = λ n. refl; waits = λ w. refl; answer = λ self nodes n s w came. refl }
+makes_none ask.Bad once = record { may = λ self nodes slots s. (tt, refl); counts = λ n. refl; waits = λ w. refl; answer = λ self nodes n s w came. refl }
+makes_none (ask.Refused why) once = record { may = λ self nodes slots s. (tt, refl); counts = λ n. refl; waits = λ w. refl; answer = λ self nodes n s w came. refl }
+makes_none a once = absurd once
 
--- the jobs
-pub jobs_answered : {Disk : Type 0} (disks : Disk → DiskState) (old here : Progress Disk) (number : ℕ) (mid text : List ℕ) → old.stopped ≡ false → number ≡ old.count + 1
-    → here ≡ record old { count = number } → ((s : NodeState) → Stands disks here.node s → mid ≡ here.text ++ jobs_lines s) → text ≡ mid ++ ok_line number []
-    → Replies disks old (record here { text = text }) ask.Jobs
-jobs_answered disks old here number mid text runs counts is said ended =
-    quiet_line disks old (record here { text = text }) ask.Jobs runs (λ self nodes slots s. (tt, refl)) (ap (λ p. p.node) is) (ap (λ p. p.stopped) is ∙ runs) (ap (λ p. p.count) is ∙ counts) (ap (λ p. p.waits) is) (ap (λ p. p.seal) is)
-    (λ s stands. both_texts old.text mid text (jobs_lines s) (ok_line (old.count + 1) [])
-    (said s (subst (λ n. Stands disks n s) (sym (ap (λ p. p.node) is)) stands) ∙ ap (λ p. p.text ++ jobs_lines s) is)
-    (ended ∙ ap (λ (n : ℕ). mid ++ ok_line n []) counts))
+pub at_once : {Disk : Type 0} (disks : Disk → DiskState) (old here : Progress Disk) (a : Asked) (number : ℕ) (text : List ℕ) → old.stopped ≡ false → IsAtOnce a → number ≡ old.count + 1
+    → here ≡ record old { count = number } → ((s : NodeState) → Stands disks here.node s → text ≡ here.text ++ answer_at_once number s a) → Replies disks old (record here { text = text }) a
+at_once disks old here a number text runs once counts is said =
+    let none = makes_none a once in
+    let numbered : number ≡ next old.count a = counts ∙ sym (none.counts old.count) in
+    quiet_line disks old (record here { text = text }) a runs none.may (ap (λ p. p.node) is) (ap (λ p. p.stopped) is ∙ runs) (ap (λ p. p.count) is ∙ numbered) (ap (λ p. p.waits) is ∙ sym (none.waits old.waits)) (ap (λ p. p.seal) is)
+    (λ s stands. said s (subst (λ n. Stands disks n s) (sym (ap (λ p. p.node) is)) stands) ∙ (ap (λ p. p.text ++ answer_at_once number s a) is
+    ∙ ap (λ (t : List ℕ). old.text ++ t) (ap (λ (n : ℕ). answer_at_once n s a) numbered ∙ sym (none.answer old.node.id old.node.nodes (next old.count a) s old.waits (record { turns = []; due = None })))))
 
--- a message that isn't taken
-pub line_is_refused : {Disk : Type 0} (disks : Disk → DiskState) (old here : Progress Disk) (number : ℕ) (why : Unsealed) (text : List ℕ) → old.stopped ≡ false → number ≡ old.count + 1
-    → here ≡ record old { count = number } → text ≡ here.text ++ refused_line number why → Replies disks old (record here { text = text }) (ask.Refused why)
-line_is_refused disks old here number why text runs counts is said =
-    quiet_line disks old (record here { text = text }) (ask.Refused why) runs (λ self nodes slots s. (tt, refl)) (ap (λ p. p.node) is) (ap (λ p. p.stopped) is ∙ runs) (ap (λ p. p.count) is ∙ counts) (ap (λ p. p.waits) is) (ap (λ p. p.seal) is)
-    (λ s stands. said ∙ (ap (λ p. p.text ++ refused_line number why) is ∙ ap (λ (n : ℕ). old.text ++ refused_line n why) counts))
+pub all_ok : {T E A Q : Type 0} {S P : A → Type 0} (r : Result T E) → ((x : A) → S x → OnOk r (P x)) → (((x : A) → S x → P x) → Q) → OnOk r Q
+all_ok (Ok y) said so = so said
+all_ok (Err e) said so = tt
 
 -- an empty line
 pub nothing_line : {Disk : Type 0} (disks : Disk → DiskState) (old : Progress Disk) → old.stopped ≡ false → Replies disks old old ask.Nothing

@@ -1,5 +1,5 @@
 -- Under a key a node is delivered what was opened, and the stamps of what is taken of one node rise.
-use Rattle.std.proofs.Common.{◌≡◌, ◌<◌, ◌⊎◌, ◌++◌, ◌==◌, ◌&&◌, inl, inr, ℕ, Bool, true, false, List, [], ◌∷◌, get_or, set, length, refl, sym, ap, ◌∙◌, subst, arith, Option, Some, None}
+use Rattle.std.proofs.Common.{◌≡◌, ◌<◌, ◌++◌, ◌==◌, ◌&&◌, inl, inr, ℕ, Bool, true, false, List, [], ◌∷◌, get_or, set, length, refl, sym, ap, ◌∙◌, subst, arith, Option, Some, None}
 use Rattle.std.specs.Prelude.{bytes_eq, codes, if◌then◌else◌}
 use Rattle.std.proofs.lemmas.Bool.{eqb-true, eqb-false}
 use Rattle.std.proofs.lemmas.List.{get_or-set_same, get_or-set_other, length-set}
@@ -11,17 +11,17 @@ use Rattle.node_core.specs.declared.event.Event.TheVariants as on
 use Rattle.node_core.specs.declared.timer.Timer.{Timer}
 use Rattle.node_core.specs.TimerWords.{timer_named}
 use Rattle.line_words.specs.Words.{words_of, number_of}
-use Rattle.line_words.specs.Lines.{bytes_of, lines_of}
+use Rattle.line_words.specs.Lines.{bytes_of}
 use Rattle.schedule.specs.Fields.{node_of, queue_of, priority_of, payload_of}
 use Rattle.histories.specs.NodeState.{NodeState}
 use Rattle.sealed_msg.specs.declared.stamp.Stamp.{Stamp}
 use Rattle.sealed_msg.specs.Stamps.{is_above}
 use Rattle.node_session.specs.declared.asked.Asked.{Asked}
 use Rattle.node_session.specs.declared.asked.Asked.TheVariants as ask
-use Rattle.node_session.specs.Asked.{alone_asked, asked_of, asked_words, completed, delivery, loss, lost, submitted, ticked, ticking, timed, timing}
+use Rattle.node_session.specs.Asked.{asked_of, asked_words, completed, delivery, loss, lost, submitted, ticked, ticking, timed, timing}
 use Rattle.histories.specs.What.{event_of}
 use Rattle.histories.specs.declared.what.What.TheVariants.{Rests, Crashed}
-use Rattle.node_session.specs.Turns.{Turn, Goes, Unmounted, Begins, IsFired, MayComeOf, MayCompact, after_turn, cause}
+use Rattle.node_session.specs.Turns.{Turn, Goes, Unmounted, Begins, IsFired, MayCompact, after_turn}
 use Rattle.node_words.specs.Words.{event_word}
 use Rattle.node_session.specs.Chains.{Outcome, AreTimely, IsNone, IsOne, MayCome, after_turns}
 use Rattle.node_session.specs.Lines.{At, Comes, after_by, after_line, plain_answer}
@@ -52,15 +52,12 @@ lost_no None = refl
 lost_no (Some node) = refl
 
 submitted_no : (queue : Option ℕ) (payload : Option (List ℕ)) (priority : Option ℕ) → is_delivery (submitted queue payload priority) ≡ false
-submitted_no None payload priority = refl
-submitted_no (Some queue) None priority = refl
-submitted_no (Some queue) (Some payload) None = refl
 submitted_no (Some queue) (Some payload) (Some priority) = refl
+submitted_no queue payload priority = refl
 
 completed_no : (origin id : Option ℕ) → is_delivery (completed origin id) ≡ false
-completed_no None id = refl
-completed_no (Some origin) None = refl
 completed_no (Some origin) (Some id) = refl
+completed_no origin id = refl
 
 one_no : (b : Bool) (a : List ℕ) (other : Asked) → (if b then Some a else None) ≡ None → is_delivery other ≡ false → is_delivery (if b then delivery a else other) ≡ false
 one_no true a other none rest = absurd cc
@@ -149,7 +146,6 @@ compacts_no self nodes slots s m (turn ∷ []) may (inr none) = none
 compacts_no self nodes slots s m (turn ∷ next ∷ turns) may delivers = may
 
 asked_delivers : (self nodes slots : ℕ) (s : NodeState) (a : Asked) (m : Envelope) (turns : List Turn) → MayCome self nodes slots s a turns → Delivers m turns → a ≡ ask.Event (on.Deliver m)
-asked_delivers self nodes slots s ask.Nothing m turns may delivers = absurd (none_delivers m turns may delivers)
 asked_delivers self nodes slots s (ask.Event event) m [] may delivers = absurd may
 asked_delivers self nodes slots s (ask.Event event) m (turn ∷ []) may (inl is) =
     (let same : Some event ≡ Some (on.Deliver m) = caused self nodes slots s event turn may ∙ is in cc)
@@ -158,10 +154,7 @@ asked_delivers self nodes slots s (ask.Event event) m (turn ∷ next ∷ turns) 
 asked_delivers self nodes slots s ask.Compact m turns may delivers = absurd (compacts_no self nodes slots s m turns may delivers)
 asked_delivers self nodes slots s (ask.Tick now) m turns may delivers = absurd (timely_delivers self nodes slots m turns s may delivers)
 asked_delivers self nodes slots s (ask.Lost id) m turns may delivers = absurd (timely_delivers self nodes slots m turns s may delivers)
-asked_delivers self nodes slots s ask.State m turns may delivers = absurd (none_delivers m turns may delivers)
-asked_delivers self nodes slots s ask.Jobs m turns may delivers = absurd (none_delivers m turns may delivers)
-asked_delivers self nodes slots s ask.Bad m turns may delivers = absurd (none_delivers m turns may delivers)
-asked_delivers self nodes slots s (ask.Refused why) m turns may delivers = absurd (none_delivers m turns may delivers)
+asked_delivers self nodes slots s asked m turns may delivers = absurd (none_delivers m turns may delivers)
 
 comes_opened : (self nodes slots : ℕ) (b : Bool) (s : NodeState) (line : List ℕ) (seal : Option Seals) (came : Outcome) (q : Seals) (m : Envelope) → seal ≡ Some q
     → Comes self nodes slots b s (asked_under seal line) came → Delivers m came.turns → IsOpened q line m

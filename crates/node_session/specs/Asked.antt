@@ -50,19 +50,16 @@ abbrev pub loss : List ℕ → Asked
 loss word = lost (node_of word)
 
 abbrev pub submitted : Option ℕ → Option (List ℕ) → Option ℕ → Asked
-submitted None payload priority = ask.Bad
-submitted (Some queue) None priority = ask.Bad
-submitted (Some queue) (Some payload) None = ask.Bad
 submitted (Some queue) (Some payload) (Some priority) = ask.Event (on.Submit (record { queue = queue; priority = priority; payload = payload }))
+submitted queue payload priority = ask.Bad
 
 -- a job that is submitted with this priority, if it is one
 abbrev pub submission : List ℕ → List ℕ → Option ℕ → Asked
 submission queue payload priority = submitted (queue_of queue) (payload_of payload) priority
 
 abbrev pub completed : Option ℕ → Option ℕ → Asked
-completed None id = ask.Bad
-completed (Some origin) None = ask.Bad
 completed (Some origin) (Some id) = ask.Event (on.Finish origin id)
+completed origin id = ask.Bad
 
 abbrev pub completion : List ℕ → List ℕ → Asked
 completion origin id = completed (node_of origin) (number_of id)

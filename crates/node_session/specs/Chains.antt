@@ -66,15 +66,19 @@ AreTimely self nodes slots s (turn ∷ turns) = IsTimely self nodes slots s turn
 
 -- they may come of what a line asks
 abbrev pub MayCome : ℕ → ℕ → ℕ → NodeState → Asked → List Turn → Type 0
-MayCome self nodes slots s ask.Nothing turns = IsNone turns
 MayCome self nodes slots s (ask.Event event) turns = IsOne (MayComeOf self nodes event slots s) turns
 MayCome self nodes slots s ask.Compact turns = IsOne (MayCompact self nodes slots s) turns
 MayCome self nodes slots s (ask.Tick now) turns = AreTimely self nodes slots s turns
 MayCome self nodes slots s (ask.Lost id) turns = AreTimely self nodes slots s turns
-MayCome self nodes slots s ask.State turns = IsNone turns
-MayCome self nodes slots s ask.Jobs turns = IsNone turns
-MayCome self nodes slots s ask.Bad turns = IsNone turns
-MayCome self nodes slots s (ask.Refused why) turns = IsNone turns
+MayCome self nodes slots s asked turns = IsNone turns
+
+-- a request that makes no call: it asks what the node knows, can't be read, or brings what isn't taken
+abbrev pub IsAtOnce : Asked → Type 0
+IsAtOnce ask.State = Unit {0}
+IsAtOnce ask.Jobs = Unit {0}
+IsAtOnce ask.Bad = Unit {0}
+IsAtOnce (ask.Refused why) = Unit {0}
+IsAtOnce asked = ⊥
 
 -- a node that is down waits for nothing
 abbrev pub IsToldBy : Bool → Option ℕ → Type 0
@@ -83,15 +87,8 @@ IsToldBy false due = is_some due ≡ true
 
 -- a tick that led to this state tells when something is due next, and nothing else does
 abbrev pub IsTold : Asked → NodeState → Option ℕ → Type 0
-IsTold ask.Nothing s due = due ≡ None
-IsTold (ask.Event event) s due = due ≡ None
-IsTold ask.Compact s due = due ≡ None
 IsTold (ask.Tick now) s due = IsToldBy (is_down s.state.phase) due
-IsTold (ask.Lost id) s due = due ≡ None
-IsTold ask.State s due = due ≡ None
-IsTold ask.Jobs s due = due ≡ None
-IsTold ask.Bad s due = due ≡ None
-IsTold (ask.Refused why) s due = due ≡ None
+IsTold asked s due = due ≡ None
 
 -- ---- the numbers of requests
 
@@ -106,14 +103,7 @@ is_failed (end.Denied fault) = is_device fault
 -- the number of the last request behind a line
 abbrev pub next : ℕ → Asked → ℕ
 next n ask.Nothing = n
-next n (ask.Event event) = n + 1
-next n ask.Compact = n + 1
-next n (ask.Tick now) = n + 1
-next n (ask.Lost id) = n + 1
-next n ask.State = n + 1
-next n ask.Jobs = n + 1
-next n ask.Bad = n + 1
-next n (ask.Refused why) = n + 1
+next n asked = n + 1
 
 -- ---- one history
 

@@ -1,14 +1,19 @@
 -- What a service that follows the node reads: that its group changed, and the jobs that came into its hand or left it.
-use Rattle.std.specs.Prelude.{ℕ, ◌==◌, ◌&&◌, List, [], ◌∷◌, ◌++◌, map, codes, decimal, bytes_eq, Bool, true, false, if◌then◌else◌, Option, Some}
+use Rattle.std.specs.Prelude.{ℕ, nat_eq, ◌==◌, ◌&&◌, ◌||◌, List, [], ◌∷◌, ◌++◌, map, codes, decimal, Bool, true, false, if◌then◌else◌, Option, Some}
+use Rattle.std.specs.Cmp.Lexicographic.{pointwise}
 use Rattle.std.specs.List.{list_any}
 use Rattle.console_text.specs.Words.{work_text}
+use Rattle.group_task.specs.Group.{same_group}
 use Rattle.wire_msg.specs.declared.body.Body.{Body}
 use Rattle.wire_msg.specs.declared.body.Body.TheVariants as says
 use Rattle.node_core.specs.declared.event.Event.{Event}
 use Rattle.node_core.specs.declared.event.Event.TheVariants as on
 use Rattle.node_core.specs.declared.in_hand.InHand.{InHand}
+use Rattle.node_core.specs.declared.phase.Phase.{Phase}
+use Rattle.node_core.specs.declared.phase.Phase.TheVariants as phase
 use Rattle.node_core.specs.State.{State, is_down}
 use Rattle.node_core.specs.Words.{holds, members_of}
+use Rattle.node_session.specs.declared.seen.Told.{Told}
 use Rattle.node_session.specs.declared.ended.Ended.{Ended}
 use Rattle.node_session.specs.declared.ended.Ended.TheVariants as end
 use Rattle.node_words.specs.Words.{group_text, ids_text, phase_text}
@@ -16,16 +21,29 @@ use Rattle.node_words.specs.Words.{group_text, ids_text, phase_text}
 -- ---- the group
 
 -- phase, coordinator, number and members; of a node that is down its phase alone
-abbrev pub group_by : Bool → State → List ℕ
-group_by true s = codes "group Down\n"
-group_by false s = codes "group " ++ phase_text s.phase ++ codes " " ++ decimal s.coordinator ++ codes " " ++ group_text s.group ++ codes " " ++ ids_text (members_of s.task) ++ codes "\n"
+abbrev pub group_by : Bool → Told → List ℕ
+group_by true t = codes "group Down\n"
+group_by false t = codes "group " ++ phase_text t.phase ++ codes " " ++ decimal t.coordinator ++ codes " " ++ group_text t.group ++ codes " " ++ ids_text t.members ++ codes "\n"
 
-abbrev pub group_line : State → List ℕ
-group_line s = group_by (is_down s.phase) s
+abbrev pub group_line : Told → List ℕ
+group_line t = group_by (is_down t.phase) t
 
--- the line is written where it isn't the one of before
-abbrev pub group_news : List ℕ → List ℕ → List ℕ
-group_news old new = if bytes_eq old new then [] else new
+abbrev pub told_of : State → Told
+told_of s = record { phase = s.phase; coordinator = s.coordinator; group = s.group; members = members_of s.task }
+
+abbrev pub same_phase : Phase → Phase → Bool
+same_phase phase.Down phase.Down = true
+same_phase phase.Election phase.Election = true
+same_phase phase.Reorganization phase.Reorganization = true
+same_phase phase.Normal phase.Normal = true
+same_phase old new = false
+
+abbrev pub same_told : Told → Told → Bool
+same_told old new = same_phase old.phase new.phase && (is_down new.phase || (old.coordinator == new.coordinator && same_group old.group new.group && pointwise nat_eq old.members new.members))
+
+-- the line is written where another thing was told before
+abbrev pub group_news : Told → Told → List ℕ
+group_news old new = if same_told old new then [] else group_line new
 
 -- ---- the hand
 
@@ -95,14 +113,14 @@ gone_news event ended = []
 -- what another state adds; finished: whether a job was
 abbrev pub changes : Bool → State → State → List ℕ
 changes finished old new =
-    group_news (group_line old) (group_line new) ++ (takes (map held_by old.hand) new.hand ++ drops_by finished new.hand (map held_by old.hand))
+    group_news (told_of old) (told_of new) ++ (takes (map held_by old.hand) new.hand ++ drops_by finished new.hand (map held_by old.hand))
 
 -- ---- for the code
 
 -- what is kept of a state while a call is made
 pub record Sight : Type 0 where
-  pub group : List ℕ
+  pub told : Told
   pub held : List (ℕ × ℕ)
 
 abbrev pub sight_of : State → Sight
-sight_of s = record { group = group_line s; held = map held_by s.hand }
+sight_of s = record { told = told_of s; held = map held_by s.hand }

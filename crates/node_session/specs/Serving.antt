@@ -38,18 +38,18 @@ abbrev pub at_of : {Disk : Type 0} → Progress Disk → NodeState → At
 at_of p s = record { stopped = p.stopped; count = p.count; state = s; waits = p.waits; seal = p.seal }
 
 -- These lines were answered, at a node that stood for this state over this disk.
-pub record Served {Disk : Type 0} (disks : Disk → DiskState) (old new : Progress Disk) (lines : List (List ℕ)) (was : Disk) (s : NodeState) : Type 0 where
+pub record Served {Disk : Type 0} (disks : Disk → DiskState) (old new : Progress Disk) (self nodes : ℕ) (lines : List (List ℕ)) (was : Disk) (s : NodeState) : Type 0 where
   -- of each line came something that may come of it
   pub all : List Outcome
-  pub came : AreOf old.node.id old.node.nodes (slots_for (disks was).sectors) (at_of old s) lines all
+  pub came : AreOf self nodes (slots_for (disks was).sectors) (at_of old s) lines all
   -- over an honest disk it is one history
   pub honest : IsTrue (disks was).honest → AllGoing all
   -- the node stands for the state that this leaves
   pub state : NodeState
   pub stands : Stands disks new.node state
-  pub left : at_of new state ≡ after_lines old.node.id old.node.nodes (at_of old s) lines all
+  pub left : at_of new state ≡ after_lines self nodes (at_of old s) lines all
   -- and these are the answers
-  pub text : new.text ≡ old.text ++ answers old.node.id old.node.nodes (at_of old s) lines all
+  pub text : new.text ≡ old.text ++ answers self nodes (at_of old s) lines all
 
 -- the disk is there, as large and as honest as it was
 pub record IsDiskOf {Disk : Type 0} (disks : Disk → DiskState) (was : Disk) (new : Option Disk) : Type 0 where
@@ -67,7 +67,7 @@ pub record IsNodeOf {Disk : Type 0} (disks : Disk → DiskState) (old new : Node
 -- these lines were answered, whatever state the node stood for
 pub record Serves {Disk : Type 0} (disks : Disk → DiskState) (old new : Progress Disk) (lines : List (List ℕ)) : Type 0 where
   pub node : IsNodeOf disks old.node new.node
-  pub served : (was : Disk) (s : NodeState) → old.node.disk ≡ Some was → Stands disks old.node s → Served disks old new lines was s
+  pub served : (was : Disk) (s : NodeState) → old.node.disk ≡ Some was → Stands disks old.node s → Served disks old new old.node.id old.node.nodes lines was s
 
 -- a piece was fed: its whole lines were answered, the first behind what was kept, and what is behind the last of them is kept
 pub record Fed {Disk : Type 0} (disks : Disk → DiskState) (old : Progress Disk) (piece : List ℕ) (new : Progress Disk) : Type 0 where
@@ -78,38 +78,38 @@ pub record Fed {Disk : Type 0} (disks : Disk → DiskState) (old : Progress Disk
 -- ---- one call of the node
 
 -- This came of it.
-pub record Turned {Disk : Type 0} (disks : Disk → DiskState) (old new : Progress Disk) (May : ℕ → NodeState → Turn → Type 0) (ended : Ended) (was : Disk) (s : NodeState) : Type 0 where
+pub record Turned {Disk : Type 0} (disks : Disk → DiskState) (old new : Progress Disk) (self nodes : ℕ) (May : ℕ → ℕ → ℕ → NodeState → Turn → Type 0) (ended : Ended) (was : Disk) (s : NodeState) : Type 0 where
   pub turn : Turn
-  pub may : May (slots_for (disks was).sectors) s turn
+  pub may : May self nodes (slots_for (disks was).sectors) s turn
   pub honest : IsTrue (disks was).honest → IsGoing turn
-  pub stands : Stands disks new.node (after_turn old.node.id old.node.nodes s turn)
-  pub ended_so : ended ≡ end_of old.node.id old.node.nodes s turn
-  pub text : new.text ≡ old.text ++ turn_text old.node.id old.node.nodes s turn
-  pub waits : new.waits ≡ waits_turn old.node.id old.node.nodes s turn old.waits
+  pub stands : Stands disks new.node (after_turn self nodes s turn)
+  pub ended_so : ended ≡ end_of self nodes s turn
+  pub text : new.text ≡ old.text ++ turn_text self nodes s turn
+  pub waits : new.waits ≡ waits_turn self nodes s turn old.waits
 
 -- whatever state the node stood for; it changes the node, the text and what is waited for alone
-pub record Turns {Disk : Type 0} (disks : Disk → DiskState) (old new : Progress Disk) (May : ℕ → NodeState → Turn → Type 0) (ended : Ended) : Type 0 where
+pub record Turns {Disk : Type 0} (disks : Disk → DiskState) (old new : Progress Disk) (May : ℕ → ℕ → ℕ → NodeState → Turn → Type 0) (ended : Ended) : Type 0 where
   pub node : IsNodeOf disks old.node new.node
   pub same : new ≡ record old { node = new.node; text = new.text; waits = new.waits }
-  pub turned : (was : Disk) (s : NodeState) → old.node.disk ≡ Some was → Stands disks old.node s → Turned disks old new May ended was s
+  pub turned : (was : Disk) (s : NodeState) → old.node.disk ≡ Some was → Stands disks old.node s → Turned disks old new old.node.id old.node.nodes May ended was s
 
 -- ---- several calls, of one line
 
 -- These came of them.
-pub record Called {Disk : Type 0} (disks : Disk → DiskState) (old new : Progress Disk) (heading : Turn → List ℕ) (May : ℕ → NodeState → List Turn → Type 0) (before ended : Ended) (was : Disk) (s : NodeState) : Type 0 where
+pub record Called {Disk : Type 0} (disks : Disk → DiskState) (old new : Progress Disk) (self nodes : ℕ) (heading : Turn → List ℕ) (May : ℕ → ℕ → ℕ → NodeState → List Turn → Type 0) (before ended : Ended) (was : Disk) (s : NodeState) : Type 0 where
   pub turns : List Turn
-  pub may : May (slots_for (disks was).sectors) s turns
+  pub may : May self nodes (slots_for (disks was).sectors) s turns
   pub honest : IsTrue (disks was).honest → AreGoing turns
-  pub stands : Stands disks new.node (after_turns old.node.id old.node.nodes s turns)
-  pub ended_so : ended ≡ last_end old.node.id old.node.nodes before s turns
-  pub text : new.text ≡ old.text ++ turns_text heading old.node.id old.node.nodes s turns
-  pub waits : new.waits ≡ waits_turns old.node.id old.node.nodes s turns old.waits
+  pub stands : Stands disks new.node (after_turns self nodes s turns)
+  pub ended_so : ended ≡ last_end self nodes before s turns
+  pub text : new.text ≡ old.text ++ turns_text heading self nodes s turns
+  pub waits : new.waits ≡ waits_turns self nodes s turns old.waits
 
 -- whatever state the node stood for; this is written before each
-pub record Calls {Disk : Type 0} (disks : Disk → DiskState) (old new : Progress Disk) (heading : Turn → List ℕ) (May : ℕ → NodeState → List Turn → Type 0) (before ended : Ended) : Type 0 where
+pub record Calls {Disk : Type 0} (disks : Disk → DiskState) (old new : Progress Disk) (heading : Turn → List ℕ) (May : ℕ → ℕ → ℕ → NodeState → List Turn → Type 0) (before ended : Ended) : Type 0 where
   pub node : IsNodeOf disks old.node new.node
   pub same : new ≡ record old { node = new.node; text = new.text; waits = new.waits }
-  pub called : (was : Disk) (s : NodeState) → old.node.disk ≡ Some was → Stands disks old.node s → Called disks old new heading May before ended was s
+  pub called : (was : Disk) (s : NodeState) → old.node.disk ≡ Some was → Stands disks old.node s → Called disks old new old.node.id old.node.nodes heading May before ended was s
 
 -- ---- one request, before its messages are sealed
 

@@ -40,13 +40,8 @@ fault_name node.TooSmall = codes "TooSmall"
 
 -- a failed device is a fault, and everything else is refused
 abbrev pub denial_word : NodeFault → List ℕ
-denial_word (node.Core fault) = codes "refused "
-denial_word node.Full = codes "refused "
-denial_word node.Exhausted = codes "refused "
 denial_word node.Device = codes "fault "
-denial_word node.NotFormatted = codes "refused "
-denial_word (node.Damaged sector) = codes "refused "
-denial_word node.TooSmall = codes "refused "
+denial_word fault = codes "refused "
 
 -- ---- the turns of a line
 
@@ -187,6 +182,13 @@ event_end self nodes n s event turns =
 abbrev pub tick_end : ℕ → ℕ → ℕ → NodeState → Outcome → List ℕ
 tick_end self nodes n s came = next_line came.due ++ closing n (line_end self nodes s came.turns)
 
+-- the answer to the n-th request, where it makes no call
+abbrev pub answer_at_once : ℕ → NodeState → Asked → List ℕ
+answer_at_once n s ask.State = state_line s ++ ok_line n []
+answer_at_once n s ask.Jobs = jobs_lines s ++ ok_line n []
+answer_at_once n s (ask.Refused why) = refused_line n why
+answer_at_once n s asked = bad_line n
+
 -- the answer to the n-th request, which asks this of a node in this state that waits for these messages; this came of it
 abbrev pub answer : ℕ → ℕ → ℕ → NodeState → Waits → Asked → Outcome → List ℕ
 answer self nodes n s w ask.Nothing came = []
@@ -194,7 +196,4 @@ answer self nodes n s w (ask.Event event) came = turns_text no_news self nodes s
 answer self nodes n s w ask.Compact came = turns_text no_news self nodes s came.turns ++ closing n (line_end self nodes s came.turns)
 answer self nodes n s w (ask.Tick now) came = send_lines (sent_again now w) ++ (turns_text fired_news self nodes s came.turns ++ tick_end self nodes n s came)
 answer self nodes n s w (ask.Lost id) came = turns_text fired_news self nodes s came.turns ++ closing n (line_end self nodes s came.turns)
-answer self nodes n s w ask.State came = state_line s ++ ok_line n []
-answer self nodes n s w ask.Jobs came = jobs_lines s ++ ok_line n []
-answer self nodes n s w ask.Bad came = bad_line n
-answer self nodes n s w (ask.Refused why) came = refused_line n why
+answer self nodes n s w asked came = answer_at_once n s asked

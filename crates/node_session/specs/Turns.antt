@@ -38,15 +38,9 @@ begun self mounted = record { state = down self; durable = mounted; doubt = None
 
 -- a counter that can't be raised leaves all as it was
 abbrev pub after_begun : ℕ → ℕ → NodeState → Durable → What → NodeState
-after_begun self nodes s mounted (Did event) = s
-after_begun self nodes s mounted (Refused event fault) = s
-after_begun self nodes s mounted (Faulted event) = s
-after_begun self nodes s mounted (Rests rest) = s
-after_begun self nodes s mounted Crashed = s
 after_begun self nodes s mounted (Recovered kept) = after self nodes (begun self mounted) (Recovered kept)
-after_begun self nodes s mounted MountFailed = s
 after_begun self nodes s mounted (RaiseFailed kept) = after self nodes (begun self mounted) (RaiseFailed kept)
-after_begun self nodes s mounted (RaiseRefused kept) = s
+after_begun self nodes s mounted what = s
 
 -- the state after a call
 abbrev pub after_turn : ℕ → ℕ → NodeState → Turn → NodeState
@@ -94,15 +88,10 @@ end_of self nodes s (Begins mounted what) = end_at self nodes (begun self mounte
 
 -- a history may begin with it
 abbrev pub MayBegin : What → Type 0
-MayBegin (Did event) = ⊥
-MayBegin (Refused event fault) = ⊥
-MayBegin (Faulted event) = ⊥
-MayBegin (Rests rest) = ⊥
-MayBegin Crashed = ⊥
 MayBegin (Recovered kept) = Unit {0}
-MayBegin MountFailed = ⊥
 MayBegin (RaiseFailed kept) = Unit {0}
 MayBegin (RaiseRefused kept) = Unit {0}
+MayBegin what = ⊥
 
 -- it may come of an event at a node in this state, over a disk of so many slots
 abbrev pub MayComeOf : ℕ → ℕ → Event → ℕ → NodeState → Turn → Type 0
@@ -114,21 +103,13 @@ MayComeOf self nodes event slots s (Begins mounted what) =
 -- a compaction was done or refused
 abbrev pub IsCompaction : Rest → Type 0
 IsCompaction Nothing = ⊥
-IsCompaction Compacted = Unit {0}
-IsCompaction CompactDown = Unit {0}
-IsCompaction CompactWorn = Unit {0}
+IsCompaction rest = Unit {0}
 
 -- it came of a compaction; the device failed where the node crashed
 abbrev pub IsOfCompaction : What → Type 0
-IsOfCompaction (Did event) = ⊥
-IsOfCompaction (Refused event fault) = ⊥
-IsOfCompaction (Faulted event) = ⊥
 IsOfCompaction (Rests rest) = IsCompaction rest
 IsOfCompaction Crashed = Unit {0}
-IsOfCompaction (Recovered kept) = ⊥
-IsOfCompaction MountFailed = ⊥
-IsOfCompaction (RaiseFailed kept) = ⊥
-IsOfCompaction (RaiseRefused kept) = ⊥
+IsOfCompaction what = ⊥
 
 abbrev pub MayCompact : ℕ → ℕ → ℕ → NodeState → Turn → Type 0
 MayCompact self nodes slots s (Goes what) = IsOfCompaction what × IsPossible self nodes s what × IsOfSlots slots self nodes s what

@@ -1,14 +1,14 @@
 // What a line asks for.
 ghost use Rattle.std.specs.Prelude.{◌≡◌, IfOk, bytes_eq};
 ghost use Rattle.line_words.specs.Words.{words_of};
-ghost use Rattle.schedule.specs.Fields.{node_of, queue_of, priority_of, payload_of};
 ghost use Rattle.wire_msg.specs.Reading.{message_of};
 ghost use Rattle.node_session.specs.Asked.{alone_asked, asked_of, asked_words, completion, delivered, delivery, loss, one_field, submission, three_fields, ticking, timing, two_fields};
 
 use group_task::NodeId;
-use job_model::{Payload, Queue, Work};
+use job_model::Work;
 use line_words::{bytes, cut_word, number};
 use node_core::{Event, Timer};
+use schedule::fields;
 use std::alloc::{AllocError, Global};
 use wire_msg::decode;
 
@@ -143,7 +143,7 @@ fn three_fields(
     ensures { IfOk result (λ asked. asked ≡ three_fields name.now first.now second.now third.now) }
 {
     if is(name, "submit") {
-        submission(alloc, first, second, priority_in(third))
+        submission(alloc, first, second, fields::priority(third))
     } else {
         Ok(Asked::Bad)
     }
@@ -179,7 +179,7 @@ fn ticking(field: &[u8]) -> Asked
 fn loss(field: &[u8]) -> Asked
     ensures { result ≡ loss field.now }
 {
-    match node_in(field) {
+    match fields::node(field) {
         Some(node) => Asked::Lost(node),
         None => Asked::Bad,
     }
@@ -193,10 +193,10 @@ fn submission(
 ) -> Result<Asked, AllocError>
     ensures { IfOk result (λ asked. asked ≡ submission queue.now payload.now priority) }
 {
-    let Some(queue) = queue_in(queue) else {
+    let Some(queue) = fields::queue(queue) else {
         return Ok(Asked::Bad);
     };
-    let Some(payload) = payload_in(alloc, payload)? else {
+    let Some(payload) = fields::payload(alloc, payload)? else {
         return Ok(Asked::Bad);
     };
     let Some(priority) = priority else {
@@ -213,40 +213,8 @@ fn submission(
 fn completion(origin: &[u8], id: &[u8]) -> Asked
     ensures { result ≡ completion origin.now id.now }
 {
-    match (node_in(origin), number(id)) {
+    match (fields::node(origin), number(id)) {
         (Some(origin), Some(id)) => Asked::Event(Event::Finish(origin, id)),
         _ => Asked::Bad,
-    }
-}
-
-fn node_in(word: &[u8]) -> Option<NodeId>
-    ensures { result ≡ node_of word.now }
-{
-    NodeId::new(u8::try_from(number(word)?).ok()?)
-}
-
-fn queue_in(word: &[u8]) -> Option<Queue>
-    ensures { result ≡ queue_of word.now }
-{
-    Queue::new(u8::try_from(number(word)?).ok()?)
-}
-
-fn priority_in(word: &[u8]) -> Option<u8>
-    ensures { result ≡ priority_of word.now }
-{
-    let number = number(word)?;
-    if 1 <= number && number <= 255 {
-        Some(number as u8)
-    } else {
-        None
-    }
-}
-
-fn payload_in(alloc: Global, word: &[u8]) -> Result<Option<Payload>, AllocError>
-    ensures { IfOk result (λ payload. payload ≡ payload_of word.now) }
-{
-    match bytes(alloc, word)? {
-        Some(bytes) => Ok(Payload::new(&bytes)),
-        None => Ok(None),
     }
 }

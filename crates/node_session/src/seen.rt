@@ -1,26 +1,56 @@
 // What changes at a node in a call, as lines.
-ghost use Rattle.std.specs.Prelude.{◌≡◌, ◌++◌, OnOk, Some, map, IsTrue, true};
+ghost use Rattle.std.specs.Prelude.{◌≡◌, ◌++◌, IfOk, OnOk, Some, is_some, map};
 ghost use Rattle.node_core.specs.State.{State, state_of};
-ghost use Rattle.node_core.specs.Words.{holds};
-ghost use Rattle.node_session.specs.Changes.{changes, drop_news, drops, gone_by, gone_line, gone_news, group_line, group_news, held_by, is_finish, pair_in, take_news, takes};
+ghost use Rattle.node_session.specs.Changes.{changes, drop_news, drops, gone_by, gone_line, gone_news, group_line, group_news, held_by, is_finish, pair_in, same_told, take_news, takes, told_of};
 
 use crate::ended::Ended;
 use crate::showing::push_held;
 use console_text::{push_number, push_text};
-use group_task::NodeId;
+use group_task::{GroupNo, Members, NodeId};
 use node_core::{Event, Hand, InHand, Phase, Vector};
 use node_words::{phase_word, push_group, push_ids};
 use std::alloc::{AllocError, Global};
 use std::marker::Model;
 use wire_msg::Body;
 
-/// What was written of a node before a call: the line of its group, and the jobs in hand.
+/// What is told of a node's group.
+#[derive(Clone, Copy)]
+pub struct Told {
+    pub phase: Phase,
+    pub coordinator: NodeId,
+    pub group: GroupNo,
+    pub members: Members,
+}
+
+impl Told {
+    fn of(vector: &Vector) -> Told
+        ensures { result ≡ told_of (state_of vector.now) }
+    {
+        Told {
+            phase: vector.standing.phase,
+            coordinator: vector.standing.coordinator,
+            group: vector.standing.group,
+            members: vector.members(),
+        }
+    }
+
+    /// Whether the same is told. Of a node that is Down its phase alone is.
+    fn is(&self, other: &Told) -> bool
+        ensures { result ≡ same_told self.now other.now }
+    {
+        self.phase == other.phase
+            && (matches!(other.phase, Phase::Down)
+                || (self.coordinator.is(other.coordinator)
+                    && self.group.is(other.group)
+                    && self.members == other.members))
+    }
+}
+
+/// What was of a node before a call: what was told of its group, and the jobs in hand.
 #[derive(Drop)]
 pub(crate) struct Seen {
-    group: Vec<u8>,
+    told: Told,
     held: Vec<(NodeId, u64)>,
-    // room for the line of the group after the call
-    next: Vec<u8>,
 }
 
 impl Model for Seen {
@@ -28,42 +58,34 @@ impl Model for Seen {
 
     ghost Value = { Sight };
 
-    ghost view = { λ a. record { group = a.group.items; held = a.held.items } };
+    ghost view = { λ a. record { told = a.told; held = a.held.items } };
 }
 
 impl Seen {
     ghost use Rattle.node_session.specs.Changes.{sight_of};
 
-    pub(crate) fn new(alloc: Global) -> Seen {
-        Seen {
-            group: Vec::new(alloc),
-            held: Vec::new(alloc),
-            next: Vec::new(alloc),
-        }
-    }
-
     /// Sees the node as it is now.
-    pub(crate) fn look(&mut self, vector: &Vector) -> Result<(), AllocError>
-        ensures { OnOk result (self.new ≡ sight_of (state_of vector.now)) }
+    pub(crate) fn of(alloc: Global, vector: &Vector) -> Result<Seen, AllocError>
+        ensures { IfOk result (λ seen. seen ≡ sight_of (state_of vector.now)) }
     {
-        self.group.clear();
-        push_group_line(&mut self.group, vector)?;
-        self.held.clear();
-        push_pairs(&mut self.held, vector.hand.jobs())
+        let mut held = Vec::with_capacity(alloc, vector.hand.jobs().len())?;
+        push_pairs(&mut held, vector.hand.jobs())?;
+        Ok(Seen {
+            told: Told::of(vector),
+            held,
+        })
     }
 
     /// Adds what is another in the node now. The jobs that left the hand are written unless one was finished.
     pub(crate) fn push_changes(
-        &mut self,
+        &self,
         text: &mut Vec<u8>,
         is_finished: bool,
         vector: &Vector,
     ) -> Result<(), AllocError>
-        ensures { (s : State) → self.old ≡ sight_of s → OnOk result (text.new.items ≡ text.old.items ++ changes is_finished s (state_of vector.now)) }
+        ensures { (s : State) → self.now ≡ sight_of s → OnOk result (text.new.items ≡ text.old.items ++ changes is_finished s (state_of vector.now)) }
     {
-        self.next.clear();
-        push_group_line(&mut self.next, vector)?;
-        push_other(text, &self.group, &self.next)?;
+        push_group_news(text, &self.told, &Told::of(vector))?;
         push_takes(text, &self.held, vector.hand.jobs())?;
         if is_finished {
             return Ok(());
@@ -72,32 +94,30 @@ impl Seen {
     }
 }
 
-/// Adds a line, where it isn't the one of before.
-fn push_other(text: &mut Vec<u8>, old: &[u8], new: &[u8]) -> Result<(), AllocError>
+/// Adds what is told of a group, where another thing was told before.
+fn push_group_news(text: &mut Vec<u8>, old: &Told, new: &Told) -> Result<(), AllocError>
     ensures { OnOk result (text.new.items ≡ text.old.items ++ group_news old.now new.now) }
 {
-    if old == new {
+    if old.is(new) {
         return Ok(());
     }
-    text.extend_from_slice(new)?;
-    Ok(())
+    push_group_line(text, new)
 }
 
-fn push_group_line(text: &mut Vec<u8>, vector: &Vector) -> Result<(), AllocError>
-    ensures { OnOk result (text.new.items ≡ text.old.items ++ group_line (state_of vector.now)) }
+fn push_group_line(text: &mut Vec<u8>, told: &Told) -> Result<(), AllocError>
+    ensures { OnOk result (text.new.items ≡ text.old.items ++ group_line told.now) }
 {
-    let standing = &vector.standing;
-    if matches!(standing.phase, Phase::Down) {
+    if matches!(told.phase, Phase::Down) {
         return push_text(text, "group Down\n");
     }
     push_text(text, "group ")?;
-    push_text(text, phase_word(standing.phase))?;
+    push_text(text, phase_word(told.phase))?;
     push_text(text, " ")?;
-    push_number(text, u64::from(standing.coordinator.number()))?;
+    push_number(text, u64::from(told.coordinator.number()))?;
     push_text(text, " ")?;
-    push_group(text, standing.group)?;
+    push_group(text, told.group)?;
     push_text(text, " ")?;
-    push_ids(text, vector.members())?;
+    push_ids(text, told.members)?;
     push_text(text, "\n")
 }
 
@@ -131,11 +151,8 @@ fn push_take(
 ) -> Result<usize, AllocError>
     ensures { OnOk result (text.new.items ≡ text.old.items ++ take_news old.now job.now) }
 {
-    if stands_at(old, next, job.origin, job.id) {
-        return Ok(next.saturating_add(1));
-    }
-    if holds_pair(old, job.origin, job.id) {
-        return Ok(place_behind(old, job.origin, job.id));
+    if let Some(place) = place_of(old, next, job) {
+        return Ok(place.saturating_add(1));
     }
     push_text(text, "take ")?;
     push_held(text, job)?;
@@ -143,88 +160,46 @@ fn push_take(
     Ok(next)
 }
 
-fn stands_at(pairs: &[(NodeId, u64)], at: usize, origin: NodeId, id: u64) -> bool
-    ensures { IsTrue result → pair_in pairs.now origin id ≡ true }
+/// A place at which the job stands among these. It is looked for at `next` first.
+fn place_of(pairs: &[(NodeId, u64)], next: usize, job: &InHand) -> Option<usize>
+    ensures { is_some result ≡ pair_in pairs.now job.now.origin job.now.id }
 {
-    if at >= pairs.len() {
-        return false;
-    }
-    let pair = pairs[at];
-    pair.0.is(origin) && pair.1 == id
-}
-
-/// The place behind a pair. No clause needs it: at a wrong place the pair isn't there, and is searched.
-fn place_behind(pairs: &[(NodeId, u64)], origin: NodeId, id: u64) -> usize {
-    let mut place: usize = 0;
-    for pair in pairs {
-        place = place.saturating_add(1);
-        if pair.0.is(origin) && pair.1 == id {
-            return place;
+    if let Some(pair) = pairs.get(next) {
+        if pair.0.is(job.origin) && pair.1 == job.id {
+            return Some(next);
         }
     }
-    place
-}
-
-fn holds_pair(pairs: &[(NodeId, u64)], origin: NodeId, id: u64) -> bool
-    ensures { result ≡ pair_in pairs.now origin id }
-{
-    pairs.iter().any(|pair| pair.0.is(origin) && pair.1 == id)
+    let mut place: usize = 0;
+    for pair in pairs {
+        if pair.0.is(job.origin) && pair.1 == job.id {
+            return Some(place);
+        }
+        place = place.saturating_add(1);
+    }
+    None
 }
 
 /// Adds a line for each of these jobs that isn't in hand.
 fn push_drops(text: &mut Vec<u8>, hand: &Hand, old: &[(NodeId, u64)]) -> Result<(), AllocError>
     ensures { OnOk result (text.new.items ≡ text.old.items ++ drops hand.now.jobs old.now) }
 {
-    let mut next = 0;
     for pair in old {
-        next = push_drop(text, hand, next, *pair)?;
+        push_drop(text, hand, *pair)?;
     }
     Ok(())
 }
 
-/// `next` is the place at which the job is looked for first; gives the place for the next job.
-fn push_drop(
-    text: &mut Vec<u8>,
-    hand: &Hand,
-    next: usize,
-    pair: (NodeId, u64),
-) -> Result<usize, AllocError>
+fn push_drop(text: &mut Vec<u8>, hand: &Hand, pair: (NodeId, u64)) -> Result<(), AllocError>
     ensures { OnOk result (text.new.items ≡ text.old.items ++ drop_news hand.now.jobs pair) }
 {
-    if stands_in_hand(hand.jobs(), next, pair.0, pair.1) {
-        return Ok(next.saturating_add(1));
-    }
     if hand.contains(pair.0, pair.1) {
-        return Ok(place_behind_in_hand(hand.jobs(), pair.0, pair.1));
+        return Ok(());
     }
     push_text(text, "drop ")?;
     push_number(text, u64::from(pair.0.number()))?;
     push_text(text, " ")?;
     push_number(text, pair.1)?;
-    push_text(text, "\n")?;
-    Ok(next)
-}
-
-fn stands_in_hand(jobs: &[InHand], at: usize, origin: NodeId, id: u64) -> bool
-    ensures { IsTrue result → holds jobs.now origin id ≡ true }
-{
-    if at >= jobs.len() {
-        return false;
-    }
-    let job = &jobs[at];
-    job.origin.is(origin) && job.id == id
-}
-
-/// The place behind a job, as `place_behind` gives it.
-fn place_behind_in_hand(jobs: &[InHand], origin: NodeId, id: u64) -> usize {
-    let mut place: usize = 0;
-    for job in jobs {
-        place = place.saturating_add(1);
-        if job.origin.is(origin) && job.id == id {
-            return place;
-        }
-    }
-    place
+    push_text(text, "\n")
 }
 
 /// Whether the event says that the work on a job is finished.

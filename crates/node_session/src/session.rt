@@ -9,7 +9,7 @@ ghost use Rattle.line_words.specs.Lines.{lines_of};
 ghost use Rattle.node_session.specs.declared.asked.Asked.TheVariants as ask;
 ghost use Rattle.node_session.specs.declared.ended.Ended.TheVariants as end;
 ghost use Rattle.node_session.specs.Seals.{asked_under, life_of, sealed_behind, taken_under, written};
-ghost use Rattle.node_session.specs.Chains.{AreTimely, IsToldBy, is_failed};
+ghost use Rattle.node_session.specs.Chains.{AreTimely, IsAtOnce, IsToldBy, is_failed};
 ghost use Rattle.node_session.specs.Serving.{opened, Calls, Fed, Replies, Serves, Turns};
 ghost use Rattle.durable_node.specs.Faults.{answered};
 ghost use Rattle.durable_node.specs.Node.{Stands};
@@ -19,15 +19,15 @@ ghost use Rattle.pace.specs.Waiting.{sent_again, waits_behind, waits_on};
 ghost use Rattle.node_session.specs.Text.{fired_line, fired_news, send_lines};
 ghost use Rattle.node_session.specs.Turns.{compaction_end, ended_by, sent_by, IsFired, IsTimely, MayComeOf, MayCompact};
 
-use crate::asked::{Asked, Unsealed, read_line};
-use crate::closing::{push_bad, push_closing, push_event_closing, push_ok, push_refused};
+use crate::asked::{Asked, read_line};
+use crate::closing::{push_closing, push_event_closing};
 use crate::due::{next_due, push_next};
 use crate::ended::Ended;
 use crate::fired::push_fired;
 use crate::seals::Seal;
 use crate::seen::{Seen, is_finish, push_gone};
 use crate::sending::push_messages;
-use crate::showing::{push_all_jobs, push_keeps_news, push_state};
+use crate::showing::{push_at_once, push_keeps_news};
 use crate::unread::Unread;
 use durable_node::{Came, DurableNode, NodeFault};
 use group_task::{GroupNo, NodeId};
@@ -57,9 +57,8 @@ pub struct Session<D: SectorDisk> {
     count: u64,
     text: Vec<u8>,
     unread: Unread,
-    // room for the spelling of a message, and for what the node was before a call
+    // room for the spelling of a message
     bytes: Vec<u8>,
-    seen: Seen,
     seal: Option<Seal>,
 }
 
@@ -99,7 +98,6 @@ impl<D: SectorDisk> Session<D> {
             text: Vec::new(alloc),
             unread: Unread::new(alloc),
             bytes: Vec::new(alloc),
-            seen: Seen::new(alloc),
             seal: None,
         }
     }
@@ -173,7 +171,8 @@ impl<D: SectorDisk + Drop> Session<D> {
         // Promise: Over any disk the node does, for each whole line, one of the things that the definitions allow for it, and the text
         // says so: the messages, what changed, and one closing line.
         // Refuses: answered_before_the_disk, line_answered_twice, bad_line_ends_serving, sent_to_the_sender, drops_unwritten,
-        // takes_what_was_held, gone_before_it_is_done, no_memory_goes_on.
+        // takes_what_was_held, group_number_not_compared, gone_before_it_is_done, jobs_answered_by_the_state,
+        // no_memory_goes_on.
         // Promise: A tick or a loss names each event that it makes; a recovery writes what is kept; a tick sends again what the
         // node sent and still waits for, once a round trip.
         // Refuses: node_words::fired_as_another, sent_again_without_end, pace::sent_again_at_once.
@@ -274,10 +273,9 @@ impl<D: SectorDisk + Drop> Session<D> {
             Asked::Compact => self.answer_compaction(),
             Asked::Tick(now) => self.answer_tick(*now),
             Asked::Lost(node) => self.answer_loss(*node),
-            Asked::State => self.answer_state(),
-            Asked::Jobs => self.answer_jobs(),
-            Asked::Bad => self.answer_bad(),
-            Asked::Refused(why) => self.answer_refused(*why),
+            Asked::State | Asked::Jobs | Asked::Bad | Asked::Refused(_) => {
+                self.answer_at_once(asked)
+            }
         }
     }
 
@@ -331,42 +329,15 @@ impl<D: SectorDisk + Drop> Session<D> {
         push_closing(&mut self.text, number, &ended)
     }
 
-    fn answer_state(&mut self) -> Result<(), AllocError>
-        requires { self.old.stopped ≡ false }
+    /// Answers what makes no call of the node.
+    fn answer_at_once(&mut self, asked: &Asked) -> Result<(), AllocError>
+        requires runs { self.old.stopped ≡ false }
+        requires at_once { IsAtOnce asked.now }
         ensures rest { self.new.rest ≡ self.old.rest }
-        ensures replies { OnOk result (Replies D.state self.old self.new ask.State) }
+        ensures replies { OnOk result (Replies D.state self.old self.new asked.now) }
     {
         let number = self.next_number()?;
-        push_state(&mut self.text, &self.node)?;
-        push_ok(&mut self.text, number)
-    }
-
-    fn answer_jobs(&mut self) -> Result<(), AllocError>
-        requires { self.old.stopped ≡ false }
-        ensures rest { self.new.rest ≡ self.old.rest }
-        ensures replies { OnOk result (Replies D.state self.old self.new ask.Jobs) }
-    {
-        let number = self.next_number()?;
-        push_all_jobs(&mut self.text, &self.node)?;
-        push_ok(&mut self.text, number)
-    }
-
-    fn answer_bad(&mut self) -> Result<(), AllocError>
-        requires { self.old.stopped ≡ false }
-        ensures rest { self.new.rest ≡ self.old.rest }
-        ensures replies { OnOk result (Replies D.state self.old self.new ask.Bad) }
-    {
-        let number = self.next_number()?;
-        push_bad(&mut self.text, number)
-    }
-
-    fn answer_refused(&mut self, why: Unsealed) -> Result<(), AllocError>
-        requires { self.old.stopped ≡ false }
-        ensures rest { self.new.rest ≡ self.old.rest }
-        ensures replies { OnOk result (Replies D.state self.old self.new (ask.Refused why)) }
-    {
-        let number = self.next_number()?;
-        push_refused(&mut self.text, number, why)
+        push_at_once(&mut self.text, &self.node, number, asked)
     }
 
     /// Counts one request more. No program lives to count 2^64 of them.
@@ -407,7 +378,7 @@ impl<D: SectorDisk + Drop> Session<D> {
     /// Makes the events that are due at the time that was told.
     fn fire_due(&mut self) -> Result<Ended, AllocError>
         ensures rest { self.new.rest ≡ self.old.rest }
-        ensures calls { IfOk result (λ ended. Calls D.state self.old self.new fired_news (AreTimely self.old.node.id self.old.node.nodes) (end.Done None) ended) }
+        ensures calls { IfOk result (λ ended. Calls D.state self.old self.new fired_news AreTimely (end.Done None) ended) }
     {
         let mut ended = Ended::Done(None);
         for _fired in 0..MOST_FIRED {
@@ -482,7 +453,7 @@ impl<D: SectorDisk + Drop> Session<D> {
     /// A node that the transport gave up isn't waited for: its coordinator leaves the group, and a member asks or leaves.
     fn give_up(&mut self, node: NodeId) -> Result<Ended, AllocError>
         ensures rest { self.new.rest ≡ self.old.rest }
-        ensures calls { IfOk result (λ ended. Calls D.state self.old self.new fired_news (AreTimely self.old.node.id self.old.node.nodes) (end.Done None) ended) }
+        ensures calls { IfOk result (λ ended. Calls D.state self.old self.new fired_news AreTimely (end.Done None) ended) }
     {
         match loss_of(self.id, self.node.vector(), node) {
             Some(event) => {
@@ -511,9 +482,9 @@ impl<D: SectorDisk + Drop> Session<D> {
     /// Makes an event, and writes what came of it. All that the session asks of a node's step stands here.
     fn turn(&mut self, event: &Event) -> Result<Ended, AllocError>
         ensures rest { self.new.rest ≡ self.old.rest }
-        ensures turn { IfOk result (λ ended. Turns D.state self.old self.new (MayComeOf self.old.node.id self.old.node.nodes event.now) ended) }
+        ensures turn { IfOk result (λ ended. Turns D.state self.old self.new (λ id nodes. MayComeOf id nodes event.now) ended) }
     {
-        self.seen.look(self.node.vector())?;
+        let seen = Seen::of(self.alloc, self.node.vector())?;
         self.node.is_fallen();
         let reply = self.node.step(event);
         if ran_out(&reply) {
@@ -522,8 +493,7 @@ impl<D: SectorDisk + Drop> Session<D> {
         keep_waited(&mut self.waiting, event, &reply, self.node.vector())?;
         push_sent(&mut self.text, &mut self.bytes, &reply)?;
         let ended = ended_by(&reply);
-        self.seen
-            .push_changes(&mut self.text, is_finish(event), self.node.vector())?;
+        seen.push_changes(&mut self.text, is_finish(event), self.node.vector())?;
         push_gone(&mut self.text, event, &ended)?;
         Ok(ended)
     }
@@ -531,13 +501,12 @@ impl<D: SectorDisk + Drop> Session<D> {
     /// Compacts the journal, and writes what came of it.
     fn compact(&mut self) -> Result<Ended, AllocError>
         ensures rest { self.new.rest ≡ self.old.rest }
-        ensures turn { IfOk result (λ ended. Turns D.state self.old self.new (MayCompact self.old.node.id self.old.node.nodes) ended) }
+        ensures turn { IfOk result (λ ended. Turns D.state self.old self.new MayCompact ended) }
     {
-        self.seen.look(self.node.vector())?;
+        let seen = Seen::of(self.alloc, self.node.vector())?;
         let done = self.node.compact();
         self.waiting.forget(self.node.vector())?;
-        self.seen
-            .push_changes(&mut self.text, false, self.node.vector())?;
+        seen.push_changes(&mut self.text, false, self.node.vector())?;
         Ok(compaction_end(&done))
     }
 }

@@ -6,8 +6,10 @@ ghost use Rattle.node_core.specs.State.{is_down, state_of};
 ghost use Rattle.durable_node.specs.Node.{Stands};
 ghost use Rattle.histories.specs.NodeState.{NodeState};
 ghost use Rattle.node_session.specs.Changes.{held_text};
-ghost use Rattle.node_session.specs.Text.{asks_part, hand_line, jobs_lines, jobs_part, keeps_by, keeps_line, keeps_news, pending_line, sets_part, state_line, up_line};
+ghost use Rattle.node_session.specs.Text.{answer_at_once, asks_part, hand_line, jobs_lines, jobs_part, keeps_by, keeps_line, keeps_news, pending_line, sets_part, state_line, up_line};
 
+use crate::asked::Asked;
+use crate::closing::{push_bad, push_ok, push_refused};
 use crate::ended::Ended;
 use console_text::{push_number, push_text};
 use durable_node::DurableNode;
@@ -17,11 +19,26 @@ use node_words::{phase_word, push_group_part, push_ids, push_truth, push_work_of
 use sector_disk::SectorDisk;
 use std::alloc::AllocError;
 
-/// Adds the node's state as a line.
-pub(crate) fn push_state<D: SectorDisk>(
+/// Adds the answer to request `number`, which makes no call of the node.
+pub(crate) fn push_at_once<D: SectorDisk>(
     text: &mut Vec<u8>,
     node: &DurableNode<D>,
+    number: u64,
+    asked: &Asked,
 ) -> Result<(), AllocError>
+    ensures { (s : NodeState) → Stands D.state node.now s → OnOk result (text.new.items ≡ text.old.items ++ answer_at_once number s asked.now) }
+{
+    match asked {
+        Asked::State => push_state(text, node)?,
+        Asked::Jobs => push_all_jobs(text, node)?,
+        Asked::Refused(why) => return push_refused(text, number, *why),
+        _ => return push_bad(text, number),
+    }
+    push_ok(text, number)
+}
+
+/// Adds the node's state as a line.
+fn push_state<D: SectorDisk>(text: &mut Vec<u8>, node: &DurableNode<D>) -> Result<(), AllocError>
     ensures { (s : NodeState) → Stands D.state node.now s → OnOk result (text.new.items ≡ text.old.items ++ state_line s) }
 {
     let vector = node.vector();
@@ -34,10 +51,7 @@ pub(crate) fn push_state<D: SectorDisk>(
 }
 
 /// Adds a line for each job that the node keeps, and for each that it works on. Of a node that is Down, nothing.
-pub(crate) fn push_all_jobs<D: SectorDisk>(
-    text: &mut Vec<u8>,
-    node: &DurableNode<D>,
-) -> Result<(), AllocError>
+fn push_all_jobs<D: SectorDisk>(text: &mut Vec<u8>, node: &DurableNode<D>) -> Result<(), AllocError>
     ensures { (s : NodeState) → Stands D.state node.now s → OnOk result (text.new.items ≡ text.old.items ++ jobs_lines s) }
 {
     let vector = node.vector();

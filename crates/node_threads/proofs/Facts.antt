@@ -156,9 +156,6 @@ pub record AreEndedBelow (bound : ℕ) (size : Size) (plans : List Planned) (his
 last_of : {A : Type 0} (xs : List A) (x y : A) (k : ℕ) → k ≡ length xs → slice_get (xs ++ x ∷ []) k ≡ Some y → y ≡ x
 last_of xs x y k here at = same_Some y x (sym at ∙ get_last xs k x here)
 
-pub none_ended : (size : Size) (plans : List Planned) → AreEndedBelow 0 size plans [] []
-none_ended size plans = record { history_count = refl; ends_count = refl; each = λ n p h e at_plan at at'. absurd cc }
-
 pub ended_more : (bound : ℕ) (size : Size) (plans : List Planned) (histories : List Log) (ends : List NodeEnds) (plan : Planned) (log : Log) (mine : NodeEnds) (hs : List Log) (es : List NodeEnds) → hs ≡ histories ++ log ∷ [] → es ≡ ends ++ mine ∷ [] → slice_get plans bound ≡ Some plan → HasEnded (run_at size bound) plan log.turns mine
     → AreEndedBelow bound size plans histories ends → AreEndedBelow (bound + 1) size plans hs es
 ended_more bound size plans histories ends plan log mine hs es logs_are ends_are plan_at has all =
@@ -174,6 +171,3 @@ ended_more bound size plans histories ends plan log mine hs es logs_are ends_are
             | inr here ↦ rw (here, same_Some p plan (sym at_plan ∙ (ap (slice_get plans) here ∙ plan_at)), last_of histories log h n (here ∙ sym many) at, last_of ends mine e n (here ∙ sym many') at') has
           ];
     })
-
-pub all_ended : (size : Size) (plans : List Planned) (histories : List Log) (ends : List NodeEnds) → AreEndedBelow (length plans) size plans histories ends → AreEnded size plans histories ends
-all_ended size plans histories ends all = record { history_count = all.history_count; ends_count = all.ends_count; each = all.each }

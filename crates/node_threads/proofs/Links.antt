@@ -210,10 +210,6 @@ less_left old new s r p t took = record {
 
 -- ---- one sender
 
-pub starts : (sender : ℕ) (ends : List NodeEnds) (links : List LinkEnd) → IsGathering sender 0 ends ends links links
-starts sender ends links =
-    record { parts = all_left ends; len = (λ below. absurd (omega (arith, below)), λ above. omega arith); stay = λ p link at. at; each = λ k j from to below. absurd (omega (arith, below)) }
-
 not_itself : (s k : ℕ) → IsOther s k s → ⊥
 not_itself s k other = elim (cases_lt k s) [ inl lt ↦ omega (arith, lt, other.0 lt) | inr ge ↦ omega (arith, ge, other.1 ge) ]
 
@@ -269,9 +265,6 @@ gathered_more sender ends left links more within all = record {
 }
 
 -- ---- all senders
-
-pub none_gathered : (ends : List NodeEnds) → AreGatheredBelow 0 ends ends []
-none_gathered ends = record { parts = all_left ends; count = omega arith; each = λ i k j from to below. absurd (omega (arith, below)) }
 
 times_more : (n m : ℕ) → (n + 1) * m ≡ n * m + m
 times_more n m = grind arith

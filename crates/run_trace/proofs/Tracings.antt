@@ -1,6 +1,6 @@
--- What was seen of an act that came to a node shows what came of it, and the trace so far goes on by it.
+-- What was told of an act that came to a node is what came of it, and the trace so far goes on by it.
 use Rattle.std.proofs.Common.{◌≡◌, ◌≢◌, ℕ, Bool, true, false, [], ◌∷◌, slice_get, Option, Some, None, Result, Ok, Err, refl, sym, subst, ne_eqb, eq-eqb, arith, ◌⊎◌, inl, inr, ◌∙◌, ◌≤◌, zero, suc, ◌+◌, List, ◌++◌, map, length, slice_set, drop, replicate, ap, append_assoc}
-use Rattle.std.specs.Prelude.{nat_lt, if◌then◌else◌, option_and_then}
+use Rattle.std.specs.Prelude.{nat_lt, if◌then◌else◌, option_and_then, OnOk}
 use Rattle.std.proofs.lemmas.List.{append-nil, drop_all, drop_more, map-append, replicate-append-replicate, length-map}
 use Rattle.std.proofs.lemmas.Option.{get_or_from_slice_get, slice_get_within}
 use Rattle.std.proofs.Math.Seq.{drop-append_seam}
@@ -8,47 +8,40 @@ use Rattle.wire_msg.specs.Envelope.{Envelope}
 use Rattle.histories.specs.declared.what.What.{What}
 use Rattle.schedule.specs.declared.act.Act.{Act}
 use Rattle.sim_net.specs.declared.fault.NetFault.{NetFault}
-use Rattle.sim_net.specs.Network.{delivery, Network, after_all_sent}
+use Rattle.sim_net.specs.Network.{delivery, Network}
 use Rattle.runs.specs.World.{World, node_in, start}
 use Rattle.runs.specs.Step.{Step, Takes, Changes, Denies, world_after}
-use Rattle.runs.specs.Run.{entry_at, history_in, histories_from, world_at, IsAllowed, histories_of}
-use Rattle.runs.specs.Acts.{At, Brings, IsStepOf, what_outcome, IsRunOf, act_outcome}
+use Rattle.runs.specs.Run.{entry_at, history_in, histories_from, world_at, histories_of}
+use Rattle.runs.specs.Acts.{At, Brings, IsCompaction, IsStepOf, what_outcome, act_outcome}
 use Rattle.run_trace.specs.declared.bringing.Brought.{Brought}
-use Rattle.run_trace.specs.declared.bringing.Brought.TheVariants.{Event, Recovery, Arming, Crash, Compaction}
+use Rattle.run_trace.specs.declared.bringing.Brought.TheVariants.{Event, Arming, Crash, Compaction}
 use Rattle.run_trace.specs.Bringing.{delivered, brought_by, number_of, CameOf}
-use Rattle.job_model.specs.Durable.{Durable}
-use Rattle.node_core.specs.declared.wanted.Wanted.{Wanted}
-use Rattle.node_core.specs.Start.{down}
-use Rattle.node_core.specs.State.{is_down, State}
-use Rattle.durable_node.specs.Node.{shown_doubt, Node, Stands}
-use Rattle.durable_node.specs.Remounting.{IsKeptIn}
-use Rattle.durable_node.proofs.PublicLaws.{is_some, settled_so}
-use Rattle.histories.specs.NodeState.{NodeState, settled}
+use Rattle.histories.specs.NodeState.{NodeState}
 use Rattle.histories.specs.declared.what.What.TheVariants.{Did, Refused, Faulted, Rests, Crashed, Recovered, MountFailed, RaiseFailed, RaiseRefused}
 use Rattle.histories.specs.declared.what.Rest.TheVariants as resting
-use Rattle.trace_check.specs.declared.trace.Deed.TheVariants.{Nothing}
-use Rattle.histories.specs.What.{event_of, brought, Entry}
-use Rattle.histories.specs.After.{after, sent_at, mounted_at}
-use Rattle.histories.specs.Possible.{IsSettling, IsPossible, IsOfSlots}
-use Rattle.trace_check.specs.declared.trace.Deed.{Deed}
-use Rattle.run_trace.specs.declared.deeds.Ended.{Ended}
-use Rattle.run_trace.specs.declared.deeds.Rise.{Rise}
-use Rattle.run_trace.specs.declared.deeds.Rise.TheVariants.{Mounted}
-use Rattle.run_trace.specs.Deeds.{IsRise, ended, deed_by, ActedAs, IsNoted}
+use Rattle.histories.specs.What.{event_of, Entry}
+use Rattle.histories.specs.After.{sent_at}
+use Rattle.run_trace.specs.Deeds.{ActedAs, deed_by, IsNoted, IsStepped}
 use Rattle.run_trace.specs.Traced.{AreActed, AreTurns, deed_of, claim_of, trace_in, nodes_in, messages_in, message_if, IsNext as IsNextTurn, IsRecordOf, IsSoFar, HasWorld}
-use Rattle.runs.specs.Growth.{IsNext, StepOfSlots}
+use Rattle.runs.specs.Growth.{IsNext}
 use Rattle.trace_check.specs.declared.order.Order.{Order}
+use Rattle.trace_check.specs.declared.trace.Deed.{Deed}
 use Rattle.trace_check.specs.Claims.{Claim, brought_by as deed_brought}
-use Rattle.sector_disk.specs.Memory.{Memory, state_of}
-use Rattle.runs.proofs.PublicLaws.{acts_go_on, step_length, length_openings, at_place, how_many, node_there}
+use Rattle.runs.proofs.PublicLaws.{acts_go_on, step_length, length_openings, at_place, how_many}
 use Rattle.runs.specs.declared.outcome.Outcome.{Outcome}
 use Rattle.cluster_sim.specs.Acting.{IsActed}
 use Rattle.cluster_sim.specs.Names.{node_named}
 use Rattle.cluster_sim.specs.Operated.{Operates}
-use Rattle.cluster_sim.specs.World.{AreUnarmed, FaultsAt, WorldView, StandsFor, Shows}
+use Rattle.cluster_sim.specs.World.{AreUnarmed, FaultsAt, ReportsDeed, WorldView, StandsFor, fate_in}
+use Rattle.cluster_sim.specs.declared.deed.Deed.{Deed as Told}
+use Rattle.histories.specs.declared.fate.Fate.{Fate}
+use Rattle.node_core.specs.declared.event.Event.{Event as CoreEvent}
 use Rattle.trace_check.specs.Traces.{claim}
 use Rattle.node_core.specs.declared.event.Event.TheVariants as on
 use Rattle.schedule.specs.declared.act.Act.TheVariants as act
+
+is_some : {A : Type 0} (x y : A) → Some x ≡ Some y → x ≡ y
+is_some x y is = cc is
 
 -- an act that brings such a thing
 abbrev pub bringing : Brought → Act
@@ -72,48 +65,46 @@ other_same self nodes first s a (Rests resting.CompactDown) none = refl
 other_same self nodes first s a (Rests resting.CompactWorn) none = refl
 other_same self nodes first s a _ none = refl
 
--- The step is one of this node, in this state, to which this was brought; another outcome of it would be a step of the act too.
-pub record IsStepAt (now : NodeState) (steps : Step → Type 0) (a : Act) (n : ℕ) (b : Brought) (step : Step) : Type 0 where
+-- the step is one of this node, in this state, to which this was brought
+pub record IsStepAt (now : NodeState) (a : Act) (n : ℕ) (b : Brought) (step : Step) : Type 0 where
   pub number : ℕ
   pub numbered : number ≡ number_of a
   pub what : What
   pub is : step ≡ Takes n number what
   pub came : CameOf now b what
-  pub again : (other : What) → CameOf now b other → steps (Takes n number other)
-  pub plain : b ≢ Event on.Recover
   pub same_outcome : (self nodes first : ℕ) (s : NodeState) → what_outcome self nodes first s what a ≡ what_outcome self nodes first s what (bringing b)
 
 -- what comes to a node, if it is one of the cluster
 abbrev if_there : Bool → ℕ × Brought → Option (ℕ × Brought)
 if_there t comes = if t then Some comes else None
 
-comes_at : (now : ℕ → NodeState) (a : Act) (t : Bool) (m number : ℕ) (b : Brought) (n : ℕ) (c : Brought) (step : Step) → number ≡ number_of a → b ≢ Event on.Recover → ((what : What) (self nodes first : ℕ) (s : NodeState) → what_outcome self nodes first s what a ≡ what_outcome self nodes first s what (bringing b))
-    → if_there t (m, b) ≡ Some (n, c) → At t m number (CameOf (now m) b) step → IsStepAt (now n) (At t m number (CameOf (now m) b)) a n c step
-comes_at now a true m number b n c step numbered plain same_outcome is at =
+comes_at : (now : ℕ → NodeState) (a : Act) (t : Bool) (m number : ℕ) (b : Brought) (n : ℕ) (c : Brought) (step : Step) → number ≡ number_of a → ((what : What) (self nodes first : ℕ) (s : NodeState) → what_outcome self nodes first s what a ≡ what_outcome self nodes first s what (bringing b))
+    → if_there t (m, b) ≡ Some (n, c) → At t m number (CameOf (now m) b) step → IsStepAt (now n) a n c step
+comes_at now a true m number b n c step numbered same_outcome is at =
     let x : ℕ × Brought = (m, b) in
     let y : ℕ × Brought = (n, c) in
     let same : x ≡ y = is_some x y is in
-    subst (λ (p : ℕ × Brought). IsStepAt (now p.0) (At true m number (CameOf (now m) b)) a p.0 p.1 step) same
-    (record { number = number; numbered = numbered; what = at.0; is = at.1; came = at.2; again = λ other came. (other, refl, came); plain = plain; same_outcome = same_outcome at.0 })
-comes_at now a false m number b n c step numbered plain same_outcome is at = absurd cc
+    subst (λ (p : ℕ × Brought). IsStepAt (now p.0) a p.0 p.1 step) same
+    (record { number = number; numbered = numbered; what = at.0; is = at.1; came = at.2; same_outcome = same_outcome at.0 })
+comes_at now a false m number b n c step numbered same_outcome is at = absurd cc
 
 delivers_at : (now : ℕ → NodeState) (nodes : ℕ) (net : Network) (k : ℕ) (r : Result Envelope NetFault) (n : ℕ) (c : Brought) (step : Step)
-    → option_and_then (λ (comes : ℕ × Brought). if nat_lt comes.0 nodes then Some comes else None) (delivered r) ≡ Some (n, c) → Brings nodes net k r step → IsStepAt (now n) (Brings nodes net k r) (act.Deliver k) n c step
-delivers_at now nodes net k (Ok m) n c step is brings = comes_at now (act.Deliver k) (nat_lt m.receiver nodes) m.receiver k (Event (on.Deliver m)) n c step refl (λ e. cc) (λ what self size first s. other_same self size first s _ what (λ k e. cc)) is brings
+    → option_and_then (λ (comes : ℕ × Brought). if nat_lt comes.0 nodes then Some comes else None) (delivered r) ≡ Some (n, c) → Brings nodes net k r step → IsStepAt (now n) (act.Deliver k) n c step
+delivers_at now nodes net k (Ok m) n c step is brings = comes_at now (act.Deliver k) (nat_lt m.receiver nodes) m.receiver k (Event (on.Deliver m)) n c step refl (λ what self size first s. other_same self size first s _ what (λ k e. cc)) is brings
 delivers_at now nodes net k (Err why) n c step is brings = absurd cc
 
-pub step_at : (nodes : ℕ) (w : World) (a : Act) (n : ℕ) (b : Brought) (step : Step) → brought_by nodes w.net a ≡ Some (n, b) → IsStepOf nodes w a step → IsStepAt (node_in w.states n) (IsStepOf nodes w a) a n b step
-step_at nodes w (act.Timer m timer) n b step is of = comes_at (node_in w.states) (act.Timer m timer) (nat_lt m nodes) m 0 (Event (on.Timer timer)) n b step refl (λ e. cc) (λ what self size first s. other_same self size first s _ what (λ k e. cc)) is of
+pub step_at : (nodes : ℕ) (w : World) (a : Act) (n : ℕ) (b : Brought) (step : Step) → brought_by nodes w.net a ≡ Some (n, b) → IsStepOf nodes w a step → IsStepAt (node_in w.states n) a n b step
+step_at nodes w (act.Timer m timer) n b step is of = comes_at (node_in w.states) (act.Timer m timer) (nat_lt m nodes) m 0 (Event (on.Timer timer)) n b step refl (λ what self size first s. other_same self size first s _ what (λ k e. cc)) is of
 step_at nodes w (act.Deliver k) n b step is of = delivers_at (node_in w.states) nodes w.net k (delivery w.net k) n b step is of
 step_at nodes w (act.Lose k) n b step is of = absurd cc
 step_at nodes w (act.Cut x y) n b step is of = absurd cc
 step_at nodes w (act.Mend x y) n b step is of = absurd cc
-step_at nodes w (act.Submit m work) n b step is of = comes_at (node_in w.states) (act.Submit m work) (nat_lt m nodes) m 0 (Event (on.Submit work)) n b step refl (λ e. cc) (λ what self size first s. other_same self size first s _ what (λ k e. cc)) is of
-step_at nodes w (act.Finish m origin id) n b step is of = comes_at (node_in w.states) (act.Finish m origin id) (nat_lt m nodes) m 0 (Event (on.Finish origin id)) n b step refl (λ e. cc) (λ what self size first s. other_same self size first s _ what (λ k e. cc)) is of
-step_at nodes w (act.Arm m calls) n b step is of = comes_at (node_in w.states) (act.Arm m calls) (nat_lt m nodes) m 0 Arming n b step refl (λ e. cc) (λ what self size first s. other_same self size first s _ what (λ k e. cc)) is of
-step_at nodes w (act.Crash m fill) n b step is of = comes_at (node_in w.states) (act.Crash m fill) (nat_lt m nodes) m 0 Crash n b step refl (λ e. cc) (λ what self size first s. other_same self size first s _ what (λ k e. cc)) is of
-step_at nodes w (act.Recover m) n b step is of = comes_at (node_in w.states) (act.Recover m) (nat_lt m nodes) m 0 Recovery n b step refl (λ e. cc) (λ what self size first s. other_same self size first s _ what (λ k e. cc)) is of
-step_at nodes w (act.Compact m) n b step is of = comes_at (node_in w.states) (act.Compact m) (nat_lt m nodes) m 0 Compaction n b step refl (λ e. cc) (λ what self size first s. compaction_same self size first s m 0 what) is of
+step_at nodes w (act.Submit m work) n b step is of = comes_at (node_in w.states) (act.Submit m work) (nat_lt m nodes) m 0 (Event (on.Submit work)) n b step refl (λ what self size first s. other_same self size first s _ what (λ k e. cc)) is of
+step_at nodes w (act.Finish m origin id) n b step is of = comes_at (node_in w.states) (act.Finish m origin id) (nat_lt m nodes) m 0 (Event (on.Finish origin id)) n b step refl (λ what self size first s. other_same self size first s _ what (λ k e. cc)) is of
+step_at nodes w (act.Arm m calls) n b step is of = comes_at (node_in w.states) (act.Arm m calls) (nat_lt m nodes) m 0 Arming n b step refl (λ what self size first s. other_same self size first s _ what (λ k e. cc)) is of
+step_at nodes w (act.Crash m fill) n b step is of = comes_at (node_in w.states) (act.Crash m fill) (nat_lt m nodes) m 0 Crash n b step refl (λ what self size first s. other_same self size first s _ what (λ k e. cc)) is of
+step_at nodes w (act.Recover m) n b step is of = comes_at (node_in w.states) (act.Recover m) (nat_lt m nodes) m 0 (Event on.Recover) n b step refl (λ what self size first s. other_same self size first s _ what (λ k e. cc)) is of
+step_at nodes w (act.Compact m) n b step is of = comes_at (node_in w.states) (act.Compact m) (nat_lt m nodes) m 0 Compaction n b step refl (λ what self size first s. compaction_same self size first s m 0 what) is of
 
 -- ---- an act that comes to no node adds no entry
 
@@ -131,49 +122,31 @@ entry_here n nodes w number what = rw (eq-eqb n n refl) refl
 pub entry_elsewhere : (n m nodes : ℕ) (w : World) (number : ℕ) (what : What) → m ≢ n → entry_at m nodes w (Takes n number what) ≡ []
 entry_elsewhere n m nodes w number what other = rw (ne_eqb n m (λ is. other (sym is))) refl
 
--- It may as well have come, with the same effect, and stands in the trace so. A job that was done and wasn't pending is no other state with it than without.
-pub record IsSameDeed (slots n nodes : ℕ) (s : NodeState) (b : Brought) (what : What) (deed : Deed) : Type 0 where
-  pub other : What
-  pub came : CameOf s b other
-  pub possible : IsPossible n nodes s other
-  pub of_slots : IsOfSlots slots n nodes s other
-  pub brings : brought (event_of other) ≡ brought (event_of what)
-  pub leaves : after n nodes s other ≡ after n nodes s what
-  pub sends : sent_at n nodes s other ≡ sent_at n nodes s what
-  pub same_outcome : deed_of other ≡ deed
-  pub ends : (first : ℕ) (a : Act) → what_outcome n nodes first s other a ≡ what_outcome n nodes first s what a
+-- what was told stands in the trace as what came
+told_event : (event : CoreEvent) (what : What) (f : Option Fate) (o : Outcome) → event_of what ≡ Some event → f ≡ fate_in what → deed_of what ≡ deed_by f (Event event) o
+told_event event (Did e) f o of is = rw (is, is_some e event of) refl
+told_event event (Refused e fault) f o of is = rw is refl
+told_event event (Faulted e) f o of is = rw (is, is_some e event of) refl
+told_event event (Rests rest) f o of is = absurd cc
+told_event event Crashed f o of is = absurd cc
+told_event event (Recovered kept) f o of is = rw is refl
+told_event event MountFailed f o of is = rw is refl
+told_event event (RaiseFailed kept) f o of is = rw is refl
+told_event event (RaiseRefused kept) f o of is = rw is refl
 
-module _ (slots n nodes first : ℕ) (s : NodeState) (rise : Rise) (doubt : Option (Wanted × ℕ)) (mounted : Option Durable) (in_doubt : doubt ≡ shown_doubt s.durable s.doubt)
-    (stood : IsRise (is_down s.state.phase) doubt mounted rise) where
-  abbrev SameDeed : Brought → What → Type 0
-  SameDeed b what = IsSameDeed slots n nodes s b what (deed_by b rise (ended (what_outcome n nodes first s what (bringing b))))
+told_compaction : (what : What) (f : Option Fate) (self nodes first : ℕ) (s now : NodeState) → IsCompaction now what → f ≡ fate_in what → deed_of what ≡ deed_by f Compaction (what_outcome self nodes first s what (act.Compact 0))
+told_compaction (Rests resting.Nothing) f self nodes first s now came is = rw is refl
+told_compaction (Rests resting.Compacted) f self nodes first s now came is = rw is refl
+told_compaction (Rests resting.CompactDown) f self nodes first s now came is = rw is refl
+told_compaction (Rests resting.CompactWorn) f self nodes first s now came is = rw is refl
+told_compaction Crashed f self nodes first s now came is = rw is refl
+told_compaction what f self nodes first s now came is = absurd came
 
-  as_it_is : (b : Brought) (what : What) → b ≢ Event on.Recover → CameOf s b what → IsPossible n nodes s what → IsOfSlots slots n nodes s what → mounted ≡ mounted_at s what → (mounted_at s what ≡ None) ⊎ (deed_of what ≡ Nothing) → SameDeed b what
-  as_it_is b what plain came possible of_slots at none = record { other = what; came = came; possible = possible; of_slots = of_slots; brings = refl; leaves = refl; sends = refl; same_outcome = grind arith; ends = λ k a. refl }
-
-  -- what was mounted has the command in doubt, or hasn't, as the flag says
-  mounted_so : (r : Rise) (kept : Bool) → IsRise (is_down s.state.phase) doubt mounted r → is_down s.state.phase ≡ true → IsSettling kept s.doubt → mounted ≡ Some (settled kept s)
-      → (flag : Bool) × (r ≡ Mounted flag) × IsSettling flag s.doubt × (settled flag s ≡ settled kept s)
-  mounted_so (Mounted flag) kept is down settling some =
-      let mounted_it = is_some is.1.0 (settled kept s) (sym is.1.1 ∙ some) in
-      let so = settled_so s is.1.0 flag kept (subst (λ (o : Option (Wanted × ℕ)). IsKeptIn o is.1.0 flag) in_doubt is.1.2) settling mounted_it in
-      (flag, refl, so.0, sym so.1 ∙ mounted_it)
-  mounted_so r kept is down settling some = absurd (let bad : true ≡ false = grind arith in cc)
-
-  pub same_deed : (b : Brought) (what : What) → b ≢ Event on.Recover → CameOf s b what → IsPossible n nodes s what → IsOfSlots slots n nodes s what → mounted ≡ mounted_at s what → SameDeed b what
-  same_deed b (Recovered kept) plain came possible of_slots at =
-      let m = mounted_so rise kept stood possible.0 possible.1 at in
-      record { other = Recovered m.0; came = (grind arith); possible = (possible.0, m.2, rw m.3 possible.2); of_slots = tt; brings = refl; leaves = rw m.3 refl; sends = refl; same_outcome = grind arith; ends = λ k a. rw m.3 refl }
-  same_deed b (RaiseFailed kept) plain came possible of_slots at =
-      let m = mounted_so rise kept stood possible.0 possible.1 at in
-      record { other = RaiseFailed m.0; came = (grind arith); possible = (possible.0, m.2, rw m.3 possible.2); of_slots = tt; brings = refl; leaves = rw m.3 refl; sends = refl; same_outcome = grind arith; ends = λ k a. refl }
-  same_deed b (Did e) plain came possible of_slots at = as_it_is b (Did e) plain came possible of_slots at (inl refl)
-  same_deed b (Refused e fault) plain came possible of_slots at = as_it_is b (Refused e fault) plain came possible of_slots at (inl refl)
-  same_deed b (Faulted e) plain came possible of_slots at = as_it_is b (Faulted e) plain came possible of_slots at (inl refl)
-  same_deed b (Rests rest) plain came possible of_slots at = as_it_is b (Rests rest) plain came possible of_slots at (inl refl)
-  same_deed b Crashed plain came possible of_slots at = as_it_is b Crashed plain came possible of_slots at (inl refl)
-  same_deed b MountFailed plain came possible of_slots at = as_it_is b MountFailed plain came possible of_slots at (inl refl)
-  same_deed b (RaiseRefused kept) plain came possible of_slots at = as_it_is b (RaiseRefused kept) plain came possible of_slots at (inr refl)
+told_so : (b : Brought) (what : What) (f : Option Fate) (o : Outcome) (self nodes first : ℕ) (s : NodeState) → CameOf s b what → f ≡ fate_in what → o ≡ what_outcome self nodes first s what (bringing b) → deed_of what ≡ deed_by f b o
+told_so (Event event) what f o self nodes first s came is ended = told_event event what f o came is
+told_so Arming what f o self nodes first s came is ended = rw (is, came) refl
+told_so Crash what f o self nodes first s came is ended = rw (is, came) refl
+told_so Compaction what f o self nodes first s came is ended = rw ended (told_compaction what f self nodes first s s came is)
 
 world_goes_on : (nodes : ℕ) (steps : List Step) (step : Step) (w : World) → world_at nodes w (steps ++ step ∷ []) ≡ world_after nodes (world_at nodes w steps) step
 world_goes_on nodes [] step w = refl
@@ -196,7 +169,7 @@ histories_stay : (i k nodes : ℕ) (steps : List Step) (step : Step) → ((m : �
 histories_stay i zero nodes steps step none = refl
 histories_stay i (suc k) nodes steps step none =
     let first = history_stays i nodes steps step (start nodes) (none i (omega arith)) in
-    let rest = histories_stay (suc i) k nodes steps step (λ m more. none m (omega (arith, more))) in cc
+    let rest = histories_stay (i + 1) k nodes steps step (λ m more. none m (omega (arith, more))) in cc
 
 histories_grow : (i k j n nodes : ℕ) (steps : List Step) (step : Step) (e : Entry) (h : List Claim) → n ≡ i + j
     → ((m : ℕ) → m ≢ n → entry_at m nodes (world_at nodes (start nodes) steps) step ≡ []) → entry_at n nodes (world_at nodes (start nodes) steps) step ≡ e ∷ []
@@ -207,16 +180,16 @@ histories_grow i (suc k) zero n nodes steps step e h place none here there =
     let same : i ≡ n = omega (arith, place) in
     let grown = ap (map claim_of) (history_goes_on i nodes steps step (start nodes) ∙ ap (λ (es : List Entry). history_in i nodes (start nodes) steps ++ es) (ap (λ (m : ℕ). entry_at m nodes (world_at nodes (start nodes) steps) step) same ∙ here)) in
     let first = grown ∙ map-append claim_of (history_in i nodes (start nodes) steps) (e ∷ []) in
-    let rest = histories_stay (suc i) k nodes steps step (λ m more. none m (λ at. omega (arith, more, at, same))) in cc
+    let rest = histories_stay (i + 1) k nodes steps step (λ m more. none m (λ at. omega (arith, more, at, same))) in cc
 histories_grow i (suc k) (suc j) n nodes steps step e h place none here there =
     let first = history_stays i nodes steps step (start nodes) (none i (λ at. omega (arith, place, at))) in
-    let rest = histories_grow (suc i) k j n nodes steps step e h (omega (arith, place)) none here there in cc
+    let rest = histories_grow (i + 1) k j n nodes steps step e h (omega (arith, place)) none here there in cc
 
 -- ---- lists that are made one after another
 
 begun : (i k nodes : ℕ) → trace_in (histories_from i k nodes []) ≡ replicate k []
 begun i zero nodes = refl
-begun i (suc k) nodes = ap (λ (hs : List (List Claim)). [] ∷ hs) (begun (suc i) k nodes)
+begun i (suc k) nodes = ap (λ (hs : List (List Claim)). [] ∷ hs) (begun (i + 1) k nodes)
 
 pub one_more : (hs : List (List Claim)) (n : ℕ) (h : List Claim) → hs ≡ replicate n [] → h ≡ [] → hs ++ h ∷ [] ≡ replicate (n + 1) []
 one_more hs n h is none = rw (is, none) (replicate-append-replicate n 1 [])
@@ -287,60 +260,49 @@ goes_on nodes slots before a old new trace trace' order order' so step turned sa
       stands = subst (λ (x : World). StandsFor new x) (sym world) acted_there.stands;
     }
 
--- an act that comes to a node: what stands in the trace may have come of it, and leaves the same world
-pub traced : (nodes slots : ℕ) (before : List Act) (a : Act) (n : ℕ) (b : Brought) (rise : Rise) (e : Ended) (old new : WorldView) (was now : Node Memory) (place : ℕ) (sent : List Envelope) (trace trace' : List (List Claim)) (order order' : Order)
-    → IsSoFar nodes slots old before trace order → new.slots ≡ old.slots → ((w : World) → StandsFor old w → ActedAs old w a e new) → brought_by (length old.nodes) old.net a ≡ Some (n, b)
-    → slice_get old.nodes n ≡ Some was → slice_get new.nodes n ≡ Some now → IsRise (is_down was.state.phase) was.doubt now.mounted rise → place ≡ length old.net.sent → sent ≡ drop place new.net.sent
-    → IsNoted n (claim (deed_by b rise e) sent) trace trace' → IsNextTurn n (message_if (deed_brought (deed_by b rise e)) (number_of a)) order order'
+-- an act that comes to a node: its entry is what came of it
+pub traced : (nodes slots : ℕ) (before : List Act) (a : Act) (n : ℕ) (b : Brought) (d : Deed) (old new : WorldView) (place : ℕ) (sent : List Envelope) (trace trace' : List (List Claim)) (order order' : Order)
+    → IsSoFar nodes slots old before trace order → new.slots ≡ old.slots → ((w : World) → StandsFor old w → ActedAs old w a b d new) → brought_by (length old.nodes) old.net a ≡ Some (n, b)
+    → place ≡ length old.net.sent → sent ≡ drop place new.net.sent
+    → IsNoted n (claim d sent) trace trace' → IsNextTurn n (message_if (deed_brought d) (number_of a)) order order'
     → IsSoFar nodes slots new (before ++ a ∷ []) trace' order'
-traced nodes slots before a n b rise e old new was now place sent trace trace' order order' so same acts brings old_at new_at stood place_is sent_is noted next_turn =
+traced nodes slots before a n b d old new place sent trace trace' order order' so same acts brings place_is sent_is noted next_turn =
     let w = world_at nodes (start nodes) so.run.steps in
     let size = length w.states in
-    let acted = (acts w so.stands).1 in
+    let did = acts w so.stands in
+    let told : Told = did.0 in
+    let acted = did.1.acted in
     let brings_w : brought_by size w.net a ≡ Some (n, b) = ap (λ (k : ℕ). brought_by k w.net a) (sym so.stands.count) ∙ ap (λ (net : Network). brought_by (length old.nodes) net a) (sym so.stands.net) ∙ brings in
     let at = step_at size w a n b acted.step brings_w acted.next.of_act in
     let step = Takes n at.number at.what in
-    let allowed : IsAllowed size w step = subst (λ (x : Step). IsAllowed size w x) at.is acted.next.allowed in
-    let s = allowed.0 in
-    let there : slice_get w.states n ≡ Some s = allowed.1 in
-    let is_s : node_in w.states n ≡ s = node_there w.states n s there in
-    let fits = subst (λ (x : NodeState). IsOfSlots new.slots n size x at.what) is_s (subst (λ (x : Step). StepOfSlots new.slots size w x) at.is acted.next.of_slots) in
-    let node : Stands state_of was s = so.stands.each n was s old_at there in
-    let mounted = (subst (λ (x : Step). Shows w x new) at.is acted.shows) now s new_at there in
-    let stood_s = subst (λ (x : State). IsRise (is_down x.phase) was.doubt now.mounted rise) node.state stood in
-    let r = same_deed new.slots n size (length w.net.sent) s rise was.doubt now.mounted node.doubt stood_s b at.what at.plain (subst (λ (x : NodeState). CameOf x b at.what) is_s at.came) allowed.2 fits mounted in
-    let ended_is : e ≡ ended (what_outcome n size (length w.net.sent) s at.what (bringing b)) =
-    (acts w so.stands).2 ∙ ap ended (acted.outcome_is ∙ ap (λ (x : Step). act_outcome size w a x) at.is ∙ at.same_outcome n size (length w.net.sent) (node_in w.states n)
-    ∙ ap (λ (x : NodeState). what_outcome n size (length w.net.sent) x at.what (bringing b)) is_s) in
-    let taken = Takes n at.number r.other in
-    let same_world : world_after size w taken ≡ world_after size w step = rw there (λ i. record { states = slice_set w.states n (r.leaves i); net = after_all_sent w.net (r.sends i) }) in
-    let stands : StandsFor new (world_after size w taken) = subst (λ (x : World). StandsFor new x) (sym same_world) (subst (λ (x : Step). StandsFor new (world_after size w x)) at.is acted.stands) in
-    let sent_are : sent_at n size (node_in w.states n) r.other ≡ sent =
-    sym (drop-append_seam w.net.sent (sent_at n size (node_in w.states n) r.other)) ∙ ap (λ (net : Network). drop (length w.net.sent) net.sent) (sym stands.net)
+    let next : IsNext size new.slots w a step = subst (λ (x : Step). IsNext size new.slots w a x) at.is acted.next in
+    let s = next.allowed.0 in
+    let there : slice_get w.states n ≡ Some s = next.allowed.1 in
+    let told_of = (subst (λ (x : Step). ReportsDeed w x told) at.is did.1.reports) s there in
+    let outcome_is : told.outcome ≡ act_outcome size w a step = acted.outcome_is ∙ ap (λ (x : Step). act_outcome size w a x) at.is in
+    let deed_is : deed_of at.what ≡ d =
+    told_so b at.what told.fate told.outcome n size (length w.net.sent) (node_in w.states n) at.came told_of.fate (outcome_is ∙ at.same_outcome n size (length w.net.sent) (node_in w.states n)) ∙ sym did.2 in
+    let stands : StandsFor new (world_after size w step) = subst (λ (x : Step). StandsFor new (world_after size w x)) at.is acted.stands in
+    let sent_are : sent_at n size (node_in w.states n) at.what ≡ sent =
+    sym (drop-append_seam w.net.sent (sent_at n size (node_in w.states n) at.what)) ∙ ap (λ (net : Network). drop (length w.net.sent) net.sent) (sym stands.net)
     ∙ ap (λ (net : Network). drop (length net.sent) new.net.sent) (sym so.stands.net) ∙ ap (λ (k : ℕ). drop k new.net.sent) (sym place_is) ∙ sym sent_is in
-    let entry : Entry = record { what = r.other; sent = sent_at n nodes (node_in w.states n) r.other } in
-    let deed_is : deed_of r.other ≡ deed_by b rise e = r.same_outcome ∙ ap (λ (x : Ended). deed_by b rise x) (sym ended_is) in
-    let sent_there : entry.sent ≡ sent = subst (λ (k : ℕ). sent_at n k (node_in w.states n) r.other ≡ sent) so.count sent_are in
-    let claim_is : claim_of entry ≡ claim (deed_by b rise e) sent = λ i. record { deed = deed_is i; sent = sent_there i } in
+    let entry : Entry = record { what = at.what; sent = sent_at n nodes (node_in w.states n) at.what } in
+    let sent_there : entry.sent ≡ sent = subst (λ (k : ℕ). sent_at n k (node_in w.states n) at.what ≡ sent) so.count sent_are in
+    let claim_is : claim_of entry ≡ claim d sent = λ i. record { deed = deed_is i; sent = sent_there i } in
     let hs = trace_in (histories_of nodes so.run.steps) in
     let many = length-map (histories_of nodes so.run.steps) (λ (h : List Entry). map claim_of h) ∙ how_many nodes 0 nodes so.run.steps in
     let h = at_place hs n (let within = slice_get_within w.states n s there in let count = so.count in omega (arith, within, count, many)) in
-    let grown = histories_grow 0 nodes n n nodes so.run.steps taken entry h.0 (omega arith) (λ m other. entry_elsewhere n m nodes w at.number r.other other) (entry_here n nodes w at.number r.other) h.1 in
-    let next : IsNext size new.slots w a taken =
-    record { of_act = at.again r.other (subst (λ (x : NodeState). CameOf x b r.other) (sym is_s) r.came); allowed = (s, there, r.possible, rw r.brings allowed.3, rw r.brings allowed.4); of_slots = rw there r.of_slots } in
-    let of_histories : trace' ≡ trace_in (histories_of nodes (so.run.steps ++ taken ∷ [])) =
-    noted h.0 (ap (λ (xs : List (List Claim)). slice_get xs n) so.run.of_histories ∙ h.1) ∙ ap (λ (xs : List (List Claim)). slice_set xs n (h.0 ++ claim (deed_by b rise e) sent ∷ [])) so.run.of_histories
+    let grown = histories_grow 0 nodes n n nodes so.run.steps step entry h.0 (omega arith) (λ m other. entry_elsewhere n m nodes w at.number at.what other) (entry_here n nodes w at.number at.what) h.1 in
+    let of_histories : trace' ≡ trace_in (histories_of nodes (so.run.steps ++ step ∷ [])) =
+    noted h.0 (ap (λ (xs : List (List Claim)). slice_get xs n) so.run.of_histories ∙ h.1) ∙ ap (λ (xs : List (List Claim)). slice_set xs n (h.0 ++ claim d sent ∷ [])) so.run.of_histories
     ∙ ap (λ (c : Claim). slice_set hs n (h.0 ++ c ∷ [])) (sym claim_is) ∙ sym grown in
-    let taken_outcome : (acts w so.stands).0 ≡ act_outcome size w a taken =
-    acted.outcome_is ∙ ap (λ (x : Step). act_outcome size w a x) at.is ∙ ap (λ (x : NodeState). what_outcome n size (length w.net.sent) x at.what a) is_s
-    ∙ sym (r.ends (length w.net.sent) a) ∙ ap (λ (x : NodeState). what_outcome n size (length w.net.sent) x r.other a) (sym is_s) in
-    let message : message_if (deed_brought (deed_by b rise e)) (number_of a) ≡ message_if (deed_brought (deed_of r.other)) at.number =
+    let message : message_if (deed_brought d) (number_of a) ≡ message_if (deed_brought (deed_of at.what)) at.number =
     λ i. message_if (deed_brought (sym deed_is i)) (sym at.numbered i) in
-    let turned : IsTurned taken order order' = record { nodes = next_turn.nodes; messages = next_turn.messages ∙ ap (λ (k : Option ℕ). order.messages.items ++ k ∷ []) message } in
-    goes_on nodes slots before a old new trace trace' order order' so taken turned same next of_histories (record {
+    let turned : IsTurned step order order' = record { nodes = next_turn.nodes; messages = next_turn.messages ∙ ap (λ (k : Option ℕ). order.messages.items ++ k ∷ []) message } in
+    goes_on nodes slots before a old new trace trace' order order' so step turned same next of_histories (record {
       stands = stands;
-      operates = subst (λ (o : Outcome). Operates a old new o) taken_outcome (acts w so.stands).3;
-      faults = subst (λ (o : Outcome). FaultsAt (node_named (length old.nodes) old.net.sent a) old new o) taken_outcome (acts w so.stands).4;
+      operates = subst (λ (o : Outcome). Operates a old new o) outcome_is did.3;
+      faults = subst (λ (o : Outcome). FaultsAt (node_named (length old.nodes) old.net.sent a) old new o) outcome_is did.4;
     })
 
 -- and no turn
@@ -350,18 +312,19 @@ quiet_turn order nodes w (Changes net) quiet = record { nodes = sym (append-nil 
 quiet_turn order nodes w (Denies n why) quiet = record { nodes = sym (append-nil order.nodes.items); messages = sym (append-nil order.messages.items) }
 
 -- one that comes to no node leaves the trace as it is
-pub none_noted : (nodes slots : ℕ) (before : List Act) (a : Act) (e : Ended) (old new : WorldView) (trace : List (List Claim)) (order : Order) → IsSoFar nodes slots old before trace order
-    → new.slots ≡ old.slots → ((w : World) → StandsFor old w → ActedAs old w a e new) → brought_by (length old.nodes) old.net a ≡ None → IsSoFar nodes slots new (before ++ a ∷ []) trace order
-none_noted nodes slots before a e old new trace order so same acts none =
+pub none_noted : (nodes slots : ℕ) (before : List Act) (a : Act) (old new : WorldView) (trace : List (List Claim)) (order : Order) → IsSoFar nodes slots old before trace order
+    → new.slots ≡ old.slots → ((w : World) → StandsFor old w → IsStepped old w a new) → brought_by (length old.nodes) old.net a ≡ None → IsSoFar nodes slots new (before ++ a ∷ []) trace order
+none_noted nodes slots before a old new trace order so same acts none =
     let w = world_at nodes (start nodes) so.run.steps in
-    let acted = (acts w so.stands).1 in
+    let did = acts w so.stands in
+    let acted = did.1 in
     let size = length w.states in
     let none_w : brought_by (length w.states) w.net a ≡ None = ap (λ (k : ℕ). brought_by k w.net a) (sym so.stands.count) ∙ ap (λ (net : Network). brought_by (length old.nodes) net a) (sym so.stands.net) ∙ none in
     let quiet = subst (λ (k : ℕ). IsQuiet k w acted.step) so.count (none_comes (length w.states) w a acted.step none_w acted.next.of_act) in
     goes_on nodes slots before a old new trace trace order order so acted.step (quiet_turn order size w acted.step (none_comes size w a acted.step none_w acted.next.of_act)) same acted.next (so.run.of_histories ∙ ap trace_in (sym (histories_stay 0 nodes nodes so.run.steps acted.step (λ m more. quiet m)))) (record {
       stands = acted.stands;
-      operates = subst (λ (o : Outcome). Operates a old new o) acted.outcome_is (acts w so.stands).3;
-      faults = subst (λ (o : Outcome). FaultsAt (node_named (length old.nodes) old.net.sent a) old new o) acted.outcome_is (acts w so.stands).4;
+      operates = subst (λ (o : Outcome). Operates a old new o) acted.outcome_is did.2;
+      faults = subst (λ (o : Outcome). FaultsAt (node_named (length old.nodes) old.net.sent a) old new o) acted.outcome_is did.3;
     })
 
 pub recorded_so : (nodes slots : ℕ) (view : WorldView) (acts : List Act) (trace : List (List Claim)) (order : Order) → IsSoFar nodes slots view acts trace order → IsRecordOf nodes slots acts trace order
@@ -372,5 +335,9 @@ recorded_so nodes slots view acts trace order so = record { run = so.run; turns 
 pub begins : (nodes slots : ℕ) (view : WorldView) (trace : List (List Claim)) (order : Order) → order.nodes.items ≡ [] → order.messages.items ≡ [] → view.slots ≡ slots → StandsFor view (start nodes) → AreUnarmed view.nodes → trace ≡ replicate nodes [] → IsSoFar nodes slots view [] trace order
 begins nodes slots view trace order no_node no_message same stands unarmed none = record { turns = record { nodes = no_node; messages = no_message }; run = record { steps = []; is_run = tt; of_histories = none ∙ sym (begun 0 nodes nodes); first = view; last = view; opened = stands; unarmed = unarmed; acted = refl }; last_is = refl; slots_are = same; count = length_openings 0 nodes; stands = stands }
 
-pub world_stays : (a : Act) (e : Ended) (old new : WorldView) → HasWorld old → ((w : World) → StandsFor old w → ActedAs old w a e new) → HasWorld new
-world_stays a e old new has acts = let acted = (acts has.0 has.1).1 in (world_after (length has.0.states) has.0 acted.step, acted.stands)
+pub on_ok_each : {A E : Type 0} (r : Result A E) (S X : World → Type 0) (P : Type 0) → ((w : World) → S w → OnOk r (X w)) → (((w : World) → S w → X w) → P) → OnOk r P
+on_ok_each (Ok a) S X P h so = so h
+on_ok_each (Err e) S X P h so = tt
+
+pub world_stays : (a : Act) (b : Brought) (d : Deed) (old new : WorldView) → HasWorld old → ((w : World) → StandsFor old w → ActedAs old w a b d new) → HasWorld new
+world_stays a b d old new has acts = let acted = (acts has.0 has.1).1.acted in (world_after (length has.0.states) has.0 acted.step, acted.stands)

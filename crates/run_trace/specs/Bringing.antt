@@ -13,7 +13,7 @@ use Rattle.sim_net.specs.Network.{Network, delivery}
 use Rattle.histories.specs.What.{IsOf}
 use Rattle.runs.specs.Acts.{IsCompaction}
 use Rattle.run_trace.specs.declared.bringing.Brought.{Brought}
-use Rattle.run_trace.specs.declared.bringing.Brought.TheVariants.{Event, Recovery, Arming, Crash, Compaction}
+use Rattle.run_trace.specs.declared.bringing.Brought.TheVariants.{Event, Arming, Crash, Compaction}
 
 -- a message that comes is an event of its receiver
 abbrev pub delivered : Result Envelope NetFault → Option (ℕ × Brought)
@@ -31,7 +31,7 @@ named_by net (act.Submit n work) = Some (n, Event (on.Submit work))
 named_by net (act.Finish n origin id) = Some (n, Event (on.Finish origin id))
 named_by net (act.Arm n calls) = Some (n, Arming)
 named_by net (act.Crash n fill) = Some (n, Crash)
-named_by net (act.Recover n) = Some (n, Recovery)
+named_by net (act.Recover n) = Some (n, Event on.Recover)
 named_by net (act.Compact n) = Some (n, Compaction)
 
 -- and so in a cluster of so many nodes: nothing comes to a node outside it
@@ -41,7 +41,6 @@ brought_by nodes net a = option_and_then (λ (comes : ℕ × Brought). if nat_lt
 -- it came of what was brought to a node in this state
 abbrev pub CameOf : NodeState → Brought → What → Type 0
 CameOf s (Event event) what = IsOf event what
-CameOf s Recovery what = IsOf on.Recover what
 CameOf s Arming what = what ≡ Rests Nothing
 CameOf s Crash what = what ≡ Crashed
 CameOf s Compaction what = IsCompaction s what

@@ -14,9 +14,7 @@ use trace_check::Deed;
 /// What an act brings to a node.
 #[derive(Clone, Copy)]
 pub(crate) enum Brought {
-    /// An event, which is none of Recover.
     Event(Event),
-    Recovery,
     Arming,
     Crash,
     Compaction,
@@ -33,7 +31,7 @@ pub(crate) fn brought_by(nodes: u8, net: &Net, act: &Act) -> Option<(NodeId, Bro
         Act::Deliver(number) => delivered(net, *number)?,
         Act::Submit(id, job) => (*id, Brought::Event(Event::Submit(job.work()))),
         Act::Finish(id, origin, job) => (*id, Brought::Event(Event::Finish(*origin, *job))),
-        Act::Recover(id) => (*id, Brought::Recovery),
+        Act::Recover(id) => (*id, Brought::Event(Event::Recover)),
         Act::Arm(id, _) => (*id, Brought::Arming),
         Act::Crash(id, _) => (*id, Brought::Crash),
         Act::Compact(id) => (*id, Brought::Compaction),

@@ -8,11 +8,11 @@ ghost use Rattle.trace_check.specs.Claims.{Claim};
 ghost use Rattle.trace_check.specs.Traces.{claim};
 ghost use Rattle.trace_check.specs.Verdicts.{IsRun};
 ghost use Rattle.run_trace.specs.Bringing.{brought_by};
-ghost use Rattle.run_trace.specs.Deeds.{ActedAs, IsNoted};
+ghost use Rattle.run_trace.specs.Deeds.{ActedAs, IsNoted, IsStepped};
 ghost use Rattle.run_trace.specs.Traced.{HasWorld, IsNext, IsOrder, IsRecordOf, IsSoFar, IsTraceOf};
 
 use crate::bringing::{Brought, brought_by, message_of};
-use crate::deeds::{Ended, deed_by, rise_of, seen_at};
+use crate::deeds::deed_by;
 use cluster_sim::{Outcome, Refusal, World};
 use group_task::NodeId;
 use message_list::MessageList;
@@ -124,10 +124,7 @@ fn trace_act(
 {
     match brought_by(world.count(), world.net(), act) {
         Some((id, brought)) => trace_at(alloc, world, histories, order, act, id, &brought),
-        None => {
-            step(world, act)?;
-            Ok(())
-        }
+        None => step(world, act),
     }
 }
 
@@ -151,26 +148,33 @@ fn trace_at(
     ensures traced { (nodes slots : ℕ) (before : List ActValue) → IsSoFar nodes slots world.old before histories.old.items order.old
         → OnOk result (IsSoFar nodes slots world.new (before ++ act.now ∷ []) histories.new.items order.new) }
 {
-    let was = seen_at(world.node(id));
     let place = world.net().sent().len();
-    let ended = step(world, act)?;
-    let rise = rise_of(&was, world.node(id));
-    let deed = deed_by(brought, rise, ended);
+    let deed = perform(world, act, brought)?;
     let sent = sent_since(alloc, world.net().sent(), place)?;
     let message = message_of(act, &deed);
     note(histories, order, id, &deed, message, &sent)
 }
 
-/// Does an act: how it ended. Want of memory is an error, wherever it came.
-fn step(world: &mut World, act: &Act) -> Result<Ended, AllocError>
+/// Does an act that comes to no node.
+fn step(world: &mut World, act: &Act) -> Result<(), AllocError>
     ensures slots { world.new.slots ≡ world.old.slots }
-    ensures acted { (w : RunWorld) → StandsFor world.old w → IfOk result (λ ended. ActedAs world.old w act.now ended world.new) }
+    ensures acted { (w : RunWorld) → StandsFor world.old w → OnOk result (IsStepped world.old w act.now world.new) }
 {
-    match world.step(act)? {
-        Outcome::Done { .. } => Ok(Ended::Done),
+    match world.step(act) {
+        Ok(_) => Ok(()),
+        Err(error) => Err(error),
+    }
+}
+
+/// Does an act that brings this to a node: what was done there, as the node tells. Want of memory is an error, wherever it came.
+fn perform(world: &mut World, act: &Act, brought: &Brought) -> Result<Deed, AllocError>
+    ensures slots { world.new.slots ≡ world.old.slots }
+    ensures acted { (w : RunWorld) → StandsFor world.old w → IfOk result (λ deed. ActedAs world.old w act.now brought.now deed world.new) }
+{
+    let told = world.perform(act)?;
+    match told.outcome {
         Outcome::Refused(Refusal::Node(NodeRefusal::Core(CoreFault::NoMemory))) => Err(AllocError),
-        Outcome::Refused(_) => Ok(Ended::Refused),
-        Outcome::Faulted => Ok(Ended::Faulted),
+        _ => Ok(deed_by(told.fate, brought, told.outcome)),
     }
 }
 

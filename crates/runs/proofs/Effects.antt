@@ -38,6 +38,7 @@ use Rattle.runs.specs.Acts.{At, Brings, IsCompaction, IsStepOf, IsLawful, IsRunO
 use Rattle.runs.specs.Reporting.{Moment, Report, moment_of, tries, commands_at, group_of, grown, first_report, report_from}
 use Rattle.runs.specs.Headline.{report_within}
 use Rattle.runs.specs.Uses.{last_of, last_state, all_sent, event_in, RefusedChangesNothing, DoneHasItsEffect, DownRefusesCompaction, NoneIsSpent}
+use Rattle.runs.proofs.ExactRuns.{run_in}
 use Rattle.runs.proofs.Acknowledged.{among_of}
 use Rattle.runs.proofs.Finishing.{taken_there}
 use Rattle.runs.proofs.Fronts.{front_of}
@@ -173,7 +174,7 @@ refused_changes_nothing nodes slots acts r h k m why at is =
       ap (λ (x : Report). x.groups) f.grows
           ∙ (ap (λ (ts : List TriedAt). before.groups ++ flat_map (λ (t : TriedAt). group_of t.node t.tried.command t.tried.acked) ts) commands ∙ append-nil before.groups),
       λ n within. ap (λ (x : Report). last_state x n) f.grows
-          ∙ idle.last before n (subst (λ (w : World). IsLast w before n) (sym f.is_world) (within_last slots nodes n k acts h.steps h.is_run within)),
+          ∙ idle.last before n (subst (λ (w : World). IsLast w before n) (sym f.is_world) (within_last slots nodes n k acts h.steps (run_in nodes slots acts r h) within)),
     )
 
 -- ---- what is done
@@ -299,9 +300,9 @@ pub done_has_its_effect : DoneHasItsEffect
 done_has_its_effect nodes slots acts r h k m answer first many n event s within at is named shown up =
     let f = front_of nodes slots acts r h k m at in
     let before : Report = report_within nodes k acts h.steps in
-    let all : all_sent before ≡ f.before.net.sent = run_all_sent slots nodes (take k acts) (take k h.steps) (start nodes) (first_report nodes) (acts_front k nodes slots acts h.steps (start nodes) h.is_run) refl
+    let all : all_sent before ≡ f.before.net.sent = run_all_sent slots nodes (take k acts) (take k h.steps) (start nodes) (first_report nodes) (acts_front k nodes slots acts h.steps (start nodes) (run_in nodes slots acts r h)) refl
     ∙ ap (λ (w : World). w.net.sent) (sym f.is_world) in
-    let last = within_last slots nodes n k acts h.steps h.is_run within in
+    let last = within_last slots nodes n k acts h.steps (run_in nodes slots acts r h) within in
     let here : slice_get f.before.states n ≡ Some last.now = ap (λ (w : World). slice_get w.states n) f.is_world ∙ last.at in
     let same : last.now.state ≡ s = cc (last.shown, shown) in
     let was : node_in (world_at nodes (start nodes) (take k h.steps)).states n ≡ last.now = node_there _ n last.now last.at in
@@ -343,7 +344,7 @@ down_step slots nodes n w step s false is h may at down = absurd cc
 pub down_refuses_compaction : DownRefusesCompaction
 down_refuses_compaction nodes slots acts r h k m n s within at is_compact shown down =
     let f = front_of nodes slots acts r h k m at in
-    let last = within_last slots nodes n k acts h.steps h.is_run within in
+    let last = within_last slots nodes n k acts h.steps (run_in nodes slots acts r h) within in
     let here : slice_get f.before.states n ≡ Some last.now = ap (λ (w : World). slice_get w.states n) f.is_world ∙ last.at in
     let same : last.now.state ≡ s = cc (last.shown, shown) in
     let of : f.act ≡ act.Compact n = ap (λ (x : Moment). x.act) (sym f.is) ∙ is_compact in
@@ -351,6 +352,3 @@ down_refuses_compaction nodes slots acts r h k m n s within at is_compact shown 
     ap (λ (x : Moment). x.outcome) f.is ∙ ap (λ (x : Act). act_outcome nodes f.before x f.step) of
     ∙ down_step slots nodes n f.before f.step last.now (nat_lt n nodes) known (subst (λ (x : Act). IsStepOf nodes f.before x f.step) of f.of_act) f.lawful here
     (ap (λ (x : State). is_down x.phase) same ∙ down)
-
-pub none_is_spent : NoneIsSpent
-none_is_spent nodes slots acts r h k m at = (h.unspent m (among_of r.moments k m at), h.unworn k m at)

@@ -1,5 +1,5 @@
 -- Group numbers as fences: one leader, one owner of each queue, one list of members.
-use Rattle.std.proofs.Common.{◌≡◌, ◌⊎◌, ℕ, true, List, sym, ◌∙◌, ap, inl, inr, Option, Some, None}
+use Rattle.std.proofs.Common.{◌≡◌, ◌⊎◌, ℕ, true, List, sym, ◌∙◌, ap, subst, inl, inr, Option, Some, None}
 use Rattle.group_task.specs.Group.{Group}
 use Rattle.group_task.specs.Assignment.{Assignment, owner_of}
 use Rattle.group_task.specs.Ids.{has}
@@ -10,6 +10,7 @@ use Rattle.histories.specs.Book.{IsTaskOf, IsInGroup, members_in}
 use Rattle.runs.specs.Reporting.{Report}
 use Rattle.runs.specs.Headline.{IsShown, HasBook}
 use Rattle.runs.specs.Uses.{Shows, ShowsWorking, LeaderIsCreator, OneLeader, OneOwnerEach, MembersAgree, OneWorkerEach}
+use Rattle.runs.proofs.Elements.{contains}
 use Rattle.runs.proofs.Acknowledged.{among_at}
 
 -- what the report shows is shown to the headline
@@ -23,7 +24,7 @@ in_group : (s : State) → ((s.phase ≡ Normal) ⊎ (s.phase ≡ Reorganization
 in_group s either = elim either [ inl e ↦ inr e | inr e ↦ inl e ]
 
 pub leader_is_creator : LeaderIsCreator
-leader_is_creator nodes slots acts r h n s by = sym ((h.has_book.agrees n s (is_shown r n s by.0)).0 (in_group s by.1.0)) ∙ by.1.1
+leader_is_creator nodes slots acts r h n s by = sym (h.has_book.coordinator n s (is_shown r n s by.0) (in_group s by.1.0)) ∙ by.1.1
 
 pub one_leader : OneLeader
 one_leader nodes slots acts r h n m s t by_s by_t same =
@@ -34,24 +35,19 @@ one_owner_each nodes slots acts r h n m s t by_s by_t same queue =
     ap (λ (task : Option Assignment). owner_of (members_of task) queue) (h.one_task n m s t (is_shown r n s by_s.0) (is_shown r m t by_t.0) by_s.1 by_t.1 same)
 
 -- a node that works has the members of the book, and is one of them
-members_shown : (book : List Assignment) (n : ℕ) (g : Group) (task : Option Assignment) → IsTaskOf book n g task → (members_in book g ≡ Some (members_of task)) × (has (members_of task) n ≡ true)
-members_shown book n g None h = absurd h
-members_shown book n g (Some t) h = (h.1, h.2)
-
-shown_by : (r : Report) (h : HasBook r) (n : ℕ) (s : State) → ShowsWorking r n s → (members_in h.book s.group ≡ Some (members_of s.task)) × (has (members_of s.task) n ≡ true)
+shown_by : (r : Report) (h : HasBook r) (n : ℕ) (s : State) → ShowsWorking r n s → (members_of s.task ≡ h.members s.group) × (has (members_of s.task) n ≡ true)
 shown_by r h n s by =
-    members_shown h.book n s.group s.task ((h.agrees n s (is_shown r n s by.0)).1 by.1)
-
-same_some : {A : Type 0} (x y : A) → Some x ≡ Some y → x ≡ y
-same_some x y e = cc e
+    let task = h.task n s (is_shown r n s by.0) by.1 in
+    let same : members_of s.task ≡ h.members s.group = ap members_of task.0 in
+    (same, subst (λ (ms : List ℕ). has ms n ≡ true) (sym same) task.1)
 
 pub members_agree : MembersAgree
 members_agree nodes slots acts r h n m s t by_s by_t same =
     let of_s = shown_by r h.has_book n s by_s in
     let of_t = shown_by r h.has_book m t by_t in
-    let equal : members_of s.task ≡ members_of t.task = same_some _ _ (sym of_s.0 ∙ (ap (λ (g : Group). members_in h.has_book.book g) same ∙ of_t.0)) in
+    let equal : members_of s.task ≡ members_of t.task = of_s.0 ∙ (ap h.has_book.members same ∙ sym of_t.0) in
     (equal, of_s.1, rw equal of_t.1)
 
 pub one_worker_each : OneWorkerEach
 one_worker_each nodes slots acts r h n m s t by_s by_t same a b in_s in_t queue =
-    h.one_worker n m s t (is_shown r n s by_s.0) (is_shown r m t by_t.0) by_s.1 by_t.1 same a b in_s in_t queue
+    h.one_worker n m s t (is_shown r n s by_s.0) (is_shown r m t by_t.0) by_s.1 by_t.1 same a b (contains a s.hand in_s) (contains b t.hand in_t) queue

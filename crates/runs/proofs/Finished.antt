@@ -1,8 +1,8 @@
 -- A job is done only after an owner of its queue finished it, which the report shows.
-use Rattle.std.proofs.Common.{◌≡◌, ◌≢◌, ℕ, zero, suc, ◌<◌, ◌≤◌, List, [], ◌∷◌, length, map, take, slice_get, refl, sym, ◌∙◌, ap, subst, inl, inr, arith, rules, Some}
+use Rattle.std.proofs.Common.{◌≡◌, ◌≢◌, ℕ, zero, suc, ◌<◌, ◌≤◌, List, [], ◌∷◌, length, map, take, slice_get, refl, sym, ◌∙◌, ap, subst, inl, inr, arith, rules, Some, Contains}
 use Rattle.std.proofs.lemmas.List.{append-nil, length-take}
 use Rattle.job_model.specs.declared.work.Work.{Work}
-use Rattle.job_model.specs.declared.node_command.NodeCommand.TheVariants.{Raise, Done}
+use Rattle.job_model.specs.declared.node_command.NodeCommand.TheVariants.{Raise, Put, Done}
 use Rattle.node_core.specs.State.{State}
 use Rattle.node_core.specs.declared.in_hand.InHand.{InHand}
 use Rattle.histories.specs.Jobs.{WasPut}
@@ -15,7 +15,8 @@ use Rattle.histories.specs.Moments.{IsMoment}
 use Rattle.histories.specs.declared.tried.Tried.{Tried}
 use Rattle.histories.proofs.PublicLaws.{OwnedAt, pending_was_put, work_is_job}
 use Rattle.schedule.specs.declared.act.Act.{Act}
-use Rattle.runs.specs.World.{start, ids_from}
+use Rattle.std.specs.List.{range_with_len}
+use Rattle.runs.specs.World.{start}
 use Rattle.runs.specs.Step.{Step}
 use Rattle.runs.specs.Run.{world_at, history_in, histories_of}
 use Rattle.runs.specs.Acts.{IsRunOf}
@@ -23,6 +24,7 @@ use Rattle.runs.specs.declared.tried.TriedAt.{TriedAt}
 use Rattle.runs.specs.Reporting.{Moment, Report, own_commands, first_report, report_of}
 use Rattle.runs.specs.Headline.{IsFinished, IsShown, report_within}
 use Rattle.runs.specs.Uses.{Shows, first_moments, DoneWasFinished}
+use Rattle.runs.proofs.Elements.{among, contains}
 use Rattle.runs.proofs.Exact.{all_acts_run}
 use Rattle.runs.proofs.Ended.{EndedIn, done_ended}
 use Rattle.runs.proofs.Keeping.{AllStates}
@@ -106,6 +108,8 @@ finished_within nodes slots k acts steps origin id run within ended =
     subst (λ (o : ℕ). WasPut (own_commands o (report_within nodes place acts steps).commands) f.work.job.id f.work.job.work) f.work.of_origin put in
     let was_put : WasPut (own_commands origin (report_within nodes place acts steps).commands) id f.work.job.work =
     subst (λ (j : ℕ). WasPut (own_commands origin (report_within nodes place acts steps).commands) j f.work.job.work) f.work.of_id at_origin in
+    let by_then : (t : Tried) × Contains (own_commands origin (report_within nodes place acts steps).commands) t × (t.command ≡ Put f.work.job.work) × ((a : ℕ) → t.acked ≡ Some a → a ≡ id) =
+    (was_put.0, contains was_put.0 (own_commands origin (report_within nodes place acts steps).commands) was_put.1, was_put.2, was_put.3) in
     let soon : worker ≢ origin → suc place < k = λ ne. omega (arith, ended.4 ne, few) in
     record {
       worker = worker;
@@ -120,18 +124,18 @@ finished_within nodes slots k acts steps origin id run within ended =
       state = f.was.state;
       shown = report_shows nodes slots worker (take place acts) (take place steps) f.was.state front moment;
       works = f.work.is_normal;
-      job = f.work.job;
-      in_hand = f.work.held;
-      of_job = (f.work.of_origin, f.work.of_id);
+      work = f.work.job.work;
+      in_hand = contains _ f.was.state.hand
+          (subst (λ (j : InHand). IsAmong j f.was.state.hand) (λ i. record { origin = f.work.of_origin i; id = f.work.of_id i; work = f.work.job.work }) f.work.held);
       owned = f.work.owned;
-      put = search (rules, was_put);
+      put = search (rules, by_then);
     }
 
 pub finished_at : (nodes slots : ℕ) (acts : List Act) (steps : List Step) → IsRunOf nodes slots (start nodes) acts steps → (k : ℕ) (t : TriedAt) (id : ℕ) → IsAmong t (report_within nodes k acts steps).commands → t.node < nodes
     → t.tried.command ≡ Done id → IsFinished nodes acts steps k t.node id
 finished_at nodes slots acts steps run k t id among within done =
     elim (done_ended (λ o j. ⊥) slots nodes (take k acts) (take k steps) (start nodes) (first_report nodes) (acts_front k nodes slots acts steps (start nodes) run) (opens_owned nodes) (λ m j i body. i) t id among done) [
-      | inl first ↦ absurd (let both : Raise ≡ Done id = sym (only_raises (ids_from 0 nodes) t first) ∙ done in cc)
+      | inl first ↦ absurd (let both : Raise ≡ Done id = sym (only_raises (range_with_len 0 nodes) t first) ∙ done in cc)
       | inr ended ↦ elim ended [
         | inl none ↦ absurd none.0
         | inr it ↦ finished_within nodes slots k acts steps t.node id run within it
@@ -152,8 +156,10 @@ front_shows nodes k n acts steps v shown = elim shown [
 ]
 
 pub done_was_finished : DoneWasFinished
-done_was_finished nodes slots acts r h k t id among within is =
-    let by = h.finished k t id among within is in
+done_was_finished nodes slots acts r h k t id i within is =
+    let by = h.finished k t id (contains t (report_within nodes k acts h.steps).commands i) within is in
+    let commands = own_commands t.node (report_within nodes by.place acts h.steps).commands in
+    let job : InHand = record { origin = t.node; id = id; work = by.work } in
     let at : slice_get r.moments by.place ≡ Some by.moment = subst (λ (x : Report). slice_get x.moments by.place ≡ Some by.moment) (sym h.reported) by.at in
     let shows : Shows (first_moments by.place r) by.worker by.state =
     subst (λ (x : Report). Shows (first_moments by.place x) by.worker by.state) (sym h.reported) (front_shows nodes by.place by.worker acts h.steps by.state by.shown) in (
@@ -165,5 +171,5 @@ done_was_finished nodes slots acts r h k t id among within is =
       at,
       by.of_act,
       by.not_refused,
-      (by.state, by.job, (shows, by.works), by.in_hand, by.of_job.0, by.of_job.1, by.owned, by.put),
+      (by.state, job, (shows, by.works), among job by.state.hand by.in_hand, refl, refl, by.owned, (by.put.0, among by.put.0 commands by.put.1, by.put.2, by.put.3)),
     )

@@ -7,6 +7,7 @@ use Rattle.runs.specs.Run.{world_at}
 use Rattle.runs.specs.Acts.{IsStepOf, IsLawful, IsRunOf}
 use Rattle.runs.specs.Reporting.{Moment, Report, moment_of, grown, first_report, report_from}
 use Rattle.runs.specs.Headline.{Headline}
+use Rattle.runs.proofs.ExactRuns.{run_in}
 use Rattle.runs.proofs.Reports.{moments_from, moments_are}
 
 -- of a run from w on, where r was reported before it
@@ -51,5 +52,5 @@ front (suc k) nodes slots (a ∷ acts) (step ∷ steps) w r m run at =
 pub front_of : (nodes slots : ℕ) (acts : List Act) (r : Report) (h : Headline nodes slots acts r) (k : ℕ) (m : Moment) → slice_get r.moments k ≡ Some m
     → Front nodes slots (start nodes) (first_report nodes) acts h.steps k m
 front_of nodes slots acts r h k m at =
-    front k nodes slots acts h.steps (start nodes) (first_report nodes) m h.is_run
+    front k nodes slots acts h.steps (start nodes) (first_report nodes) m (run_in nodes slots acts r h)
     (subst (λ (ms : List Moment). slice_get ms k ≡ Some m) (ap (λ (x : Report). x.moments) h.reported ∙ moments_are nodes acts h.steps) at)

@@ -26,7 +26,8 @@ use Rattle.histories.specs.What.{event_of, brought}
 use Rattle.histories.specs.After.{after, sent_at, given_at, raised}
 use Rattle.histories.specs.Named.{AllHold, StateHolds}
 use Rattle.histories.proofs.PublicLaws.{eq_nat, among_left, among_right, among_either, each_append, each_at, each_of, each_more, AnyWork, any_pending, GivenHold, Knows, SaysIn, Says, entry_does}
-use Rattle.runs.specs.World.{World, ids_from, start, node_in}
+use Rattle.std.specs.List.{range_with_len}
+use Rattle.runs.specs.World.{World, start, node_in}
 use Rattle.runs.specs.Step.{Step, Takes, Changes, Denies, world_after}
 use Rattle.runs.specs.Run.{IsBrought, IsAllowed, RunFrom, world_at}
 use Rattle.runs.specs.Given.{groups_at, groups_from, AllGiven, GivenBefore, IsOnceEach, NoneTwice}
@@ -100,17 +101,17 @@ run_given nodes [] w given all run = rw append-nil all
 run_given nodes (step ∷ steps) w given all run =
     rw (← append_assoc) (run_given nodes steps (world_after nodes w step) (given ++ groups_at nodes w step) (step_given nodes w step given all run.0) run.1)
 
-opening_among : (k i j m : ℕ) (s : NodeState) → m ≡ i + j → slice_get (map opening (ids_from i k)) j ≡ Some s → IsAmong (own_group m 1) (map (λ (x : ℕ). own_group x 1) (ids_from i k))
+opening_among : (k i j m : ℕ) (s : NodeState) → m ≡ i + j → slice_get (map opening (range_with_len i k)) j ≡ Some s → IsAmong (own_group m 1) (map (λ (x : ℕ). own_group x 1) (range_with_len i k))
 opening_among zero i j m s is at = absurd cc
 opening_among (suc k) i zero m s is at = inl (let number : m ≡ i = omega (arith, is) in ap (λ (x : ℕ). own_group x 1) number)
-opening_among (suc k) i (suc j) m s is at = inr (opening_among k (suc i) j m s (omega (arith, is)) at)
+opening_among (suc k) i (suc j) m s is at = inr (opening_among k (i + 1) j m s (omega (arith, is)) at)
 
 pub given_before : GivenBefore
-given_before nodes steps run = run_given nodes steps (start nodes) (map (λ (x : ℕ). own_group x 1) (ids_from 0 nodes)) (record {
+given_before nodes steps run = run_given nodes steps (start nodes) (map (λ (x : ℕ). own_group x 1) (range_with_len 0 nodes)) (record {
   vectors = λ n s at.
       (let is : s ≡ opening n = opened nodes 0 n s n (omega arith) at in
       let among = opening_among nodes 0 n n s (omega arith) at in
-      subst (λ (x : NodeState). StateHolds (λ g. IsAmong g (map (λ (x : ℕ). own_group x 1) (ids_from 0 nodes))) x.state) (sym is) (λ up. (among, among)));
+      subst (λ (x : NodeState). StateHolds (λ g. IsAmong g (map (λ (x : ℕ). own_group x 1) (range_with_len 0 nodes))) x.state) (sym is) (λ up. (among, among)));
   messages = tt;
 }) run
 
@@ -214,24 +215,24 @@ run_bounded nodes [] w given all run = rw append-nil all
 run_bounded nodes (step ∷ steps) w given all run =
     rw (← append_assoc) (run_bounded nodes steps (world_after nodes w step) (given ++ groups_at nodes w step) (step_bounded nodes w step given all run.0) run.1)
 
-openings_bound : (k i : ℕ) (g : Group) → IsAmong g (map (λ (x : ℕ). own_group x 1) (ids_from i k)) → (j : ℕ) × (g ≡ own_group (i + j) 1) × (slice_get (map opening (ids_from i k)) j ≡ Some (opening (i + j)))
+openings_bound : (k i : ℕ) (g : Group) → IsAmong g (map (λ (x : ℕ). own_group x 1) (range_with_len i k)) → (j : ℕ) × (g ≡ own_group (i + j) 1) × (slice_get (map opening (range_with_len i k)) j ≡ Some (opening (i + j)))
 openings_bound zero i g h = absurd h
 openings_bound (suc k) i g h = elim h [
   | inl e ↦ (0, e ∙ ap (λ (x : ℕ). own_group x 1) (let n : i ≡ i + 0 = omega arith in n), ap (λ (x : ℕ). Some (opening x)) (let n : i ≡ i + 0 = omega arith in n))
-  | inr j ↦ (let rest = openings_bound k (suc i) g j in
-      let n : suc i + rest.0 ≡ i + suc rest.0 = omega arith in
+  | inr j ↦ (let rest = openings_bound k (i + 1) g j in
+      let n : i + 1 + rest.0 ≡ i + suc rest.0 = omega arith in
       (suc rest.0, rest.1 ∙ ap (λ (x : ℕ). own_group x 1) n, rest.2 ∙ ap (λ (x : ℕ). Some (opening x)) n))
 ]
 
-openings_once : (k i : ℕ) → IsOnceEach (map (λ (x : ℕ). own_group x 1) (ids_from i k))
+openings_once : (k i : ℕ) → IsOnceEach (map (λ (x : ℕ). own_group x 1) (range_with_len i k))
 openings_once zero i = tt
-openings_once (suc k) i = (λ h. (let it = openings_bound k (suc i) (own_group i 1) h in let c : i ≡ suc i + it.0 = ap (λ (x : Group). x.creator) it.1 in absurd (omega (arith, c))), openings_once k (suc i))
+openings_once (suc k) i = (λ h. (let it = openings_bound k (i + 1) (own_group i 1) h in let c : i ≡ i + 1 + it.0 = ap (λ (x : Group). x.creator) it.1 in absurd (omega (arith, c))), openings_once k (i + 1))
 
 pub none_twice : NoneTwice
-none_twice nodes steps run = (run_bounded nodes steps (start nodes) (map (λ (x : ℕ). own_group x 1) (ids_from 0 nodes)) (record {
+none_twice nodes steps run = (run_bounded nodes steps (start nodes) (map (λ (x : ℕ). own_group x 1) (range_with_len 0 nodes)) (record {
   bound = λ g h.
       (let it = openings_bound nodes 0 g h in
       let creator : g.creator ≡ it.0 = ap (λ (x : Group). x.creator) it.1 ∙ (let n : 0 + it.0 ≡ it.0 = omega arith in n) in
-      (opening (0 + it.0), subst (λ (c : ℕ). slice_get (map opening (ids_from 0 nodes)) c ≡ Some (opening (0 + it.0))) (sym creator) it.2, omega (arith, ap (λ (x : Group). x.count) it.1)));
+      (opening (0 + it.0), subst (λ (c : ℕ). slice_get (map opening (range_with_len 0 nodes)) c ≡ Some (opening (0 + it.0))) (sym creator) it.2, omega (arith, ap (λ (x : Group). x.count) it.1)));
   once = openings_once nodes 0;
 }) run).once

@@ -1,5 +1,5 @@
 -- Every run of a schedule keeps groups and jobs.
-use Rattle.std.proofs.Common.{◌≡◌, ℕ, suc, ◌<◌, List, [], take, drop, slice_get, refl, sym, ◌∙◌, ap, subst, inl, inr, arith, rules, Option, Some, None, IfSome}
+use Rattle.std.proofs.Common.{◌≡◌, ◌≢◌, ℕ, suc, ◌<◌, List, [], ◌∷◌, take, drop, slice_get, refl, sym, ◌∙◌, ap, subst, inl, inr, arith, rules, Option, Some, None, IfSome}
 use Rattle.std.proofs.lemmas.List.{take-append-drop}
 use Rattle.group_task.specs.Group.{Group}
 use Rattle.group_task.specs.Assignment.{Assignment}
@@ -10,15 +10,19 @@ use Rattle.node_core.specs.State.{State}
 use Rattle.wire_msg.specs.Kinds.{group_in}
 use Rattle.node_core.specs.Start.{down}
 use Rattle.job_model.specs.Durable.{formatted}
-use Rattle.std.specs.Prelude.{unwrap_or}
+use Rattle.std.specs.Prelude.{AllPairs, Contains, true, unwrap_or}
+use Rattle.job_model.specs.declared.node_command.NodeCommand.TheVariants.{Done}
+use Rattle.runs.specs.declared.tried.TriedAt.{TriedAt}
+use Rattle.group_task.specs.Ids.{has}
+use Rattle.node_core.specs.Words.{task_of}
 use Rattle.histories.specs.Lists.{IsAmong}
 use Rattle.histories.specs.NodeState.{NodeState, opening}
 use Rattle.histories.specs.Named.{StateHolds}
-use Rattle.histories.specs.Book.{IsTaskOf, AgreesAt, IsInGroup}
+use Rattle.histories.specs.Book.{IsTaskOf, AgreesAt, IsInGroup, members_in}
 use Rattle.histories.specs.Rising.{Rises}
 use Rattle.histories.specs.Kept.{Kept}
 use Rattle.histories.specs.Marks.{commands_of, mountings_of, marks_of}
-use Rattle.histories.proofs.PublicLaws.{counts_rise, one_worker, each_kept, same_task}
+use Rattle.histories.proofs.PublicLaws.{counts_rise, each_at, one_worker, each_kept}
 use Rattle.histories.specs.Moments.{IsMoment}
 use Rattle.schedule.specs.declared.act.Act.{Act}
 use Rattle.runs.specs.World.{start, node_in}
@@ -27,16 +31,18 @@ use Rattle.runs.specs.Run.{RunFrom, world_at, history_in, histories_of}
 use Rattle.runs.specs.Given.{AllGiven, IsOnceEach, groups_of}
 use Rattle.runs.specs.Acts.{IsRunOf}
 use Rattle.histories.specs.Counts.{IsShort}
-use Rattle.runs.specs.Reporting.{Moment, own_commands, own_mountings, own_counts, report_of}
+use Rattle.runs.specs.Reporting.{Moment, Report, own_commands, own_mountings, own_counts, report_of}
 use Rattle.runs.proofs.Finished.{finished_at}
-use Rattle.runs.proofs.Unspent.{none_spent}
-use Rattle.runs.specs.Headline.{IsShown, report_within, NamesGiven, HasBook, EverySchedule}
+use Rattle.runs.specs.ExactRuns.{IsExactRun}
+use Rattle.runs.specs.Headline.{Headline, IsFinished, IsShown, report_within, NamesGiven, HasBook, EverySchedule}
 use Rattle.runs.proofs.Runs.{history_follows, runs_are_bundles, starts_opened}
 use Rattle.runs.proofs.RunBooks.{state_moment, run_book}
 use Rattle.runs.proofs.Given.{given_before, none_twice}
 use Rattle.runs.proofs.Tagged.{history_few}
 use Rattle.runs.proofs.Reports.{moments_from, opening_is, moments_are, groups_are, commands_reported, mounted_reported}
+use Rattle.runs.proofs.Elements.{among, contains, once_pairs, rising_pairs, some_more}
 use Rattle.runs.proofs.Exact.{all_acts_run}
+use Rattle.runs.proofs.ExactRuns.{exact_run, run_of}
 use Rattle.runs.proofs.Picked.{own_counts_of}
 use Rattle.runs.proofs.Moments.{run_front, acts_front, as_many, moment_state, moment_says, opening_shown}
 
@@ -77,10 +83,17 @@ moment_given nodes slots acts steps is_run k m at =
     let given : List Group = groups_of nodes front in
     let all : AllGiven (world_at nodes (start nodes) front) given = given_before nodes front (run_front (suc k) nodes steps (start nodes) run) in
     let there : slice_get (moments_from nodes (start nodes) acts steps) k ≡ Some m = subst (λ (ms : List Moment). slice_get ms k ≡ Some m) (moments_are nodes acts steps) at in
+    let P : Group → Type 0 = λ g. IsAmong g given in
+    let by_state : StateHolds P m.state = rw (moment_state k nodes acts steps (start nodes) m there)
+    (down_or_given P (world_at nodes (start nodes) front).states m.node (λ s here. all.vectors m.node s here)) in
+    let by_messages = moment_says (λ (x : Envelope). IfSome (group_in x.body) P) k nodes acts steps (start nodes) m there all.messages in
     subst (λ (gs : List Group). NamesGiven gs m) (sym (groups_are nodes slots (take (suc k) acts) front (acts_front (suc k) nodes slots acts steps (start nodes) is_run))) (record {
-      by_state = rw (moment_state k nodes acts steps (start nodes) m there)
-          (down_or_given (λ (g : Group). IsAmong g given) (world_at nodes (start nodes) front).states m.node (λ s here. all.vectors m.node s here));
-      by_messages = moment_says (λ (x : Envelope). IfSome (group_in x.body) (λ (g : Group). IsAmong g given)) k nodes acts steps (start nodes) m there all.messages;
+      by_state = λ up. (
+        contains m.state.group given (by_state up).0,
+        some_more (λ (t : Assignment). P t.group) (λ (t : Assignment). Contains given t.group) m.state.task (λ t i. contains t.group given i) (by_state up).1,
+      );
+      by_messages = λ x sent. some_more P (Contains given) (group_in x.body) (λ g i. contains g given i)
+          (each_at (λ (y : Envelope). IfSome (group_in y.body) P) m.sent x by_messages (among x m.sent sent));
     })
 
 -- ---- 4
@@ -92,7 +105,12 @@ down_or_agrees book states n h = by_state (slice_get states n) h
     by_state None h = (λ in_it. elim in_it [ inl e ↦ absurd cc | inr e ↦ absurd cc ], λ e. absurd cc)
     by_state (Some s) h = h s refl
 
-its_book : (nodes : ℕ) (acts : List Act) (steps : List Step) → RunFrom nodes (start nodes) steps → HasBook (report_of nodes acts steps)
+-- the tasks that were made agree with all states that are shown
+record IsAgreed (r : Report) : Type 0 where
+  book : List Assignment
+  agrees : (n : ℕ) (s : State) → IsShown r n s → AgreesAt book n s
+
+its_book : (nodes : ℕ) (acts : List Act) (steps : List Step) → RunFrom nodes (start nodes) steps → IsAgreed (report_of nodes acts steps)
 its_book nodes acts steps run =
     let law = run_book nodes steps run in
     record {
@@ -112,23 +130,30 @@ its_book nodes acts steps run =
       ];
     }
 
+abbrev members_by : List Assignment → Group → List ℕ
+members_by book g = unwrap_or (members_in book g) []
+
+task_by : (book : List Assignment) (n : ℕ) (g : Group) (task : Option Assignment) → IsTaskOf book n g task → (task ≡ Some (task_of g (members_by book g))) × (has (members_by book g) n ≡ true)
+task_by book n g None h = absurd h
+task_by book n g (Some t) h =
+    let same : members_by book g ≡ t.members = ap (λ (o : Option (List ℕ)). unwrap_or o []) h.1 in
+    (λ i. Some (record { group = h.0 i; members = sym same i }), subst (λ (ms : List ℕ). has ms n ≡ true) (sym same) h.2)
+
+book_by : (r : Report) → IsAgreed r → HasBook r
+book_by r it = record {
+  members = members_by it.book;
+  coordinator = λ n s shown. (it.agrees n s shown).0;
+  task = λ n s shown normal. task_by it.book n s.group s.task ((it.agrees n s shown).1 normal);
+}
+
 -- ---- 5
 
-coordinator_of_two : (book : List Assignment) (n m : ℕ) (s t : State) → AgreesAt book n s → AgreesAt book m t → IsInGroup s.phase → IsInGroup t.phase → s.group ≡ t.group → s.coordinator ≡ t.coordinator
-coordinator_of_two book n m s t a b in_s in_t same =
-    a.0 in_s ∙ (ap (λ (g : Group). g.creator) same ∙ sym (b.0 in_t))
+shown_coordinator : (r : Report) (h : HasBook r) (n m : ℕ) (s t : State) → IsShown r n s → IsShown r m t → IsInGroup s.phase → IsInGroup t.phase → s.group ≡ t.group → s.coordinator ≡ t.coordinator
+shown_coordinator r h n m s t a b in_s in_t same = h.coordinator n s a in_s ∙ (ap (λ (g : Group). g.creator) same ∙ sym (h.coordinator m t b in_t))
 
-task_of_two : (book : List Assignment) (n m : ℕ) (s t : State) → AgreesAt book n s → AgreesAt book m t → s.phase ≡ Normal → t.phase ≡ Normal → s.group ≡ t.group → s.task ≡ t.task
-task_of_two book n m s t a b in_s in_t same =
-    same_task book n m t.group s.task t.task (subst (λ (g : Group). IsTaskOf book n g s.task) same (a.1 in_s)) (b.1 in_t)
-
-shown_coordinator : (nodes : ℕ) (acts : List Act) (steps : List Step) (h : HasBook (report_of nodes acts steps)) (n m : ℕ) (s t : State)
-    → IsShown (report_of nodes acts steps) n s → IsShown (report_of nodes acts steps) m t → IsInGroup s.phase → IsInGroup t.phase → s.group ≡ t.group → s.coordinator ≡ t.coordinator
-shown_coordinator nodes acts steps h n m s t a b in_s in_t same = coordinator_of_two h.book n m s t (h.agrees n s a) (h.agrees m t b) in_s in_t same
-
-shown_task : (nodes : ℕ) (acts : List Act) (steps : List Step) (h : HasBook (report_of nodes acts steps)) (n m : ℕ) (s t : State)
-    → IsShown (report_of nodes acts steps) n s → IsShown (report_of nodes acts steps) m t → s.phase ≡ Normal → t.phase ≡ Normal → s.group ≡ t.group → s.task ≡ t.task
-shown_task nodes acts steps h n m s t a b in_s in_t same = task_of_two h.book n m s t (h.agrees n s a) (h.agrees m t b) in_s in_t same
+shown_task : (r : Report) (h : HasBook r) (n m : ℕ) (s t : State) → IsShown r n s → IsShown r m t → s.phase ≡ Normal → t.phase ≡ Normal → s.group ≡ t.group → s.task ≡ t.task
+shown_task r h n m s t a b in_s in_t same =
+    (h.task n s a in_s).0 ∙ (ap (λ (g : Group). Some (task_of g (h.members g))) same ∙ sym (h.task m t b in_t).0)
 
 -- ---- jobs
 
@@ -154,30 +179,38 @@ shown_moment nodes acts steps n s shown normal = elim shown [
 
 worker_of_two : (nodes : ℕ) (acts : List Act) (steps : List Step) → RunFrom nodes (start nodes) steps → (n m : ℕ) (s t : State)
     → IsShown (report_of nodes acts steps) n s → IsShown (report_of nodes acts steps) m t → s.phase ≡ Normal → t.phase ≡ Normal → s.group ≡ t.group
-    → (a b : InHand) → IsAmong a s.hand → IsAmong b t.hand → a.work.queue ≡ b.work.queue → n ≡ m
+    → (a b : InHand) → Contains s.hand a → Contains t.hand b → a.work.queue ≡ b.work.queue → n ≡ m
 worker_of_two nodes acts steps run n m s t at_s at_t normal_s normal_t same a b in_s in_t queue =
     one_worker (histories_of nodes steps) (runs_are_bundles nodes steps run) n m s t (shown_moment nodes acts steps n s at_s normal_s) (shown_moment nodes acts steps m t at_t normal_t)
-    normal_s normal_t same a b in_s in_t queue
+    normal_s normal_t same a b (among a s.hand in_s) (among b t.hand in_t) queue
 
 -- each part by its law, which may take fewer premises than the part has
-pub every_schedule : EverySchedule
-every_schedule nodes slots acts steps short is_run unworn =
+pub keeps : (nodes slots : ℕ) (acts : List Act) (steps : List Step) → IsShort acts → IsExactRun nodes slots (start nodes) acts steps → Headline nodes slots acts (report_of nodes acts steps)
+keeps nodes slots acts steps short exact =
+    let is_run : IsRunOf nodes slots (start nodes) acts steps = run_of slots nodes acts steps short exact in
     let run : RunFrom nodes (start nodes) steps = all_acts_run nodes slots (start nodes) acts steps is_run in
     let few : IsShort steps = omega (arith, short, as_many nodes slots acts steps (start nodes) is_run) in
-    let the_book : HasBook (report_of nodes acts steps) = its_book nodes acts steps run in
+    let r : Report = report_of nodes acts steps in
+    let the_book : HasBook r = book_by r (its_book nodes acts steps run) in
+    let rise : (n : ℕ) → n < nodes → AllPairs (λ (j k : ℕ). j < k) (0 ∷ own_counts n r.groups) = λ n lt. rising_pairs 0 (own_counts n r.groups) (each_rises nodes slots acts steps is_run n lt) in
+    let apart : AllPairs (λ (g h : Group). g ≢ h) r.groups = once_pairs r.groups (given_once nodes slots acts steps is_run) in
+    let ended : (k : ℕ) (t : TriedAt) (id : ℕ) → Contains (report_within nodes k acts steps).commands t → t.node < nodes → t.tried.command ≡ Done id → IsFinished nodes acts steps k t.node id =
+    λ k t id tried within done. finished_at nodes slots acts steps is_run k t id (among t (report_within nodes k acts steps).commands tried) within done in
     record {
+      short = short;
       steps = steps;
-      is_run = search (rules, is_run);
+      is_run = search (rules, exact);
       reported = search rules;
-      unspent = search (rules, none_spent nodes slots acts steps short is_run);
-      unworn = search (rules, unworn);
       kept = search (rules, kept_by_report nodes slots acts steps is_run few);
-      rising = search (rules, each_rises nodes slots acts steps is_run);
-      once = search (rules, given_once nodes slots acts steps is_run);
+      rising = search (rules, rise);
+      once = search (rules, apart);
       given = search (rules, moment_given nodes slots acts steps is_run);
       has_book = search (rules, the_book);
-      one_coordinator = search (rules, shown_coordinator nodes acts steps the_book);
-      one_task = search (rules, shown_task nodes acts steps the_book);
+      one_coordinator = search (rules, shown_coordinator r the_book);
+      one_task = search (rules, shown_task r the_book);
       one_worker = search (rules, worker_of_two nodes acts steps run);
-      finished = search (rules, finished_at nodes slots acts steps is_run);
+      finished = search (rules, ended);
     }
+
+pub every_schedule : EverySchedule
+every_schedule nodes slots acts steps short is_run unworn = keeps nodes slots acts steps short (exact_run slots nodes acts steps short is_run unworn)

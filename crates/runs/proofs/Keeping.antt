@@ -1,13 +1,14 @@
 -- What each node keeps at its own steps, every node keeps.
-use Rattle.std.proofs.Common.{◌≡◌, ◌≢◌, ℕ, Bool, true, false, slice_get, refl, sym, ◌∙◌, subst, arith, Some}
+use Rattle.std.proofs.Common.{◌≡◌, ◌≢◌, ℕ, Bool, true, false, length, slice_get, refl, sym, ◌∙◌, subst, arith, Some}
 use Rattle.std.specs.Prelude.{◌==◌}
 use Rattle.std.proofs.lemmas.Bool.Decides.{nat_tests}
+use Rattle.std.proofs.lemmas.List.{length-set}
 use Rattle.histories.specs.NodeState.{NodeState}
 use Rattle.histories.specs.declared.what.What.{What}
 use Rattle.histories.specs.After.{after}
 use Rattle.histories.proofs.PublicLaws.{eq_nat}
-use Rattle.runs.specs.World.{World}
-use Rattle.runs.specs.Step.{Takes, world_after}
+use Rattle.runs.specs.World.{World, node_in}
+use Rattle.runs.specs.Step.{Step, Takes, Changes, Denies, world_after}
 use Rattle.runs.proofs.Runs.{state_here, state_elsewhere}
 
 -- P holds of each node and its state
@@ -29,3 +30,9 @@ states_keep P nodes w m number what s at kept all n t at_n = by_place (m == n) r
     by_place false is =
         let ne : n ≢ m = grind (arith, nat_tests) in
         all n t (sym (state_elsewhere m n nodes what w.states ne) ∙ at_n)
+
+-- there are as many nodes as there were
+pub step_length : (nodes : ℕ) (w : World) (step : Step) → length (world_after nodes w step).states ≡ length w.states
+step_length nodes w (Takes n number what) = length-set w.states n (after n nodes (node_in w.states n) what)
+step_length nodes w (Changes net) = refl
+step_length nodes w (Denies named why) = refl

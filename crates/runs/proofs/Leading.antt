@@ -25,6 +25,7 @@ use Rattle.runs.specs.Step.{Step, Takes, Changes, Denies, world_after}
 use Rattle.runs.specs.Acts.{IsLawful, IsRunOf}
 use Rattle.runs.specs.Reporting.{Moment, Report, moment_of}
 use Rattle.runs.specs.Uses.{Leads, LeaderCountsRise}
+use Rattle.runs.proofs.ExactRuns.{run_in}
 use Rattle.runs.proofs.Keeping.{AllStates, states_keep}
 use Rattle.runs.proofs.Reports.{moments_from, moments_are}
 use Rattle.runs.proofs.Runs.{node_there, opened, starts_opened, state_elsewhere, state_here}
@@ -179,5 +180,5 @@ opens_last nodes n s at = (let first : s ≡ opening n = opened nodes 0 n s n (o
 pub leader_counts_rise : LeaderCountsRise
 leader_counts_rise nodes slots acts r h n j k m l within lt at_m at_l named_m named_l leads_m leads_l =
     let moments : r.moments ≡ moments_from nodes (start nodes) acts h.steps = ap (λ (x : Report). x.moments) h.reported ∙ moments_are nodes acts h.steps in
-    counts_rise j k slots nodes n acts h.steps (start nodes) (opening n) m l h.is_run (opens_last nodes) (starts_opened nodes n within) lt
+    counts_rise j k slots nodes n acts h.steps (start nodes) (opening n) m l (run_in nodes slots acts r h) (opens_last nodes) (starts_opened nodes n within) lt
     (subst (λ (ms : List Moment). slice_get ms j ≡ Some m) moments at_m) (subst (λ (ms : List Moment). slice_get ms k ≡ Some l) moments at_l) named_m named_l leads_m leads_l

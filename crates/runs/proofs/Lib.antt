@@ -12,11 +12,13 @@ mod Given
 mod Growing
 mod Examples
 mod Exact
+mod ExactRuns
 mod Sending
 mod Numbered
 mod Counted
 mod Hands
 mod Keeping
+mod Elements
 mod Rooms
 mod Strangers
 mod Opened

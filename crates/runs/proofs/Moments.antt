@@ -63,7 +63,7 @@ moment_says P zero nodes (a ∷ acts) (step ∷ next ∷ steps) w m at h =
     let it : moment_of nodes w a step ≡ m = cc at in subst (λ (x : Moment). Each P x.sent) it (step_says P nodes w step h)
 moment_says P (suc k) nodes (a ∷ acts) (step ∷ steps) w m at h = moment_says P k nodes acts steps (world_after nodes w step) m at h
 
--- a state of the map opening (ids_from is that) of a node
+-- a state of the map opening (range_with_len is that) of a node
 pub opening_shown : (states : List NodeState) (n : ℕ) (s : State) → slice_get (map (λ (x : NodeState). x.state) states) n ≡ Some s → (x : NodeState) × (slice_get states n ≡ Some x) × (x.state ≡ s)
 opening_shown [] n s at = absurd cc
 opening_shown (x ∷ states) zero s at = (x, refl, cc at)

@@ -13,6 +13,7 @@ use Rattle.schedule.specs.declared.act.Act.TheVariants as act
 use Rattle.runs.specs.World.{World, node_in, start}
 use Rattle.runs.specs.Step.{Step, Takes, Changes, Denies, step_sent, world_after}
 use Rattle.runs.specs.Run.{IsAllowed, RunFrom, world_at}
+use Rattle.runs.proofs.ExactRuns.{left_run}
 use Rattle.runs.proofs.Exact.{all_acts_run}
 use Rattle.runs.proofs.Reports.{moments_from, moments_are}
 use Rattle.runs.specs.Acts.{what_outcome, act_outcome}
@@ -75,4 +76,4 @@ moment_numbered (suc k) nodes (a ∷ acts) (step ∷ steps) w m more run at = mo
 pub left_numbered : (nodes slots : ℕ) (w : World) (r : Report) (more : List Envelope) → IsLeft nodes slots w r → (k : ℕ) (m : Moment) → slice_get r.moments k ≡ Some m → m.sent ≡ sent_under (w.net.sent ++ more) m.outcome
 left_numbered nodes slots w r more left k m at =
     let shown : slice_get (moments_from nodes (start nodes) (acts_in r) left.steps) k ≡ Some m = subst (λ (ms : List Moment). slice_get ms k ≡ Some m) (ap (λ (x : Report). x.moments) left.reported ∙ moments_are nodes (acts_in r) left.steps) at in
-    subst (λ (x : World). m.sent ≡ sent_under (x.net.sent ++ more) m.outcome) (sym left.world) (moment_numbered k nodes (acts_in r) left.steps (start nodes) m more (all_acts_run nodes slots (start nodes) (acts_in r) left.steps left.is_run) shown)
+    subst (λ (x : World). m.sent ≡ sent_under (x.net.sent ++ more) m.outcome) (sym left.world) (moment_numbered k nodes (acts_in r) left.steps (start nodes) m more (all_acts_run nodes slots (start nodes) (acts_in r) left.steps (left_run nodes slots w r left)) shown)

@@ -1,6 +1,6 @@
 -- A group's number is new when it is given.
 use Rattle.std.proofs.Common.{◌≡◌, ◌⊎◌, ℕ, zero, suc, ◌<◌, Bool, true, false, List, [], ◌∷◌, slice_get, refl, sym, ◌∙◌, ap, subst, inl, inr, arith, Some, IfSome, Option}
-use Rattle.std.specs.Prelude.{◌==◌, cond, map}
+use Rattle.std.specs.Prelude.{◌==◌, Contains, cond, map}
 use Rattle.std.specs.List.{filter}
 use Rattle.std.proofs.lemmas.Bool.Decides.{nat_tests}
 use Rattle.group_task.specs.Group.{Group}
@@ -12,12 +12,12 @@ use Rattle.wire_msg.specs.Kinds.{group_in}
 use Rattle.histories.specs.Lists.{IsAmong}
 use Rattle.histories.specs.Named.{StateHolds}
 use Rattle.histories.specs.Rising.{Rises}
-use Rattle.histories.proofs.PublicLaws.{each_at}
 use Rattle.runs.specs.Given.{IsOnceEach}
 use Rattle.runs.specs.Reporting.{own_counts}
 use Rattle.runs.specs.Headline.{report_within}
 use Rattle.runs.specs.Uses.{GivenAtOnePlace, LaterIsGreater, NamedWasGiven}
 use Rattle.runs.proofs.Acknowledged.{among_of}
+use Rattle.runs.proofs.Elements.{among, contains, pairs_once, pairs_rise}
 
 one_place : (gs : List Group) → IsOnceEach gs → (i j : ℕ) (g : Group) → slice_get gs i ≡ Some g → slice_get gs j ≡ Some g → i ≡ j
 one_place [] once i j g at_i at_j = absurd cc
@@ -27,7 +27,7 @@ one_place (x ∷ gs) once (suc i) zero g at_i at_j = (let same : x ≡ g = cc at
 one_place (x ∷ gs) once (suc i) (suc j) g at_i at_j = ap suc (one_place gs once.1 i j g at_i at_j)
 
 pub given_at_one_place : GivenAtOnePlace
-given_at_one_place nodes slots acts r h i j g at_i at_j = one_place r.groups h.once i j g at_i at_j
+given_at_one_place nodes slots acts r h i j g at_i at_j = one_place r.groups (pairs_once r.groups h.once) i j g at_i at_j
 
 rises_lower : (low high : ℕ) (ks : List ℕ) → low < high → Rises high ks → Rises low ks
 rises_lower low high [] lt h = tt
@@ -67,7 +67,7 @@ rising_places n (x ∷ gs) last rises i (suc j) g h lt at_i at_j of_g of_h =
     pick false is rises (suc i) lt at rest = rest last rises i (omega (arith, lt)) at
 
 pub later_is_greater : LaterIsGreater
-later_is_greater nodes slots acts r head i j g h lt at_i at_j same within = rising_places g.creator r.groups 0 (head.rising g.creator within) i j g h lt at_i at_j refl (sym same)
+later_is_greater nodes slots acts r head i j g h lt at_i at_j same within = rising_places g.creator r.groups 0 (pairs_rise 0 (own_counts g.creator r.groups) (head.rising g.creator within)) i j g h lt at_i at_j refl (sym same)
 
 -- a node that is up shows its group
 group_shown : (P : Group → Type 0) (s : State) (phase : Phase) → s.phase ≡ phase → StateHolds P s → (s.phase ≡ Down) ⊎ P s.group
@@ -77,8 +77,7 @@ group_shown P s phase is h = inr (h (λ down. absurd cc (is, down))).0
 pub named_was_given : NamedWasGiven
 named_was_given nodes slots acts r head k m at =
     let given : List Group = (report_within nodes (suc k) acts head.steps).groups in
-    let P = λ (g : Group). IsAmong g given in
     let named = head.given k m at in (
-      group_shown P m.state m.state.phase refl named.by_state,
-      λ x g here says. subst (λ (o : Option Group). IfSome o P) says (each_at (λ (y : Envelope). IfSome (group_in y.body) P) m.sent x named.by_messages here),
+      elim (group_shown (Contains given) m.state m.state.phase refl named.by_state) [ inl down ↦ inl down | inr it ↦ inr (among m.state.group given it) ],
+      λ x g here says. among g given (subst (λ (o : Option Group). IfSome o (Contains given)) says (named.by_messages x (contains x m.sent here))),
     )

@@ -5,18 +5,18 @@ use Rattle.job_model.specs.declared.node_command.NodeCommand.TheVariants.{Raise}
 use Rattle.job_model.specs.Durable.{formatted}
 use Rattle.node_core.specs.Words.{own_group}
 use Rattle.histories.specs.NodeState.{NodeState, opening}
-use Rattle.runs.specs.World.{ids_from}
+use Rattle.std.specs.List.{range_with_len}
 use Rattle.runs.specs.declared.tried.TriedAt.{TriedAt}
 use Rattle.runs.specs.Reporting.{MountedAt, first_report}
 
-pub length_openings : (n k : ℕ) → length (map opening (ids_from n k)) ≡ k
+pub length_openings : (n k : ℕ) → length (map opening (range_with_len n k)) ≡ k
 length_openings n zero = refl
-length_openings n (suc k) = ap suc (length_openings (suc n) k)
+length_openings n (suc k) = ap suc (length_openings (n + 1) k)
 
 -- one more of what each node gives
-one_more : {A : Type 0} (f : ℕ → A) (k n m : ℕ) → n + k ≡ m → map f (ids_from n k) ++ f m ∷ [] ≡ map f (ids_from n (suc k))
+one_more : {A : Type 0} (f : ℕ → A) (k n m : ℕ) → n + k ≡ m → map f (range_with_len n k) ++ f m ∷ [] ≡ map f (range_with_len n (suc k))
 one_more f zero n m is = ap (λ (j : ℕ). f j ∷ []) (let e : m ≡ n = omega (arith, is) in e)
-one_more {A} f (suc k) n m is = ap (λ (xs : List A). f n ∷ xs) (one_more f k (suc n) m (omega (arith, is)))
+one_more {A} f (suc k) n m is = ap (λ (xs : List A). f n ∷ xs) (one_more f k (n + 1) m (omega (arith, is)))
 
 pub opened_more : (k : ℕ) → record {
   opening = (first_report k).opening ++ (opening k).state ∷ [];
@@ -26,7 +26,7 @@ pub opened_more : (k : ℕ) → record {
   mounted = (first_report k).mounted ++ record { node = k; mounting = record { before = 0; state = formatted } } ∷ [];
 } ≡ first_report (suc k)
 opened_more k = (λ i. record {
-  opening = (sym (map-append (λ (s : NodeState). s.state) (map opening (ids_from 0 k)) (opening k ∷ [])) ∙ ap (λ (ss : List NodeState). map (λ (s : NodeState). s.state) ss) (one_more opening k 0 k (omega arith))) i;
+  opening = (sym (map-append (λ (s : NodeState). s.state) (map opening (range_with_len 0 k)) (opening k ∷ [])) ∙ ap (λ (ss : List NodeState). map (λ (s : NodeState). s.state) ss) (one_more opening k 0 k (omega arith))) i;
   moments = [];
   groups = one_more (λ (n : ℕ). own_group n 1) k 0 k (omega arith) i;
   commands = one_more {A = TriedAt} (λ (n : ℕ). record { node = n; tried = record { command = Raise; acked = Some 1 } }) k 0 k (omega arith) i;

@@ -7,7 +7,7 @@ use Rattle.std.proofs.lemmas.List.{map-append}
 use Rattle.std.proofs.lemmas.List.Elements.{filter-append}
 use Rattle.histories.specs.Lists.{IsAmong}
 use Rattle.histories.proofs.PublicLaws.{eq_nat}
-use Rattle.runs.specs.World.{ids_from}
+use Rattle.std.specs.List.{range_with_len}
 
 module _ {A B : Type 0} (node : A → ℕ) (part : A → B) where
   -- the elements of a node
@@ -44,17 +44,17 @@ module _ {A B : Type 0} (node : A → ℕ) (part : A → B) where
       pick false is i rest = (let it = rest i in (it.0, inr it.1, it.2, it.3))
 
   -- where each node has one element
-  none_before : (each : ℕ → A) → ((i : ℕ) → node (each i) ≡ i) → (k i n : ℕ) → n < i → own n (map each (ids_from i k)) ≡ []
+  none_before : (each : ℕ → A) → ((i : ℕ) → node (each i) ≡ i) → (k i n : ℕ) → n < i → own n (map each (range_with_len i k)) ≡ []
   none_before each of zero i n lt = refl
-  none_before each of (suc k) i n lt = let other : (node (each i) == n) ≡ false = rw (of i) (grind (arith, nat_tests, lt)) in rw other (none_before each of k (suc i) n (omega (arith, lt)))
+  none_before each of (suc k) i n lt = let other : (node (each i) == n) ≡ false = rw (of i) (grind (arith, nat_tests, lt)) in rw other (none_before each of k (i + 1) n (omega (arith, lt)))
 
-  pub one_each : (each : ℕ → A) → ((i : ℕ) → node (each i) ≡ i) → (k i n : ℕ) → i ≤ n → n < i + k → own n (map each (ids_from i k)) ≡ part (each n) ∷ []
+  pub one_each : (each : ℕ → A) → ((i : ℕ) → node (each i) ≡ i) → (k i n : ℕ) → i ≤ n → n < i + k → own n (map each (range_with_len i k)) ≡ part (each n) ∷ []
   one_each each of zero i n le lt = absurd (omega (arith, le, lt))
-  one_each each of (suc k) i n le lt = pick (node (each i) == n) refl (λ above. one_each each of k (suc i) n above (omega (arith, lt)))
+  one_each each of (suc k) i n le lt = pick (node (each i) == n) refl (λ above. one_each each of k (i + 1) n above (omega (arith, lt)))
     where
-      pick : (b : Bool) → (node (each i) == n) ≡ b → (suc i ≤ n → own n (map each (ids_from (suc i) k)) ≡ part (each n) ∷ [])
-          → map part (cond b (each i ∷ mine n (map each (ids_from (suc i) k))) (mine n (map each (ids_from (suc i) k)))) ≡ part (each n) ∷ []
+      pick : (b : Bool) → (node (each i) == n) ≡ b → (i + 1 ≤ n → own n (map each (range_with_len (i + 1) k)) ≡ part (each n) ∷ [])
+          → map part (cond b (each i ∷ mine n (map each (range_with_len (i + 1) k))) (mine n (map each (range_with_len (i + 1) k)))) ≡ part (each n) ∷ []
       pick true is rest =
           let same : i ≡ n = sym (of i) ∙ eq_nat (node (each i)) n is in
-          (λ t. part (each (same t)) ∷ none_before each of k (suc i) n (omega (arith, same)) t)
+          (λ t. part (each (same t)) ∷ none_before each of k (i + 1) n (omega (arith, same)) t)
       pick false is rest = (let here = of i in let ne : i ≢ n = grind (arith, nat_tests) in rest (omega (arith, le, ne)))

@@ -7,7 +7,8 @@ use Rattle.histories.specs.NodeState.{NodeState, opening}
 use Rattle.histories.specs.After.{after, given_at, sent_at}
 use Rattle.histories.specs.History.{counts_given}
 use Rattle.histories.proofs.PublicLaws.{eq_nat}
-use Rattle.runs.specs.World.{World, ids_from, start, node_in}
+use Rattle.std.specs.List.{range_with_len}
+use Rattle.runs.specs.World.{World, start, node_in}
 use Rattle.runs.specs.Step.{Step, Takes, Changes, Denies, world_after}
 use Rattle.runs.specs.Run.{history_in}
 use Rattle.runs.specs.Given.{groups_from, groups_of}
@@ -56,6 +57,6 @@ counts_from n nodes (Denies named why ∷ steps) w s at = counts_from n nodes st
 -- the counts of a node in a run
 pub own_counts_of : (nodes n : ℕ) (steps : List Step) → n < nodes → own_counts n (groups_of nodes steps) ≡ 1 ∷ counts_given n nodes (opening n) (history_in n nodes (start nodes) steps)
 own_counts_of nodes n steps lt =
-    counts_append n (map (λ (x : ℕ). own_group x 1) (ids_from 0 nodes)) (groups_from nodes (start nodes) steps)
+    counts_append n (map (λ (x : ℕ). own_group x 1) (range_with_len 0 nodes)) (groups_from nodes (start nodes) steps)
     ∙ ap (λ (ks : List ℕ). ks ++ own_counts n (groups_from nodes (start nodes) steps)) (one_each (λ (g : Group). g.creator) (λ (g : Group). g.count) (λ (x : ℕ). own_group x 1) (λ i. refl) nodes 0 n (omega arith) (omega (arith, lt)))
     ∙ ap (λ (ks : List ℕ). 1 ∷ ks) (counts_from n nodes steps (start nodes) (opening n) (starts_opened nodes n lt))

@@ -7,9 +7,11 @@ pub use Rattle.runs.proofs.Exact.{all_acts_run}
 -- Only an act `finish` tells a node that a job is finished.
 pub use Rattle.runs.proofs.Finishing.{link_none, loses_none, taken_there}
 -- A run and its report grow by one act.
-pub use Rattle.runs.proofs.Grown.{acts_go_on, left_keeps, runs_grow, runs_open, step_length}
+pub use Rattle.runs.proofs.Grown.{acts_go_on, left_keeps, runs_grow, runs_open}
 -- A step makes a node's hand longer by no more than the pending jobs and one.
 pub use Rattle.runs.proofs.Hands.{hands_grow}
+-- What each node keeps at its own steps, every node keeps, and there are as many nodes as there were.
+pub use Rattle.runs.proofs.Keeping.{step_length}
 -- The messages of a moment are those under its numbers, also when more were sent after it.
 pub use Rattle.runs.proofs.Numbered.{left_numbered, step_adds, step_numbered}
 -- The nodes that open, and the report of one more.

@@ -7,6 +7,7 @@ use Rattle.runs.specs.World.{World, start}
 use Rattle.runs.specs.Step.{Step, world_after}
 use Rattle.runs.specs.Acts.{IsRunOf}
 use Rattle.runs.specs.Reporting.{Moment}
+use Rattle.runs.proofs.ExactRuns.{run_in}
 use Rattle.runs.proofs.Reports.{moments_from, moments_are, opening_is}
 use Rattle.node_core.specs.State.{State}
 use Rattle.runs.specs.Uses.{ActsAreReported}
@@ -25,7 +26,7 @@ state_there (y ∷ states) (suc n) x at = state_there states n x at
 
 pub acts_are_reported : ActsAreReported
 acts_are_reported nodes slots acts r h = rw h.reported (
-  ap (map (λ (m : Moment). m.act)) (moments_are nodes acts h.steps) ∙ acts_reported nodes slots acts h.steps (start nodes) h.is_run,
+  ap (map (λ (m : Moment). m.act)) (moments_are nodes acts h.steps) ∙ acts_reported nodes slots acts h.steps (start nodes) (run_in nodes slots acts r h),
   ap (λ (xs : List State). length xs) (opening_is nodes acts h.steps) ∙ length-map (start nodes).states (λ (s : NodeState). s.state) ∙ length_openings 0 nodes,
   λ n lt. ap (λ (xs : List State). slice_get xs n) (opening_is nodes acts h.steps) ∙ state_there (start nodes).states n (opening n) (starts_opened nodes n lt),
 )

@@ -24,6 +24,7 @@ use Rattle.runs.specs.Step.{Step, Takes, Changes, Denies, world_after}
 use Rattle.runs.specs.Run.{IsAllowed, world_at}
 use Rattle.runs.specs.Acts.{IsRunOf}
 use Rattle.runs.specs.Growth.{StepOfSlots}
+use Rattle.runs.proofs.ExactRuns.{left_run}
 use Rattle.runs.proofs.Lawful.{allowed_of, slots_of}
 use Rattle.runs.specs.Reporting.{Report}
 use Rattle.runs.specs.Growth.{IsLeft, acts_in}
@@ -121,7 +122,7 @@ pub left_few : (nodes slots : ℕ) (w : World) (r : Report) → IsLeft nodes slo
     → (n : ℕ) (s : NodeState) → slice_get w.states n ≡ Some s → (kept : Bool) → length (settled kept s).pending ≤ slots
 left_few nodes slots w r left n s at kept =
     let there : slice_get (world_at nodes (start nodes) left.steps).states n ≡ Some s = subst (λ (x : World). slice_get x.states n ≡ Some s) left.world at in
-    few_pending nodes slots (acts_in r) left.steps left.is_run n s there kept
+    few_pending nodes slots (acts_in r) left.steps (left_run nodes slots w r left) n s there kept
 
 -- what a mounting gives there, at a node that is down
 pub mounted_few : (nodes slots : ℕ) (w : World) (r : Report) → IsLeft nodes slots w r → (n : ℕ) (s : NodeState) → slice_get w.states n ≡ Some s

@@ -14,7 +14,8 @@ use Rattle.histories.proofs.PublicLaws.{eq_nat, among_left, among_right, among_e
 use Rattle.sim_net.specs.declared.fault.NetFault.{NetFault}
 use Rattle.sim_net.specs.declared.fault.NetFault.TheVariants.{NoSuch, Lost, Cut}
 use Rattle.sim_net.specs.Network.{Network, is_cut, message_at, delivery}
-use Rattle.runs.specs.World.{World, ids_from, start, node_in}
+use Rattle.std.specs.List.{range_with_len}
+use Rattle.runs.specs.World.{World, start, node_in}
 use Rattle.runs.specs.Step.{Step, Takes, Changes, Denies, world_after}
 use Rattle.runs.specs.Run.{IsBrought, RunFrom, world_at, history_in, histories_from, histories_of, RunsAreBundles}
 
@@ -197,32 +198,32 @@ sent_by_node nodes (Denies named why ∷ steps) w m run i = elim (sent_by_node n
 ]
 
 -- the nodes and their histories stand at the same places
-pub opened : (k i j : ℕ) (s : NodeState) (m : ℕ) → m ≡ i + j → slice_get (map opening (ids_from i k)) j ≡ Some s → s ≡ opening m
+pub opened : (k i j : ℕ) (s : NodeState) (m : ℕ) → m ≡ i + j → slice_get (map opening (range_with_len i k)) j ≡ Some s → s ≡ opening m
 opened zero i j s m is at = absurd cc
 opened (suc k) i zero s m is at =
     let number : i ≡ m = omega (arith, is) in
     let here : opening i ≡ s = cc at in
     sym here ∙ ap opening number
-opened (suc k) i (suc j) s m is at = opened k (suc i) j s m (omega (arith, is)) at
+opened (suc k) i (suc j) s m is at = opened k (i + 1) j s m (omega (arith, is)) at
 
-pub opened_at : (k i j : ℕ) → j < k → slice_get (map opening (ids_from i k)) j ≡ Some (opening (i + j))
+pub opened_at : (k i j : ℕ) → j < k → slice_get (map opening (range_with_len i k)) j ≡ Some (opening (i + j))
 opened_at zero i j lt = absurd (omega (arith, lt))
 opened_at (suc k) i zero lt = ap (λ (x : ℕ). Some (opening x)) (let n : i ≡ i + 0 = omega arith in n)
-opened_at (suc k) i (suc j) lt = opened_at k (suc i) j (omega (arith, lt)) ∙ ap (λ (x : ℕ). Some (opening x)) (let n : suc i + j ≡ i + suc j = omega arith in n)
+opened_at (suc k) i (suc j) lt = opened_at k (i + 1) j (omega (arith, lt)) ∙ ap (λ (x : ℕ). Some (opening x)) (let n : i + 1 + j ≡ i + suc j = omega arith in n)
 
 pub starts_opened : (nodes n : ℕ) → n < nodes → slice_get (start nodes).states n ≡ Some (opening n)
 starts_opened nodes n lt = opened_at nodes 0 n lt ∙ ap (λ (x : ℕ). Some (opening x)) (let e : 0 + n ≡ n = omega arith in e)
 
-pub history_at : (k i j nodes : ℕ) (steps : List Step) (s : NodeState) (m : ℕ) → m ≡ i + j → slice_get (map opening (ids_from i k)) j ≡ Some s
+pub history_at : (k i j nodes : ℕ) (steps : List Step) (s : NodeState) (m : ℕ) → m ≡ i + j → slice_get (map opening (range_with_len i k)) j ≡ Some s
     → slice_get (histories_from i k nodes steps) j ≡ Some (history_in m nodes (start nodes) steps)
 history_at zero i j nodes steps s m is at = absurd cc
 history_at (suc k) i zero nodes steps s m is at =
     let number : i ≡ m = omega (arith, is) in ap (λ (x : ℕ). Some (history_in x nodes (start nodes) steps)) number
-history_at (suc k) i (suc j) nodes steps s m is at = history_at k (suc i) j nodes steps s m (omega (arith, is)) at
+history_at (suc k) i (suc j) nodes steps s m is at = history_at k (i + 1) j nodes steps s m (omega (arith, is)) at
 
 -- a history of the list is that of a node
 pub record IsNodeOf (k i j nodes : ℕ) (steps : List Step) (h : List Entry) (m : ℕ) : Type 0 where
-  pub is_node : slice_get (map opening (ids_from i k)) j ≡ Some (opening m)
+  pub is_node : slice_get (map opening (range_with_len i k)) j ≡ Some (opening m)
   pub is_history : h ≡ history_in m nodes (start nodes) steps
 
 pub node_of : (k i j nodes : ℕ) (steps : List Step) (h : List Entry) (m : ℕ) → m ≡ i + j → slice_get (histories_from i k nodes steps) j ≡ Some h → IsNodeOf k i j nodes steps h m
@@ -234,12 +235,12 @@ node_of (suc k) i zero nodes steps h m is at =
       is_history = sym same ∙ ap (λ (x : ℕ). history_in x nodes (start nodes) steps) number;
     }
 node_of (suc k) i (suc j) nodes steps h m is at =
-    let rest = node_of k (suc i) j nodes steps h m (omega (arith, is)) at in
+    let rest = node_of k (i + 1) j nodes steps h m (omega (arith, is)) at in
     record { is_node = rest.is_node; is_history = rest.is_history }
 
 pub how_many : (k i nodes : ℕ) (steps : List Step) → length (histories_from i k nodes steps) ≡ k
 how_many zero i nodes steps = refl
-how_many (suc k) i nodes steps = ap suc (how_many k (suc i) nodes steps)
+how_many (suc k) i nodes steps = ap suc (how_many k (i + 1) nodes steps)
 
 pub runs_are_bundles : RunsAreBundles
 runs_are_bundles nodes steps run = record {

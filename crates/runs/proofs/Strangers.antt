@@ -4,13 +4,15 @@ use Rattle.std.proofs.lemmas.Option.{slice_get_within}
 use Rattle.wire_msg.specs.Envelope.{Envelope}
 use Rattle.histories.specs.NodeState.{NodeState, opening}
 use Rattle.histories.proofs.PublicLaws.{each_append, IsInside, alone_inside, after_inside, sent_inside}
-use Rattle.runs.specs.World.{World, ids_from, start, node_in}
+use Rattle.std.specs.List.{range_with_len}
+use Rattle.runs.specs.World.{World, start, node_in}
 use Rattle.runs.specs.Step.{Step, Takes, Changes, Denies, world_after}
 use Rattle.runs.specs.Run.{IsAllowed, RunFrom, world_at}
 use Rattle.runs.specs.Reporting.{Report}
 use Rattle.runs.specs.Growth.{IsLeft, acts_in}
 use Rattle.runs.specs.Strangers.{NoStrangers}
 use Rattle.histories.specs.Ends.{AreToNodes}
+use Rattle.runs.proofs.ExactRuns.{left_run}
 use Rattle.runs.proofs.Opened.{length_openings}
 use Rattle.runs.proofs.Runs.{node_there, opened}
 use Rattle.runs.proofs.Exact.{all_acts_run}
@@ -44,7 +46,7 @@ start_inside : (nodes : ℕ) → AllInside nodes (start nodes)
 start_inside nodes = record {
   states = λ n s at.
       (let first : s ≡ opening n = opened nodes 0 n s n (omega arith) at in
-      let lt : n < nodes = omega (arith, slice_get_within (map opening (ids_from 0 nodes)) n s at, length_openings 0 nodes) in
+      let lt : n < nodes = omega (arith, slice_get_within (map opening (range_with_len 0 nodes)) n s at, length_openings 0 nodes) in
       subst (λ (x : NodeState). IsInside nodes n x) (sym first) (record { node = lt; names = alone_inside nodes n 1 lt }));
   sent = tt;
 }
@@ -56,7 +58,7 @@ no_strangers nodes steps run = (run_inside nodes steps (start nodes) run (start_
 pub left_no_strangers : (nodes slots : ℕ) (w : World) (r : Report) → IsLeft nodes slots w r → AreToNodes nodes w.net.sent
 left_no_strangers nodes slots w r left =
     subst (λ (x : World). AreToNodes nodes x.net.sent) (sym left.world)
-    (no_strangers nodes left.steps (all_acts_run nodes slots (start nodes) (acts_in r) left.steps left.is_run))
+    (no_strangers nodes left.steps (all_acts_run nodes slots (start nodes) (acts_in r) left.steps (left_run nodes slots w r left)))
 
 -- the message of a number
 pub to_node : (nodes : ℕ) (ms : List Envelope) (k : ℕ) (m : Envelope) → AreToNodes nodes ms → slice_get ms k ≡ Some m → m.receiver < nodes

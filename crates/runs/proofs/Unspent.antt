@@ -1,5 +1,5 @@
 -- No run of acts is long enough to use up a counter or the ids.
-use Rattle.std.proofs.Common.{◌≡◌, ◌≢◌, ℕ, ◌+◌, ◌^◌, ◌<◌, ◌≤◌, Bool, true, false, List, [], ◌∷◌, length, refl, sym, ◌∙◌, ap, subst, inl, inr, arith, Option, Some, None}
+use Rattle.std.proofs.Common.{◌≡◌, ◌≢◌, ℕ, ◌+◌, ◌^◌, ◌<◌, ◌≤◌, Bool, true, false, List, [], ◌∷◌, length, slice_get, refl, sym, ◌∙◌, ap, subst, inl, inr, arith, Option, Some, None}
 use Rattle.std.specs.Prelude.{nat_lt, ◌&&◌, if◌then◌else◌, MatchResult, Result, Ok, Err}
 use Rattle.job_model.specs.declared.node_command.NodeCommand.{NodeCommand as Command}
 use Rattle.job_model.specs.declared.node_command.NodeCommand.TheVariants.{Raise, Put, Done}
@@ -7,7 +7,9 @@ use Rattle.job_model.specs.Durable.{Durable}
 use Rattle.job_model.specs.Fold.{after_command, after_wanted}
 use Rattle.node_core.specs.NodeStep.{IsSpent}
 use Rattle.wire_msg.specs.Envelope.{Envelope}
+use Rattle.node_core.specs.declared.event.Event.{Event}
 use Rattle.node_core.specs.declared.event.Event.TheVariants as on
+use Rattle.node_core.specs.declared.fault.Refusal.{Refusal}
 use Rattle.sim_net.specs.declared.fault.NetFault.{NetFault}
 use Rattle.sim_net.specs.Network.{Network, message_at, delivery, after_lost, after_cut, after_mend}
 use Rattle.node_core.specs.declared.fault.Refusal.TheVariants.{Core, Full, Exhausted, Worn}
@@ -29,19 +31,19 @@ use Rattle.runs.specs.declared.outcome.Refusal.{Refusal as ActRefusal}
 use Rattle.runs.specs.declared.outcome.Refusal.TheVariants.{Node, Net as OfNet, Stranger}
 use Rattle.runs.specs.World.{World, node_in, start}
 use Rattle.runs.specs.Step.{Step, Takes, Changes, Denies, world_after}
-use Rattle.runs.specs.Acts.{At, Brings, IsCompaction, IsStepOf, IsLawful, IsRunOf, act_outcome, what_outcome}
+use Rattle.runs.specs.Acts.{At, BringsBy, IsCompaction, IsStepBy, IsStepOf, IsLawful, IsRunOf, act_outcome, receiver_or_first, what_outcome}
 use Rattle.runs.specs.Reporting.{Moment, report_of}
 use Rattle.runs.proofs.Keeping.{AllStates, states_keep}
 use Rattle.runs.proofs.Reports.{moments_from, moments_are}
 use Rattle.runs.proofs.Runs.{node_there, opened}
 
 -- so many counts and ids were given at most
-record IsBelow (limit : ℕ) (d : Durable) : Type 0 where
-  counts : d.counter ≤ limit
-  ids : d.next ≤ limit
+pub record IsBelow (limit : ℕ) (d : Durable) : Type 0 where
+  pub counts : d.counter ≤ limit
+  pub ids : d.next ≤ limit
 
 -- by how much a doubt may make more of them
-abbrev doubts : Option Command → ℕ
+abbrev pub doubts : Option Command → ℕ
 doubts None = 0
 doubts (Some c) = 1
 
@@ -57,16 +59,16 @@ wanted_below : (limit : ℕ) (d : Durable) (wants : Option Command) → IsBelow 
 wanted_below limit d None h = below_more limit (limit + 0) d (omega arith) h
 wanted_below limit d (Some c) h = command_below limit d c h
 
-settled_below : (limit : ℕ) (kept : Bool) (s : NodeState) → IsBelow limit s.durable → IsBelow (limit + doubts s.doubt) (settled kept s)
+pub settled_below : (limit : ℕ) (kept : Bool) (s : NodeState) → IsBelow limit s.durable → IsBelow (limit + doubts s.doubt) (settled kept s)
 settled_below limit true s h = wanted_below limit s.durable s.doubt h
 settled_below limit false s h = below_more limit (limit + doubts s.doubt) s.durable (omega arith) h
 
 -- a doubt is one more step that was made
-record FewGiven (limit self : ℕ) (s : NodeState) : Type 0 where
-  low : ℕ
-  sum : low + doubts s.doubt ≤ limit
-  below : IsBelow low s.durable
-  doubt : DoubtIsDown self s
+pub record FewGiven (limit self : ℕ) (s : NodeState) : Type 0 where
+  pub low : ℕ
+  pub sum : low + doubts s.doubt ≤ limit
+  pub below : IsBelow low s.durable
+  pub doubt : DoubtIsDown self s
 
 no_doubts : (doubt : Option Command) → IsNone doubt → doubts doubt ≡ 0
 no_doubts None none = refl
@@ -118,7 +120,7 @@ few_more limit self nodes s (RaiseRefused kept) may h = record { low = h.low; su
 few_stay : (limit self : ℕ) (s : NodeState) → FewGiven limit self s → FewGiven (limit + 1) self s
 few_stay limit self s h = record { low = h.low; sum = omega (arith, h.sum); below = h.below; doubt = h.doubt }
 
-step_few : (slots nodes limit : ℕ) (w : World) (step : Step) → IsLawful slots nodes w step → AllStates (FewGiven limit) w → AllStates (FewGiven (limit + 1)) (world_after nodes w step)
+pub step_few : (slots nodes limit : ℕ) (w : World) (step : Step) → IsLawful slots nodes w step → AllStates (FewGiven limit) w → AllStates (FewGiven (limit + 1)) (world_after nodes w step)
 step_few slots nodes limit w (Takes n number what) may h =
     states_keep (FewGiven (limit + 1)) nodes w n number what may.0 may.1 (few_more limit n nodes may.0 what may.2 (h n may.0 may.1)) (λ k s at. few_stay limit k s (h k s at))
 step_few slots nodes limit w (Changes net) may h = λ k s at. few_stay limit k s (h k s at)
@@ -126,7 +128,7 @@ step_few slots nodes limit w (Denies named why) may h = λ k s at. few_stay limi
 
 -- ---- what is refused
 
-spent_high : (limit : ℕ) (d : Durable) (wants : Option Command) → IsBelow limit d → limit + 1 < 2 ^ 64 → IsSpent d wants → ⊥
+pub spent_high : (limit : ℕ) (d : Durable) (wants : Option Command) → IsBelow limit d → limit + 1 < 2 ^ 64 → IsSpent d wants → ⊥
 spent_high limit d None h short spent = spent
 spent_high limit d (Some Raise) h short spent = omega (arith, h.counts, short, spent)
 spent_high limit d (Some (Put work)) h short spent = omega (arith, h.ids, short, spent)
@@ -151,47 +153,47 @@ what_unspent limit self nodes first s (RaiseFailed kept) a may h short is = absu
 what_unspent limit self nodes first s (RaiseRefused kept) a may h short is = omega (arith, may.2, (settled_below h.low kept s h.below).counts, h.sum, short)
 
 -- what no node refuses, the network refuses, or it is at a node outside the cluster
-abbrev NotSpent : ActRefusal → Type 0
-NotSpent why = why ≡ Node Exhausted → ⊥
+abbrev pub NoFault : ActRefusal → Type 0
+NoFault why = (fault : Refusal) → why ≡ Node fault → ⊥
 
-at_denied : (known : Bool) (n k : ℕ) (P : What → Type 0) (named : ℕ) (why : ActRefusal) → At known n k P (Denies named why) → NotSpent why
-at_denied true n k P named why h is = absurd cc (h.1)
-at_denied false n k P named why h is = (let stranger : why ≡ Stranger = cc h in let both : Stranger ≡ Node Exhausted = sym stranger ∙ is in absurd cc)
+at_denied : (known : Bool) (n k : ℕ) (P : What → Type 0) (named : ℕ) (why : ActRefusal) → At known n k P (Denies named why) → NoFault why
+at_denied true n k P named why h fault is = absurd cc (h.1)
+at_denied false n k P named why h fault is = (let stranger : why ≡ Stranger = cc h in let both : Stranger ≡ Node fault = sym stranger ∙ is in absurd cc)
 
-net_denied : (f : NetFault) (named : ℕ) (why : ActRefusal) → Denies named why ≡ Denies 0 (OfNet f) → NotSpent why
-net_denied f named why h is = (let net : why ≡ OfNet f = cc h in let both : OfNet f ≡ Node Exhausted = sym net ∙ is in absurd cc)
+net_denied : (f : NetFault) (n named : ℕ) (why : ActRefusal) → Denies named why ≡ Denies n (OfNet f) → NoFault why
+net_denied f n named why h fault is = (let net : why ≡ OfNet f = cc h in let both : OfNet f ≡ Node fault = sym net ∙ is in absurd cc)
 
-brings_denied : (nodes : ℕ) (net : Network) (k : ℕ) (d : Result Envelope NetFault) (named : ℕ) (why : ActRefusal) → Brings nodes net k d (Denies named why) → NotSpent why
-brings_denied nodes net k (Ok x) named why h is = at_denied (nat_lt x.receiver nodes) x.receiver k (IsOf (on.Deliver x)) named why h is
-brings_denied nodes net k (Err f) named why h is = (let net_is : why ≡ OfNet f = cc h in let both : OfNet f ≡ Node Exhausted = sym net_is ∙ is in absurd cc)
+brings_denied : (E : ℕ → Event → What → Type 0) (nodes : ℕ) (net : Network) (k : ℕ) (d : Result Envelope NetFault) (named : ℕ) (why : ActRefusal) → BringsBy E nodes net k d (Denies named why) → NoFault why
+brings_denied E nodes net k (Ok x) named why h = at_denied (nat_lt x.receiver nodes) x.receiver k (E x.receiver (on.Deliver x)) named why h
+brings_denied E nodes net k (Err f) named why h = net_denied f (receiver_or_first nodes (slice_get net.sent k)) named why h
 
 loses_denied : (net : Network) (k : ℕ) (d : Result Envelope NetFault) (named : ℕ) (why : ActRefusal)
-    → MatchResult d (λ (x : Envelope). Denies named why ≡ Changes (after_lost net k)) (λ (f : NetFault). Denies named why ≡ Denies 0 (OfNet f)) → NotSpent why
-loses_denied net k (Ok x) named why h is = absurd cc
-loses_denied net k (Err f) named why h is = net_denied f named why h is
+    → MatchResult d (λ (x : Envelope). Denies named why ≡ Changes (after_lost net k)) (λ (f : NetFault). Denies named why ≡ Denies 0 (OfNet f)) → NoFault why
+loses_denied net k (Ok x) named why h fault is = absurd cc
+loses_denied net k (Err f) named why h fault is = net_denied f 0 named why h fault is
 
-link_denied : (known : Bool) (net : Network) (named : ℕ) (why : ActRefusal) → Denies named why ≡ (if known then Changes net else Denies 0 Stranger) → NotSpent why
-link_denied true net named why h is = absurd cc
-link_denied false net named why h is = (let stranger : why ≡ Stranger = cc h in let both : Stranger ≡ Node Exhausted = sym stranger ∙ is in absurd cc)
+link_denied : (known : Bool) (net : Network) (named : ℕ) (why : ActRefusal) → Denies named why ≡ (if known then Changes net else Denies 0 Stranger) → NoFault why
+link_denied true net named why h fault is = absurd cc
+link_denied false net named why h fault is = (let stranger : why ≡ Stranger = cc h in let both : Stranger ≡ Node fault = sym stranger ∙ is in absurd cc)
 
-denied_unspent : (nodes : ℕ) (w : World) (a : Act) (named : ℕ) (why : ActRefusal) → IsStepOf nodes w a (Denies named why) → NotSpent why
-denied_unspent nodes w (act.Timer n timer) named why h = at_denied (nat_lt n nodes) n 0 (IsOf (on.Timer timer)) named why h
-denied_unspent nodes w (act.Deliver k) named why h = brings_denied nodes w.net k (delivery w.net k) named why h
-denied_unspent nodes w (act.Lose k) named why h = loses_denied w.net k (message_at w.net k) named why h
-denied_unspent nodes w (act.Cut x y) named why h = link_denied (nat_lt x nodes && nat_lt y nodes) (after_cut w.net x y) named why h
-denied_unspent nodes w (act.Mend x y) named why h = link_denied (nat_lt x nodes && nat_lt y nodes) (after_mend w.net x y) named why h
-denied_unspent nodes w (act.Submit n work) named why h = at_denied (nat_lt n nodes) n 0 (IsOf (on.Submit work)) named why h
-denied_unspent nodes w (act.Finish n origin id) named why h = at_denied (nat_lt n nodes) n 0 (IsOf (on.Finish origin id)) named why h
-denied_unspent nodes w (act.Arm n calls) named why h = at_denied (nat_lt n nodes) n 0 (λ (x : What). x ≡ Rests Nothing) named why h
-denied_unspent nodes w (act.Crash n fill) named why h = at_denied (nat_lt n nodes) n 0 (λ (x : What). x ≡ Crashed) named why h
-denied_unspent nodes w (act.Recover n) named why h = at_denied (nat_lt n nodes) n 0 (IsOf on.Recover) named why h
-denied_unspent nodes w (act.Compact n) named why h = at_denied (nat_lt n nodes) n 0 (IsCompaction (node_in w.states n)) named why h
+pub no_fault : (E : ℕ → Event → What → Type 0) (C : ℕ → What → Type 0) (nodes : ℕ) (net : Network) (a : Act) (named : ℕ) (why : ActRefusal) → IsStepBy E C nodes net a (Denies named why) → NoFault why
+no_fault E C nodes net (act.Timer n timer) named why h = at_denied (nat_lt n nodes) n 0 (E n (on.Timer timer)) named why h
+no_fault E C nodes net (act.Deliver k) named why h = brings_denied E nodes net k (delivery net k) named why h
+no_fault E C nodes net (act.Lose k) named why h = loses_denied net k (message_at net k) named why h
+no_fault E C nodes net (act.Cut x y) named why h = link_denied (nat_lt x nodes && nat_lt y nodes) (after_cut net x y) named why h
+no_fault E C nodes net (act.Mend x y) named why h = link_denied (nat_lt x nodes && nat_lt y nodes) (after_mend net x y) named why h
+no_fault E C nodes net (act.Submit n work) named why h = at_denied (nat_lt n nodes) n 0 (E n (on.Submit work)) named why h
+no_fault E C nodes net (act.Finish n origin id) named why h = at_denied (nat_lt n nodes) n 0 (E n (on.Finish origin id)) named why h
+no_fault E C nodes net (act.Arm n calls) named why h = at_denied (nat_lt n nodes) n 0 (λ (x : What). x ≡ Rests Nothing) named why h
+no_fault E C nodes net (act.Crash n fill) named why h = at_denied (nat_lt n nodes) n 0 (λ (x : What). x ≡ Crashed) named why h
+no_fault E C nodes net (act.Recover n) named why h = at_denied (nat_lt n nodes) n 0 (E n on.Recover) named why h
+no_fault E C nodes net (act.Compact n) named why h = at_denied (nat_lt n nodes) n 0 (C n) named why h
 
-step_unspent : (slots nodes limit : ℕ) (w : World) (a : Act) (step : Step) → IsStepOf nodes w a step → IsLawful slots nodes w step → AllStates (FewGiven limit) w → limit + 1 < 2 ^ 64 → act_outcome nodes w a step ≢ outcome.Refused (Node Exhausted)
+pub step_unspent : (slots nodes limit : ℕ) (w : World) (a : Act) (step : Step) → IsStepOf nodes w a step → IsLawful slots nodes w step → AllStates (FewGiven limit) w → limit + 1 < 2 ^ 64 → act_outcome nodes w a step ≢ outcome.Refused (Node Exhausted)
 step_unspent slots nodes limit w a (Takes n number what) of may h short is =
     what_unspent limit n nodes (length w.net.sent) may.0 what a may.2 (h n may.0 may.1) short (subst (λ (x : NodeState). what_outcome n nodes (length w.net.sent) x what a ≡ outcome.Refused (Node Exhausted)) (node_there w.states n may.0 may.1) is)
 step_unspent slots nodes limit w a (Changes net) of may h short is = absurd cc
-step_unspent slots nodes limit w a (Denies named why) of may h short is = denied_unspent nodes w a named why of (cc is)
+step_unspent slots nodes limit w a (Denies named why) of may h short is = no_fault (λ (n : ℕ) (event : Event). IsOf event) (λ (n : ℕ). IsCompaction (node_in w.states n)) nodes w.net a named why of Exhausted (cc is)
 
 all_unspent : (slots nodes limit : ℕ) (acts : List Act) (steps : List Step) (w : World) → IsRunOf nodes slots w acts steps → AllStates (FewGiven limit) w → limit + length acts < 2 ^ 64
     → (m : Moment) → IsAmong m (moments_from nodes w acts steps) → m.outcome ≢ outcome.Refused (Node Exhausted)
@@ -202,7 +204,7 @@ all_unspent slots nodes limit (a ∷ acts) (step ∷ steps) w run h short m i is
   | inr later ↦ all_unspent slots nodes (limit + 1) acts steps (world_after nodes w step) run.2 (step_few slots nodes limit w step run.1 h) (omega (arith, short)) m later is
 ]
 
-opens_few : (nodes : ℕ) → AllStates (FewGiven 1) (start nodes)
+pub opens_few : (nodes : ℕ) → AllStates (FewGiven 1) (start nodes)
 opens_few nodes n s at =
     let first : s ≡ opening n = opened nodes 0 n s n (omega arith) at in
     subst (λ (x : NodeState). FewGiven 1 n x) (sym first) (record { low = 1; sum = omega arith; below = record { counts = omega arith; ids = omega arith }; doubt = inl tt })

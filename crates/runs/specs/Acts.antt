@@ -1,6 +1,7 @@
 -- The acts of a schedule, each with the step that it is and with its outcome.
 use Rattle.std.specs.Prelude.{ℕ, ◌≡◌, ◌+◌, ◌&&◌, Bool, true, false, nat_lt, if◌then◌else◌, List, [], ◌∷◌, length, slice_get, Option, Some, None, Result, Ok, Err, MatchResult, option_map, unwrap_or}
 use Rattle.wire_msg.specs.Envelope.{Envelope}
+use Rattle.node_core.specs.declared.event.Event.{Event}
 use Rattle.node_core.specs.declared.event.Event.TheVariants as on
 use Rattle.node_core.specs.declared.fault.CoreFault.TheVariants.{Down}
 use Rattle.node_core.specs.declared.fault.Refusal.TheVariants.{Core, Exhausted, Worn}
@@ -40,24 +41,37 @@ At false n number P step = step ≡ Denies 0 Stranger
 abbrev pub receiver_or_first : ℕ → Option Envelope → ℕ
 receiver_or_first nodes message = unwrap_or (option_map (λ (m : Envelope). if nat_lt m.receiver nodes then m.receiver else 0) message) 0
 
--- what is delivered is an event of its receiver, which may refuse it; what the network denies is no event
+-- what is delivered is an event of its receiver, of which this may come; what the network denies is no event
+abbrev pub BringsBy : (ℕ → Event → What → Type 0) → ℕ → Network → ℕ → Result Envelope NetFault → Step → Type 0
+BringsBy E nodes net k (Ok m) step = At (nat_lt m.receiver nodes) m.receiver k (E m.receiver (on.Deliver m)) step
+BringsBy E nodes net k (Err why) step = step ≡ Denies (receiver_or_first nodes (slice_get net.sent k)) (OfNet why)
+
+-- the step that an act is, where E says what may come of an event at a node, and C what of a compaction
+abbrev pub IsStepBy : (ℕ → Event → What → Type 0) → (ℕ → What → Type 0) → ℕ → Network → Act → Step → Type 0
+IsStepBy E C nodes net (act.Timer n timer) step = At (nat_lt n nodes) n 0 (E n (on.Timer timer)) step
+IsStepBy E C nodes net (act.Deliver k) step = BringsBy E nodes net k (delivery net k) step
+IsStepBy E C nodes net (act.Lose k) step =
+    MatchResult (message_at net k) (λ m. step ≡ Changes (after_lost net k)) (λ why. step ≡ Denies 0 (OfNet why))
+IsStepBy E C nodes net (act.Cut a b) step =
+    step ≡ (if nat_lt a nodes && nat_lt b nodes then Changes (after_cut net a b) else Denies 0 Stranger)
+IsStepBy E C nodes net (act.Mend a b) step =
+    step ≡ (if nat_lt a nodes && nat_lt b nodes then Changes (after_mend net a b) else Denies 0 Stranger)
+IsStepBy E C nodes net (act.Submit n work) step = At (nat_lt n nodes) n 0 (E n (on.Submit work)) step
+IsStepBy E C nodes net (act.Finish n origin id) step = At (nat_lt n nodes) n 0 (E n (on.Finish origin id)) step
+IsStepBy E C nodes net (act.Arm n calls) step = At (nat_lt n nodes) n 0 (λ (what : What). what ≡ Rests Nothing) step
+IsStepBy E C nodes net (act.Crash n fill) step = At (nat_lt n nodes) n 0 (λ (what : What). what ≡ Crashed) step
+IsStepBy E C nodes net (act.Recover n) step = At (nat_lt n nodes) n 0 (E n on.Recover) step
+IsStepBy E C nodes net (act.Compact n) step = At (nat_lt n nodes) n 0 (C n) step
+
+-- ---- a run of any length
+
+-- what comes of an event at its receiver, which may refuse it
 abbrev pub Brings : ℕ → Network → ℕ → Result Envelope NetFault → Step → Type 0
-Brings nodes net k (Ok m) step = At (nat_lt m.receiver nodes) m.receiver k (IsOf (on.Deliver m)) step
-Brings nodes net k (Err why) step = step ≡ Denies (receiver_or_first nodes (slice_get net.sent k)) (OfNet why)
+Brings nodes net k comes step = BringsBy (λ (n : ℕ) (event : Event). IsOf event) nodes net k comes step
 
 -- the step that an act is
 abbrev pub IsStepOf : ℕ → World → Act → Step → Type 0
-IsStepOf nodes w (act.Timer n timer) step = At (nat_lt n nodes) n 0 (IsOf (on.Timer timer)) step
-IsStepOf nodes w (act.Deliver k) step = Brings nodes w.net k (delivery w.net k) step
-IsStepOf nodes w (act.Lose k) step = MatchResult (message_at w.net k) (λ m. step ≡ Changes (after_lost w.net k)) (λ why. step ≡ Denies 0 (OfNet why))
-IsStepOf nodes w (act.Cut a b) step = step ≡ (if nat_lt a nodes && nat_lt b nodes then Changes (after_cut w.net a b) else Denies 0 Stranger)
-IsStepOf nodes w (act.Mend a b) step = step ≡ (if nat_lt a nodes && nat_lt b nodes then Changes (after_mend w.net a b) else Denies 0 Stranger)
-IsStepOf nodes w (act.Submit n work) step = At (nat_lt n nodes) n 0 (IsOf (on.Submit work)) step
-IsStepOf nodes w (act.Finish n origin id) step = At (nat_lt n nodes) n 0 (IsOf (on.Finish origin id)) step
-IsStepOf nodes w (act.Arm n calls) step = At (nat_lt n nodes) n 0 (λ (what : What). what ≡ Rests Nothing) step
-IsStepOf nodes w (act.Crash n fill) step = At (nat_lt n nodes) n 0 (λ (what : What). what ≡ Crashed) step
-IsStepOf nodes w (act.Recover n) step = At (nat_lt n nodes) n 0 (IsOf on.Recover) step
-IsStepOf nodes w (act.Compact n) step = At (nat_lt n nodes) n 0 (IsCompaction (node_in w.states n)) step
+IsStepOf nodes w a step = IsStepBy (λ (n : ℕ) (event : Event). IsOf event) (λ (n : ℕ). IsCompaction (node_in w.states n)) nodes w.net a step
 
 -- what comes at a node may come there, where disks have so many slots
 abbrev pub IsLawful : ℕ → ℕ → World → Step → Type 0
@@ -75,7 +89,8 @@ IsRunOf nodes slots w acts steps = ⊥
 
 -- the outcome of what came at a node, of this act, where so many messages were sent before it. In all else the device failed
 abbrev pub what_outcome : ℕ → ℕ → ℕ → NodeState → What → Act → Outcome
-what_outcome n nodes first s (Did event) a = outcome.Done (option_map (answer_of s.durable) (wants_at n nodes s event)) first (length (sent_at n nodes s (Did event)))
+what_outcome n nodes first s (Did event) a =
+    outcome.Done (option_map (answer_of s.durable) (wants_at n nodes s event)) first (length (sent_at n nodes s (Did event)))
 what_outcome n nodes first s (Refused event fault) a = outcome.Refused (Node fault)
 what_outcome n nodes first s (Rests CompactDown) a = outcome.Refused (Node (Core Down))
 what_outcome n nodes first s (Rests CompactWorn) a = outcome.Refused (Node Worn)

@@ -6,7 +6,8 @@ use Rattle.histories.specs.Lists.{IsAmong}
 use Rattle.histories.specs.NodeState.{NodeState}
 use Rattle.histories.specs.After.{given_at}
 use Rattle.histories.specs.Named.{AllHold, StateHolds}
-use Rattle.runs.specs.World.{World, ids_from, node_in, start}
+use Rattle.std.specs.List.{range_with_len}
+use Rattle.runs.specs.World.{World, node_in, start}
 use Rattle.runs.specs.Step.{Step, Takes, world_after}
 use Rattle.runs.specs.Run.{IsAllowed, RunFrom, world_at}
 
@@ -22,7 +23,7 @@ groups_from nodes w (step ∷ steps) = groups_at nodes w step ++ groups_from nod
 
 -- all groups of a run, the openings' first: each node gives the group of its first count
 abbrev pub groups_of : ℕ → List Step → List Group
-groups_of nodes steps = map (λ (n : ℕ). own_group n 1) (ids_from 0 nodes) ++ groups_from nodes (start nodes) steps
+groups_of nodes steps = map (λ (n : ℕ). own_group n 1) (range_with_len 0 nodes) ++ groups_from nodes (start nodes) steps
 
 -- each group in a vector, or in a message that was ever sent, is one of those that were given so far
 pub record AllGiven (w : World) (given : List Group) : Type 0 where

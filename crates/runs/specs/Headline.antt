@@ -1,20 +1,20 @@
 -- What is promised of every schedule.
-use Rattle.std.specs.Prelude.{ℕ, suc, ◌≡◌, ◌≢◌, ◌⊎◌, ◌<◌, List, take, slice_get, Some}
-use Rattle.job_model.specs.declared.node_command.NodeCommand.TheVariants.{Done}
+use Rattle.std.specs.Prelude.{ℕ, suc, ◌≡◌, ◌≢◌, ◌+◌, ◌^◌, ◌⊎◌, ◌<◌, true, List, ◌∷◌, length, take, slice_get, Some, IfSome, Contains, AllPairs}
+use Rattle.job_model.specs.declared.node_command.NodeCommand.TheVariants.{Put, Done}
+use Rattle.job_model.specs.declared.work.Work.{Work}
 use Rattle.group_task.specs.Group.{Group}
-use Rattle.group_task.specs.Assignment.{Assignment}
-use Rattle.node_core.specs.declared.phase.Phase.TheVariants.{Normal}
+use Rattle.group_task.specs.Ids.{has}
+use Rattle.wire_msg.specs.Envelope.{Envelope}
+use Rattle.wire_msg.specs.Kinds.{group_in}
+use Rattle.node_core.specs.declared.phase.Phase.TheVariants.{Down, Normal}
 use Rattle.node_core.specs.declared.in_hand.InHand.{InHand}
-use Rattle.node_core.specs.declared.fault.Refusal.TheVariants.{Exhausted, Worn}
+use Rattle.node_core.specs.declared.fault.Refusal.TheVariants.{Worn}
 use Rattle.node_core.specs.State.{State}
-use Rattle.node_core.specs.Words.{owner}
-use Rattle.histories.specs.Lists.{IsAmong}
-use Rattle.histories.specs.Named.{AllHold, StateHolds}
-use Rattle.histories.specs.Book.{AgreesAt, IsInGroup}
+use Rattle.node_core.specs.Words.{owner, task_of}
+use Rattle.histories.specs.Book.{IsInGroup}
 use Rattle.histories.specs.Counts.{IsShort}
-use Rattle.histories.specs.Jobs.{WasPut}
 use Rattle.histories.specs.Kept.{Kept}
-use Rattle.histories.specs.Rising.{Rises}
+use Rattle.histories.specs.declared.tried.Tried.{Tried}
 use Rattle.schedule.specs.declared.act.Act.{Act}
 use Rattle.schedule.specs.declared.act.Act.TheVariants as act
 use Rattle.runs.specs.World.{start}
@@ -23,13 +23,14 @@ use Rattle.runs.specs.declared.outcome.Refusal.{Refusal}
 use Rattle.runs.specs.declared.outcome.Refusal.TheVariants.{Node as OfNode}
 use Rattle.runs.specs.Step.{Step}
 use Rattle.runs.specs.Acts.{IsRunOf}
-use Rattle.runs.specs.Given.{IsOnceEach}
+use Rattle.runs.specs.ExactRuns.{IsExactRun}
 use Rattle.runs.specs.Reporting.{Moment, Report, own_commands, own_mountings, own_counts, report_of}
 use Rattle.runs.specs.declared.tried.TriedAt.{TriedAt}
 
 -- a state that the report shows: of a node's opening, or of the moment of an act
 abbrev pub IsShown : Report → ℕ → State → Type 0
-IsShown r n s = (slice_get r.opening n ≡ Some s) ⊎ ((k : ℕ) × (m : Moment) × (slice_get r.moments k ≡ Some m) × (m.node ≡ n) × (m.state ≡ s))
+IsShown r n s =
+    (slice_get r.opening n ≡ Some s) ⊎ ((k : ℕ) × (m : Moment) × (slice_get r.moments k ≡ Some m) × (m.node ≡ n) × (m.state ≡ s))
 
 -- the report of the first acts, so many of them
 abbrev pub report_within : ℕ → ℕ → List Act → List Step → Report
@@ -37,7 +38,8 @@ report_within nodes count acts steps = report_of nodes (take count acts) (take c
 
 -- one of the first acts, so many of them, says that a worker finished the job of this origin and id, and isn't refused. Before it the
 -- worker is shown at work in a group, as the owner of the job's queue, with the job in hand; and by then the job was put at its origin,
--- with the work that is in hand. A worker that isn't the origin says so before the last of these acts
+-- with the work that is in hand: where that was acknowledged, under this id. A worker that isn't the origin says so before the last of
+-- these acts
 pub record IsFinished (nodes : ℕ) (acts : List Act) (steps : List Step) (count origin id : ℕ) : Type 0 where
   pub worker : ℕ
   pub place : ℕ
@@ -50,21 +52,24 @@ pub record IsFinished (nodes : ℕ) (acts : List Act) (steps : List Step) (count
   pub state : State
   pub shown : IsShown (report_within nodes place acts steps) worker state
   pub works : state.phase ≡ Normal
-  pub job : InHand
-  pub in_hand : IsAmong job state.hand
-  pub of_job : (job.origin ≡ origin) × (job.id ≡ id)
-  pub owned : owner state job.work.queue ≡ worker
-  pub put : WasPut (own_commands origin (report_within nodes place acts steps).commands) id job.work
+  pub work : Work
+  pub in_hand : Contains state.hand (record { origin = origin; id = id; work = work })
+  pub owned : owner state work.queue ≡ worker
+  pub put : (t : Tried) × Contains (own_commands origin (report_within nodes place acts steps).commands) t
+      × (t.command ≡ Put work) × ((a : ℕ) → t.acked ≡ Some a → a ≡ id)
 
 -- the groups that a moment names were given then or before
 pub record NamesGiven (given : List Group) (m : Moment) : Type 0 where
-  pub by_state : StateHolds (λ g. IsAmong g given) m.state
-  pub by_messages : AllHold (λ g. IsAmong g given) m.sent
+  pub by_state : m.state.phase ≢ Down → Contains given m.state.group × IfSome m.state.task (λ t. Contains given t.group)
+  pub by_messages : (x : Envelope) → Contains m.sent x → IfSome (group_in x.body) (Contains given)
 
--- one book agrees with all states that are shown
+-- one book has the members of each group. A node in a group has the group's creator as its coordinator; and one that works in it has the
+-- task of just these members, and is one of them
 pub record HasBook (r : Report) : Type 0 where
-  pub book : List Assignment
-  pub agrees : (n : ℕ) (s : State) → IsShown r n s → AgreesAt book n s
+  pub members : Group → List ℕ
+  pub coordinator : (n : ℕ) (s : State) → IsShown r n s → IsInGroup s.phase → s.coordinator ≡ s.group.creator
+  pub task : (n : ℕ) (s : State) → IsShown r n s → s.phase ≡ Normal →
+      (s.task ≡ Some (task_of s.group (members s.group))) × (has (members s.group) n ≡ true)
 
 -- no act was refused because the areas of its node's disk are used up
 abbrev pub NoneWorn : Report → Type 0
@@ -72,28 +77,30 @@ NoneWorn r = (k : ℕ) (m : Moment) → slice_get r.moments k ≡ Some m → m.o
 
 -- the report is that of a run of the acts, and keeps groups and jobs
 pub record Headline (nodes slots : ℕ) (acts : List Act) (r : Report) : Type 0 where
-  -- 1: it is a run
+  -- 1: it is a run of so few acts that no counter is used up
+  pub short : length acts + 1 < 2 ^ 64
   pub steps : List Step
-  pub is_run : IsRunOf nodes slots (start nodes) acts steps
+  pub is_run : IsExactRun nodes slots (start nodes) acts steps
   pub reported : r ≡ report_of nodes acts steps
-  -- no act is refused because a node's counter or its ids are used up, or the areas of its disk
-  pub unspent : (m : Moment) → IsAmong m r.moments → m.outcome ≢ Refused (OfNode Exhausted)
-  pub unworn : NoneWorn r
   -- 2: each mounting gives the fold of the node's commands, every acknowledged one included
   pub kept : (n : ℕ) → n < nodes → Kept (own_commands n r.commands) (own_mountings n r.mounted)
-  -- 3: the counts of each node rise, no group is given twice, and none is named before it is given
-  pub rising : (n : ℕ) → n < nodes → Rises 0 (own_counts n r.groups)
-  pub once : IsOnceEach r.groups
+  -- 3: the counts of each node rise from 1 on, no group is given twice, and none is named before it is given
+  pub rising : (n : ℕ) → n < nodes → AllPairs (λ (j k : ℕ). j < k) (0 ∷ own_counts n r.groups)
+  pub once : AllPairs (λ (g h : Group). g ≢ h) r.groups
   pub given : (k : ℕ) (m : Moment) → slice_get r.moments k ≡ Some m → NamesGiven (report_within nodes (suc k) acts steps).groups m
   -- 4: there is one book of groups
   pub has_book : HasBook r
   -- 5: so two states in one group have one coordinator, and one task where both nodes work
-  pub one_coordinator : (n m : ℕ) (s t : State) → IsShown r n s → IsShown r m t → IsInGroup s.phase → IsInGroup t.phase → s.group ≡ t.group → s.coordinator ≡ t.coordinator
-  pub one_task : (n m : ℕ) (s t : State) → IsShown r n s → IsShown r m t → s.phase ≡ Normal → t.phase ≡ Normal → s.group ≡ t.group → s.task ≡ t.task
+  pub one_coordinator : (n m : ℕ) (s t : State) → IsShown r n s → IsShown r m t → IsInGroup s.phase → IsInGroup t.phase →
+      s.group ≡ t.group → s.coordinator ≡ t.coordinator
+  pub one_task : (n m : ℕ) (s t : State) → IsShown r n s → IsShown r m t → s.phase ≡ Normal → t.phase ≡ Normal →
+      s.group ≡ t.group → s.task ≡ t.task
   -- so jobs of one queue are in the hand of one node where two nodes work in one group
-  pub one_worker : (n m : ℕ) (s t : State) → IsShown r n s → IsShown r m t → s.phase ≡ Normal → t.phase ≡ Normal → s.group ≡ t.group → (a b : InHand) → IsAmong a s.hand → IsAmong b t.hand → a.work.queue ≡ b.work.queue → n ≡ m
+  pub one_worker : (n m : ℕ) (s t : State) → IsShown r n s → IsShown r m t → s.phase ≡ Normal → t.phase ≡ Normal →
+      s.group ≡ t.group → (a b : InHand) → Contains s.hand a → Contains t.hand b → a.work.queue ≡ b.work.queue → n ≡ m
   -- and a job is done only once an owner of its queue finished it: in the first acts, where the command is tried in them
-  pub finished : (k : ℕ) (t : TriedAt) (id : ℕ) → IsAmong t (report_within nodes k acts steps).commands → t.node < nodes → t.tried.command ≡ Done id → IsFinished nodes acts steps k t.node id
+  pub finished : (k : ℕ) (t : TriedAt) (id : ℕ) → Contains (report_within nodes k acts steps).commands t → t.node < nodes →
+      t.tried.command ≡ Done id → IsFinished nodes acts steps k t.node id
 
 -- whatever run of its acts a schedule has, in which the areas of no disk are used up, its report keeps groups and jobs
 abbrev pub EverySchedule : Type 0

@@ -3,6 +3,7 @@ pub mod Step
 pub mod Run
 pub mod Acts
 pub mod Exact
+pub mod ExactRuns
 pub mod Given
 pub mod Tagged
 pub mod Reporting

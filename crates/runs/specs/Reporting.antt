@@ -16,7 +16,8 @@ use Rattle.histories.specs.After.{mounted_at}
 use Rattle.histories.specs.Kept.{Mounting}
 use Rattle.histories.specs.declared.tried.Tried.{Tried}
 use Rattle.schedule.specs.declared.act.Act.{Act}
-use Rattle.runs.specs.World.{World, ids_from, node_in, start}
+use Rattle.std.specs.List.{range_with_len}
+use Rattle.runs.specs.World.{World, node_in, start}
 use Rattle.runs.specs.Step.{Step, Takes, Changes, Denies, step_sent, world_after}
 use Rattle.runs.specs.Acts.{act_outcome}
 use Rattle.runs.specs.declared.outcome.Outcome.{Outcome}
@@ -75,14 +76,15 @@ abbrev pub first_report : ℕ → Report
 first_report nodes = record {
   opening = map (λ (s : NodeState). s.state) (start nodes).states;
   moments = [];
-  groups = map (λ (n : ℕ). own_group n 1) (ids_from 0 nodes);
-  commands = map (λ (n : ℕ). record { node = n; tried = record { command = Raise; acked = Some 1 } }) (ids_from 0 nodes);
-  mounted = map (λ (n : ℕ). record { node = n; mounting = record { before = 0; state = formatted } }) (ids_from 0 nodes);
+  groups = map (λ (n : ℕ). own_group n 1) (range_with_len 0 nodes);
+  commands = map (λ (n : ℕ). record { node = n; tried = record { command = Raise; acked = Some 1 } }) (range_with_len 0 nodes);
+  mounted = map (λ (n : ℕ). record { node = n; mounting = record { before = 0; state = formatted } }) (range_with_len 0 nodes);
 }
 
 -- the commands that something tries on the device, each with its answer if it is acknowledged
 abbrev pub tries : ℕ → ℕ → NodeState → What → List Tried
-tries n nodes s (Did event) = map (λ (c : Command). record { command = c; acked = Some (answer_of s.durable c) }) (option_to_list (wants_at n nodes s event))
+tries n nodes s (Did event) =
+    map (λ (c : Command). record { command = c; acked = Some (answer_of s.durable c) }) (option_to_list (wants_at n nodes s event))
 tries n nodes s (Faulted event) = map (λ (c : Command). record { command = c; acked = None }) (option_to_list (wants_at n nodes s event))
 tries n nodes s (Recovered kept) = record { command = Raise; acked = Some ((settled kept s).counter + 1) } ∷ []
 tries n nodes s (RaiseFailed kept) = record { command = Raise; acked = None } ∷ []
@@ -101,7 +103,8 @@ group_of n command acked = []
 -- what a step mounts, where these commands were tried before
 abbrev pub mountings_at : World → List TriedAt → Step → List MountedAt
 mountings_at w before (Takes n number what) =
-    map (λ (d : Durable). record { node = n; mounting = record { before = length (own_commands n before); state = d } }) (option_to_list (mounted_at (node_in w.states n) what))
+    map (λ (d : Durable). record { node = n; mounting = record { before = length (own_commands n before); state = d } })
+    (option_to_list (mounted_at (node_in w.states n) what))
 mountings_at w before step = []
 
 -- the report with one act more

@@ -1,5 +1,5 @@
 -- Runs of a whole cluster: one list of steps.
-use Rattle.std.specs.Prelude.{ℕ, zero, suc, ◌≡◌, ◌==◌, List, [], ◌∷◌, ◌++◌, slice_get, if◌then◌else◌, Some, Ok}
+use Rattle.std.specs.Prelude.{ℕ, zero, suc, ◌≡◌, ◌+◌, ◌==◌, List, [], ◌∷◌, ◌++◌, slice_get, if◌then◌else◌, Some, Ok}
 use Rattle.group_task.specs.Assignment.{Assignment}
 use Rattle.wire_msg.specs.Envelope.{Envelope}
 use Rattle.histories.specs.Lists.{Each}
@@ -47,7 +47,7 @@ history_in n nodes w (step ∷ steps) = entry_at n nodes w step ++ history_in n 
 -- those of k nodes, from n on
 abbrev pub histories_from : ℕ → ℕ → ℕ → List Step → List (List Entry)
 histories_from n zero nodes steps = []
-histories_from n (suc k) nodes steps = history_in n nodes (start nodes) steps ∷ histories_from (suc n) k nodes steps
+histories_from n (suc k) nodes steps = history_in n nodes (start nodes) steps ∷ histories_from (n + 1) k nodes steps
 
 abbrev pub histories_of : ℕ → List Step → List (List Entry)
 histories_of nodes steps = histories_from 0 nodes nodes steps

@@ -1,5 +1,6 @@
 -- The nodes of a cluster and its network, at one moment.
-use Rattle.std.specs.Prelude.{ℕ, zero, suc, List, [], ◌∷◌, map, slice_get, None, unwrap_or}
+use Rattle.std.specs.Prelude.{ℕ, List, map, slice_get, None, unwrap_or}
+use Rattle.std.specs.List.{range_with_len}
 use Rattle.job_model.specs.Durable.{formatted}
 use Rattle.node_core.specs.Start.{down}
 use Rattle.histories.specs.NodeState.{NodeState, opening}
@@ -13,11 +14,6 @@ pub record World : Type 0 where
 abbrev pub node_in : List NodeState → ℕ → NodeState
 node_in states n = unwrap_or (slice_get states n) (record { state = down n; durable = formatted; doubt = None })
 
--- so many ids, from n on
-abbrev pub ids_from : ℕ → ℕ → List ℕ
-ids_from n zero = []
-ids_from n (suc k) = n ∷ ids_from (suc n) k
-
 -- each node alone in the group of its first count, with no job, and nothing sent
 abbrev pub start : ℕ → World
-start nodes = record { states = map opening (ids_from 0 nodes); net = silent }
+start nodes = record { states = map opening (range_with_len 0 nodes); net = silent }

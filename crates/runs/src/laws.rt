@@ -48,8 +48,8 @@ pub fn acts_are_exact()
     ensures slots { RunsOfSlots }
 {}
 
-/// What a cluster has to keep so that all of this holds of its report: some run of the acts so far leaves it. It opens so, and
-/// each act whose step is allowed keeps it.
+/// What a cluster has to keep so that all of this holds of its report: some run of the acts so far, in which nothing is used up,
+/// leaves it. It opens so, and each act whose step is allowed keeps it, unless it is refused because the areas of a disk are used up.
 pub fn left_by_a_run()
     ensures opens { RunsOpen }
     ensures grows { RunsGrow }
@@ -81,9 +81,12 @@ pub fn acts_do_as_answered()
     // are those of the table's row, over the jobs that its disk keeps.
     // Refuses: reported_for_one_node, run_for_one_node.
     ensures done { DoneHasItsEffect }
+    // Promise: A compaction at a node that was shown Down last is refused as Down: it never meets a device.
+    // Refuses: cluster_sim::compaction_faults_while_down.
     ensures down { DownRefusesCompaction }
-    // Promise: No act is refused as Exhausted because the counter or the ids of its node are used up.
-    // Refuses: spent_at_one_node.
+    // Promise: No act is refused as Exhausted because the counter or the ids of its node are used up, or as Worn because the areas of
+    // its disk are.
+    // Refuses: recovery_refused_as_spent, compaction_refused_as_worn, cluster_sim::submit_refused_as_worn.
     ensures unspent { NoneIsSpent }
 {}
 

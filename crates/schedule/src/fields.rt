@@ -1,9 +1,12 @@
-ghost use Rattle.std.specs.Prelude.{◌≡◌, ◌≤◌};
-ghost use Rattle.schedule.specs.Fields.{node_of, queue_of, priority_of, number_between};
+//! The fields of lines, by their words.
+
+ghost use Rattle.std.specs.Prelude.{◌≡◌, ◌≤◌, IfOk};
+ghost use Rattle.schedule.specs.Fields.{node_of, queue_of, priority_of, payload_of, number_between};
 
 use group_task::NodeId;
-use job_model::Queue;
-use line_words::number;
+use job_model::{Payload, Queue};
+use line_words::{bytes, number};
+use std::alloc::{AllocError, Global};
 
 /// The node that a word names.
 pub fn node(word: &[u8]) -> Option<NodeId>
@@ -24,6 +27,16 @@ pub fn priority(word: &[u8]) -> Option<u8>
     ensures { result ≡ priority_of word.now }
 {
     Some(between(1, u64::from(u8::MAX), word)? as u8)
+}
+
+/// The payload that a word spells in hex.
+pub fn payload(alloc: Global, word: &[u8]) -> Result<Option<Payload>, AllocError>
+    ensures { IfOk result (λ payload. payload ≡ payload_of word.now) }
+{
+    match bytes(alloc, word)? {
+        Some(bytes) => Ok(Payload::new(&bytes)),
+        None => Ok(None),
+    }
 }
 
 /// The number that a word spells, where it is from `least` to `most`.

@@ -2,7 +2,7 @@
 #![tactic(auto)]
 
 mod act;
-mod fields;
+pub mod fields;
 mod flaw;
 mod laws;
 mod parsing;

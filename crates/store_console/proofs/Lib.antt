@@ -1,3 +1,5 @@
 mod Behind
 mod Counts
+mod Finding
+mod Queues
 mod Sessions

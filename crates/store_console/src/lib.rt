@@ -1,18 +1,26 @@
-//! The command `store`: lines that ask something of a store over a file in, what each was answered out.
+//! The commands over files. `store`: lines that ask something of a store over a file in, what each was answered out. `inspect` and `export`: what
+//! the bytes of a file hold, whether a node's or a store's; nothing is locked, and nothing is written. And the jobs that a file is made with,
+//! from the lines that `export` prints.
 #![tactic(auto)]
 
 mod acting;
 mod barring;
+mod copying;
 mod fields;
+mod found;
+mod found_text;
+mod inspecting;
+mod looking;
 mod making;
 mod parsing;
 mod reading;
 mod reasons;
 mod reply;
 mod request;
+mod restoring;
 mod running;
 mod text;
 
-pub use fields::{payload, priority, queue};
+pub use inspecting::{export, inspect};
+pub use restoring::{no_jobs, read_jobs};
 pub use running::store;
-pub use text::push_jobs;

@@ -3,3 +3,4 @@ mod Cuts
 mod Filling
 mod Polls
 mod Texts
+mod Tracings

@@ -11,9 +11,11 @@ mod parsing;
 mod reading;
 mod reasons;
 mod running;
+mod tracing;
 mod turn;
 mod writing;
 
 pub use reading::{Setup, read_plans};
 pub use running::threads;
+pub use tracing::trace_of;
 pub use turn::Turn;

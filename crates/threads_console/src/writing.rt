@@ -223,7 +223,7 @@ fn write_sent(
 }
 
 /// How a trace has what came of a turn.
-fn deed_of(what: &What) -> Deed
+pub(crate) fn deed_of(what: &What) -> Deed
     ensures { result ≡ deed_of what.now }
 {
     match what {

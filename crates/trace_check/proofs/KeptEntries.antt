@@ -23,17 +23,17 @@ use Rattle.trace_check.specs.Kept.{kept_event, kept_deed, payload_of, payload_in
 
 -- ---- more is kept, and an entry says what it said
 
-get_same : (ms more : List Envelope) (i : ℕ) → i < length ms → slice_get (ms ++ more) i ≡ slice_get ms i
+pub get_same : {A : Type 0} → (xs more : List A) (i : ℕ) → i < length xs → slice_get (xs ++ more) i ≡ slice_get xs i
 get_same [] more i within = absurd (omega (arith, within))
-get_same (m ∷ ms) more zero within = refl
-get_same (m ∷ ms) more (suc i) within = get_same ms more i (omega (arith, within))
+get_same (x ∷ xs) more zero within = refl
+get_same (x ∷ xs) more (suc i) within = get_same xs more i (omega (arith, within))
 
 pub part_same : {A : Type 0} → (xs more : List A) (start len : ℕ) → start + len ≤ length xs → take len (drop start (xs ++ more)) ≡ take len (drop start xs)
 part_same {A} xs more start len within =
     ap (λ (ys : List A). take len ys) (drop-append-le start xs more (omega (arith, within)))
     ∙ take-append-le len (drop start xs) more (omega (arith, within, length-drop start xs))
 
-event_same : (ms more : List Envelope) (p bytes : List ℕ) (e : KeptEvent) → EventStands (length ms) (length p) e → event_said (ms ++ more) (p ++ bytes) e ≡ event_said ms p e
+pub event_same : (ms more : List Envelope) (p bytes : List ℕ) (e : KeptEvent) → EventStands (length ms) (length p) e → event_said (ms ++ more) (p ++ bytes) e ≡ event_said ms p e
 event_same ms more p bytes (kept.Timer timer) h = refl
 event_same ms more p bytes (kept.Deliver place) h = ap (λ (o : Option Envelope). delivered o) (get_same ms more place h)
 event_same ms more p bytes (kept.Submit queue priority start len) h = ap (λ (xs : List ℕ). on.Submit (record { queue = queue; priority = priority; payload = xs })) (part_same p bytes start len h.0)
@@ -61,18 +61,18 @@ claims_same ms more p bytes (e ∷ es) h =
 
 -- ---- an entry that was kept last is read back
 
-get_again : (ms : List Envelope) (m : Envelope) → slice_get (ms ++ m ∷ []) (length ms) ≡ Some m
-get_again [] m = refl
-get_again (x ∷ ms) m = get_again ms m
+pub get_again : {A : Type 0} → (xs : List A) (x : A) → slice_get (xs ++ x ∷ []) (length xs) ≡ Some x
+get_again [] x = refl
+get_again (y ∷ xs) x = get_again xs x
 
 pub take_whole : {A : Type 0} → (xs : List A) → take (length xs) xs ≡ xs
 take_whole [] = refl
 take_whole {A} (x ∷ xs) = ap (λ (ys : List A). x ∷ ys) (take_whole xs)
 
-part_again : {A : Type 0} → (xs ys : List A) → take (length ys) (drop (length xs) (xs ++ ys)) ≡ ys
+pub part_again : {A : Type 0} → (xs ys : List A) → take (length ys) (drop (length xs) (xs ++ ys)) ≡ ys
 part_again {A} xs ys = ap (λ (zs : List A). take (length ys) zs) (drop-append_seam xs ys) ∙ take_whole ys
 
-event_again : (ms : List Envelope) (p : List ℕ) (e : Event) → event_said (ms ++ brought (Some e)) (p ++ payload_of e) (kept_event (length ms) (length p) e) ≡ e
+pub event_again : (ms : List Envelope) (p : List ℕ) (e : Event) → event_said (ms ++ brought (Some e)) (p ++ payload_of e) (kept_event (length ms) (length p) e) ≡ e
 event_again ms p (on.Timer timer) = refl
 event_again ms p (on.Deliver m) = ap (λ (o : Option Envelope). delivered o) (get_again ms m)
 event_again ms p (on.Submit work) = ap (λ (xs : List ℕ). on.Submit (record work { payload = xs })) (part_again p work.payload)
@@ -87,7 +87,7 @@ deed_again ms p deed.Crashed = refl
 deed_again ms p (deed.Recovered kept) = refl
 deed_again ms p (deed.NotRecovered kept fault) = refl
 
-event_stands : (ms : List Envelope) (p : List ℕ) (e : Event) → length (payload_of e) ≤ PAYLOAD_CAPACITY → EventStands (length (ms ++ brought (Some e))) (length (p ++ payload_of e)) (kept_event (length ms) (length p) e)
+pub event_stands : (ms : List Envelope) (p : List ℕ) (e : Event) → length (payload_of e) ≤ PAYLOAD_CAPACITY → EventStands (length (ms ++ brought (Some e))) (length (p ++ payload_of e)) (kept_event (length ms) (length p) e)
 event_stands ms p (on.Timer timer) few = tt
 event_stands ms p (on.Deliver m) few = omega (arith, length-append ms (m ∷ []))
 event_stands ms p (on.Submit work) few = (omega (arith, length-append p work.payload), few)
@@ -104,7 +104,7 @@ deed_stands ms p (deed.NotRecovered kept fault) few = tt
 
 -- ---- where more can be read, what could be read still can
 
-event_longer : (m m' p p' : ℕ) (e : KeptEvent) → m ≤ m' → p ≤ p' → EventStands m p e → EventStands m' p' e
+pub event_longer : (m m' p p' : ℕ) (e : KeptEvent) → m ≤ m' → p ≤ p' → EventStands m p e → EventStands m' p' e
 event_longer m m' p p' (kept.Timer timer) a b h = tt
 event_longer m m' p p' (kept.Deliver place) a b h = omega (arith, a, h)
 event_longer m m' p p' (kept.Submit queue priority start len) a b h = (let within = h.0 in omega (arith, b, within), h.1)

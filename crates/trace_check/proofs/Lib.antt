@@ -10,5 +10,4 @@ mod Desks
 mod Turns
 mod KeptEntries
 mod Brought
-mod Builders
 pub mod PublicLaws

@@ -1,4 +1,3 @@
-pub mod Building
 pub mod Claims
 pub mod Desks
 pub mod Followed

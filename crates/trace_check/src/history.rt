@@ -1,17 +1,15 @@
 ghost use Rattle.std.specs.Prelude.{◌≡◌, ◌≤◌, ◌<◌, ◌+◌, ◌-◌, ◌^◌, [], ◌∷◌, ◌++◌, length, slice_get, option_map, Some, None, IfSome, IsNone, IsTrue, ◌↔◌, OnOk, OnErr};
 ghost use Rattle.wire_msg.specs.Envelope.{Envelope};
 ghost use Rattle.wire_msg.specs.Spelling.{Spells};
-ghost use Rattle.trace_check.specs.Building.{delivery, handled, kept_delivery, kept_handled};
-ghost use Rattle.job_model.specs.declared.payload.TheConstants.{PAYLOAD_CAPACITY};
-ghost use Rattle.node_core.specs.declared.event.Event.TheVariants.{Finish, Submit};
 ghost use Rattle.trace_check.specs.Claims.{Claim, brought_by};
+ghost use Rattle.trace_check.specs.Kept.{part};
 ghost use Rattle.trace_check.specs.Traces.{claim, claim_seen};
 ghost use Rattle.trace_check.specs.Views.{Stands, claim_kept};
 
-use crate::kept::{KeptDeed, KeptEntry, KeptEvent, brought_at, deed_said, keep_deed};
+use crate::kept::{KeptEntry, brought_at, deed_said, keep_deed};
 use crate::trace::Deed;
 use group_task::NodeId;
-use job_model::{PAYLOAD_CAPACITY, Queue};
+use job_model::PAYLOAD_CAPACITY;
 use message_list::{LentMessage, MessageList};
 use std::alloc::{AllocError, Global};
 use std::marker::Model;
@@ -146,186 +144,8 @@ impl History {
     }
 }
 
-/// A history that is being built: the messages of an entry are added first, one after another, and then the entry is finished. So no
-/// list of whole messages is made for it, and no deed that has a whole message.
-#[derive(Drop)]
-// Promise: A history is built entry by entry: the messages that were added since the last entry are those of the next one, what it
-// was brought first; an entry that isn't finished counts for nothing.
-// Refuses: delivered_message_built_as_sent, failure_built_the_wrong_way, sent_messages_left_out.
-// Promise: Of `HistoryBuilder::reserve` only that the room is there where it isn't refused, and that entries and messages stay.
-pub struct HistoryBuilder {
-    entries: Vec<KeptEntry>,
-    messages: MessageList,
-    payloads: Vec<u8>,
-    // where the messages begin that are of no entry yet
-    pending: usize,
-}
-
-impl Model for HistoryBuilder {
-    ghost use Rattle.std.specs.Prelude.{length, drop, map, All, ◌≤◌};
-    ghost use Rattle.trace_check.specs.Building.{Building};
-    ghost use Rattle.trace_check.specs.Kept.{claim_said, EntryStands};
-
-    ghost Value = { Building };
-
-    ghost view = { λ a. record { claims = map (claim_said a.messages.messages a.payloads.items) a.entries.items; pending = drop a.pending a.messages.messages; room = a.messages.room } };
-
-    ghost invariant = { λ a. All (EntryStands (length a.messages.messages) (length a.payloads.items)) a.entries.items × (a.pending ≤ length a.messages.messages) };
-}
-
-impl HistoryBuilder {
-    /// A builder without entries. It takes no memory.
-    pub fn new(alloc: Global) -> HistoryBuilder
-        ensures { result ≡ record { claims = []; pending = []; room = 0 } }
-    {
-        HistoryBuilder {
-            entries: Vec::new(alloc),
-            messages: MessageList::new(alloc),
-            payloads: Vec::new(alloc),
-            pending: 0,
-        }
-    }
-
-    /// Makes room for so many more messages.
-    pub fn reserve(&mut self, more: usize) -> Result<(), AllocError>
-        ensures claims { self.new.claims ≡ self.old.claims }
-        ensures pending { self.new.pending ≡ self.old.pending }
-        ensures room { OnOk result (more ≤ self.new.room) }
-    {
-        self.messages.reserve(more)
-    }
-
-    /// Adds a message of the next entry, in the room that is there.
-    pub fn add(&mut self, message: &Message)
-        requires { 0 < self.old.room }
-        ensures { self.new ≡ record { claims = self.old.claims; pending = self.old.pending ++ message.now ∷ []; room = self.old.room - 1 } }
-    {
-        self.messages.push(message);
-    }
-
-    /// Finishes an entry that was brought the first of the messages added for it, and sent the others: its event was handled, or the
-    /// device failed in it.
-    pub fn finish_delivery(&mut self, failed: bool) -> Result<(), AllocError>
-        requires { 0 < length self.old.pending }
-        ensures added { OnOk result (self.new ≡ record { claims = self.old.claims ++ delivery failed self.old.pending; pending = []; room = self.old.room }) }
-        ensures refused { OnErr result (self.new ≡ self.old) }
-    {
-        self.entries.reserve(1)?;
-        let end = self.messages.len();
-        self.entries.push_reserved(KeptEntry {
-            deed: kept_delivery(failed, self.pending),
-            start: self.pending + 1,
-            end,
-        });
-        self.pending = end;
-        Ok(())
-    }
-
-    /// Finishes an entry: what was done, where the messages added for it are those that it sent.
-    pub fn finish(&mut self, deed: &Deed) -> Result<(), AllocError>
-        ensures added { OnOk result (self.new.claims ≡ self.old.claims ++ claim deed.now self.old.pending ∷ []) }
-        ensures none { OnOk result (self.new.pending ≡ []) }
-        ensures refused { OnErr result ((self.new.claims ≡ self.old.claims) × (self.new.pending ≡ self.old.pending)) }
-    {
-        self.entries.reserve(1)?;
-        self.payloads.reserve(PAYLOAD_CAPACITY)?;
-        self.messages.reserve(1)?;
-        let end = self.messages.len();
-        let deed = keep_deed(&mut self.messages, &mut self.payloads, deed);
-        self.entries.push_reserved(KeptEntry {
-            deed,
-            start: self.pending,
-            end,
-        });
-        self.pending = self.messages.len();
-        Ok(())
-    }
-
-    /// Finishes an entry of a job that was submitted, as `finish` does, with no event that has room for the longest payload: its
-    /// event was handled, or the device failed in it.
-    pub fn finish_submit(
-        &mut self,
-        queue: Queue,
-        priority: u8,
-        payload: &[u8],
-        failed: bool,
-    ) -> Result<(), AllocError>
-        requires { length payload.now ≤ PAYLOAD_CAPACITY }
-        ensures added { OnOk result (self.new.claims ≡ self.old.claims ++ claim (handled failed (Submit (record { queue = queue; priority = priority; payload = payload.now }))) self.old.pending ∷ []) }
-        ensures none { OnOk result (self.new.pending ≡ []) }
-        ensures refused { OnErr result ((self.new.claims ≡ self.old.claims) × (self.new.pending ≡ self.old.pending)) }
-    {
-        self.entries.reserve(1)?;
-        let first = self.pending;
-        let start = self.payloads.len();
-        self.payloads.extend_from_slice(payload)?;
-        let end = self.messages.len();
-        let event = KeptEvent::Submit(queue, priority, start, payload.len() as u16);
-        self.entries.push_reserved(KeptEntry {
-            deed: kept_handled(failed, event),
-            start: first,
-            end,
-        });
-        self.pending = end;
-        Ok(())
-    }
-
-    /// Finishes an entry of a job that was finished, as `finish` does: its event was handled, or the device failed in it.
-    pub fn finish_done(&mut self, origin: NodeId, id: u64, failed: bool) -> Result<(), AllocError>
-        ensures added { OnOk result (self.new.claims ≡ self.old.claims ++ claim (handled failed (Finish origin id)) self.old.pending ∷ []) }
-        ensures none { OnOk result (self.new.pending ≡ []) }
-        ensures refused { OnErr result ((self.new.claims ≡ self.old.claims) × (self.new.pending ≡ self.old.pending)) }
-    {
-        self.entries.reserve(1)?;
-        let first = self.pending;
-        let end = self.messages.len();
-        self.entries.push_reserved(KeptEntry {
-            deed: kept_handled(failed, KeptEvent::Finish(origin, id)),
-            start: first,
-            end,
-        });
-        self.pending = end;
-        Ok(())
-    }
-
-    /// The history of the entries that were finished.
-    pub fn build(self) -> History
-        ensures { result ≡ self.claims }
-    {
-        let HistoryBuilder {
-            entries,
-            messages,
-            payloads,
-            ..
-        } = self;
-        History {
-            entries,
-            messages,
-            payloads,
-        }
-    }
-}
-
-/// The deed of an entry that was brought the message at this place.
-fn kept_delivery(failed: bool, place: usize) -> KeptDeed
-    ensures { result ≡ kept_delivery failed place }
-{
-    kept_handled(failed, KeptEvent::Deliver(place))
-}
-
-/// The deed of an event that was handled, or in which the device failed.
-fn kept_handled(failed: bool, event: KeptEvent) -> KeptDeed
-    ensures { result ≡ kept_handled failed event }
-{
-    if failed {
-        KeptDeed::Faulted(event)
-    } else {
-        KeptDeed::Done(event)
-    }
-}
-
 /// Keeps messages, in the room that is there.
-fn keep_messages(messages: &mut MessageList, sent: &[Message])
+pub fn keep_messages(messages: &mut MessageList, sent: &[Message])
     requires { length sent.now ≤ messages.old.room }
     ensures { messages.new.messages ≡ messages.old.messages ++ sent.now }
 {
@@ -363,7 +183,7 @@ impl<'a> KeptView<'a> {
     }
 }
 
-/// The messages that an entry sent, in their order, or the one that it was brought, lent.
+/// The messages that an entry of a log sent, in their order, or the one that it was brought, lent.
 #[derive(Drop)]
 pub struct Sent<'a> {
     messages: &'a MessageList,
@@ -384,6 +204,19 @@ impl<'a> Model for Sent<'a> {
 }
 
 impl<'a> Sent<'a> {
+    /// The messages of a list from `start` up to `end`.
+    pub fn part(messages: &'a MessageList, start: usize, end: usize) -> Sent<'a>
+        requires order { start ≤ end }
+        requires within { end ≤ length messages.now.messages }
+        ensures { result ≡ part start end messages.now.messages }
+    {
+        Sent {
+            messages,
+            start,
+            end,
+        }
+    }
+
     /// No message, lent from the same list.
     pub(crate) fn none(&self) -> Sent<'a>
         ensures { result ≡ [] }
@@ -424,9 +257,9 @@ impl<'a> Sent<'a> {
     /// Whether the message at this place is this one. None is made for it.
     pub fn holds(&self, place: usize, message: &Message) -> bool
         // Promise: Of the messages that an entry sent it is answered whether the one at a place is a given one, which node it is
-        // for, and its one spelling, and none is made for it.
+        // for, and its one spelling, in place of what stood there, and none is made for it.
         // Also: Sent::receiver, Sent::spell.
-        // Refuses: held_at_another_place, sender_answered_as_receiver, first_sent_spelled.
+        // Refuses: held_at_another_place, sender_answered_as_receiver, first_sent_spelled, spelled_from_an_earlier_turn.
         ensures { IsTrue result ↔ (slice_get self.now place ≡ Some message.now) }
     {
         if place < self.end - self.start {

@@ -64,7 +64,8 @@ pub fn keep_deed(messages: &mut MessageList, payloads: &mut Vec<u8>, deed: &Deed
     }
 }
 
-fn keep_event(messages: &mut MessageList, payloads: &mut Vec<u8>, event: &Event) -> KeptEvent
+/// Keeps an event, in the room that is there.
+pub fn keep_event(messages: &mut MessageList, payloads: &mut Vec<u8>, event: &Event) -> KeptEvent
     requires room { 1 ≤ messages.old.room }
     requires bytes { vec_len payloads.old + PAYLOAD_CAPACITY ≤ vec_capacity payloads.old }
     ensures value { result ≡ kept_event (length messages.old.messages) (length payloads.old.items) event.now }
@@ -72,6 +73,8 @@ fn keep_event(messages: &mut MessageList, payloads: &mut Vec<u8>, event: &Event)
     ensures left { messages.old.room ≤ messages.new.room + 1 }
     ensures payloads { payloads.new.items ≡ payloads.old.items ++ payload_of event.now }
     ensures few { length (payload_of event.now) ≤ PAYLOAD_CAPACITY }
+    ensures long { vec_len payloads.new ≤ vec_len payloads.old + PAYLOAD_CAPACITY }
+    ensures capacity { vec_capacity payloads.old ≤ vec_capacity payloads.new }
 {
     match event {
         Event::Timer(timer) => KeptEvent::Timer(*timer),

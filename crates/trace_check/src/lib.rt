@@ -25,7 +25,8 @@ mod trace;
 
 pub use checking::{Examined, check, examine};
 pub use following::is_order;
-pub use history::{EntryView, History, HistoryBuilder, Sent};
+pub use history::{EntryView, History, Sent, keep_messages};
+pub use kept::{KeptEvent, event_said, keep_event, read_event};
 pub use laws::{
     holdups_hold, none_complete, none_goes_further, orders_are_bundles, turns_go_on,
     verdicts_decide,

@@ -8,3 +8,6 @@ mod Lefts
 mod Wholes
 mod Names
 mod Texts
+mod Joins
+mod Looks
+mod Stages

@@ -6,7 +6,7 @@ use Rattle.node_core.specs.declared.phase.Phase.{Phase}
 use Rattle.node_core.specs.declared.phase.Phase.TheVariants as phase
 use Rattle.trace_draw.specs.declared.turn.Stand.{Stand}
 use Rattle.trace_draw.specs.declared.turn.Stay.{Stay}
-use Rattle.trace_draw.specs.Labels.{group_text, ids_text, phase_text}
+use Rattle.node_words.specs.Words.{group_text, ids_text, phase_text}
 use Rattle.trace_draw.specs.Places.{edge, breadth, band_top}
 
 -- the colour of a group, one of ten

@@ -12,7 +12,7 @@ use Rattle.trace_check.specs.Verdicts.{IsVerdict, DecidesRun, AreTaken}
 use Rattle.trace_text.specs.declared.fault.Spot.{Spot}
 use Rattle.trace_text.specs.Ordered.{Ordered, order_of, ordered_by}
 use Rattle.trace_text.specs.Wholes.{trace_of}
-use Rattle.trace_console.specs.Judged.{bad_trace}
+use Rattle.trace_draw.specs.Judged.{bad_trace}
 use Rattle.trace_draw.specs.declared.drawing.Form.{Form}
 use Rattle.trace_draw.specs.declared.drawing.Form.TheVariants as form
 use Rattle.trace_draw.specs.declared.turn.Plot.{Plot}

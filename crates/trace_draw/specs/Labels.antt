@@ -5,28 +5,7 @@ use Rattle.wire_msg.specs.Envelope.{Envelope}
 use Rattle.wire_msg.specs.Kinds.{group_in}
 use Rattle.wire_msg.specs.declared.body.Body.{Body}
 use Rattle.wire_msg.specs.declared.body.Body.TheVariants as says
-use Rattle.node_core.specs.declared.phase.Phase.{Phase}
-use Rattle.node_core.specs.declared.phase.Phase.TheVariants as phase
-
--- a group's creator and its count
-abbrev pub group_text : Group → List ℕ
-group_text g = decimal g.creator ++ codes ":" ++ decimal g.count
-
--- numbers, each behind a comma
-abbrev pub more_ids_text : List ℕ → List ℕ
-more_ids_text [] = []
-more_ids_text (id ∷ ids) = codes "," ++ decimal id ++ more_ids_text ids
-
--- numbers joined by commas; a dash stands for none
-abbrev pub ids_text : List ℕ → List ℕ
-ids_text [] = codes "-"
-ids_text (id ∷ ids) = decimal id ++ more_ids_text ids
-
-abbrev pub phase_text : Phase → List ℕ
-phase_text phase.Down = codes "Down"
-phase_text phase.Election = codes "Election"
-phase_text phase.Reorganization = codes "Reorganization"
-phase_text phase.Normal = codes "Normal"
+use Rattle.node_words.specs.Words.{group_text}
 
 -- the kind of a message, and its answer where it is one
 abbrev pub kind_text : Body → List ℕ

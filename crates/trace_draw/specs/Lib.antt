@@ -1,3 +1,7 @@
+pub mod Files
+pub mod Judged
+pub mod Ongoing
+pub mod Reported
 pub mod Stays
 pub mod Turns
 pub mod Walks

@@ -5,7 +5,7 @@ use Rattle.wire_msg.specs.Envelope.{Envelope}
 use Rattle.trace_check.specs.Claims.{Claim, brought_by}
 use Rattle.trace_check.specs.declared.leftover.Leftover.{Leftover}
 use Rattle.trace_text.specs.Written.{deed_name}
-use Rattle.trace_console.specs.Reported.{leftover_text, message_text as message_hex}
+use Rattle.trace_draw.specs.Reported.{leftover_text, message_text as message_hex}
 use Rattle.trace_draw.specs.declared.turn.Source.{Source}
 use Rattle.trace_draw.specs.declared.turn.Turn.{Turn}
 use Rattle.trace_draw.specs.declared.turn.Stand.{Stand}
@@ -13,7 +13,8 @@ use Rattle.trace_draw.specs.declared.turn.Stay.{Stay}
 use Rattle.trace_draw.specs.declared.turn.Plot.{Plot}
 use Rattle.trace_draw.specs.declared.style.TheConstants.{STYLE, LEGEND}
 use Rattle.trace_draw.specs.declared.script.TheConstants.{HEAD, LIST, TOOLS, SCRIPT}
-use Rattle.trace_draw.specs.Labels.{group_text, ids_text, message_text, phase_text}
+use Rattle.node_words.specs.Words.{group_text, ids_text, phase_text}
+use Rattle.trace_draw.specs.Labels.{message_text}
 use Rattle.trace_draw.specs.Signs.{look}
 use Rattle.trace_draw.specs.Picture.{order_said}
 

@@ -10,11 +10,12 @@ use Rattle.trace_check.specs.declared.trace.Deed.{Deed}
 use Rattle.trace_check.specs.declared.trace.Deed.TheVariants as deed
 use Rattle.trace_check.specs.declared.leftover.Leftover.{Leftover}
 use Rattle.trace_text.specs.Written.{deed_name}
-use Rattle.trace_console.specs.Reported.{leftover_text}
+use Rattle.trace_draw.specs.Reported.{leftover_text}
 use Rattle.trace_draw.specs.declared.turn.Point.{Point}
 use Rattle.trace_draw.specs.declared.turn.Source.{Source}
 use Rattle.trace_draw.specs.declared.turn.Turn.{Turn}
-use Rattle.trace_draw.specs.Labels.{ids_text, kind_text, message_text}
+use Rattle.node_words.specs.Words.{ids_text}
+use Rattle.trace_draw.specs.Labels.{kind_text, message_text}
 use Rattle.trace_draw.specs.Places.{across, below, down, place}
 
 -- ---- an entry

@@ -2,12 +2,13 @@
 ghost use Rattle.std.specs.Prelude.{◌≡◌, ◌<◌, ◌++◌, OnOk, decimal};
 ghost use Rattle.trace_draw.specs.Bands.{band, bands, box_corner, box_size, colour, form, ground, line_on, members_text, short_label, short_members, span_text, stand_drawn, stand_text, stay_drawn, stay_title};
 
-use crate::labels::{push_group, push_ids, push_node, push_phase};
+use crate::labels::push_node;
 use crate::places::{push_band_top, push_breadth, push_edge};
 use crate::turn::{Stand, Stay};
 use console_text::{push_number, push_text};
 use group_task::GroupNo;
 use node_core::Phase;
+use node_words::{phase_word, push_group, push_ids};
 use std::alloc::AllocError;
 
 /// How many colours groups have.
@@ -93,7 +94,7 @@ fn push_words(text: &mut Vec<u8>, stand: &Stand) -> Result<(), AllocError>
     ensures { OnOk result (text.new.items ≡ text.old.items ++ stand_text stand.now) }
 {
     push_text(text, ": ")?;
-    push_phase(text, stand.phase)?;
+    push_text(text, phase_word(stand.phase))?;
     push_text(text, " in group ")?;
     push_group(text, stand.group)?;
     push_members(text, stand)

@@ -1,11 +1,13 @@
 ghost use Rattle.std.specs.Prelude.{◌≡◌, ◌≤◌, ◌+◌, [], reverse, option_map, IfOk};
 ghost use Rattle.console_text.specs.Ends.{Prints, outcome_of};
 ghost use Rattle.trace_check.specs.Orders.{IsLegal, IsComplete};
-ghost use Rattle.trace_console.specs.Reported.{IsReport, IsReported, IsTold};
+ghost use Rattle.trace_draw.specs.Reported.{IsReport, IsReported, IsTold};
 ghost use Rattle.trace_text.specs.Ordered.{ordered_by};
 ghost use Rattle.trace_draw.specs.Drawn.{DrawsRecorded, DrawsTaken, IsDrawing, IsDrawn, IsRunIn, drawn_as, is_run};
 
+use crate::judging::bad_printout;
 use crate::paging::page;
+use crate::reporting::report;
 use crate::svg::picture;
 use crate::turn::Plot;
 use crate::turns::plot;
@@ -13,7 +15,6 @@ use console_text::{Ended, Explained, Printout, Source, Trouble, print_explained,
 use std::alloc::{AllocError, Global};
 use std::io::{Read, Write};
 use trace_check::{Examined, Leftover, Order, Trace, Verdict, examine, is_order};
-use trace_console::{bad_printout, report};
 use trace_text::{TraceFault, read, read_order};
 
 /// As what a run is drawn.

@@ -1,11 +1,11 @@
-//! The words of a picture: groups, members, phases and messages.
+//! The words of a picture for messages.
 ghost use Rattle.std.specs.Prelude.{◌≡◌, ◌++◌, OnOk, decimal};
 ghost use Rattle.wire_msg.specs.Kinds.{group_in};
-ghost use Rattle.trace_draw.specs.Labels.{ends_text, group_text, ids_text, kind_text, message_text, named_text, phase_text};
+ghost use Rattle.trace_draw.specs.Labels.{ends_text, kind_text, message_text, named_text};
 
 use console_text::{push_number, push_text};
-use group_task::{GroupNo, Members, NodeId};
-use node_core::Phase;
+use group_task::NodeId;
+use node_words::push_group;
 use std::alloc::AllocError;
 use wire_msg::{Body, Message};
 
@@ -14,49 +14,6 @@ pub(crate) fn push_node(text: &mut Vec<u8>, node: NodeId) -> Result<(), AllocErr
     ensures { OnOk result (text.new.items ≡ text.old.items ++ decimal node) }
 {
     push_number(text, u64::from(node.number()))
-}
-
-/// Adds a group: its creator, and its count.
-pub(crate) fn push_group(text: &mut Vec<u8>, group: GroupNo) -> Result<(), AllocError>
-    ensures { OnOk result (text.new.items ≡ text.old.items ++ group_text group) }
-{
-    push_node(text, group.creator())?;
-    push_text(text, ":")?;
-    push_number(text, group.count())
-}
-
-/// Adds nodes joined by commas; a dash stands for none.
-pub(crate) fn push_ids(text: &mut Vec<u8>, ids: Members) -> Result<(), AllocError>
-    ensures { OnOk result (text.new.items ≡ text.old.items ++ ids_text ids) }
-{
-    let mut left = ids.iter();
-    let Some(first) = left.next() else {
-        return push_text(text, "-");
-    };
-    push_node(text, first)?;
-    for id in left {
-        push_text(text, ",")?;
-        push_node(text, id)?;
-    }
-    Ok(())
-}
-
-/// Adds the word of a phase.
-pub(crate) fn push_phase(text: &mut Vec<u8>, phase: Phase) -> Result<(), AllocError>
-    ensures { OnOk result (text.new.items ≡ text.old.items ++ phase_text phase) }
-{
-    push_text(text, phase_word(phase))
-}
-
-fn phase_word(phase: Phase) -> &'static str
-    ensures { result.now ≡ phase_text phase }
-{
-    match phase {
-        Phase::Down => "Down",
-        Phase::Election => "Election",
-        Phase::Reorganization => "Reorganization",
-        Phase::Normal => "Normal",
-    }
 }
 
 /// Adds sender, receiver, kind and group of a message.

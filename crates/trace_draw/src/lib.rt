@@ -1,12 +1,17 @@
-//! The command `draw`: a trace in, a picture of the run out.
+//! The commands of traces. `trace`: a trace in, or several files that make one, the verdict on it out, and why no order takes all entries where none
+//! does. `draw`: a trace in, a picture of the run out.
 #![tactic(auto)]
 
 mod bands;
 mod drawing;
+mod files;
+mod judging;
 mod labels;
 mod mail;
+mod ongoing;
 mod paging;
 mod places;
+mod reporting;
 mod script;
 mod signs;
 mod stays;
@@ -19,6 +24,8 @@ mod untaken;
 mod walk;
 
 pub use drawing::{Form, draw};
+pub use files::{TraceFile, trace_files};
+pub use judging::{Stage, trace};
 pub use paging::page;
 pub use svg::picture;
 pub use turn::{Plot, Point, Source, Stand, Stay, Turn};

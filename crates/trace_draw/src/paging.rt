@@ -5,16 +5,17 @@ ghost use Rattle.trace_check.specs.Claims.{brought_by};
 ghost use Rattle.trace_draw.specs.Page.{data_drawn, deed_data, end_data, left_item, left_items, members_data, message_data, page_text, phase_data};
 ghost use Rattle.trace_draw.specs.Page.{place_data, run_data, source_data, span_data, stay_data, stays_data, sure_data, top, turn_data, turns_data, up_data};
 
-use crate::labels::{push_group, push_ids, push_message, push_node, push_phase};
+use crate::labels::{push_message, push_node};
+use crate::reporting::{push_leftover, push_message as push_bytes};
 use crate::script::{HEAD, LIST, SCRIPT, TOOLS};
 use crate::signs::look;
 use crate::style::{LEGEND, STYLE};
 use crate::svg::push_order;
 use crate::turn::{Plot, Source, Stand, Stay, Turn};
 use console_text::{push_number, push_text};
+use node_words::{phase_word, push_group, push_ids};
 use std::alloc::{AllocError, Global};
 use trace_check::{Deed, Leftover, Trace};
-use trace_console::{push_leftover, push_message as push_bytes};
 use trace_text::deed_name;
 
 /// The page of a run, which needs nothing else to be looked at: it moves, zooms, and tells of each entry.
@@ -230,7 +231,7 @@ fn push_standing(text: &mut Vec<u8>, stay: &Stay, stand: &Stand) -> Result<(), A
 {
     push_number(text, stay.until as u64)?;
     push_text(text, ",\"")?;
-    push_phase(text, stand.phase)?;
+    push_text(text, phase_word(stand.phase))?;
     push_text(text, "\",\"")?;
     push_group(text, stand.group)
 }

@@ -6,15 +6,16 @@ ghost use Rattle.trace_check.specs.Claims.{brought_by};
 ghost use Rattle.trace_draw.specs.Labels.{message_text};
 ghost use Rattle.trace_draw.specs.Signs.{arrow, arrow_class, arrow_of, arrow_path, cross, doubt, entry_place, entry_text, event_word, kind_label, kind_labels, label, left_drawn, left_place, left_words, look, mark, mark_parts, name, name_again, name_at, names_again, number_label, sign, stub, stub_of, word, words_at, words_by};
 
-use crate::labels::{push_ids, push_kind, push_message, push_node};
+use crate::labels::{push_kind, push_message, push_node};
 use crate::places::{push_across, push_below, push_down, push_point};
+use crate::reporting::push_leftover;
 use crate::turn::{Point, Source, Turn};
 use console_text::{push_number, push_text};
 use group_task::{Members, NodeId};
 use node_core::Event;
+use node_words::push_ids;
 use std::alloc::{AllocError, Global};
 use trace_check::{Deed, Leftover, Trace};
-use trace_console::push_leftover;
 use trace_text::deed_name;
 use wire_msg::Message;
 

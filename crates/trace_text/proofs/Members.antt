@@ -1,19 +1,23 @@
 -- What is read of the members of an object, one after another.
-use Rattle.std.proofs.Common.{◌≡◌, ℕ, Bool, true, false, true≢false, List, Option, Some, option_and_then, codes, bytes_eq, refl, sym, ap, ap₂, ◌∙◌}
+use Rattle.std.proofs.Common.{◌≡◌, ℕ, Bool, true, false, true≢false, List, Option, Some, option_map, option_and_then, codes, bytes_eq, refl, sym, ap, ap₂, ◌∙◌}
 use Rattle.std.specs.Prelude.{if◌then◌else◌}
 use Rattle.std.proofs.lemmas.Slice.Eq.{bytes_eq-Decides}
 use Rattle.serde_json.specs.Data.{Data, Members, put, object}
 use Rattle.serde_json.specs.Find.{get_member}
 use Rattle.serde_json.proofs.Views.{get_member-put, get_member-put_other}
-use Rattle.trace_text.specs.Fields.{FieldData, fields_in, fields_put}
+use Rattle.trace_text.specs.Fields.{FieldData, fields_in, fields_put, plain, plain_fields}
 use Rattle.trace_text.specs.Entries.{number_in}
-use Rattle.trace_text.specs.Streams.{Drafted, drafted_put, texts_of, Parted, parted_put, histories_of}
+use Rattle.trace_text.specs.Streams.{Drafted, drafted_in, drafted_put, sent_in, Parted, parted_in, parted_put, judged_in}
 
 -- ---- one more member
 
 get_by : (q k : List ℕ) (d : Data) (ms : Members) (b : Bool) → bytes_eq k q ≡ b → get_member q (put k d ms) ≡ (if b then Some d else get_member q ms)
 get_by q k d ms true e = ap (λ (x : List ℕ). get_member x (put k d ms)) (sym ((bytes_eq-Decides k q).0 e)) ∙ get_member-put k d ms
 get_by q k d ms false e = get_member-put_other q k d ms (λ same. absurd (true≢false (sym ((bytes_eq-Decides k q).1 (sym same)) ∙ e)))
+
+plain_by : (q k : List ℕ) (d : Data) (ms : Members) (b : Bool) → bytes_eq k q ≡ b → option_map plain (get_member q (put k d ms)) ≡ (if b then Some (plain d) else option_map plain (get_member q ms))
+plain_by q k d ms true e = ap (option_map plain) (get_by q k d ms true e)
+plain_by q k d ms false e = ap (option_map plain) (get_by q k d ms false e)
 
 get_put : (q k : List ℕ) (d : Data) (ms : Members) → get_member q (put k d ms) ≡ (if bytes_eq k q then Some d else get_member q ms)
 get_put q k d ms = get_by q k d ms (bytes_eq k q) refl
@@ -46,10 +50,10 @@ same_seen g h e =
     rw (e (codes "do"), e (codes "msg"), e (codes "fault"), e (codes "kept"), e (codes "queue"), e (codes "priority"), e (codes "payload"), e (codes "origin"), e (codes "id")) refl
 
 abbrev seen_put : Data → Members → List ℕ → FieldData
-seen_put d ms key = seen (λ (q : List ℕ). if bytes_eq key q then Some d else get_member q ms)
+seen_put d ms key = seen (λ (q : List ℕ). if bytes_eq key q then Some (plain d) else option_map plain (get_member q ms))
 
 module _ (key : List ℕ) (d : Data) (ms : Members) where
-  seen_is : seen_put d ms key ≡ fields_put (fields_in (object ms)) key d
+  seen_is : seen_put d ms key ≡ fields_put (plain_fields (fields_in (object ms))) key (plain d)
   seen_is =
       either key (codes "do") (seen_put d ms) _ _ refl (λ a.
       either key (codes "msg") (seen_put d ms) _ _ refl (λ b.
@@ -62,17 +66,17 @@ module _ (key : List ℕ) (d : Data) (ms : Members) where
       either key (codes "id") (seen_put d ms) _ _ refl (λ j.
       rw (a, b, c, e, f, g, h, i, j) refl)))))))))
 
-  fields_law : fields_in (object (put key d ms)) ≡ fields_put (fields_in (object ms)) key d
-  fields_law = same_seen (λ (q : List ℕ). get_member q (put key d ms)) (λ (q : List ℕ). if bytes_eq key q then Some d else get_member q ms) (λ q. get_put q key d ms) ∙ seen_is
+  fields_law : plain_fields (fields_in (object (put key d ms))) ≡ fields_put (plain_fields (fields_in (object ms))) key (plain d)
+  fields_law =
+      same_seen (λ (q : List ℕ). option_map plain (get_member q (put key d ms))) (λ (q : List ℕ). if bytes_eq key q then Some (plain d) else option_map plain (get_member q ms))
+      (λ q. plain_by q key d ms (bytes_eq key q) refl)
+      ∙ seen_is
 
-fields_sent : (d : Data) (ms : Members) → fields_in (object (put (codes "sent") d ms)) ≡ fields_in (object ms)
+fields_sent : (d : Data) (ms : Members) → plain_fields (fields_in (object (put (codes "sent") d ms))) ≡ plain_fields (fields_in (object ms))
 fields_sent d ms = fields_law (codes "sent") d ms
 
-abbrev pub drafted_in : Members → Drafted
-drafted_in ms = (fields_in (object ms), option_and_then texts_of (get_member (codes "sent") ms))
-
 abbrev draft : FieldData → Option Data → Drafted
-draft f o = (f, option_and_then texts_of o)
+draft f o = (f, option_and_then sent_in o)
 
 pub drafted_law : (key : List ℕ) (d : Data) (ms : Members) → drafted_in (put key d ms) ≡ drafted_put (drafted_in ms) key d
 drafted_law key d ms =
@@ -82,11 +86,8 @@ drafted_law key d ms =
 
 -- ---- the whole
 
-abbrev pub parted_in : Members → Parted
-parted_in ms = (number_in (get_member (codes "nodes") ms), option_and_then histories_of (get_member (codes "histories") ms))
-
 abbrev parts : Option Data → Option Data → Parted
-parts n hs = (number_in n, option_and_then histories_of hs)
+parts n hs = (number_in n, option_and_then judged_in hs)
 
 pub parted_law : (key : List ℕ) (d : Data) (ms : Members) → parted_in (put key d ms) ≡ parted_put (parted_in ms) key d
 parted_law key d ms =

@@ -1,5 +1,5 @@
 -- The order that a text has beside its trace.
-use Rattle.std.proofs.Common.{◌≡◌, ◌<◌, ◌≤◌, ◌-◌, ℕ, Bool, true, false, List, [], ◌∷◌, ◌++◌, length, Option, Some, None, option_map, option_and_then, bytes_eq, codes, refl, sym, ap, ap₂, ◌∙◌, arith, append_assoc, append-nil, drop, get_or, lt-ltb, ◌+◌}
+use Rattle.std.proofs.Common.{◌≡◌, ◌<◌, ◌≤◌, ◌-◌, ℕ, Bool, true, false, List, [], ◌∷◌, ◌++◌, length, Option, Some, None, option_and_then, bytes_eq, codes, refl, sym, ap, ap₂, ◌∙◌, arith, append_assoc, append-nil, drop, get_or, lt-ltb, ◌+◌}
 use Rattle.std.proofs.lemmas.List.{drop_more, length-drop}
 use Rattle.std.specs.Prelude.{MatchOption, cond, if◌then◌else◌, is_some, nat_lt}
 use Rattle.std.specs.Str.{is_utf8, IsUtf8}
@@ -16,7 +16,7 @@ use Rattle.json.specs.declared.error.Error.{Error}
 use Rattle.json.specs.declared.error.Error.TheVariants.{Invalid, OutOfMemory, TooLong, DuplicateKey}
 use Rattle.json.proofs.Grammar.{value_is, value-begin_array, value-begin_object, members_end, members_fail, members_more, members_no_key}
 use Rattle.trace_text.specs.Ordered.{Ordered, IsLacking, MessageFits, TurnsFit, json_of, order_in, order_of, order_words, space_if, turn_text, turns_of, turns_text, with_turn, words_at, words_from, words_in}
-use Rattle.trace_text.proofs.Converted.{mapped_some}
+use Rattle.trace_text.proofs.Walks.{mapped_some}
 use Rattle.group_task.specs.declared.node.TheConstants.{NODES}
 
 -- ---- the text under the key

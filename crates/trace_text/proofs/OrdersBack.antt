@@ -1,7 +1,7 @@
 -- A trace that is written with its order is read back, and so is the order.
 use Rattle.std.proofs.Common.{◌≡◌, ◌<◌, ◌≤◌, ◌^◌, ◌+◌, ◌%◌, ℕ, Bool, true, false, List, [], ◌∷◌, ◌++◌, length, map, Option, Some, None, Ok, option_and_then, option_map, bytes_eq, codes, decimal, refl, sym, ap, ap₂, ◌∙◌, arith, append_assoc, append-nil, lt-ltb, le-leb, eq-eqb, All}
 use Rattle.std.specs.Prelude.{if◌then◌else◌, OnOk, Result}
-use Rattle.std.specs.Str.{is_utf8, IsUtf8}
+use Rattle.std.specs.Str.{IsUtf8}
 use Rattle.std.specs.declared.alloc.AllocError.{AllocError}
 use Rattle.std.proofs.lemmas.Bool.Decides.{nat_tests}
 use Rattle.std.proofs.lemmas.Fmt.{decimal_by_steps}
@@ -17,7 +17,7 @@ use Rattle.json.specs.Token as token
 use Rattle.json.specs.Tree as tree
 use Rattle.json.specs.Written.{Written}
 use Rattle.json.proofs.Printed.Trees.{value-json_tokens}
-use Rattle.serde_json.specs.Read.{of_json, max_depth, read}
+use Rattle.serde_json.specs.Read.{of_json, max_depth}
 use Rattle.serde_json.specs.View.{items_of}
 use Rattle.serde_json.specs.Written.{compact_text, outline}
 use Rattle.serde_json.proofs.Numbers.{number_of-decimal}
@@ -27,7 +27,7 @@ use Rattle.group_task.specs.declared.node.TheConstants.{NODES}
 use Rattle.trace_check.specs.Claims.{Claim}
 use Rattle.trace_text.specs.Entries.{below}
 use Rattle.trace_text.specs.Fits.{TraceFits, IsWritable}
-use Rattle.trace_text.specs.Ordered.{Ordered, IsEven, TurnsFit, MessageFits, json_of, message_in, message_word, node_in, order_in, order_of, order_text, ordered_data, turn_text, turns_of, turns_text, with_turn, words_in}
+use Rattle.trace_text.specs.Ordered.{Ordered, TurnsFit, MessageFits, json_of, message_in, message_word, node_in, order_in, order_of, order_text, ordered_data, turn_text, turns_of, turns_text, with_turn, words_in}
 use Rattle.trace_text.specs.Tokens.{Adds, histories_tokens, ordered_tokens}
 use Rattle.trace_text.specs.Wholes.{in_shape, shape_in, trace_of}
 use Rattle.trace_text.specs.Written.{history_data}

@@ -19,10 +19,6 @@ use Rattle.trace_check.specs.declared.trace.Deed.{Deed}
 use Rattle.trace_check.specs.declared.trace.Deed.TheVariants as deed
 use Rattle.trace_check.specs.declared.trace.RecoverFault.TheVariants as recover
 use Rattle.trace_check.specs.Claims.{Claim}
-use Rattle.trace_text.specs.declared.reading.Entry.{Entry}
-
-abbrev pub claim_of : Entry → Claim
-claim_of e = record { deed = e.deed; sent = e.sent.items }
 
 abbrev pub good : {A E : Type 0} → Result A E → Option A
 good (Ok a) = Some a

@@ -1,9 +1,8 @@
 -- The fields of an entry: the value of each that is there.
 use Rattle.std.specs.Prelude.{ℕ, List, Option, Some, None, option_map, if◌then◌else◌, codes}
 use Rattle.std.specs.Str.{bytes_eq}
-use Rattle.serde_json.specs.Data.{Data, boolean, number, unsigned, string}
+use Rattle.serde_json.specs.Data.{Data, null, boolean, number, unsigned, negative, float, string, array, object}
 use Rattle.serde_json.specs.Find.{get}
-use Rattle.serde_json.specs.View.{view}
 use Rattle.trace_text.specs.declared.fields.Field.{Field}
 use Rattle.trace_text.specs.declared.fields.Field.TheVariants as field
 use Rattle.trace_text.specs.declared.fields.Fields.{Fields}
@@ -12,7 +11,18 @@ abbrev pub data_of : Field → Data
 data_of (field.Text s) = string s.now
 data_of (field.Number n) = number (unsigned n)
 data_of (field.Flag b) = boolean b
-data_of (field.Tree v) = view v.now
+data_of field.Other = null
+
+-- what is looked at of a field: a text, a whole number, true or false; all else is alike
+abbrev pub plain : Data → Data
+plain null = null
+plain (boolean b) = boolean b
+plain (number (unsigned n)) = number (unsigned n)
+plain (number (negative z)) = null
+plain (number (float x)) = null
+plain (string s) = string s
+plain (array ds) = null
+plain (object ms) = null
 
 -- what was read of the fields, wherever it lies in memory
 pub record FieldData : Type 0 where
@@ -54,6 +64,20 @@ fields_in d = record {
   payload = get (codes "payload") d;
   origin = get (codes "origin") d;
   id = get (codes "id") d;
+}
+
+-- what is looked at of each
+abbrev pub plain_fields : FieldData → FieldData
+plain_fields f = record {
+  name = option_map plain f.name;
+  message = option_map plain f.message;
+  fault = option_map plain f.fault;
+  kept = option_map plain f.kept;
+  queue = option_map plain f.queue;
+  priority = option_map plain f.priority;
+  payload = option_map plain f.payload;
+  origin = option_map plain f.origin;
+  id = option_map plain f.id;
 }
 
 -- one more member: of equal keys the last counts, and a key that isn't asked for is passed over

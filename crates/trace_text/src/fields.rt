@@ -1,20 +1,19 @@
 ghost use Rattle.std.specs.Prelude.{◌≡◌, option_map, option_and_then, if◌then◌else◌};
 ghost use Rattle.std.specs.Str.{bytes_eq};
-ghost use Rattle.serde_json.specs.Find.{get, as_str, as_bool};
-ghost use Rattle.serde_json.specs.View.{view};
-ghost use Rattle.trace_text.specs.Fields.{data_of, fields_by, fields_in, fields_put, no_fields};
+ghost use Rattle.serde_json.specs.Find.{as_str, as_bool};
+ghost use Rattle.trace_text.specs.Fields.{data_of, fields_by, fields_put, no_fields};
 ghost use Rattle.trace_text.specs.Entries.{number_in};
 
 use line_words::is_word;
-use serde_json::Value;
 
-/// The value of a field: as a reader of tokens read it, or in a tree.
+/// The value of a field, as far as an entry asks for it.
 #[derive(Clone, Copy, Drop)]
 pub enum Field<'a> {
     Text(&'a [u8]),
     Number(u64),
     Flag(bool),
-    Tree(&'a Value),
+    /// Null, a number with a sign, a point or an exponent or too large, a list or an object.
+    Other,
 }
 
 impl<'a> Field<'a> {
@@ -23,8 +22,7 @@ impl<'a> Field<'a> {
     {
         match self {
             Field::Text(text) => Some(text),
-            Field::Tree(value) => Some(value.as_str()?.as_bytes()),
-            Field::Number(_) | Field::Flag(_) => None,
+            _ => None,
         }
     }
 
@@ -33,8 +31,7 @@ impl<'a> Field<'a> {
     {
         match self {
             Field::Number(number) => Some(number),
-            Field::Tree(value) => value.as_u64(),
-            Field::Text(_) | Field::Flag(_) => None,
+            _ => None,
         }
     }
 
@@ -43,8 +40,7 @@ impl<'a> Field<'a> {
     {
         match self {
             Field::Flag(flag) => Some(flag),
-            Field::Tree(value) => value.as_bool(),
-            Field::Text(_) | Field::Number(_) => None,
+            _ => None,
         }
     }
 }
@@ -95,23 +91,6 @@ impl<'a> Fields<'a> {
         self.id = None;
     }
 
-    /// The fields of a JSON value.
-    pub(crate) fn of_tree(value: &'a Value) -> Fields<'a>
-        ensures { fields_by result ≡ fields_in (view value.now) }
-    {
-        Fields {
-            name: member(value, "do"),
-            message: member(value, "msg"),
-            fault: member(value, "fault"),
-            kept: member(value, "kept"),
-            queue: member(value, "queue"),
-            priority: member(value, "priority"),
-            payload: member(value, "payload"),
-            origin: member(value, "origin"),
-            id: member(value, "id"),
-        }
-    }
-
     /// Takes one more member of an object: of equal keys the last counts, and a key that nobody asks for is passed over.
     pub(crate) fn put(&mut self, key: &[u8], field: Field<'a>)
         ensures { fields_by self.new ≡ fields_put (fields_by self.old) key.now (data_of field.entry) }
@@ -136,10 +115,4 @@ impl<'a> Fields<'a> {
             self.id = Some(field);
         }
     }
-}
-
-fn member<'a>(value: &'a Value, key: &str) -> Option<Field<'a>>
-    ensures { option_map data_of result ≡ get key.now (view value.now) }
-{
-    Some(Field::Tree(value.get(key)?))
 }

@@ -5,23 +5,18 @@
 //! reads in it.
 #![tactic(auto)]
 
-mod adding;
-mod digits;
 mod fault;
 mod fields;
 mod ordered;
 mod parts;
 mod reading;
-mod run;
-mod scanner;
 mod stream;
-mod whole;
+mod values;
 mod writable;
 mod writing;
 
 pub use fault::{Spot, TraceFault, WriteFault};
 pub use ordered::{read_order, write_ordered};
 pub use parts::{begin_items, begin_trace, end_items, end_trace, push_item};
-pub use reading::{Entry, read_entry};
-pub use whole::read;
+pub use stream::read;
 pub use writing::{begin_entry, begin_handled, deed_name, end_entry, write, write_spelled};

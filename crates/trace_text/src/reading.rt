@@ -1,13 +1,11 @@
 ghost use Rattle.std.specs.Prelude.{◌≡◌, codes, IfOk, option_map, option_and_then, Some, None, MatchBool, false};
 ghost use Rattle.std.specs.Str.{bytes_eq};
 ghost use Rattle.serde_json.specs.Find.{as_str};
-ghost use Rattle.serde_json.specs.View.{view, items_view};
 ghost use Rattle.hex.specs.Hex.{decode_of};
-ghost use Rattle.wire_msg.specs.Reading.{message_of};
 ghost use Rattle.group_task.specs.declared.node.TheConstants.{NODES};
 ghost use Rattle.job_model.specs.declared.queue.TheConstants.{QUEUES};
 ghost use Rattle.trace_text.specs.Fields.{data_of, fields_by};
-ghost use Rattle.trace_text.specs.Entries.{claim_of, good, below, bytes_in, spelled_in, messages_in, number_in, priority_in, deliver_in, submit_in, finish_in, event_in, device_in, recover_in, deed_named, deed_in, claim_in};
+ghost use Rattle.trace_text.specs.Entries.{good, below, bytes_in, spelled_in, message_in, number_in, priority_in, deliver_in, submit_in, finish_in, event_in, device_in, recover_in, deed_named, deed_in};
 ghost use Rattle.trace_text.specs.Places.{IsRead, recovery_said, with_device};
 
 use crate::fields::{Field, Fields};
@@ -15,49 +13,19 @@ use group_task::{NODES, NodeId};
 use job_model::{Payload, QUEUES, Queue, Work};
 use line_words::is_word;
 use node_core::{Event, Timer};
-use serde_json::Value;
-use std::alloc::{AllocError, Global};
+use std::alloc::AllocError;
 use trace_check::{Deed, RecoverFault};
-use wire_msg::{Message, decode};
-
-/// An entry that was read.
-#[derive(Drop)]
-pub struct Entry {
-    pub deed: Deed,
-    /// The messages sent, in their order.
-    pub sent: Vec<Message>,
-}
-
-/// The entry that a JSON value stands for. None where a field is missing or wrong.
-pub fn read_entry(alloc: Global, value: &Value) -> Result<Option<Entry>, AllocError>
-    ensures { IfOk result (λ entry. option_map claim_of entry ≡ claim_in (view value.now)) }
-{
-    let mut room = Vec::new(alloc);
-    let mut deed = Deed::Nothing;
-    if !read_deed(&mut room, &Fields::of_tree(value), &mut deed)? {
-        return Ok(None);
-    }
-    let Some(list) = value.get("sent") else {
-        return Ok(None);
-    };
-    let Some(list) = list.as_array() else {
-        return Ok(None);
-    };
-    let Some(sent) = read_messages(alloc, list)? else {
-        return Ok(None);
-    };
-    Ok(Some(Entry { deed, sent }))
-}
+use wire_msg::{Message, decode_into};
 
 /// The text of a field.
-pub(crate) fn text_of<'a>(field: Option<Field<'a>>) -> Option<&'a [u8]>
+fn text_of<'a>(field: Option<Field<'a>>) -> Option<&'a [u8]>
     ensures { option_map (λ s. s.now) result ≡ option_and_then as_str (option_map data_of field.entry) }
 {
     field?.text()
 }
 
 /// A whole number of a field.
-pub(crate) fn number_of(field: Option<Field<'_>>) -> Option<u64>
+fn number_of(field: Option<Field<'_>>) -> Option<u64>
     ensures { result ≡ number_in (option_map data_of field.entry) }
 {
     field?.number()
@@ -74,58 +42,51 @@ fn bytes_of(room: &mut Vec<u8>, field: Option<Field<'_>>) -> Result<bool, AllocE
 }
 
 /// The bytes of hex digits go to the room, if it is some.
-pub(crate) fn read_bytes(room: &mut Vec<u8>, text: &[u8]) -> Result<bool, AllocError>
+fn read_bytes(room: &mut Vec<u8>, text: &[u8]) -> Result<bool, AllocError>
     ensures { IfOk result (λ some. MatchBool some (good (decode_of text.now) ≡ Some room.new.items) (good (decode_of text.now) ≡ None)) }
 {
     room.resize(text.len() / 2, 0)?;
     Ok(hex::decode_to_slice(text, room.as_mut_slice()).is_ok())
 }
 
-/// The message of a text of hex digits.
-fn read_message(room: &mut Vec<u8>, text: &[u8]) -> Result<Option<Message>, AllocError>
-    ensures { IfOk result (λ message. message ≡ spelled_in text.now) }
+/// The message that a field has as hex digits goes in the place of another, if it has one.
+pub(crate) fn read_message(
+    room: &mut Vec<u8>,
+    field: Field<'_>,
+    message: &mut Message,
+) -> Result<bool, AllocError>
+    ensures { IfOk result (λ some. IsRead some message.new (message_in (Some (data_of field.entry)))) }
 {
-    if read_bytes(room, text)? {
-        Ok(spelled(room))
-    } else {
-        Ok(None)
+    match field.text() {
+        Some(text) => read_spelled(room, text, message),
+        None => Ok(false),
     }
 }
 
-/// The message that these bytes spell.
-fn spelled(bytes: &[u8]) -> Option<Message>
-    ensures { result ≡ message_of bytes.now }
+/// The message of a text of hex digits goes in the place of another, if it is one.
+fn read_spelled(room: &mut Vec<u8>, text: &[u8], message: &mut Message) -> Result<bool, AllocError>
+    ensures { IfOk result (λ some. IsRead some message.new (spelled_in text.now)) }
 {
-    match decode(bytes) {
-        Ok(message) => Some(message),
-        Err(_) => None,
+    if !read_bytes(room, text)? {
+        return Ok(false);
     }
-}
-
-/// The messages of a list.
-fn read_messages(alloc: Global, values: &[Value]) -> Result<Option<Vec<Message>>, AllocError>
-    ensures { IfOk result (λ messages. option_map (λ v. v.items) messages ≡ messages_in (items_view values.now)) }
-{
-    let mut room = Vec::new(alloc);
-    let mut messages = Vec::new(alloc);
-    for value in values {
-        let Some(text) = value.as_str() else {
-            return Ok(None);
-        };
-        let Some(message) = read_message(&mut room, text.as_bytes())? else {
-            return Ok(None);
-        };
-        messages.push(message)?;
+    match decode_into(room, message) {
+        Ok(()) => Ok(true),
+        Err(_) => Ok(false),
     }
-    Ok(Some(messages))
 }
 
 /// What was done, in place of another deed. False where the fields say none.
-fn read_deed(room: &mut Vec<u8>, fields: &Fields<'_>, deed: &mut Deed) -> Result<bool, AllocError>
+pub(crate) fn read_deed(
+    room: &mut Vec<u8>,
+    message: &mut Message,
+    fields: &Fields<'_>,
+    deed: &mut Deed,
+) -> Result<bool, AllocError>
     ensures { IfOk result (λ some. IsRead some deed.new (deed_in (fields_by fields.now))) }
 {
     match text_of(fields.name) {
-        Some(name) => read_named(room, fields, name, deed),
+        Some(name) => read_named(room, message, fields, name, deed),
         None => Ok(false),
     }
 }
@@ -134,6 +95,7 @@ fn read_deed(room: &mut Vec<u8>, fields: &Fields<'_>, deed: &mut Deed) -> Result
 #[tactic(auto, using(crate::proofs::Named::deliver_named))]
 fn read_named(
     room: &mut Vec<u8>,
+    message: &mut Message,
     fields: &Fields<'_>,
     name: &[u8],
     deed: &mut Deed,
@@ -141,13 +103,13 @@ fn read_named(
     ensures { IfOk result (λ some. IsRead some deed.new (deed_named (fields_by fields.now) name.now)) }
 {
     if is_word(name, "deliver") {
-        return read_deliver(room, fields, deed);
+        return read_deliver(room, message, fields, deed);
     }
     read_other(room, fields, name, deed)
 }
 
 /// What was done other than a delivery, by its name.
-pub(crate) fn read_other(
+fn read_other(
     room: &mut Vec<u8>,
     fields: &Fields<'_>,
     name: &[u8],
@@ -195,7 +157,7 @@ fn read_done(
 }
 
 /// Whether the device failed.
-pub(crate) fn read_device(fault: Option<Field<'_>>) -> Option<bool>
+fn read_device(fault: Option<Field<'_>>) -> Option<bool>
     ensures { result ≡ device_in (option_map data_of fault.entry) }
 {
     let Some(fault) = fault else {
@@ -262,11 +224,10 @@ fn read_event(
     Ok(true)
 }
 
-/// A delivery, in place of another deed: the message is moved there once. False where the fields say none. It stands apart, as a whole
-/// message is one of its locals.
-#[inline(never)]
+/// A delivery, in place of another deed: its message is read in the place of another first. False where the fields say none.
 fn read_deliver(
     room: &mut Vec<u8>,
+    message: &mut Message,
     fields: &Fields<'_>,
     deed: &mut Deed,
 ) -> Result<bool, AllocError>
@@ -275,20 +236,18 @@ fn read_deliver(
     let Some(failed) = read_device(fields.fault) else {
         return Ok(false);
     };
-    if !bytes_of(room, fields.message)? {
+    let Some(field) = fields.message else {
+        return Ok(false);
+    };
+    if !read_message(room, field, message)? {
         return Ok(false);
     }
-    match decode(room) {
-        Ok(message) => {
-            *deed = if failed {
-                Deed::Faulted(Event::Deliver(message))
-            } else {
-                Deed::Done(Event::Deliver(message))
-            };
-            Ok(true)
-        }
-        Err(_) => Ok(false),
-    }
+    *deed = if failed {
+        Deed::Faulted(Event::Deliver(*message))
+    } else {
+        Deed::Done(Event::Deliver(*message))
+    };
+    Ok(true)
 }
 
 /// It stands apart, as a whole payload is one of its locals.
@@ -323,7 +282,7 @@ fn read_submit(
 }
 
 // A priority is left out where it is 0.
-pub(crate) fn priority_of(priority: Option<Field<'_>>) -> Option<u8>
+fn priority_of(priority: Option<Field<'_>>) -> Option<u8>
     ensures { result ≡ priority_in (option_map data_of priority.entry) }
 {
     let Some(priority) = priority else {
@@ -350,7 +309,7 @@ fn read_finish(fields: &Fields<'_>, event: &mut Event) -> bool
     true
 }
 
-pub(crate) fn queue_of(number: Option<u64>) -> Option<Queue>
+fn queue_of(number: Option<u64>) -> Option<Queue>
     ensures { result ≡ option_and_then (below QUEUES) number }
 {
     let number = number?;

@@ -1,289 +1,394 @@
-//! Reading a trace entry by entry, with no tree of the whole text beside it.
+//! Reading a trace entry by entry, in one pass, with no tree of the text beside it.
 //!
-//! The reader goes on as long as all is as `write` writes it, in any order of keys and with any spaces. Where anything is wrong or
-//! rare it stops, and says nothing of the text: `read_tree` then says what is in it.
+//! Behind a bad entry the reading goes on, since the shape of the whole is judged first, and a later member of the same key may stand
+//! in its place.
 
-ghost use Rattle.std.specs.Prelude.{◌≡◌, ◌<◌, ◌≤◌, ◌∷◌, [], ◌++◌, ℕ, length, map, true, IfOk, OnOk, IfSome, option_map, Ok, Some, None};
-ghost use Rattle.std.specs.List.{list_all};
-ghost use Rattle.std.specs.Char.{is_ascii};
+ghost use Rattle.std.specs.Prelude.{◌≡◌, ◌<◌, ◌≤◌, ◌∷◌, [], ◌++◌, length, true, false, IfOk, IfErr, OnOk, option_map, Ok, Err, Some, None, if◌then◌else◌};
+ghost use Rattle.std.specs.Option.{option_or};
 ghost use Rattle.json.specs.Json.{parse_map};
-ghost use Rattle.serde_json.specs.Data.{number, unsigned};
-ghost use Rattle.serde_json.specs.Find.{as_str};
-ghost use Rattle.serde_json.specs.Read.{converted};
+ghost use Rattle.serde_json.specs.Find.{as_array};
 ghost use Rattle.trace_check.specs.Claims.{Claim};
 ghost use Rattle.group_task.specs.declared.node.TheConstants.{NODES};
-ghost use Rattle.trace_text.specs.Fields.{data_of};
-ghost use Rattle.trace_text.specs.Entries.{good, claim_in};
-ghost use Rattle.trace_text.specs.Drafts.{drafted_by, parted_by};
-ghost use Rattle.trace_text.specs.Streams.{data_at, items_at, members_at, history_of, histories_of, drafted_put, parted_put};
-ghost use Rattle.trace_text.specs.Wholes.{trace_of, in_shape, shape_in};
+ghost use Rattle.trace_text.specs.Entries.{claim_in, messages_in};
+ghost use Rattle.trace_text.specs.Drafts.{drafted_by, judged_by, listed_by, parted_by};
+ghost use Rattle.trace_text.specs.Streams.{data_at, drafted_in, drafted_put, items_at, judged_in, judged_of, listed_in, members_at, parted_in, parted_put, sent_in, shaped};
+ghost use Rattle.trace_text.specs.Wholes.{IsFaultOf, entries_from, in_shape, shape_in, trace_of};
 
-use crate::adding::{Desk, add_entry};
-use crate::fields::{Field, Fields};
-use crate::scanner::Scanner;
+use crate::fault::{Spot, TraceFault};
+use crate::fields::Fields;
+use crate::reading::{read_deed, read_message};
+use crate::values::{open_list, open_object, read_field};
 use group_task::NODES;
+use json::{Invalid, Reader, Scratch};
 use line_words::is_word;
 use std::alloc::{AllocError, Global};
-use trace_check::{History, HistoryBuilder, Trace};
+use std::str;
+use trace_check::{Deed, History, Trace};
+use wire_msg::Message;
 
-/// Why the reader stopped.
+/// Why the reading stopped.
 #[derive(Clone, Copy, Debug)]
 pub(crate) enum Halt {
-    /// Something is wrong, or written in a rare way.
-    Odd,
+    /// The text is no JSON.
+    NoJson,
     NoMemory,
 }
 
 impl From<AllocError> for Halt {
+    ghost use Rattle.std.specs.Prelude.{◌≡◌};
+    ghost use Rattle.trace_text.specs.declared.stream.Halt.TheVariants.{NoMemory};
+
+    ghost from_gives = { λ _ e. e ≡ NoMemory };
+
     fn from(_e: AllocError) -> Halt {
         Halt::NoMemory
     }
 }
 
-/// An entry whose text was read.
+impl From<Invalid> for Halt {
+    ghost use Rattle.std.specs.Prelude.{◌≡◌};
+    ghost use Rattle.trace_text.specs.declared.stream.Halt.TheVariants.{NoJson};
+
+    ghost from_gives = { λ _ e. e ≡ NoJson };
+
+    fn from(_e: Invalid) -> Halt {
+        Halt::NoJson
+    }
+}
+
+/// An entry that is being read. It is used again for the next one.
 #[derive(Drop)]
 pub struct Draft<'a> {
     pub fields: Fields<'a>,
-    /// Whether it has a field `sent`.
+    /// Whether it has a field `sent`, and that is a list of messages.
     pub has_sent: bool,
-    /// The messages of `sent`.
-    pub texts: Vec<&'a [u8]>,
+    pub sent: Vec<Message>,
+    /// The bytes of a text of hex digits, and the message that they spell.
+    pub room: Vec<u8>,
+    pub message: Message,
+    pub deed: Deed,
+}
+
+/// The entries of a list, as far as they were read.
+#[derive(Drop)]
+pub struct Entries {
+    pub history: History,
+    /// The first bad one: behind it the history counts for nothing.
+    pub bad: Option<Spot>,
+}
+
+/// The lists of entries, as far as they were read.
+#[derive(Drop)]
+pub struct Histories {
+    /// Whether each item is a list.
+    pub all_lists: bool,
+    pub histories: Vec<History>,
+    /// The first bad entry.
+    pub bad: Option<Spot>,
 }
 
 /// The whole, as far as it was read.
 #[derive(Drop)]
 pub struct Parts {
     pub nodes: Option<u64>,
-    pub histories: Option<Vec<History>>,
+    pub histories: Option<Histories>,
 }
 
 /// The trace of a text.
-pub(crate) fn read_stream(alloc: Global, text: &[u8]) -> Result<Trace, Halt>
-    ensures { IfOk result (λ trace. trace_of text.now ≡ Ok trace) }
+pub fn read(alloc: Global, text: &[u8]) -> Result<Trace, TraceFault>
+    // Promise: A text is read as the trace that the definitions see in it, and refused exactly where they see none, with the place.
+    // Refuses: always_empty_trace, last_bad_entry_named, other_fault_passed_over, raise_read_as_mount, nodes_not_counted,
+    // messages_of_the_entry_before.
+    ensures ok { IfOk result (λ trace. trace_of text.now ≡ Ok trace) }
+    ensures err { IfErr result (IsFaultOf (trace_of text.now)) }
 {
-    if !is_ascii(text) {
-        return Err(Halt::Odd);
+    let Ok(text) = str::from_utf8(text) else {
+        return Err(TraceFault::BadTrace(None));
+    };
+    let mut scratch = Scratch::new(alloc);
+    let mut reader = Reader::new(text, &mut scratch)?;
+    match read_whole(alloc, &mut reader) {
+        Ok(parts) => {
+            if reader.next().is_some() {
+                return Err(TraceFault::BadTrace(None));
+            }
+            judge(parts)
+        }
+        Err(Halt::NoJson) => Err(TraceFault::BadTrace(None)),
+        Err(Halt::NoMemory) => Err(TraceFault::NoMemory),
     }
-    let mut reader = Scanner::new(text);
-    let histories = read_whole(alloc, &mut reader)?;
-    if !reader.is_done() {
-        return Err(Halt::Odd);
-    }
-    Ok(Trace::new(histories))
 }
 
-/// Every byte is looked at, also behind one that is no ASCII, so that many can be at once.
-fn is_ascii(text: &[u8]) -> bool
-    ensures { result ≡ list_all is_ascii text.now }
+/// The trace of what was read, if it has the shape of one.
+fn judge(parts: Parts) -> Result<Trace, TraceFault>
+    ensures ok { IfOk result (λ trace. shaped (parted_by parts) ≡ Ok trace) }
+    ensures err { IfErr result (IsFaultOf (shaped (parted_by parts))) }
 {
-    let mut all = true;
-    for byte in text {
-        all &= byte.is_ascii();
+    let Some(nodes) = parts.nodes else {
+        return Err(TraceFault::BadTrace(None));
+    };
+    let Some(read) = parts.histories else {
+        return Err(TraceFault::BadTrace(None));
+    };
+    if !read.all_lists || nodes == 0 || nodes > u64::from(NODES) {
+        return Err(TraceFault::BadTrace(None));
     }
-    all
+    if read.histories.len() as u64 != nodes {
+        return Err(TraceFault::BadTrace(None));
+    }
+    match read.bad {
+        Some(spot) => Err(TraceFault::BadTrace(Some(spot))),
+        None => Ok(Trace::new(read.histories)),
+    }
 }
 
-/// The histories of a trace.
-fn read_whole(alloc: Global, reader: &mut Scanner<'_>) -> Result<Vec<History>, Halt>
-    ensures whole { IfOk result (λ hs. converted (λ d. good (in_shape (shape_in d))) (data_at 127 reader.old) ≡ Some (hs.items, reader.new)) }
-    ensures few { IfOk result (λ hs. length hs.items ≤ NODES) }
+/// The value of the whole text.
+fn read_whole(alloc: Global, reader: &mut Reader<'_>) -> Result<Parts, Halt>
+    ensures ok { IfOk result (λ parts. parse_map (λ d. in_shape (shape_in d)) (data_at 127 reader.old) ≡ Some (shaped (parted_by parts), reader.new)) }
+    ensures err { result ≡ Err Halt.NoJson → data_at 127 reader.old ≡ None }
 {
-    reader.open_object()?;
+    if !open_object(reader, 127)? {
+        return Ok(Parts {
+            nodes: None,
+            histories: None,
+        });
+    }
+    read_parts(alloc, reader)
+}
+
+/// The members of the whole, from behind its brace on.
+fn read_parts(alloc: Global, reader: &mut Reader<'_>) -> Result<Parts, Halt>
+    ensures ok { IfOk result (λ parts. parse_map parted_in (members_at 126 reader.old) ≡ Some (parted_by parts, reader.new)) }
+    ensures err { result ≡ Err Halt.NoJson → members_at 126 reader.old ≡ None }
+{
     let mut parts = Parts {
         nodes: None,
         histories: None,
     };
-    read_parts(alloc, reader, &mut parts)?;
-    let histories = shaped(parts)?;
-    Ok(histories)
-}
-
-/// The histories, if there is one for each node.
-fn shaped(parts: Parts) -> Result<Vec<History>, Halt>
-    ensures nodes { IfOk result (λ hs. parted_by parts ≡ (Some (length hs.items), Some hs.items)) }
-    ensures some { IfOk result (λ hs. 1 ≤ length hs.items) }
-    ensures few { IfOk result (λ hs. length hs.items ≤ NODES) }
-{
-    let nodes = parts.nodes.ok_or(Halt::Odd)?;
-    let histories = parts.histories.ok_or(Halt::Odd)?;
-    if nodes == 0 || nodes > u64::from(NODES) || histories.len() as u64 != nodes {
-        return Err(Halt::Odd);
+    'members: while let Some(key) = reader.next_key()? {
+        read_part(alloc, reader, key, &mut parts)?;
     }
-    Ok(histories)
+    Ok(parts)
 }
 
-/// The members of the whole, from behind its brace on.
-fn read_parts(alloc: Global, reader: &mut Scanner<'_>, parts: &mut Parts) -> Result<(), Halt>
-    ensures { OnOk result (members_at parted_put 126 (length reader.old) (parted_by parts.old) reader.old ≡ Some (parted_by parts.new, reader.new)) }
-{
-    'parts: while let Some(key) = reader.next_key()? {
-        read_part(alloc, reader, key, parts)?;
-    }
-    Ok(())
-}
-
-#[tactic(auto, using(crate::proofs::Made::nodes_put, crate::proofs::Made::histories_put, crate::proofs::Made::other_put))]
 fn read_part(
     alloc: Global,
-    reader: &mut Scanner<'_>,
-    key: &[u8],
+    reader: &mut Reader<'_>,
+    key: &str,
     parts: &mut Parts,
 ) -> Result<(), Halt>
-    ensures part { OnOk result (parse_map (parted_put (parted_by parts.old) key.now) (data_at 126 reader.old) ≡ Some (parted_by parts.new, reader.new)) }
+    ensures ok { OnOk result (parse_map (parted_put (parted_by parts.old) key.now) (data_at 126 reader.old) ≡ Some (parted_by parts.new, reader.new)) }
+    ensures err { result ≡ Err Halt.NoJson → data_at 126 reader.old ≡ None }
     ensures shorter { OnOk result (length reader.new < length reader.old) }
 {
-    if is_word(key, "nodes") {
-        let nodes = read_number(reader)?;
-        parts.nodes = Some(nodes);
-    } else if is_word(key, "histories") {
+    if is_word(key.as_bytes(), "nodes") {
+        let field = read_field(reader, 126)?;
+        parts.nodes = field.number();
+    } else if is_word(key.as_bytes(), "histories") {
         let histories = read_histories(alloc, reader)?;
         parts.histories = Some(histories);
     } else {
-        read_scalar(reader)?;
+        read_field(reader, 126)?;
     }
     Ok(())
 }
 
-fn read_number(reader: &mut Scanner<'_>) -> Result<u64, Halt>
-    ensures value { IfOk result (λ n. (depth : ℕ) → data_at depth reader.old ≡ Some (number (unsigned n), reader.new)) }
+/// A list of lists of entries.
+fn read_histories(alloc: Global, reader: &mut Reader<'_>) -> Result<Histories, Halt>
+    ensures ok { IfOk result (λ h. parse_map judged_in (data_at 126 reader.old) ≡ Some (judged_by h, reader.new)) }
+    ensures err { result ≡ Err Halt.NoJson → data_at 126 reader.old ≡ None }
     ensures shorter { OnOk result (length reader.new < length reader.old) }
 {
-    let number = reader.number()?;
-    Ok(number)
+    if !open_list(reader, 126)? {
+        return Ok(Histories {
+            all_lists: false,
+            histories: Vec::new(alloc),
+            bad: None,
+        });
+    }
+    read_lists(alloc, reader)
 }
 
-/// A list of histories.
-fn read_histories(alloc: Global, reader: &mut Scanner<'_>) -> Result<Vec<History>, Halt>
-    ensures histories { IfOk result (λ hs. converted histories_of (data_at 126 reader.old) ≡ Some (hs.items, reader.new)) }
-    ensures shorter { OnOk result (length reader.new < length reader.old) }
-{
-    reader.open_list()?;
-    read_each_history(alloc, reader)
-}
-
-/// The histories from behind a bracket on.
-fn read_each_history(alloc: Global, reader: &mut Scanner<'_>) -> Result<Vec<History>, Halt>
-    ensures histories { IfOk result (λ hs. items_at history_of 125 (length reader.old) reader.old ≡ Some (hs.items, reader.new)) }
+/// The lists from behind a bracket on.
+fn read_lists(alloc: Global, reader: &mut Reader<'_>) -> Result<Histories, Halt>
+    ensures ok { IfOk result (λ h. parse_map judged_of (items_at 125 reader.old) ≡ Some (judged_by h, reader.new)) }
+    ensures err { result ≡ Err Halt.NoJson → items_at 125 reader.old ≡ None }
     ensures shorter { OnOk result (length reader.new ≤ length reader.old) }
 {
-    let mut histories = Vec::new(alloc);
     let mut draft = Draft {
         fields: Fields::new(),
         has_sent: false,
-        texts: Vec::new(alloc),
+        sent: Vec::new(alloc),
+        room: Vec::new(alloc),
+        message: Message::blank(),
+        deed: Deed::Nothing,
     };
-    let mut desk = Desk::new(alloc);
-    'histories: while !reader.take_end_list()? {
-        let history = read_history(alloc, reader, &mut draft, &mut desk)?;
-        histories.reserve(1)?;
-        histories.push_reserved(history);
+    let mut all_lists = true;
+    let mut histories = Vec::new(alloc);
+    let mut bad = None;
+    'lists: while !reader.take_end_array() {
+        match read_history(alloc, reader, &mut draft, histories.len())? {
+            Some(entries) => {
+                histories.reserve(1)?;
+                histories.push_reserved(entries.history);
+                bad = first(bad, entries.bad);
+            }
+            None => all_lists = false,
+        }
     }
-    Ok(histories)
+    Ok(Histories {
+        all_lists,
+        histories,
+        bad,
+    })
 }
 
-/// A list of entries.
+/// The first of two places, if there is one.
+fn first(place: Option<Spot>, later: Option<Spot>) -> Option<Spot>
+    ensures { result ≡ option_or place later }
+{
+    match place {
+        Some(_) => place,
+        None => later,
+    }
+}
+
+/// A list of the entries of a node; None where it is no list.
 fn read_history<'a>(
     alloc: Global,
-    reader: &mut Scanner<'a>,
+    reader: &mut Reader<'a>,
     draft: &mut Draft<'a>,
-    desk: &mut Desk,
-) -> Result<History, Halt>
-    ensures history { IfOk result (λ h. converted history_of (data_at 125 reader.old) ≡ Some (h, reader.new)) }
+    node: usize,
+) -> Result<Option<Entries>, Halt>
+    ensures ok { IfOk result (λ entries. parse_map (listed_in node) (data_at 125 reader.old) ≡ Some (option_map listed_by entries, reader.new)) }
+    ensures err { result ≡ Err Halt.NoJson → data_at 125 reader.old ≡ None }
     ensures shorter { OnOk result (length reader.new < length reader.old) }
 {
-    reader.open_list()?;
-    read_entries(alloc, reader, draft, desk)
+    if !open_list(reader, 125)? {
+        return Ok(None);
+    }
+    let entries = read_entries(alloc, reader, draft, node)?;
+    Ok(Some(entries))
 }
 
 /// The entries from behind a bracket on.
 fn read_entries<'a>(
     alloc: Global,
-    reader: &mut Scanner<'a>,
+    reader: &mut Reader<'a>,
     draft: &mut Draft<'a>,
-    desk: &mut Desk,
-) -> Result<History, Halt>
-    ensures entries { IfOk result (λ h. items_at claim_in 124 (length reader.old) reader.old ≡ Some (h, reader.new)) }
+    node: usize,
+) -> Result<Entries, Halt>
+    ensures ok { IfOk result (λ e. parse_map (entries_from node 0) (items_at 124 reader.old) ≡ Some (listed_by e, reader.new)) }
+    ensures err { result ≡ Err Halt.NoJson → items_at 124 reader.old ≡ None }
     ensures shorter { OnOk result (length reader.new ≤ length reader.old) }
 {
-    let mut history = HistoryBuilder::new(alloc);
-    'entries: while !reader.take_end_list()? {
-        read_entry(reader, draft, desk, &mut history)?;
+    let mut history = History::new(alloc);
+    let mut bad = None;
+    'entries: while !reader.take_end_array() {
+        let index = history.len();
+        if !read_entry(reader, draft, &mut history)? {
+            bad = first(bad, Some(Spot { node, index }));
+        }
     }
-    Ok(history.build())
+    Ok(Entries { history, bad })
 }
 
-/// Adds the entry at the front to a history.
+/// Adds the entry at the front to a history. False where it is none.
 fn read_entry<'a>(
-    reader: &mut Scanner<'a>,
+    reader: &mut Reader<'a>,
     draft: &mut Draft<'a>,
-    desk: &mut Desk,
-    history: &mut HistoryBuilder,
-) -> Result<(), Halt>
-    requires { history.old.pending ≡ [] }
-    ensures entry { OnOk result (parse_map (λ (c : Claim). history.old.claims ++ c ∷ []) (converted claim_in (data_at 124 reader.old)) ≡ Some (history.new.claims, reader.new)) }
-    ensures finished { OnOk result (history.new.pending ≡ []) }
+    history: &mut History,
+) -> Result<bool, Halt>
+    ensures ok { IfOk result (λ some. parse_map (λ d. option_map (λ (c : Claim). history.old ++ c ∷ []) (claim_in d)) (data_at 124 reader.old) ≡ Some (if some then Some history.new else None, reader.new)) }
+    ensures err { result ≡ Err Halt.NoJson → data_at 124 reader.old ≡ None }
     ensures shorter { OnOk result (length reader.new < length reader.old) }
 {
-    reader.open_object()?;
-    draft.fields.clear();
-    draft.has_sent = false;
+    if !open_object(reader, 124)? {
+        return Ok(false);
+    }
     read_members(reader, draft)?;
     if !draft.has_sent {
-        return Err(Halt::Odd);
+        return Ok(false);
     }
-    add_entry(desk, &draft.fields, &draft.texts, history)
+    if !read_deed(
+        &mut draft.room,
+        &mut draft.message,
+        &draft.fields,
+        &mut draft.deed,
+    )? {
+        return Ok(false);
+    }
+    history.push(&draft.deed, &draft.sent)?;
+    Ok(true)
 }
 
 /// The members of an entry, from behind its brace on.
-fn read_members<'a>(reader: &mut Scanner<'a>, draft: &mut Draft<'a>) -> Result<(), Halt>
-    ensures members { OnOk result (members_at drafted_put 123 (length reader.old) (drafted_by draft.old) reader.old ≡ Some (drafted_by draft.new, reader.new)) }
+fn read_members<'a>(reader: &mut Reader<'a>, draft: &mut Draft<'a>) -> Result<(), Halt>
+    ensures ok { OnOk result (parse_map drafted_in (members_at 123 reader.old) ≡ Some (drafted_by draft.new, reader.new)) }
+    ensures err { result ≡ Err Halt.NoJson → members_at 123 reader.old ≡ None }
     ensures shorter { OnOk result (length reader.new ≤ length reader.old) }
 {
+    draft.fields.clear();
+    draft.has_sent = false;
     'members: while let Some(key) = reader.next_key()? {
         read_member(reader, key, draft)?;
     }
     Ok(())
 }
 
-fn read_member<'a>(reader: &mut Scanner<'a>, key: &[u8], draft: &mut Draft<'a>) -> Result<(), Halt>
-    ensures member { OnOk result (parse_map (drafted_put (drafted_by draft.old) key.now) (data_at 123 reader.old) ≡ Some (drafted_by draft.new, reader.new)) }
+fn read_member<'a>(reader: &mut Reader<'a>, key: &str, draft: &mut Draft<'a>) -> Result<(), Halt>
+    ensures ok { OnOk result (parse_map (drafted_put (drafted_by draft.old) key.now) (data_at 123 reader.old) ≡ Some (drafted_by draft.new, reader.new)) }
+    ensures err { result ≡ Err Halt.NoJson → data_at 123 reader.old ≡ None }
     ensures shorter { OnOk result (length reader.new < length reader.old) }
 {
-    if is_word(key, "sent") {
-        reader.open_list()?;
-        read_texts(reader, &mut draft.texts)?;
-        draft.has_sent = true;
+    if is_word(key.as_bytes(), "sent") {
+        let has_sent = read_sent(reader, &mut draft.room, &mut draft.message, &mut draft.sent)?;
+        draft.has_sent = has_sent;
     } else {
-        let field = read_scalar(reader)?;
-        draft.fields.put(key, field);
+        let field = read_field(reader, 123)?;
+        draft.fields.put(key.as_bytes(), field);
     }
     Ok(())
 }
 
-/// The texts of a list, from behind its bracket on.
-fn read_texts<'a>(reader: &mut Scanner<'a>, texts: &mut Vec<&'a [u8]>) -> Result<(), Halt>
-    ensures texts { OnOk result (items_at as_str 122 (length reader.old) reader.old ≡ Some (map (λ s. s.now) texts.new.items, reader.new)) }
+/// A list of messages, in place of others. False where it is none.
+fn read_sent(
+    reader: &mut Reader<'_>,
+    room: &mut Vec<u8>,
+    message: &mut Message,
+    sent: &mut Vec<Message>,
+) -> Result<bool, Halt>
+    ensures ok { IfOk result (λ some. parse_map sent_in (data_at 123 reader.old) ≡ Some (if some then Some sent.new.items else None, reader.new)) }
+    ensures err { result ≡ Err Halt.NoJson → data_at 123 reader.old ≡ None }
+    ensures shorter { OnOk result (length reader.new < length reader.old) }
+{
+    if !open_list(reader, 123)? {
+        return Ok(false);
+    }
+    read_messages(reader, room, message, sent)
+}
+
+/// The messages from behind a bracket on.
+fn read_messages(
+    reader: &mut Reader<'_>,
+    room: &mut Vec<u8>,
+    message: &mut Message,
+    sent: &mut Vec<Message>,
+) -> Result<bool, Halt>
+    ensures ok { IfOk result (λ some. parse_map messages_in (items_at 122 reader.old) ≡ Some (if some then Some sent.new.items else None, reader.new)) }
+    ensures err { result ≡ Err Halt.NoJson → items_at 122 reader.old ≡ None }
     ensures shorter { OnOk result (length reader.new ≤ length reader.old) }
 {
-    texts.clear();
-    'texts: while !reader.take_end_list()? {
-        let text = reader.text()?;
-        texts.reserve(1)?;
-        texts.push_reserved(text);
+    sent.clear();
+    let mut all = true;
+    'messages: while !reader.take_end_array() {
+        let field = read_field(reader, 122)?;
+        if read_message(room, field, message)? {
+            sent.reserve(1)?;
+            sent.push_reserved(*message);
+        } else {
+            all = false;
+        }
     }
-    Ok(())
-}
-
-/// A text, a number without sign, point or exponent, true or false.
-#[tactic(auto, using(crate::proofs::Streams::text_front, crate::proofs::Streams::flag_front))]
-fn read_scalar<'a>(reader: &mut Scanner<'a>) -> Result<Field<'a>, Halt>
-    ensures value { IfOk result (λ field. (depth : ℕ) → data_at depth reader.old ≡ Some (data_of field, reader.new)) }
-    ensures shorter { OnOk result (length reader.new < length reader.old) }
-{
-    match reader.front() {
-        b'"' => Ok(Field::Text(reader.text()?)),
-        b'0'..=b'9' => Ok(Field::Number(read_number(reader)?)),
-        b't' | b'f' => Ok(Field::Flag(reader.flag()?)),
-        _ => Err(Halt::Odd),
-    }
+    Ok(all)
 }

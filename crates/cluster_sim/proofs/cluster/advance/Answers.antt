@@ -1,7 +1,10 @@
-use Rattle.std.proofs.Common.{◌≡◌, inl, inr, ◌+◌, ◌<◌, ◌^◌, length, slice_get, sym, ◌∙◌, ap, arith, refl, Some, slice_set, vec_capacity, Option}
+use Rattle.std.proofs.Common.{◌≡◌, ◌≢◌, inl, inr, ◌+◌, ◌<◌, ◌^◌, length, slice_get, sym, ◌∙◌, ap, arith, refl, Some, slice_set, vec_capacity, Option}
 use Rattle.std.proofs.lemmas.List.{length-map}
 use Rattle.std.proofs.lemmas.Option.{slice_get_read}
 use Rattle.histories.specs.declared.attempt.Attempt.{Attempt}
+use Rattle.node_core.specs.declared.fault.Refusal.TheVariants.{Worn}
+use Rattle.runs.specs.declared.outcome.Outcome.TheVariants.{Refused}
+use Rattle.runs.specs.declared.outcome.Refusal.TheVariants.{Node as OfNode}
 use Rattle.runs.specs.Reporting.{own_commands}
 use Rattle.runs.proofs.PublicLaws.{own_few}
 use Rattle.cluster_sim.specs.Names.{node_named}
@@ -55,6 +58,12 @@ few_acts c =
     let ms = c.args.report.now.moments in
     omega (arith, length-map ms.items (moment_in c.args.world.now.net.sent), ms.ok.0, ms.ok.1, ms.small)
 
+-- and each raises the number of an area by one at most
+unworn : (c : goal.After-result-1) → c.in_ok-deed.deed.outcome ≢ Refused (OfNode Worn)
+unworn c =
+    let inv = c.requires.cluster in
+    (c.in_ok-deed.ensures.areas inv.last inv.reports.stands _ inv.areas).1 (omega (arith, few_acts c))
+
 pub returns-clause-goes_on : goal.returns-clause-goes_on
 returns-clause-goes_on c w reports =
     let inv = c.requires.cluster in
@@ -65,7 +74,7 @@ returns-clause-goes_on c w reports =
     goes_on c.args.world.now c.perform.new.self w c.args.act c.in_ok-deed.deed id c.node.result.now c.node-2.result.now reports.stands (c.in_ok-deed.ensures.acted w reports.stands)
     (named_in c.args.world.now w c.args.act id c.count.result c.net.result.now.network reports.stands c.count.ensures.value c.net.ensures c.node_named-id.ensures.named) c.node.ensures c.node-2.ensures
     c.args.report.now c.add.new.self c.index-before.result.now reports c.in_ok-deed.ensures.slots (inv.counted.each id c.index-before.result.now at)
-    (added c)
+    (added c) (few_acts c) (unworn c)
 
 pub returns-clause-cluster : goal.returns-clause-cluster
 returns-clause-cluster c =
@@ -82,15 +91,13 @@ returns-clause-cluster c =
       | then-is_some b ↦ inl (sym b.if-is_some.ensures, (λ i. (b.counts-is i).items) ∙ (λ i. slice_set c.args.counts.now.items (at_id i) (c.index-before.result.now + 1)))
       | else-is_some b ↦ inr (sym b.if-is_some.ensures, (λ i. (b.counts-is i).items))
     ])
-    (c.in_ok-deed.ensures.areas inv.last inv.reports.stands) inv.areas inv.unworn (few_acts c)
+    (c.in_ok-deed.ensures.areas inv.last inv.reports.stands) inv.areas (few_acts c)
 
 pub returns-clause-answers : goal.returns-clause-answers
 returns-clause-answers c = c.in_ok-deed.ensures.answers c.requires.cluster.last c.requires.cluster.reports.stands
 
 pub returns-clause-unworn : goal.returns-clause-unworn
-returns-clause-unworn c =
-    let inv = c.requires.cluster in
-    (c.in_ok-deed.ensures.areas inv.last inv.reports.stands _ inv.areas).1 (omega (arith, few_acts c))
+returns-clause-unworn c = unworn c
 
 pub returns-in_err-deed-clause-cluster : goal.returns-in_err-deed-clause-cluster
 returns-in_err-deed-clause-cluster c =

@@ -1,5 +1,4 @@
-use Rattle.std.proofs.Common.{◌≡◌, ◌++◌, subst, ◌+◌, ◌<◌, ◌^◌, length, sym, ◌∙◌, ap, arith}
-use Rattle.std.proofs.lemmas.List.{length-map}
+use Rattle.std.proofs.Common.{◌≡◌, ◌++◌, subst, sym, ◌∙◌, ap}
 use Rattle.std.proofs.lemmas.Simd.{map-map}
 use Rattle.runs.specs.World.{start}
 use Rattle.runs.specs.Growth.{acts_in}
@@ -22,11 +21,7 @@ is c = (λ i. report_in c.into_parts.result.0 (c.into_parts.ensures.net i).sent)
 pub returns-clause-keeps : goal.returns-clause-keeps
 returns-clause-keeps c =
     let h = ran c in
-    let sent = c.into_parts.result.1.network.sent in
-    let ms = c.into_parts.result.0.moments in
-    let short : length (report_in c.into_parts.result.0 sent).moments + 1 < 2 ^ 64 = omega (arith, length-map ms.items (moment_in sent), ms.ok.0, ms.ok.1, ms.small) in
-    let many : length (report_in c.into_parts.result.0 sent).moments ≡ length c.step_all.new.self.report.moments = (λ i. length (is c i).moments) in
-    rw (is c, ← h.of_acts, ← h.as_many, ← c.step_all.ensures.slots ∙ c.in_ok-cluster.ensures.slots) (promised c.step_all.new.self h.last h.reports (omega (arith, short, many)) c.into_parts.ensures.unworn)
+    rw (is c, ← h.of_acts, ← h.as_many, ← c.step_all.ensures.slots ∙ c.in_ok-cluster.ensures.slots) (promised c.step_all.new.self h.last h.reports)
 
 pub returns-clause-acts : goal.returns-clause-acts
 returns-clause-acts c = sym (map-map (λ (m : Moment). m.act) (moment_in c.into_parts.result.1.network.sent) c.into_parts.result.0.moments.items) ∙ ap acts_in (is c) ∙ (ran c).of_acts

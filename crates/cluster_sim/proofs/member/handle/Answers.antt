@@ -23,7 +23,7 @@ returns-clause-came c =
     let net = c.args.net.now.network in
     let came = c.in-Ok.came in
     let first : c.len-first.result ≡ length net.sent = c.len-first.ensures ∙ (λ i. length (c.sent.ensures i)) ∙ (λ i. length (c.reserve.ensures.network i).sent) in
-    comes_by c.args.event.now c.args.node.now c.forget_written.new.node net c.send_all.new.net.network came _ c.step.ensures.counts.was_there (leaves_all c).1 refl refl (c.is_mounting.ensures c.args.event.now)
+    comes_by c.args.event.now c.args.node.now c.forget_written.new.node net c.send_all.new.net.network came _ c.step.ensures.counts.was_there (leaves_all c).1 refl refl refl (c.is_mounting.ensures c.args.event.now)
     (c.outcome_of.ensures ∙ ap (λ (n : ℕ). came_outcome came.fate n came) first)
     (c.send_all.ensures ∙ (λ i. after_all_sent (c.reserve.ensures.network i) (c.deref.ensures.value i)))
 

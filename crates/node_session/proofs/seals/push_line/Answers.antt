@@ -1,4 +1,4 @@
-use Rattle.std.proofs.Common.{rules, ◌≡◌, ◌++◌, ◌∙◌, sym, ap, List, ℕ}
+use Rattle.std.proofs.Common.{rules, ◌++◌, ◌∙◌, sym, ap, List, ℕ}
 use Rattle.std.proofs.lemmas.Result.{on_ok_weaker}
 use Rattle.node_session.specs.Seals.{message_in}
 use Rattle.node_session.proofs.Sealings.{line_so}

@@ -1,4 +1,4 @@
-use Rattle.std.proofs.Common.{rules, ◌≡◌, ◌∷◌, ◌∙◌, ap, List, ℕ}
+use Rattle.std.proofs.Common.{rules, ◌∷◌, ◌∙◌, ap, List, ℕ}
 use Rattle.line_words.specs.Words.{words_of}
 use Rattle.node_session.specs.Seals.{sent_word}
 use Rattle.node_session.proofs.Reading.{sends_no}

@@ -1,4 +1,4 @@
-use Rattle.std.proofs.Common.{◌≡◌, ◌<◌, ◌∙◌, length, arith, rules}
+use Rattle.std.proofs.Common.{◌<◌, ◌∙◌, length, arith}
 use Rattle.std.specs.Prelude.{string_bytes}
 use Rattle.trace_text.proofs.Orders.{fits_all, fits_more, turns_all, turns_more}
 use Rattle.trace_text.proofs.ordered.order_words.Goals as goal

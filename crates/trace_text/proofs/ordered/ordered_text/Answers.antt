@@ -1,6 +1,5 @@
-use Rattle.std.proofs.Common.{◌≡◌, List, ap, sym, subst, ◌∙◌}
-use Rattle.std.specs.Prelude.{string_bytes}
-use Rattle.trace_text.specs.Ordered.{order_text, ordered_by}
+use Rattle.std.proofs.Common.{subst, ◌∙◌}
+use Rattle.trace_text.specs.Ordered.{ordered_by}
 use Rattle.trace_text.specs.Tokens.{Adds, ordered_tokens}
 use Rattle.trace_text.proofs.OrdersBack.{order_again, order_back, ordered_text, trace_again}
 use Rattle.trace_text.proofs.ordered.ordered_text.Goals as goal

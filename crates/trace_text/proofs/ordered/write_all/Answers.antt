@@ -1,6 +1,5 @@
-use Rattle.std.proofs.Common.{ℕ, List, [], ◌∷◌, ◌++◌, length, codes, decimal, subst}
-use Rattle.std.specs.Prelude.{OnOk}
-use Rattle.json.specs.Token.{begin_array, begin_object, end_array, end_object, key, number, string}
+use Rattle.std.proofs.Common.{ℕ, List, [], ◌∷◌, codes, decimal, subst}
+use Rattle.json.specs.Token.{end_array, key, number}
 use Rattle.trace_check.specs.Claims.{Claim}
 use Rattle.trace_text.specs.Tokens.{Adds, histories_tokens}
 use Rattle.trace_text.proofs.OrdersBack.{all_added}

@@ -1,35 +1,46 @@
-use Rattle.std.proofs.Common.{◌≡◌, List, [], ◌∷◌, ◌++◌, length, map, true, Option, None, Result, Ok, Err, option_map, refl, arith, rules, sym, ap, ◌∙◌}
-use Rattle.std.specs.Prelude.{OnOk}
-use Rattle.json.specs.Token.{Token}
-use Rattle.json.specs.Json.{parse_map}
-use Rattle.serde_json.specs.Read.{converted}
-use Rattle.trace_check.specs.Claims.{Claim}
-use Rattle.trace_text.specs.Fields.{FieldData, fields_by}
+use Rattle.std.proofs.Common.{◌≡◌, ◌++◌, ◌∷◌, [], List, Bool, Some, None, sym, ap, ◌∙◌, subst, arith, rules}
+use Rattle.std.specs.Prelude.{if◌then◌else◌}
 use Rattle.wire_msg.specs.Envelope.{Envelope}
-use Rattle.trace_text.specs.Entries.{deed_in, claim_in}
+use Rattle.trace_check.specs.Claims.{Claim}
+use Rattle.trace_text.specs.Fields.{fields_by}
+use Rattle.trace_text.specs.Entries.{deed_in}
+use Rattle.trace_text.specs.Places.{IsRead}
 use Rattle.trace_text.specs.Drafts.{drafted_by}
-use Rattle.trace_text.specs.Streams.{data_at, members_at, drafted_put, messages_of, sent_in, claim_with}
-use Rattle.trace_text.proofs.Made.{entry_there}
+use Rattle.trace_text.proofs.Judged.{claim_some, entry_read, no_deed, no_sent}
+use Rattle.trace_text.proofs.Walks.{no_object_in, opened}
 use Rattle.trace_text.proofs.stream.read_entry.Goals as goal
 
-on_ok : {A E : Type 0} (P Q : Type 0) (r : Result A E) → (P → Q) → OnOk r P → OnOk r Q
-on_ok P Q (Ok a) more h = more h
-on_ok P Q (Err e) more h = h
+pub returns-in_err-read_members-clause-err : goal.returns-in_err-read_members-clause-err
+returns-in_err-read_members-clause-err c =
+    let is = opened _ _ _ c.if-not-branch.false c.in_ok-open_object.ensures.value in
+    λ refused. no_object_in 124 c.args.reader.now c.open_object.new.reader (omega arith) is (c.in_err-read_members.ensures.err (grind (arith, refused)))
 
-pub returns-clause-entry : goal.returns-clause-entry
-returns-clause-entry c =
-    let ts = c.open_object.new.self in
-    let r = c.read_members.new.reader in
+pub returns-then-not-draft-clause-ok : goal.returns-then-not-draft-clause-ok
+returns-then-not-draft-clause-ok c =
+    let is = opened _ _ _ c.if-not-branch.false c.in_ok-open_object.ensures.value in
     let draft = c.read_members.new.draft in
-    let old = c.args.history.now.claims in
-    let new = c.add_entry.new.history.claims in
-    let add = λ (x : Claim). old ++ x ∷ [] in
-    let deed = deed_in (fields_by draft.fields) in
-    let has : draft.has_sent ≡ true = grind (arith, c.if-not-draft.false) in
-    let texts : c.deref.result.now ≡ draft.texts.items = search rules in
-    let sent : sent_in (drafted_by draft) ≡ messages_of (map (λ s. s.now) c.deref.result.now) = rw (has, texts) refl in
-    let read = ap (λ (f : FieldData). members_at drafted_put 123 (length ts) (f, None) ts) c.clear.ensures in
-    on_ok _ _ c.add_entry.result
-    (λ made. ap (λ (xs : List Token). parse_map add (converted claim_in (data_at 124 xs))) c.in_ok-open_object.ensures
-    ∙ entry_there ts r (drafted_by draft) old new (sym read ∙ c.in_ok-read_members.ensures.members) (ap (λ (o : Option (List Envelope)). option_map add (claim_with deed o)) sent ∙ made))
-    c.add_entry.ensures.entry
+    let none = no_sent (drafted_by draft) (ap (λ (b : Bool). if b then Some draft.sent.items else None) c.if-not-draft.true) in
+    entry_read c.args.reader.now c.open_object.new.reader c.read_members.new.reader (drafted_by draft) None c.args.history.now is c.in_ok-read_members.ensures.ok none
+
+pub returns-then-not-branch-2-clause-ok : goal.returns-then-not-branch-2-clause-ok
+returns-then-not-branch-2-clause-ok c =
+    let is = opened _ _ _ c.if-not-branch.false c.in_ok-open_object.ensures.value in
+    let draft = c.read_members.new.draft in
+    let read = subst (λ (b : Bool). IsRead b c.read_deed.new.deed (deed_in (fields_by draft.fields))) c.if-not-branch-2.true c.in_ok-read_deed.ensures in
+    entry_read c.args.reader.now c.open_object.new.reader c.read_members.new.reader (drafted_by draft) None c.args.history.now is c.in_ok-read_members.ensures.ok (no_deed (drafted_by draft) read)
+
+pub returns-clause-ok : goal.returns-clause-ok
+returns-clause-ok c =
+    let is = opened _ _ _ c.if-not-branch.false c.in_ok-open_object.ensures.value in
+    let draft = c.read_members.new.draft in
+    let done = c.read_deed.new.deed in
+    let sent = draft.sent.items in
+    let r = c.read_members.new.reader in
+    let old = c.args.history.now in
+    let read = subst (λ (b : Bool). IsRead b done (deed_in (fields_by draft.fields))) c.if-not-branch-2.false c.in_ok-read_deed.ensures in
+    let all : (drafted_by draft).1 ≡ Some sent = ap (λ (b : Bool). if b then Some sent else None) c.if-not-draft.false in
+    let lent : c.deref.result.now ≡ sent = search rules in
+    let claim : Claim = record { deed = done; sent = sent } in
+    entry_read c.args.reader.now c.open_object.new.reader r (drafted_by draft) (Some claim) old is c.in_ok-read_members.ensures.ok (claim_some (drafted_by draft) done sent read all)
+    ∙ ap (λ (ms : List Envelope). Some (Some (old ++ (record { deed = done; sent = ms }) ∷ []), r)) (sym lent)
+    ∙ ap (λ (h : List Claim). Some (Some h, r)) (sym c.in_ok-push.ensures.added)

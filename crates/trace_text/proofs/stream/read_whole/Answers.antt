@@ -1,13 +1,18 @@
-use Rattle.std.proofs.Common.{List, Some, ap, ◌∙◌}
-use Rattle.json.specs.Token.{Token}
-use Rattle.serde_json.specs.Read.{converted}
-use Rattle.trace_text.specs.Streams.{data_at, Parted}
-use Rattle.trace_text.proofs.Made.{trace_in, whole_there}
+use Rattle.std.proofs.Common.{◌∙◌, arith}
+use Rattle.std.proofs.lemmas.Result.{IfOk-weaker}
+use Rattle.trace_text.specs.Drafts.{parted_by}
+use Rattle.trace_text.specs.Streams.{members_at, parted_in, shaped}
+use Rattle.trace_text.proofs.Judged.{trace_in, whole_law}
+use Rattle.trace_text.proofs.Walks.{in_object, mapped_on, no_object_in, opened}
 use Rattle.trace_text.proofs.stream.read_whole.Goals as goal
 
-pub returns-clause-whole : goal.returns-clause-whole
-returns-clause-whole c =
-    let r = c.read_parts.new.reader in
-    let made = c.in_ok-histories.ensures in
-    ap (λ (ts : List Token). converted trace_in (data_at 127 ts)) c.in_ok-open_object.ensures
-    ∙ whole_there c.open_object.new.self r c.in_ok-histories.histories.items made.some made.few (c.in_ok-read_parts.ensures ∙ ap (λ (s : Parted). Some (s, r)) made.nodes)
+pub returns-clause-ok : goal.returns-clause-ok
+returns-clause-ok c =
+    let ts = c.open_object.new.reader in
+    let is = opened _ _ _ c.if-not-branch.false c.in_ok-open_object.ensures.value in
+    IfOk-weaker c.read_parts.result _ _ (λ parts read. in_object 127 c.args.reader.now ts (omega arith) is trace_in (λ ms. shaped (parted_in ms)) whole_law ∙ mapped_on parted_in shaped (members_at 126 ts) (parted_by parts) c.read_parts.new.reader read) c.read_parts.ensures.ok
+
+pub returns-clause-err : goal.returns-clause-err
+returns-clause-err c =
+    let is = opened _ _ _ c.if-not-branch.false c.in_ok-open_object.ensures.value in
+    λ refused. no_object_in 127 c.args.reader.now c.open_object.new.reader (omega arith) is (c.read_parts.ensures.err refused)

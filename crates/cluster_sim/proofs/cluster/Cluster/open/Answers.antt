@@ -1,7 +1,6 @@
 use Rattle.std.proofs.Common.{◌+◌, ◌∙◌, ap, length, subst, sym}
 use Rattle.runs.specs.Reporting.{Report}
 use Rattle.cluster_sim.specs.Cluster.{cluster_with}
-use Rattle.runs.specs.Headline.{NoneWorn}
 use Rattle.cluster_sim.specs.World.{AreasWithin}
 use Rattle.runs.proofs.PublicLaws.{length_openings}
 use Rattle.cluster_sim.proofs.Opening.{opened_counts, opened_reports}
@@ -17,7 +16,6 @@ invariant_of-result c =
       reports = opened_reports whole c.args.nodes stands reported;
       counted = rw (stands.count ∙ length_openings 0 c.args.nodes, c.in_ok-counts.ensures, ap (λ (x : Report). x.commands) reported) (opened_counts c.args.nodes);
       areas = subst (λ (x : Report). AreasWithin (length x.moments + 2) c.in_ok-world.world.nodes) (sym reported) c.in_ok-world.ensures.areas;
-      unworn = subst NoneWorn (sym reported) (λ k m at. absurd cc);
     }
 
 pub returns-clause-nodes : goal.returns-clause-nodes

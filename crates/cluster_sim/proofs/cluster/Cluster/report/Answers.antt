@@ -1,6 +1,5 @@
-use Rattle.std.proofs.Common.{◌+◌, ◌<◌, ◌^◌, length, refl, arith}
-use Rattle.std.proofs.lemmas.List.{length-map}
-use Rattle.cluster_sim.specs.Cluster.{moment_in, cluster_with}
+use Rattle.std.proofs.Common.{refl}
+use Rattle.cluster_sim.specs.Cluster.{cluster_with}
 use Rattle.cluster_sim.proofs.Promised.{promised}
 use Rattle.cluster_sim.proofs.cluster.Cluster.report.Goals as goal
 
@@ -11,6 +10,4 @@ pub returns-clause-keeps : goal.returns-clause-keeps
 returns-clause-keeps c =
     let inv = c.self.invariant in
     let was = c.self.inside in
-    let ms = was.report.moments in
-    let short : length (cluster_with was.world was.report).report.moments + 1 < 2 ^ 64 = omega (arith, length-map ms.items (moment_in was.world.net.sent), ms.ok.0, ms.ok.1, ms.small) in
-    rw (← c.self.view_is) (promised (cluster_with was.world was.report) inv.last inv.reports short inv.unworn)
+    rw (← c.self.view_is) (promised (cluster_with was.world was.report) inv.last inv.reports)

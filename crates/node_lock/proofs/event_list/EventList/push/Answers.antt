@@ -1,6 +1,6 @@
 use Rattle.std.proofs.Common.{◌≡◌, [], ◌∷◌, ◌++◌, length, refl, ap, ◌∙◌, arith}
-use Rattle.node_lock.specs.declared.event_list.KeptEvent.{KeptEvent}
-use Rattle.node_lock.specs.Events.{kept_event}
+use Rattle.trace_check.specs.declared.kept.KeptEvent.{KeptEvent}
+use Rattle.trace_check.specs.Kept.{kept_event}
 use Rattle.node_lock.proofs.Events.{events_more, all_read_more}
 use Rattle.node_lock.proofs.event_list.EventList.push.Goals as goal
 

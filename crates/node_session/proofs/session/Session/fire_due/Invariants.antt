@@ -8,5 +8,5 @@ use Rattle.node_session.proofs.session.Session.fire_due.Given as goal
 abbrev pub invariant-loop-fired : goal.invariant-loop-fired
 invariant-loop-fired g l = record {
   rest : l.self.rest ≡ l.fn.self.rest;
-  calls : Calls g.D.SectorDisk.state l.fn.self l.self fired_news (AreTimely l.fn.self.node.id l.fn.self.node.nodes) (end.Done None) l.ended;
+  calls : Calls g.D.SectorDisk.state l.fn.self l.self fired_news AreTimely (end.Done None) l.ended;
 }

@@ -1,0 +1,132 @@
+// The keys of a node's messages, as a file has them.
+ghost use Rattle.std.specs.Prelude.{◌≡◌, IfOk, option_map};
+ghost use Rattle.line_words.specs.Lines.{lines_of};
+ghost use Rattle.command_line.specs.Keys.{first_and, one_of, pair_of, secret_in, secrets_of, two_of};
+
+use line_words::{bytes, cut_line};
+use node_session::Seal;
+use sealed_msg::cluster_key;
+use std::alloc::{AllocError, Global};
+use std::fs::{File, Files};
+use std::io;
+use std::io::Read;
+use std::os::unix::fs::PermissionsExt;
+
+/// How many bytes a secret has.
+const SECRET: usize = 32;
+
+/// A file of two secrets has fewer bytes.
+const MOST: usize = 256;
+
+/// Where a node's keys stand, and the name of its cluster.
+#[derive(Clone, Copy)]
+pub struct Keys<'a> {
+    /// A file of one line of 64 hex digits, or of two. Nobody but its owner may read it.
+    pub path: &'a str,
+    pub cluster: &'a str,
+}
+
+/// The secret whose key seals and opens, and one whose key only opens.
+#[derive(Drop)]
+struct Secrets {
+    own: Vec<u8>,
+    other: Option<Vec<u8>>,
+}
+
+/// What seals and opens the messages of a node of so many. None where the file isn't one of keys, or others may read it.
+pub(crate) fn read_seal(
+    rt: &impl Files<File = File>,
+    alloc: Global,
+    keys: Keys<'_>,
+    nodes: u8,
+) -> io::Result<Option<Seal>> {
+    let mut file = File::open(rt, keys.path)?;
+    let about = file.metadata()?;
+    if !about.is_file() || about.permissions().mode() & 0o077 != 0 {
+        return Ok(None);
+    }
+    let text = read_text(alloc, &mut file)?;
+    let Some(secrets) = secrets_in(alloc, &text)? else {
+        return Ok(None);
+    };
+    let name = keys.cluster.as_bytes();
+    let own = cluster_key(alloc, &secrets.own, nodes, name)?;
+    let other = match &secrets.other {
+        Some(other) => Some(cluster_key(alloc, other, nodes, name)?),
+        None => None,
+    };
+    Ok(Some(Seal::new(alloc, own, other)))
+}
+
+/// Reads a file that may be one of keys; of a longer one no more than tells that.
+fn read_text(alloc: Global, file: &mut File) -> io::Result<Vec<u8>> {
+    let mut text = Vec::new(alloc);
+    let mut piece = [0u8; MOST];
+    for _read in 0..MOST {
+        let count = file.read(&mut piece)?;
+        if count == 0 || text.len() >= MOST {
+            break;
+        }
+        text.extend_from_slice(&piece[..count])?;
+    }
+    Ok(text)
+}
+
+/// The secrets that a text spells.
+fn secrets_in(alloc: Global, text: &[u8]) -> Result<Option<Secrets>, AllocError>
+    // Promise: A key file has one or two secrets of 64 hex digits, a line each, and nothing else.
+    // Refuses: key_of_another_length.
+    ensures { IfOk result (λ secrets. option_map pair_of secrets ≡ secrets_of (lines_of text.now)) }
+{
+    let Some((first, behind)) = cut_line(text) else {
+        return one(alloc, text);
+    };
+    let Some((second, rest)) = cut_line(behind) else {
+        return first_and(alloc, first, behind);
+    };
+    match rest {
+        [] => two(alloc, first, second),
+        _ => Ok(None),
+    }
+}
+
+/// What stands behind the first line feed is nothing, or a second secret.
+fn first_and(alloc: Global, first: &[u8], behind: &[u8]) -> Result<Option<Secrets>, AllocError>
+    ensures { IfOk result (λ secrets. option_map pair_of secrets ≡ first_and first.now behind.now) }
+{
+    match behind {
+        [] => one(alloc, first),
+        _ => two(alloc, first, behind),
+    }
+}
+
+fn one(alloc: Global, first: &[u8]) -> Result<Option<Secrets>, AllocError>
+    ensures { IfOk result (λ secrets. option_map pair_of secrets ≡ one_of (secret_in first.now)) }
+{
+    match secret(alloc, first)? {
+        Some(own) => Ok(Some(Secrets { own, other: None })),
+        None => Ok(None),
+    }
+}
+
+fn two(alloc: Global, first: &[u8], second: &[u8]) -> Result<Option<Secrets>, AllocError>
+    ensures { IfOk result (λ secrets. option_map pair_of secrets ≡ two_of (secret_in first.now) (secret_in second.now)) }
+{
+    match (secret(alloc, first)?, secret(alloc, second)?) {
+        (Some(own), Some(other)) => Ok(Some(Secrets {
+            own,
+            other: Some(other),
+        })),
+        _ => Ok(None),
+    }
+}
+
+/// The secret that a line spells.
+fn secret(alloc: Global, line: &[u8]) -> Result<Option<Vec<u8>>, AllocError>
+    ensures { IfOk result (λ secret. option_map (λ secret. secret.items) secret ≡ secret_in line.now) }
+{
+    match bytes(alloc, line)? {
+        Some(bytes) if bytes.len() == SECRET => Ok(Some(bytes)),
+        _ => Ok(None),
+    }
+}

@@ -1,7 +1,0 @@
-use Rattle.std.proofs.Common.{◌≡◌, ◌++◌, ◌-◌}
-use Rattle.std.specs.List.{range_with_len}
-use Rattle.file_console.specs.Printed.{queues_text}
-use Rattle.file_console.proofs.text.push_queues.Given as goal
-
-abbrev pub invariant-loop-queue : goal.invariant-loop-queue
-invariant-loop-queue l = l.text.items ++ queues_text l.jobs (range_with_len l.queue (16 - l.queue)) ≡ l.fn.text.items ++ queues_text l.jobs (range_with_len 0 16)

@@ -1,3 +1,0 @@
-pub mod Label
-pub mod Ends
-pub mod Keys

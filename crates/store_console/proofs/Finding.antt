@@ -1,0 +1,132 @@
+-- What a mounting answers of the parts of a store, as what is found there.
+use Rattle.std.proofs.Common.{◌≡◌, ◌+◌, ◌≤◌, ◌⊎◌, ⊎_elim, ℕ, zero, suc, length, List, ◌∷◌, Option, Some, None, Result, Ok, Err, IfOk, IsErrOf, is_none, nat_lt, true, false, if◌then◌else◌}
+use Rattle.std.proofs.Common.{sym, ◌∙◌, ap, refl, arith}
+use Rattle.std.proofs.lemmas.Bool.Decides.{nat_tests}
+use Rattle.std.specs.declared.alloc.AllocError.{AllocError}
+use Rattle.sector_disk.specs.Disk.{Image}
+use Rattle.slot_gate.specs.Slot.{slot_at}
+use Rattle.safe_cell.specs.Body.{body_value}
+use Rattle.safe_cell.specs.Cell.{cell_at, cell_of, IsDamaged}
+use Rattle.safe_cell.specs.Mounted.{CellState}
+use Rattle.safe_cell.specs.Mounting as Cells
+use Rattle.safe_cell.specs.declared.fault.CellFault.{CellFault}
+use Rattle.job_journal.specs.Areas.{sealed_prefix, slots_from}
+use Rattle.job_journal.specs.Jobs.{Jobs, jobs_of}
+use Rattle.job_journal.specs.Journal.{damage_of, is_damaged, jobs_by, replay_in}
+use Rattle.job_journal.specs.Mounted.{JournalState}
+use Rattle.job_journal.specs.Mounting.{AnswersFor}
+use Rattle.job_journal.specs.Readings.{Replay, Reads, Damage}
+use Rattle.job_journal.specs.declared.fault.JournalFault.{JournalFault}
+use Rattle.job_journal.proofs.PublicLaws.{whole_slots}
+use Rattle.node_store.specs.Store.{slots_for}
+use Rattle.console_text.specs.Ends.{Outcome, outcome_of}
+use Rattle.console_text.specs.declared.ends.Printout.{Printout}
+use Rattle.store_console.specs.declared.found.Counter.{Counter}
+use Rattle.store_console.specs.declared.found.Counter.TheVariants.{Missing, Value, Damaged}
+use Rattle.store_console.specs.declared.found.Owner.{Owner}
+use Rattle.store_console.specs.Held.{IsHeldBy, counter_by, counter_of, journal_of, jobs_or_damage, owner_of, used_in}
+use Rattle.store_console.specs.Printed.{IsExport, IsInspection, export, export_text, found_text, inspection, too_small}
+
+-- ---- the counter
+
+pub value_found : (image : Image) (v : ℕ) → cell_at image 0 ≡ Some v → counter_of image ≡ Value v
+value_found image v is = λ i. counter_by (whole_slots 0 v (slot_at image 0) (slot_at image 2) is i) (is i)
+
+pub missing_found : (image : Image) → slot_at image 0 ≡ None → slot_at image 2 ≡ None → counter_of image ≡ Missing
+missing_found image first second = λ i. counter_by (damage_of 0 (first i) (second i)) (cell_of (first i) (second i))
+
+marked : (slot : Option (List ℕ)) → IsDamaged slot → is_damaged slot ≡ true
+marked slot is = ap is_damaged is.1 ∙ ap (λ v. is_none v) is.2
+
+unmarked_by : (body : List ℕ) (value : Option ℕ) → body_value body ≡ value → (IsDamaged (Some body) → ⊥) → is_none value ≡ false
+unmarked_by body None is whole = absurd (whole (body, refl, is))
+unmarked_by body (Some v) is whole = refl
+
+unmarked : (slot : Option (List ℕ)) → (IsDamaged slot → ⊥) → is_damaged slot ≡ false
+unmarked None whole = refl
+unmarked (Some body) whole = unmarked_by body (body_value body) refl whole
+
+damage_first : (a b : Option (List ℕ)) (value : Option ℕ) → is_damaged a ≡ true → counter_by (damage_of 0 a b) value ≡ Damaged 0
+damage_first a b value is = ap (λ t. counter_by (if t then Some 0 else (if is_damaged b then Some 2 else None)) value) is
+
+damage_second : (a b : Option (List ℕ)) (value : Option ℕ) → is_damaged a ≡ false → is_damaged b ≡ true → counter_by (damage_of 0 a b) value ≡ Damaged 2
+damage_second a b value whole is = λ i. counter_by (if whole i then Some 0 else (if is i then Some 2 else None)) value
+
+pub damage_found : (image : Image) (k : ℕ) → (k ≡ 0) ⊎ (k ≡ 2) → (k ≡ 0 → IsDamaged (slot_at image 0)) → (k ≡ 2 → (IsDamaged (slot_at image 0) → ⊥) × IsDamaged (slot_at image 2))
+    → counter_of image ≡ Damaged k
+damage_found image k which first second =
+    let a = slot_at image 0 in
+    let b = slot_at image 2 in
+    ⊎_elim
+    (λ zero. damage_first a b (cell_of a b) (marked a (first zero)) ∙ ap (λ n. Damaged n) (sym zero))
+    (λ two. let is = second two in damage_second a b (cell_of a b) (unmarked a is.0) (marked b is.1) ∙ ap (λ n. Damaged n) (sym two)) which
+
+pub no_value : (value : Option ℕ) → ((v : ℕ) → value ≡ Some v → ⊥) → value ≡ None
+no_value None none = refl
+no_value (Some v) none = absurd (none v refl)
+
+-- a cell that isn't mounted has no value
+pub no_cell : (image : Image) (at : ℕ) (fault other : CellFault) → fault ≡ other → (other ≡ CellFault.Device → ⊥)
+    → ((IsErrOf {T = CellState} {E = CellFault} (Err fault) CellFault.Device → ⊥) → Cells.AnswersFor at image (Err fault)) → None ≡ cell_at image at
+no_cell image at fault other is else_where answered =
+    sym (no_value (cell_at image at) (λ v has. ((answered (λ same. let device : other ≡ CellFault.Device = cc (same, is) in else_where device)).value v).1 has))
+
+-- ---- the journal
+
+jobs_or : (replay : Replay) (jobs : Jobs) → jobs_by replay ≡ Some jobs → jobs_or_damage replay ≡ Ok jobs
+jobs_or (Reads reading) jobs is = cc
+jobs_or (Damage sector) jobs is = absurd cc
+
+pub jobs_found : (slots : ℕ) (image : Image) (journal : JournalState) → AnswersFor slots image (Ok journal) → Ok (jobs_of journal.table) ≡ journal_of slots image
+jobs_found slots image journal answered = sym (jobs_or (replay_in slots image) (jobs_of journal.table) ((answered.jobs (jobs_of journal.table)).0 refl))
+
+pub journal_damage : (slots : ℕ) (image : Image) (fault : JournalFault) (sector : ℕ) → fault ≡ JournalFault.Damaged sector
+    → ((IsErrOf {T = JournalState} {E = JournalFault} (Err fault) JournalFault.Device → ⊥) → (IsErrOf {T = JournalState} {E = JournalFault} (Err fault) JournalFault.NoMemory → ⊥)
+    → AnswersFor slots image (Err fault))
+    → Err sector ≡ journal_of slots image
+journal_damage slots image fault sector is answered =
+    let found = answered (λ same. cc (same, is)) (λ same. cc (same, is)) in
+    sym (ap jobs_or_damage ((found.damaged sector).0 (ap (λ (f : JournalFault). Err f) is)))
+
+-- ---- the slots that are sealed
+
+pub one_sealed : (image : Image) (at next left fewer : ℕ) (body : List ℕ) → next ≡ at + 2 → left ≡ suc fewer → slot_at image at ≡ Some body
+    → length (sealed_prefix (slots_from image at left)) ≡ length (sealed_prefix (slots_from image next fewer)) + 1
+one_sealed image at next left fewer body is count here =
+    let behind = sealed_prefix (slots_from image (at + 2) fewer) in
+    let more : suc (length behind) ≡ length behind + 1 = omega arith in
+    ap (λ n. length (sealed_prefix (slots_from image at n))) count
+    ∙ ap (λ s. length (sealed_prefix (s ∷ slots_from image (at + 2) fewer))) here
+    ∙ more
+    ∙ ap (λ a. length (sealed_prefix (slots_from image a fewer)) + 1) (sym is)
+
+pub none_sealed : (image : Image) (at left : ℕ) → slot_at image at ≡ None → length (sealed_prefix (slots_from image at left)) ≡ 0
+none_sealed image at zero is = refl
+none_sealed image at (suc n) is = ap (λ s. length (sealed_prefix (s ∷ slots_from image (at + 2) n))) is
+
+-- ---- all of it
+
+pub inspection_is : (owner : Owner) (image : Image) (slots used : ℕ) (counter : Counter) (journal : Result Jobs ℕ) → 24 ≤ length image → slots ≡ slots_for (length image)
+    → used ≡ used_in slots image → counter ≡ counter_of image → journal ≡ journal_of slots image → found_text owner slots used counter journal ≡ inspection owner image
+inspection_is owner image slots used counter journal large s u k j =
+    let size = slots_for (length image) in
+    let whole = found_text owner size (used_in size image) (counter_of image) (journal_of size image) in
+    let enough : nat_lt (length image) 24 ≡ false = grind (arith, nat_tests, large) in
+    (λ i. found_text owner (s i) ((u ∙ ap (λ n. used_in n image) s) i) (k i) ((j ∙ ap (λ n. journal_of n image) s) i))
+    ∙ sym (ap (λ b. if b then too_small (length image) else whole) enough)
+
+pub export_is : (image : Image) (slots : ℕ) (journal : Result Jobs ℕ) → 24 ≤ length image → slots ≡ slots_for (length image) → journal ≡ journal_of slots image → export_text journal ≡ export image
+export_is image slots journal large s j =
+    let size = slots_for (length image) in
+    let enough : nat_lt (length image) 24 ≡ false = grind (arith, nat_tests, large) in
+    ap export_text (j ∙ ap (λ n. journal_of n image) s) ∙ sym (ap (λ b. if b then too_small (length image) else export_text (journal_of size image)) enough)
+
+pub inspected : (bytes : List ℕ) (image : Image) (printed : Outcome) (result : Result Printout AllocError) → IsHeldBy bytes image → printed ≡ inspection (owner_of bytes) image
+    → IfOk result (λ p. outcome_of p ≡ printed) → IfOk result (λ p. IsInspection bytes (outcome_of p))
+inspected bytes image printed (Err e) held is h = tt
+inspected bytes image printed (Ok p) held is h = record { image = image; held = held; printed = h ∙ is }
+
+pub exported : (bytes : List ℕ) (image : Image) (printed : Outcome) (result : Result Printout AllocError) → IsHeldBy bytes image → printed ≡ export image
+    → IfOk result (λ p. outcome_of p ≡ printed) → IfOk result (λ p. IsExport bytes (outcome_of p))
+exported bytes image printed (Err e) held is h = tt
+exported bytes image printed (Ok p) held is h = record { image = image; held = held; printed = h ∙ is }

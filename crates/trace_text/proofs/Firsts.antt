@@ -1,0 +1,176 @@
+-- The value that begins with a token.
+use Rattle.std.proofs.Common.{◌≡◌, ℕ, zero, suc, ◌-◌, ◌<◌, Bool, List, [], ◌∷◌, length, Option, Some, None, option_map, MatchResult, refl, sym, ap, ◌∙◌}
+use Rattle.std.specs.Option.{ok_or}
+use Rattle.json.specs.Token.{Token}
+use Rattle.json.specs.Json as json
+use Rattle.json.specs.Json.{parse_map, value}
+use Rattle.json.specs.Reads.{token_of}
+use Rattle.json.specs.declared.reader.Invalid.{Invalid}
+use Rattle.json.specs.declared.token.Token.{Token as Read}
+use Rattle.json.specs.declared.token.Token.TheVariants as front
+use Rattle.json.proofs.Grammar.{value_is}
+use Rattle.serde_json.specs.Data.{Data, Num, null, boolean, number, string, array, object, Items, Members, no_members}
+use Rattle.serde_json.specs.Find.{as_array, as_object}
+use Rattle.serde_json.specs.Read.{of_json, of_items, of_members, converted, number_of}
+use Rattle.trace_text.proofs.Turns.{converted_array, converted_object}
+use Rattle.trace_text.specs.declared.fields.Field.{Field}
+use Rattle.trace_text.specs.Fields.{data_of, plain}
+use Rattle.trace_text.specs.Streams.{behind, data_at, items_at, members_at}
+use Rattle.trace_text.proofs.Walks.{behind_some, in_list, in_object, no_list_in, no_object_in}
+
+module _ (depth : ℕ) (ts : List Token) where
+  pub text_there : (text : List ℕ) → parse_map plain (data_at depth (Token.string text ∷ ts)) ≡ Some (string text, ts)
+  text_there text = ap (λ (o : Option (json.Json × List Token)). parse_map plain (converted of_json o)) (value_is depth (Token.string text ∷ ts))
+
+  pub flag_there : (b : Bool) → parse_map plain (data_at depth (Token.boolean b ∷ ts)) ≡ Some (boolean b, ts)
+  flag_there b = ap (λ (o : Option (json.Json × List Token)). parse_map plain (converted of_json o)) (value_is depth (Token.boolean b ∷ ts))
+
+  pub null_there : parse_map plain (data_at depth (Token.null ∷ ts)) ≡ Some (null, ts)
+  null_there = ap (λ (o : Option (json.Json × List Token)). parse_map plain (converted of_json o)) (value_is depth (Token.null ∷ ts))
+
+  number_is : (text : List ℕ) (o : Option Num) → number_of text ≡ o → data_at depth (Token.number text ∷ ts) ≡ option_map (λ (d : Data). (d, ts)) (option_map number o)
+  number_is text o is = ap (converted of_json) (value_is depth (Token.number text ∷ ts)) ∙ ap (λ (x : Option Num). option_map (λ (d : Data). (d, ts)) (option_map number x)) is
+
+  number_by : (text : List ℕ) (o : Option Num) (d : Data) → number_of text ≡ o → Some d ≡ option_map (λ (n : Num). plain (number n)) o → parse_map plain (data_at depth (Token.number text ∷ ts)) ≡ Some (d, ts)
+  number_by text None d is said = absurd (cc)
+  number_by text (Some n) d is said = ap (parse_map plain) (number_is text (Some n) is) ∙ ap (option_map (λ (x : Data). (x, ts))) (sym said)
+
+  number_there : (text : List ℕ) (d : Data) → Some d ≡ option_map (λ (n : Num). plain (number n)) (number_of text) → parse_map plain (data_at depth (Token.number text ∷ ts)) ≡ Some (d, ts)
+  number_there text d said = number_by text (number_of text) d refl said
+
+  no_number_by : (text : List ℕ) (o : Option Num) → number_of text ≡ o → None ≡ option_map (λ (n : Num). plain (number n)) o → data_at depth (Token.number text ∷ ts) ≡ None
+  no_number_by text None is said = number_is text None is
+  no_number_by text (Some n) is said = absurd (cc)
+
+  no_number : (text : List ℕ) → None ≡ option_map (λ (n : Num). plain (number n)) (number_of text) → data_at depth (Token.number text ∷ ts) ≡ None
+  no_number text said = no_number_by text (number_of text) refl said
+
+  pub list_there : (r : List Token) → 0 < depth → behind (items_at (depth - 1) ts) ≡ Some r → parse_map plain (data_at depth (Token.begin_array ∷ ts)) ≡ Some (null, r)
+  list_there r some passed =
+      let ds = behind_some (items_at (depth - 1) ts) r passed in
+      in_list depth (Token.begin_array ∷ ts) ts some refl plain (λ (x : Items). null) (λ x. refl) ∙ ap (parse_map (λ (x : Items). null)) ds.1
+
+  pub object_there : (r : List Token) → 0 < depth → behind (members_at (depth - 1) ts) ≡ Some r → parse_map plain (data_at depth (Token.begin_object ∷ ts)) ≡ Some (null, r)
+  object_there r some passed =
+      let ms = behind_some (members_at (depth - 1) ts) r passed in
+      in_object depth (Token.begin_object ∷ ts) ts some refl plain (λ (x : Members). null) (λ x. refl) ∙ ap (parse_map (λ (x : Members). null)) ms.1
+
+  pub no_list_there : 0 < depth → items_at (depth - 1) ts ≡ None → data_at depth (Token.begin_array ∷ ts) ≡ None
+  no_list_there some none = no_list_in depth (Token.begin_array ∷ ts) ts some refl none
+
+  pub no_object_there : 0 < depth → members_at (depth - 1) ts ≡ None → data_at depth (Token.begin_object ∷ ts) ≡ None
+  no_object_there some none = no_object_in depth (Token.begin_object ∷ ts) ts some refl none
+
+  pub number_first : (t : Token) (text : List ℕ) (o : Option Field) → t ≡ Token.number text → option_map data_of o ≡ option_map (λ (n : Num). plain (number n)) (number_of text)
+      → MatchResult (ok_or o (record {})) (λ (field : Field). parse_map plain (data_at depth (t ∷ ts)) ≡ Some (data_of field, ts)) (λ (e : Invalid). data_at depth (t ∷ ts) ≡ None)
+  number_first t text None is said = ap (λ (f : Token). data_at depth (f ∷ ts)) is ∙ no_number text said
+  number_first t text (Some field) is said = ap (λ (f : Token). parse_map plain (data_at depth (f ∷ ts))) is ∙ number_there text (data_of field) said
+
+pub nothing_there : (depth : ℕ) → data_at depth [] ≡ None
+nothing_there depth = ap (converted of_json) (value_is depth [])
+
+-- too deep
+pub too_deep : (ts : List Token) → data_at 0 (Token.begin_array ∷ ts) ≡ None
+unfolding value
+too_deep ts = refl
+
+pub too_deep_object : (ts : List Token) → data_at 0 (Token.begin_object ∷ ts) ≡ None
+unfolding value
+too_deep_object ts = refl
+
+-- ---- a value that begins with another token is no list, or no object
+
+abbrev Front : Type 0
+Front = Option (Data × List Token)
+
+abbrev none_of : {A : Type 0} → Data → Option A
+none_of d = None
+
+scalar : {A : Type 0} (f : Data → Option A) (depth : ℕ) (ts : List Token) (o : Front) → data_at depth ts ≡ o → parse_map f o ≡ parse_map none_of o → parse_map f (data_at depth ts) ≡ parse_map none_of (data_at depth ts)
+scalar f depth ts o is same = ap (parse_map f) is ∙ same ∙ ap (parse_map none_of) (sym is)
+
+numbers : {A : Type 0} (f : Data → Option A) (ts : List Token) (o : Option Num) → ((n : Num) → f (number n) ≡ None)
+    → parse_map f (option_map (λ (d : Data). (d, ts)) (option_map number o)) ≡ parse_map none_of (option_map (λ (d : Data). (d, ts)) (option_map number o))
+numbers f ts None law = refl
+numbers f ts (Some n) law = ap (λ a. Some (a, ts)) (law n)
+
+under : {A B : Type 0} (f : Data → Option A) (g : B → Data) (o : Option (B × List Token)) → ((b : B) → f (g b) ≡ None) → parse_map f (parse_map g o) ≡ parse_map none_of (parse_map g o)
+under f g None law = refl
+under f g (Some p) law = ap (λ a. Some (a, p.1)) (law p.0)
+
+abbrev inner_items : ℕ → List Token → Option (json.Items × List Token)
+inner_items zero ts = None
+inner_items (suc d) ts = json.items (value d) (length ts) ts
+
+abbrev inner_members : ℕ → List Token → Option (json.Members × List Token)
+inner_members zero ts = None
+inner_members (suc d) ts = json.members (value d) (length ts) ts
+
+abbrev of_object : Option (json.Members × List Token) → Option (Members × List Token)
+of_object o = converted (λ (ms : json.Members). of_members ms no_members) o
+
+module _ (depth : ℕ) (ts : List Token) where
+  object_is : data_at depth (Token.begin_object ∷ ts) ≡ parse_map object (of_object (inner_members depth ts))
+  object_is = ap (converted of_json) (value_is depth (Token.begin_object ∷ ts)) ∙ converted_object (inner_members depth ts)
+
+  list_is : data_at depth (Token.begin_array ∷ ts) ≡ parse_map array (converted of_items (inner_items depth ts))
+  list_is = ap (converted of_json) (value_is depth (Token.begin_array ∷ ts)) ∙ converted_array (inner_items depth ts)
+
+  other_than_list : (t : Token) → (t ≡ Token.begin_array → ⊥) → parse_map as_array (data_at depth (t ∷ ts)) ≡ parse_map none_of (data_at depth (t ∷ ts))
+  other_than_list Token.begin_object other = scalar as_array depth (Token.begin_object ∷ ts) _ object_is (under as_array object (of_object (inner_members depth ts)) (λ ms. refl))
+  other_than_list Token.end_object other = scalar as_array depth (Token.end_object ∷ ts) _ (ap (converted of_json) (value_is depth (Token.end_object ∷ ts))) refl
+  other_than_list Token.begin_array other = absurd (other refl)
+  other_than_list Token.end_array other = scalar as_array depth (Token.end_array ∷ ts) _ (ap (converted of_json) (value_is depth (Token.end_array ∷ ts))) refl
+  other_than_list (Token.key s) other = scalar as_array depth (Token.key s ∷ ts) _ (ap (converted of_json) (value_is depth (Token.key s ∷ ts))) refl
+  other_than_list (Token.string s) other = scalar as_array depth (Token.string s ∷ ts) _ (ap (converted of_json) (value_is depth (Token.string s ∷ ts))) refl
+  other_than_list (Token.number s) other = scalar as_array depth (Token.number s ∷ ts) _ (ap (converted of_json) (value_is depth (Token.number s ∷ ts))) (numbers as_array ts (number_of s) (λ n. refl))
+  other_than_list (Token.boolean b) other = scalar as_array depth (Token.boolean b ∷ ts) _ (ap (converted of_json) (value_is depth (Token.boolean b ∷ ts))) refl
+  other_than_list Token.null other = scalar as_array depth (Token.null ∷ ts) _ (ap (converted of_json) (value_is depth (Token.null ∷ ts))) refl
+  other_than_list Token.bad other = scalar as_array depth (Token.bad ∷ ts) _ (ap (converted of_json) (value_is depth (Token.bad ∷ ts))) refl
+
+  other_than_object : (t : Token) → (t ≡ Token.begin_object → ⊥) → parse_map as_object (data_at depth (t ∷ ts)) ≡ parse_map none_of (data_at depth (t ∷ ts))
+  other_than_object Token.begin_object other = absurd (other refl)
+  other_than_object Token.end_object other = scalar as_object depth (Token.end_object ∷ ts) _ (ap (converted of_json) (value_is depth (Token.end_object ∷ ts))) refl
+  other_than_object Token.begin_array other = scalar as_object depth (Token.begin_array ∷ ts) _ list_is (under as_object array (converted of_items (inner_items depth ts)) (λ ds. refl))
+  other_than_object Token.end_array other = scalar as_object depth (Token.end_array ∷ ts) _ (ap (converted of_json) (value_is depth (Token.end_array ∷ ts))) refl
+  other_than_object (Token.key s) other = scalar as_object depth (Token.key s ∷ ts) _ (ap (converted of_json) (value_is depth (Token.key s ∷ ts))) refl
+  other_than_object (Token.string s) other = scalar as_object depth (Token.string s ∷ ts) _ (ap (converted of_json) (value_is depth (Token.string s ∷ ts))) refl
+  other_than_object (Token.number s) other = scalar as_object depth (Token.number s ∷ ts) _ (ap (converted of_json) (value_is depth (Token.number s ∷ ts))) (numbers as_object ts (number_of s) (λ n. refl))
+  other_than_object (Token.boolean b) other = scalar as_object depth (Token.boolean b ∷ ts) _ (ap (converted of_json) (value_is depth (Token.boolean b ∷ ts))) refl
+  other_than_object Token.null other = scalar as_object depth (Token.null ∷ ts) _ (ap (converted of_json) (value_is depth (Token.null ∷ ts))) refl
+  other_than_object Token.bad other = scalar as_object depth (Token.bad ∷ ts) _ (ap (converted of_json) (value_is depth (Token.bad ∷ ts))) refl
+
+  passed : {A B : Type 0} (f : Data → Option A) (g : Data → B) (b : B) (r : List Token) (o : Front) → parse_map f o ≡ parse_map none_of o → parse_map g o ≡ Some (b, r) → parse_map f o ≡ Some (None, r)
+  passed f g b r None same there = absurd (cc)
+  passed f g b r (Some p) same there = same ∙ ap (λ o. option_map (λ q. (None, q)) (behind o)) there
+
+  pub no_list : (t : Token) (d : Data) (r : List Token) → (t ≡ Token.begin_array → ⊥) → parse_map plain (data_at depth (t ∷ ts)) ≡ Some (d, r) → parse_map as_array (data_at depth (t ∷ ts)) ≡ Some (None, r)
+  no_list t d r other there = passed as_array plain d r (data_at depth (t ∷ ts)) (other_than_list t other) there
+
+  pub no_object : (t : Token) (d : Data) (r : List Token) → (t ≡ Token.begin_object → ⊥) → parse_map plain (data_at depth (t ∷ ts)) ≡ Some (d, r) → parse_map as_object (data_at depth (t ∷ ts)) ≡ Some (None, r)
+  no_object t d r other there = passed as_object plain d r (data_at depth (t ∷ ts)) (other_than_object t other) there
+
+-- the same, of what a reader hands out
+pub told_list : (t : Read) → (t ≡ front.BeginArray → ⊥) → token_of t ≡ Token.begin_array → ⊥
+told_list front.BeginObject other is = cc
+told_list front.EndObject other is = cc
+told_list front.BeginArray other is = other refl
+told_list front.EndArray other is = cc
+told_list (front.Key s) other is = cc
+told_list (front.String s) other is = cc
+told_list (front.Number s) other is = cc
+told_list (front.Bool b) other is = cc
+told_list front.Null other is = cc
+told_list front.Bad other is = cc
+
+pub told_object : (t : Read) → (t ≡ front.BeginObject → ⊥) → token_of t ≡ Token.begin_object → ⊥
+told_object front.BeginObject other is = other refl
+told_object front.EndObject other is = cc
+told_object front.BeginArray other is = cc
+told_object front.EndArray other is = cc
+told_object (front.Key s) other is = cc
+told_object (front.String s) other is = cc
+told_object (front.Number s) other is = cc
+told_object (front.Bool b) other is = cc
+told_object front.Null other is = cc
+told_object front.Bad other is = cc
